@@ -1,5 +1,7 @@
 -- The heap of the tests represents a balanced state.
-use Rattle.std.proofs.Common.{◌≡◌, ◌≢◌, ◌⊎◌, inl, inr, ℕ, zero, suc, ◌+◌, ◌*◌, ◌<◌, ◌≤◌, ◌^◌, cond, true, false, nat_eq, List, [], ◌∷◌, length, map, sum_by, slice_index, Option, Some, None, IsSome, refl, sym, ap, ◌∙◌, subst, arith}
+use Rattle.std.proofs.Common.{◌≡◌, ◌≢◌, ◌⊎◌, inl, inr, ℕ, zero, suc, ◌+◌, ◌*◌, ◌<◌, ◌≤◌, ◌^◌, cond, true, false, nat_eq}
+use Rattle.std.proofs.Common.{List, [], ◌∷◌, length, map, sum_by, slice_index, Option, Some, None, IsSome, refl, sym}
+use Rattle.std.proofs.Common.{ap, ◌∙◌, subst, arith}
 use Rattle.std.proofs.lemmas.Bool.Decides.{nat_tests}
 use Rattle.std.proofs.lemmas.List.Sums.{sum_by-cons}
 use Rattle.std.specs.Option.{option_map_or}
@@ -7,7 +9,8 @@ use Rattle.std.specs.Prelude.{T, is_some, unwrap_or}
 use Rattle.std.specs.Ordering.{nat_cmp, eq_by_cmp, is_eq}
 use Rattle.std.specs.declared.cmp.Ordering.{Ordering}
 use Rattle.std.specs.Cmp.{IsTotalOrder, nat_cmp_total, tied_itself}
-use Rattle.std.specs.FinMap.{IsAntisymmetric, nat_cmp-IsAntisymmetric, from_sorted, entries-from_sorted, get-from_sorted, entries, get, len, len-entries, values, find, is_sorted}
+use Rattle.std.specs.FinMap.{IsAntisymmetric, nat_cmp-IsAntisymmetric, from_sorted, entries-from_sorted}
+use Rattle.std.specs.FinMap.{get-from_sorted, entries, get, len, len-entries, values, find, is_sorted}
 use Rattle.tx_memory.specs.Seen.{same_or}
 use Rattle.tx_memory.specs.Plain.{flat_view}
 use Rattle.tx_memory.specs.PlainSeen.{get_at}
@@ -16,7 +19,8 @@ use Rattle.vac_model.specs.declared.items.Kind.{Kind}
 use Rattle.vac_model.specs.declared.items.Kind.TheVariants.{Car, Flight, Room}
 use Rattle.vac_model.specs.declared.items.Item.{Item}
 use Rattle.vac_model.specs.declared.items.Booking.{Booking}
-use Rattle.vac_model.specs.State.{State, Bookings, Place, place_cmp, kind_number, table_of, units_of, units_held, item_of, bookings_of, size}
+use Rattle.vac_model.specs.State.{State, Bookings, Place, place_cmp, kind_number, table_of, units_of, units_held}
+use Rattle.vac_model.specs.State.{item_of, bookings_of, size}
 use Rattle.vac_model.specs.Balanced.{IsItem, IsBooking}
 use Rattle.vac_model.proofs.Ids.{id_between}
 use Rattle.vac_model.specs.Fits.{IsSmall}
@@ -74,7 +78,13 @@ abbrev users : List (ℕ × Bookings)
 users = (7, bookings) ∷ (8, no_bookings) ∷ []
 
 abbrev stock : State
-stock = record { capacity = 7; cars = from_sorted cars; flights = from_sorted []; rooms = from_sorted rooms; customers = from_sorted users }
+stock = record {
+  capacity = 7;
+  cars = from_sorted cars;
+  flights = from_sorted [];
+  rooms = from_sorted rooms;
+  customers = from_sorted users;
+}
 
 -- the structures
 abbrev car_rows : Rows
@@ -128,7 +138,10 @@ once_alone a x = elim (same_or a x) [
 car_table : IsTable word 72 16 car_rows
 car_table = record {
   tree = node false leaf (1, 16) (node true leaf (2, 24) leaf);
-  hangs = (record { at = refl; block = block 0 (omega arith); key = refl; colour = refl }, (refl, (record { at = refl; block = block 1 (omega arith); key = refl; colour = refl }, (refl, refl))));
+  hangs = (
+    record { at = refl; block = block 0 (omega arith); key = refl; colour = refl },
+    (refl, (record { at = refl; block = block 1 (omega arith); key = refl; colour = refl }, (refl, refl))),
+  );
   is = refl;
   even = (refl, tt, (refl, tt, tt));
   apart = (λ z. absurd (let y : false ≡ true = z in cc), tt, (λ z. (refl, refl), tt, tt));
@@ -152,7 +165,10 @@ room_table = record {
 user_table : IsTable word 72 40 user_rows
 user_table = record {
   tree = node false leaf (7, 40) (node true leaf (8, 48) leaf);
-  hangs = (record { at = refl; block = block 3 (omega arith); key = refl; colour = refl }, (refl, (record { at = refl; block = block 4 (omega arith); key = refl; colour = refl }, (refl, refl))));
+  hangs = (
+    record { at = refl; block = block 3 (omega arith); key = refl; colour = refl },
+    (refl, (record { at = refl; block = block 4 (omega arith); key = refl; colour = refl }, (refl, refl))),
+  );
   is = refl;
   even = (refl, tt, (refl, tt, tt));
   apart = (λ z. absurd (let y : false ≡ true = z in cc), tt, (λ z. (refl, refl), tt, tt));
@@ -162,7 +178,16 @@ user_table = record {
 }
 
 no_table : IsTable word 72 0 []
-no_table = record { tree = leaf; hangs = refl; is = refl; even = tt; apart = tt; black = refl; ascending = tt; once = λ x. omega arith }
+no_table = record {
+  tree = leaf;
+  hangs = refl;
+  is = refl;
+  even = tt;
+  apart = tt;
+  black = refl;
+  ascending = tt;
+  once = λ x. omega arith;
+}
 
 table_is : (i : ℕ) → i < 4 → IsTable word 72 (word (1 + i)) (tables i)
 table_is zero l = car_table
@@ -174,8 +199,25 @@ table_is (suc (suc (suc (suc i)))) l = absurd (omega (arith, l))
 booked_list : IsList word 72 56 booked_rows
 booked_list = record {
   linked = (
-    record { at = refl; block = block 5 (omega arith); kind = omega arith; id = omega arith; key = refl; low = omega arith },
-    (record { at = refl; block = block 6 (omega arith); kind = omega arith; id = omega arith; key = refl; low = omega arith }, refl),
+    record {
+      at = refl;
+      block = block 5 (omega arith);
+      kind = omega arith;
+      id = omega arith;
+      key = refl;
+      low = omega arith;
+    },
+    (
+      record {
+        at = refl;
+        block = block 6 (omega arith);
+        kind = omega arith;
+        id = omega arith;
+        key = refl;
+        low = omega arith;
+      },
+      refl,
+    ),
   );
 }
 
@@ -230,7 +272,8 @@ heap = record {
   lists = list_is;
   pool = record {
     lists = head_is;
-    once = λ x b. none_more (used_in parts x) (subst (λ (y : ℕ). used_in parts y ≡ 1) (sym b.1.1) (taken b.0 (omega (arith, b.1.0, b.1.1))));
+    once = λ x b. none_more (used_in parts x) (subst (λ (y : ℕ). used_in parts y ≡ 1) (sym b.1.1)
+        (taken b.0 (omega (arith, b.1.0, b.1.1))));
     all = refl;
   };
 }
@@ -247,7 +290,14 @@ customers_are =
     ap opened (entries-from_sorted nat_cmp users tt) ∙ (λ j. (7, first j) ∷ (8, second j) ∷ [])
 
 pub stock_represents : Represents word 72 [] stock
-stock_represents = record { size = refl; parts = parts; heap = heap; held = refl; items = items_are; customers = customers_are }
+stock_represents = record {
+  size = refl;
+  parts = parts;
+  heap = heap;
+  held = refl;
+  items = items_are;
+  customers = customers_are;
+}
 
 -- what is found is one of the entries
 IsIn : {K X : Type 0} → K → X → List (K × X) → Type 0
@@ -268,13 +318,17 @@ module _ {K X : Type 0} {R : K → K → Ordering} (o : IsTotalOrder R) (same : 
   ]
 
 -- the units that are held
-units_is : (es : List (Place × Booking)) → T (is_sorted place_cmp es) → (p : Place) → units_of (from_sorted es) p ≡ option_map_or (λ (b : Booking). b.units) (find place_cmp p es) 0
-units_is es t p = ap (λ (o : Option Booking). option_map_or (λ (b : Booking). b.units) o 0) (get-from_sorted place_cmp es p t)
+units_is : (es : List (Place × Booking)) → T (is_sorted place_cmp es) → (p : Place) →
+    units_of (from_sorted es) p ≡ option_map_or (λ (b : Booking). b.units) (find place_cmp p es) 0
+units_is es t p = ap (λ (o : Option Booking). option_map_or (λ (b : Booking). b.units) o 0)
+    (get-from_sorted place_cmp es p t)
 
 held_is : (p : Place) → units_held stock p ≡ units_of bookings p + units_of no_bookings p
 held_is p =
     let f : Bookings → ℕ = λ b. units_of b p in
-    let e : units_held stock p ≡ sum_by f (bookings ∷ no_bookings ∷ []) = ap (λ (es : List (ℕ × Bookings)). sum_by f (map (λ (x : ℕ × Bookings). x.1) es)) (entries-from_sorted nat_cmp users tt) in
+    let e : units_held stock p ≡ sum_by f (bookings ∷ no_bookings ∷ []) =
+    ap (λ (es : List (ℕ × Bookings)). sum_by f (map (λ (x : ℕ × Bookings). x.1) es))
+    (entries-from_sorted nat_cmp users tt) in
     omega (arith, e, sum_by-cons f bookings (no_bookings ∷ []), sum_by-cons f no_bookings [])
 
 car_held : units_held stock (Car, 1) ≡ 2
@@ -297,24 +351,52 @@ room_held =
 
 item_is : (kind : Kind) (id : ℕ) (item : Item) → item_of stock kind id ≡ Some item → IsItem stock kind id item
 unfolding IsIn
-item_is Car id item e = elim (found_in nat_cmp_total nat_cmp-IsAntisymmetric cars id item (sym (get-from_sorted nat_cmp cars id tt) ∙ e)) [
-  | inl h ↦ subst (λ (p : ℕ × Item). IsItem stock Car p.0 p.1) (λ j. (sym h.0 j, sym h.1 j))
-      (record { id_range = id_between 1 (omega arith) (omega arith); some_units = omega arith; few_units = omega arith; price_range = omega arith; counts = refl; held = sym car_held })
-  | inr r ↦ elim r [
-    | inl h ↦ subst (λ (p : ℕ × Item). IsItem stock Car p.0 p.1) (λ j. (sym h.0 j, sym h.1 j))
-        (record { id_range = id_between 2 (omega arith) (omega arith); some_units = omega arith; few_units = omega arith; price_range = omega arith; counts = refl; held = sym other_held })
-    | inr z ↦ absurd z
-  ]
-]
-item_is Flight id item e = absurd (found_in nat_cmp_total nat_cmp-IsAntisymmetric [] id item (sym (get-from_sorted nat_cmp [] id tt) ∙ e))
-item_is Room id item e = elim (found_in nat_cmp_total nat_cmp-IsAntisymmetric rooms id item (sym (get-from_sorted nat_cmp rooms id tt) ∙ e)) [
-  | inl h ↦ subst (λ (p : ℕ × Item). IsItem stock Room p.0 p.1) (λ j. (sym h.0 j, sym h.1 j))
-      (record { id_range = id_between 9 (omega arith) (omega arith); some_units = omega arith; few_units = omega arith; price_range = omega arith; counts = refl; held = sym room_held })
-  | inr z ↦ absurd z
-]
+item_is Car id item e = elim (found_in nat_cmp_total nat_cmp-IsAntisymmetric cars id item
+    (sym (get-from_sorted nat_cmp cars id tt) ∙ e)) [
+      | inl h ↦ subst (λ (p : ℕ × Item). IsItem stock Car p.0 p.1) (λ j. (sym h.0 j, sym h.1 j))
+          (record {
+            id_range = id_between 1 (omega arith) (omega arith);
+            some_units = omega arith;
+            few_units = omega arith;
+            price_range = omega arith;
+            counts = refl;
+            held =
+                sym car_held;
+          })
+      | inr r ↦ elim r [
+        | inl h ↦ subst (λ (p : ℕ × Item). IsItem stock Car p.0 p.1) (λ j. (sym h.0 j, sym h.1 j))
+            (record {
+              id_range = id_between 2 (omega arith) (omega arith);
+              some_units = omega arith;
+              few_units = omega arith;
+              price_range = omega arith;
+              counts = refl;
+              held =
+                  sym other_held;
+            })
+        | inr z ↦ absurd z
+      ]
+    ]
+item_is Flight id item e = absurd (found_in nat_cmp_total nat_cmp-IsAntisymmetric [] id item
+    (sym (get-from_sorted nat_cmp [] id tt) ∙ e))
+item_is Room id item e = elim (found_in nat_cmp_total nat_cmp-IsAntisymmetric rooms id item
+    (sym (get-from_sorted nat_cmp rooms id tt) ∙ e)) [
+      | inl h ↦ subst (λ (p : ℕ × Item). IsItem stock Room p.0 p.1) (λ j. (sym h.0 j, sym h.1 j))
+          (record {
+            id_range = id_between 9 (omega arith) (omega arith);
+            some_units = omega arith;
+            few_units = omega arith;
+            price_range = omega arith;
+            counts = refl;
+            held =
+                sym room_held;
+          })
+      | inr z ↦ absurd z
+    ]
 
 user_is : (id : ℕ) (b : Bookings) → bookings_of stock id ≡ Some b → IsIn id b users
-user_is id b e = found_in nat_cmp_total nat_cmp-IsAntisymmetric users id b (sym (get-from_sorted nat_cmp users id tt) ∙ e)
+user_is id b e = found_in nat_cmp_total nat_cmp-IsAntisymmetric users id b (sym (get-from_sorted nat_cmp users id tt) ∙
+    e)
 
 some_car : IsSome (item_of stock Car 1)
 some_car = subst IsSome (sym (get-from_sorted nat_cmp cars 1 tt)) (ap is_some {x = Some car} refl)
@@ -324,23 +406,28 @@ some_room = subst IsSome (sym (get-from_sorted nat_cmp rooms 9 tt)) (ap is_some 
 
 booking_is : (kind : Kind) (id : ℕ) (b : Booking) → get bookings (kind, id) ≡ Some b → IsBooking stock kind id b
 unfolding IsIn
-booking_is kind id b e = elim (found_in place_cmp_total place_cmp-IsAntisymmetric booked (kind, id) b (sym (get-from_sorted place_cmp booked (kind, id) tt) ∙ e)) [
-  | inl h ↦ subst (λ (p : Place × Booking). IsBooking stock p.0.0 p.0.1 p.1) (λ j. (sym h.0 j, sym h.1 j))
-      (record { item = some_car; some_units = omega arith; few_units = omega arith; sum_range = omega arith })
-  | inr r ↦ elim r [
-    | inl h ↦ subst (λ (p : Place × Booking). IsBooking stock p.0.0 p.0.1 p.1) (λ j. (sym h.0 j, sym h.1 j))
-        (record { item = some_room; some_units = omega arith; few_units = omega arith; sum_range = omega arith })
-    | inr z ↦ absurd z
-  ]
-]
+booking_is kind id b e = elim (found_in place_cmp_total place_cmp-IsAntisymmetric booked (kind, id) b
+    (sym (get-from_sorted place_cmp booked (kind, id) tt) ∙ e)) [
+      | inl h ↦ subst (λ (p : Place × Booking). IsBooking stock p.0.0 p.0.1 p.1) (λ j. (sym h.0 j, sym h.1 j))
+          (record { item = some_car; some_units = omega arith; few_units = omega arith; sum_range = omega arith })
+      | inr r ↦ elim r [
+        | inl h ↦ subst (λ (p : Place × Booking). IsBooking stock p.0.0 p.0.1 p.1) (λ j. (sym h.0 j, sym h.1 j))
+            (record { item = some_room; some_units = omega arith; few_units = omega arith; sum_range = omega arith })
+        | inr z ↦ absurd z
+      ]
+    ]
 
-length_of : {K X : Type 0} (R : K → K → Ordering) (es : List (K × X)) → T (is_sorted R es) → len (from_sorted {R = R} es) ≡ length es
-length_of {K} {X} R es t = len-entries (from_sorted {R = R} es) ∙ ap (λ (z : List (K × X)). length z) (entries-from_sorted R es t)
+length_of : {K X : Type 0} (R : K → K → Ordering) (es : List (K × X)) → T (is_sorted R es) →
+    len (from_sorted {R = R} es) ≡ length es
+length_of {K} {X} R es t = len-entries (from_sorted {R = R} es) ∙ ap (λ (z : List (K × X)). length z)
+    (entries-from_sorted R es t)
 
 size_is : size stock ≤ 7
 size_is =
     let f : Bookings → ℕ = λ b. len b in
-    let e : sum_by f (values stock.customers) ≡ sum_by f (bookings ∷ no_bookings ∷ []) = ap (λ (es : List (ℕ × Bookings)). sum_by f (map (λ (x : ℕ × Bookings). x.1) es)) (entries-from_sorted nat_cmp users tt) in
+    let e : sum_by f (values stock.customers) ≡ sum_by f (bookings ∷ no_bookings ∷ []) =
+    ap (λ (es : List (ℕ × Bookings)). sum_by f (map (λ (x : ℕ × Bookings). x.1) es))
+    (entries-from_sorted nat_cmp users tt) in
     let a : len stock.cars ≡ 2 = length_of nat_cmp cars tt in
     let b : len stock.flights ≡ 0 = length_of nat_cmp [] tt in
     let c : len stock.rooms ≡ 1 = length_of nat_cmp rooms tt in
@@ -357,12 +444,18 @@ stock_small = record {
     items = item_is;
     customers = λ id b e. elim (user_is id b e) [
       | inl h ↦ subst (λ n. is_id n ≡ true) (sym h.0) (id_between 7 (omega arith) (omega arith))
-      | inr r ↦ elim r [ inl h ↦ subst (λ n. is_id n ≡ true) (sym h.0) (id_between 8 (omega arith) (omega arith)) | inr z ↦ absurd z ]
+      | inr r ↦ elim r [
+        | inl h ↦ subst (λ n. is_id n ≡ true) (sym h.0)
+            (id_between 8 (omega arith) (omega arith))
+        | inr z ↦ absurd z
+      ]
     ];
     bookings = λ customer b kind id x e f. elim (user_is customer b e) [
       | inl h ↦ booking_is kind id x (ap (λ (z : Bookings). get z (kind, id)) (sym h.1) ∙ f)
       | inr r ↦ elim r [
-        | inl h ↦ absurd (found_in place_cmp_total place_cmp-IsAntisymmetric [] (kind, id) x (sym (get-from_sorted place_cmp [] (kind, id) tt) ∙ (ap (λ (z : Bookings). get z (kind, id)) (sym h.1) ∙ f)))
+        | inl h ↦ absurd (found_in place_cmp_total place_cmp-IsAntisymmetric [] (kind, id) x
+            (sym (get-from_sorted place_cmp [] (kind, id) tt) ∙
+            (ap (λ (z : Bookings). get z (kind, id)) (sym h.1) ∙ f)))
         | inr z ↦ absurd z
       ]
     ];
@@ -371,7 +464,8 @@ stock_small = record {
 }
 
 -- plain memory whose words represent a state holds it
-flat_holds : (xs : List ℕ) (s : State) → 16 ≤ length xs → length xs ≤ 2 ^ 32 → Represents (λ (a : ℕ). slice_index xs a) (length xs) [] s → IsSmall s → HoldsState (flat_view xs)
+flat_holds : (xs : List ℕ) (s : State) → 16 ≤ length xs → length xs ≤ 2 ^ 32 →
+    Represents (λ (a : ℕ). slice_index xs a) (length xs) [] s → IsSmall s → HoldsState (flat_view xs)
 flat_holds xs s low high h small = record {
   inside = low;
   small = high;
@@ -387,4 +481,5 @@ flat_holds xs s low high h small = record {
 }
 
 pub stock_holds : (xs : List ℕ) → xs ≡ stock_words → HoldsState (flat_view xs)
-stock_holds xs e = subst (λ (z : List ℕ). HoldsState (flat_view z)) (sym e) (flat_holds stock_words stock (omega arith) (omega arith) stock_represents stock_small)
+stock_holds xs e = subst (λ (z : List ℕ). HoldsState (flat_view z)) (sym e)
+    (flat_holds stock_words stock (omega arith) (omega arith) stock_represents stock_small)

@@ -1,5 +1,6 @@
 -- What loads and stores are to the balances, and that every sum in a history is the opening's.
-use Rattle.std.proofs.Common.{◌≡◌, ℕ, ◌+◌, ◌-◌, ◌<◌, ◌≤◌, List, Result, Ok, Err, IfOk, length, slice_index, slice_set, take, sum, refl, sym, ap, ◌∙◌, arith, length-set}
+use Rattle.std.proofs.Common.{◌≡◌, ℕ, ◌+◌, ◌-◌, ◌<◌, ◌≤◌, List, Result, Ok, Err, IfOk, length, slice_index, slice_set}
+use Rattle.std.proofs.Common.{take, sum, refl, sym, ap, ◌∙◌, arith, length-set}
 use Rattle.std.proofs.lemmas.List.{take_all}
 use Rattle.std.proofs.lemmas.List.Sums.{get_or-le-sum_by, sum_by_more, sum_by-take-le}
 use Rattle.tx_memory.specs.View.{View, RestsOn, Loaded}

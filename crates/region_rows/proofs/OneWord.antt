@@ -1,12 +1,14 @@
 -- One word written by one client.
-use Rattle.std.proofs.Common.{◌≡◌, ℕ, zero, suc, ◌+◌, ◌/◌, ◌<◌, true, false, eqb, eq-eqb, ne_eqb, Some, None, ◌≢◌, ◌||◌, inl, List, [], ◌∷◌, ◌++◌, length, refl, sym, ap, ◌∙◌, subst, arith}
+use Rattle.std.proofs.Common.{◌≡◌, ℕ, zero, suc, ◌+◌, ◌/◌, ◌<◌, true, false, eqb, eq-eqb, ne_eqb, Some, None, ◌≢◌, ◌||◌}
+use Rattle.std.proofs.Common.{inl, List, [], ◌∷◌, ◌++◌, length, refl, sym, ap, ◌∙◌, subst, arith}
 use Rattle.std.proofs.lemmas.Bool.Decides.{nat_tests}
 use mathlib.Core.Option.{some, some-injective, some-ne-none}
 use lib.ListN.{get_elem?}
 use Rattle.tx_memory.specs.Image.{In}
 use Rattle.stm_core.specs.Client.{Client, running, committed, locked, ticked, word_before, without, writes_to}
 use Rattle.stm_core.specs.Core.{IsFreeHanded}
-use Rattle.stm_core.specs.Event.{begin, probe, lock, tick, put as put_word, release, give_back, after, stepping, holding, committed_by, versioned, with_ticks}
+use Rattle.stm_core.specs.Event.{begin, probe, lock, tick, put as put_word, release, give_back, after, stepping}
+use Rattle.stm_core.specs.Event.{holding, committed_by, versioned, with_ticks}
 use Rattle.stm_region.specs.Shown.{RegionShown, ClientShown, IsAllowed, acted, bounds, unplaced}
 use Rattle.std.specs.FinMap.{empty, get, get-empty, entries, entries-insert, len-entries, len-empty, put}
 use Rattle.std.specs.Ordering.{nat_cmp}
@@ -44,17 +46,34 @@ pub record HasOne (k from : ℕ) (v : Client) : Type 0 where
   pub held : v.attempt.held ≡ (k, old) ∷ []
 
 locked_one : (r : RegionShown) (c d : ClientShown) (k n w : ℕ) → IsFreeHanded c.value
-    → d ≡ acted r (lock k) (word_before (acted r (probe k) w (acted r begin n c)).value.attempt.last) (acted r (probe k) w (acted r begin n c)) → HasOne k n d.value
-locked_one r c d k n w free e = subst (λ (x : ClientShown). HasOne k n x.value) (sym e) (subst (λ v. HasOne k n v) (sym taken) record { alive = free.0; phase = refl; none = refl; ticks = refl; next = refl; reads = refl; old = w / 2; held = ap (λ (h : List (ℕ × ℕ)). h ++ (k, w / 2) ∷ []) free.1 })
+    → d ≡ acted r (lock k) (word_before (acted r (probe k) w (acted r begin n c)).value.attempt.last)
+    (acted r (probe k) w (acted r begin n c)) → HasOne k n d.value
+locked_one r c d k n w free e = subst (λ (x : ClientShown). HasOne k n x.value) (sym e)
+    (subst (λ v. HasOne k n v) (sym taken) record {
+      alive = free.0;
+      phase = refl;
+      none = refl;
+      ticks = refl;
+      next = refl;
+      reads = refl;
+      old = w / 2;
+      held =
+          ap (λ (h : List (ℕ × ℕ)). h ++ (k, w / 2) ∷ []) free.1;
+    })
   where
     b : Client
     b = (acted r (probe k) w (acted r begin n c)).value
 
-    taken : after (unplaced r.renewal) (stripe_of r.stripes) (lock k) w b ≡ stepping (locked k w w) (holding k (w / 2) b)
+    taken : after (unplaced r.renewal) (stripe_of r.stripes) (lock k) w b ≡ stepping (locked k w w)
+        (holding k (w / 2) b)
     taken = rw (same_number w) refl
 
-pub took_one : (r : RegionShown) (c c' c'' d : ClientShown) (k n m w : ℕ) → IsFreeHanded c.value → n ≡ m → c' ≡ acted r begin m c → c'' ≡ acted r (probe k) w c' → d ≡ acted r (lock k) (word_before c''.value.attempt.last) c'' → HasOne k n d.value
-took_one r c c' c'' d k n m w free q e e' e'' = locked_one r c d k n w free (e'' ∙ ap (λ (x : ClientShown). acted r (lock k) (word_before x.value.attempt.last) x) (e' ∙ ap (acted r (probe k) w) (e ∙ ap (λ (i : ℕ). acted r begin i c) (sym q))))
+pub took_one : (r : RegionShown) (c c' c'' d : ClientShown) (k n m w : ℕ) → IsFreeHanded c.value → n ≡ m →
+    c' ≡ acted r begin m c → c'' ≡ acted r (probe k) w c' → d ≡ acted r (lock k)
+    (word_before c''.value.attempt.last) c'' → HasOne k n d.value
+took_one r c c' c'' d k n m w free q e e' e'' = locked_one r c d k n w free
+    (e'' ∙ ap (λ (x : ClientShown). acted r (lock k) (word_before x.value.attempt.last) x)
+    (e' ∙ ap (acted r (probe k) w) (e ∙ ap (λ (i : ℕ). acted r begin i c) (sym q))))
 
 one_there : (p q : ℕ × ℕ) → In q (p ∷ []) → p ≡ q
 one_there p q (zero, e) = some-injective p q e
@@ -74,10 +93,20 @@ one_may_write lk size k old a x l e = record {
   };
 }
 
-pub may_tick : (r : RegionShown) (d : ClientShown) (k n a x : ℕ) (tag : List ℕ) (pairs : List (ℕ × ℕ)) → HasOne k n d.value → n < r.last → a < r.size → k ≡ stripe_of r.stripes a → pairs ≡ (a, x) ∷ [] → IsAllowed Free r (tick n tag pairs) d
+pub may_tick : (r : RegionShown) (d : ClientShown) (k n a x : ℕ) (tag : List ℕ) (pairs : List (ℕ × ℕ)) →
+    HasOne k n d.value → n < r.last → a < r.size → k ≡ stripe_of r.stripes a → pairs ≡ (a, x) ∷ [] →
+    IsAllowed Free r (tick n tag pairs) d
 may_tick r d k n a x tag pairs h below inside is one = (
   h.alive,
-  may_act_so (stripe_of r.stripes) Free (bounds r) d.value.attempt (tick n tag pairs) ((h.phase, h.none), sym h.next, below, (let t = h.ticks in omega arith), rw (h.held, one) (one_may_write (stripe_of r.stripes) r.size k h.old a x inside is), tt),
+  may_act_so (stripe_of r.stripes) Free (bounds r) d.value.attempt (tick n tag pairs) (
+    (h.phase, h.none),
+    sym h.next,
+    below,
+    (let t = h.ticks in omega arith),
+    rw (h.held, one)
+        (one_may_write (stripe_of r.stripes) r.size k h.old a x inside is),
+    tt,
+  ),
 )
 
 -- a running client that holds one lock
@@ -94,12 +123,19 @@ pub has_lock : (k n : ℕ) (v : Client) → HasOne k n v → HasLock k v
 has_lock k n v h = record { alive = h.alive; phase = h.phase; old = h.old; held = h.held }
 
 pub may_give_back : (r : RegionShown) (d : ClientShown) (k : ℕ) → HasLock k d.value → IsAllowed Free r (give_back k) d
-may_give_back r d k h = (h.alive, may_act_so (stripe_of r.stripes) Free (bounds r) d.value.attempt (give_back k) (inl h.phase, holds_one d.value.attempt.held k h.old h.held))
+may_give_back r d k h = (
+  h.alive,
+  may_act_so (stripe_of r.stripes) Free (bounds r) d.value.attempt (give_back k)
+      (inl h.phase, holds_one d.value.attempt.held k h.old h.held),
+)
 
-pub lost_one : (r : RegionShown) (c d : ClientShown) (k n m : ℕ) (tag : List ℕ) (pairs : List (ℕ × ℕ)) → HasOne k n c.value → m ≢ n → d ≡ acted r (tick n tag pairs) m c → HasLock k d.value
-lost_one r c d k n m tag pairs h ne e = subst (λ (x : ClientShown). HasLock k x.value) (sym e) (subst (λ v. HasLock k v) (sym lost) record { alive = h.alive; phase = h.phase; old = h.old; held = h.held })
+pub lost_one : (r : RegionShown) (c d : ClientShown) (k n m : ℕ) (tag : List ℕ) (pairs : List (ℕ × ℕ)) →
+    HasOne k n c.value → m ≢ n → d ≡ acted r (tick n tag pairs) m c → HasLock k d.value
+lost_one r c d k n m tag pairs h ne e = subst (λ (x : ClientShown). HasLock k x.value) (sym e)
+    (subst (λ v. HasLock k v) (sym lost) record { alive = h.alive; phase = h.phase; old = h.old; held = h.held })
   where
-    lost : after (unplaced r.renewal) (stripe_of r.stripes) (tick n tag pairs) m c.value ≡ with_ticks (c.value.attempt.ticks + 1) m (stepping (ticked n m) c.value)
+    lost : after (unplaced r.renewal) (stripe_of r.stripes) (tick n tag pairs) m c.value ≡ with_ticks
+        (c.value.attempt.ticks + 1) m (stepping (ticked n m) c.value)
     lost = rw (ne_eqb m n ne) refl
 
 -- a decided client with one word to write
@@ -111,13 +147,25 @@ pub record HasDecided (k a x : ℕ) (v : Client) : Type 0 where
   pub old : ℕ
   pub held : v.attempt.held ≡ (k, old) ∷ []
 
-pub won_one : (r : RegionShown) (c d : ClientShown) (k n a x : ℕ) (tag : List ℕ) (pairs : List (ℕ × ℕ)) → HasOne k n c.value → pairs ≡ (a, x) ∷ [] → d ≡ acted r (tick n tag pairs) n c → HasDecided k a x d.value
-won_one r c d k n a x tag pairs h one e = subst (λ (y : ClientShown). HasDecided k a x y.value) (sym e) (subst (λ v. HasDecided k a x v) (sym won) record { alive = h.alive; phase = refl; writes = one; stored = refl; old = h.old; held = h.held })
+pub won_one : (r : RegionShown) (c d : ClientShown) (k n a x : ℕ) (tag : List ℕ) (pairs : List (ℕ × ℕ)) →
+    HasOne k n c.value → pairs ≡ (a, x) ∷ [] → d ≡ acted r (tick n tag pairs) n c → HasDecided k a x d.value
+won_one r c d k n a x tag pairs h one e = subst (λ (y : ClientShown). HasDecided k a x y.value) (sym e)
+    (subst (λ v. HasDecided k a x v) (sym won) record {
+      alive = h.alive;
+      phase = refl;
+      writes = one;
+      stored = refl;
+      old = h.old;
+      held = h.held;
+    })
   where
-    won : after (unplaced r.renewal) (stripe_of r.stripes) (tick n tag pairs) n c.value ≡ with_ticks (c.value.attempt.ticks + 1) n (stepping (ticked n n) (committed_by (unplaced r.renewal) (versioned (unplaced r.renewal) (n + 1) tag pairs c.value)))
+    won : after (unplaced r.renewal) (stripe_of r.stripes) (tick n tag pairs) n c.value ≡ with_ticks
+        (c.value.attempt.ticks + 1) n (stepping (ticked n n)
+        (committed_by (unplaced r.renewal) (versioned (unplaced r.renewal) (n + 1) tag pairs c.value)))
     won = rw (same_number n, h.reads) refl
 
-pub may_put : (r : RegionShown) (d : ClientShown) (k a x : ℕ) → HasDecided k a x d.value → k ≡ stripe_of r.stripes a → IsAllowed Free r (put_word a x) d
+pub may_put : (r : RegionShown) (d : ClientShown) (k a x : ℕ) → HasDecided k a x d.value → k ≡ stripe_of r.stripes a →
+    IsAllowed Free r (put_word a x) d
 may_put r d k a x h is = (
   h.alive,
   may_act_so (stripe_of r.stripes) Free (bounds r) d.value.attempt (put_word a x) (
@@ -128,7 +176,8 @@ may_put r d k a x h is = (
   ),
 )
 
-pub may_release : (r : RegionShown) (d e : ClientShown) (k a x : ℕ) → HasDecided k a x d.value → e ≡ acted r (put_word a x) 0 d → IsAllowed Free r (release k) e
+pub may_release : (r : RegionShown) (d e : ClientShown) (k a x : ℕ) → HasDecided k a x d.value →
+    e ≡ acted r (put_word a x) 0 d → IsAllowed Free r (release k) e
 may_release r d e k a x h q = subst (λ (y : ClientShown). IsAllowed Free r (release k) y) (sym q) (
   h.alive,
   may_act_so (stripe_of r.stripes) Free (bounds r) (acted r (put_word a x) 0 d).value.attempt (release k) (
@@ -142,11 +191,21 @@ one_gone : (k old : ℕ) → without ((k, old) ∷ []) k ≡ []
 one_gone k old = rw (same_number k) refl
 
 -- who gives its one lock back, or releases it, holds none
-pub given_free : (r : RegionShown) (d e : ClientShown) (k : ℕ) → HasLock k d.value → e ≡ acted r (give_back k) 0 d → IsFreeHanded e.value
-given_free r d e k h q = subst (λ (y : ClientShown). IsFreeHanded y.value) (sym q) (h.alive, ap (λ (l : List (ℕ × ℕ)). without l k) h.held ∙ one_gone k h.old)
+pub given_free : (r : RegionShown) (d e : ClientShown) (k : ℕ) → HasLock k d.value → e ≡ acted r (give_back k) 0 d →
+    IsFreeHanded e.value
+given_free r d e k h q = subst (λ (y : ClientShown). IsFreeHanded y.value) (sym q) (
+  h.alive,
+  ap (λ (l : List (ℕ × ℕ)). without l k) h.held ∙ one_gone k h.old,
+)
 
-pub released_free : (r : RegionShown) (d e f : ClientShown) (k a x : ℕ) → HasDecided k a x d.value → e ≡ acted r (put_word a x) 0 d → f ≡ acted r (release k) 0 e → IsFreeHanded f.value
-released_free r d e f k a x h q q' = subst (λ (y : ClientShown). IsFreeHanded y.value) (sym (q' ∙ ap (acted r (release k) 0) q)) (h.alive, ap (λ (l : List (ℕ × ℕ)). without l k) h.held ∙ one_gone k h.old)
+pub released_free : (r : RegionShown) (d e f : ClientShown) (k a x : ℕ) → HasDecided k a x d.value →
+    e ≡ acted r (put_word a x) 0 d → f ≡ acted r (release k) 0 e → IsFreeHanded f.value
+released_free r d e f k a x h q q' = subst (λ (y : ClientShown). IsFreeHanded y.value)
+    (sym (q' ∙ ap (acted r (release k) 0) q)) (
+      h.alive,
+      ap (λ (l : List (ℕ × ℕ)). without l k) h.held ∙
+          one_gone k h.old,
+    )
 
 pub not_there : (a l : ℕ) → get {R = nat_cmp} (empty {X = ℕ}) a ≡ Some l → ⊥
 not_there a l e = some_none l (sym (get-empty nat_cmp a) ∙ e)

@@ -1,5 +1,7 @@
 -- What comes out of a history is what went in, but for what is still in.
-use Rattle.std.proofs.Common.{◌≡◌, ◌≢◌, ℕ, zero, suc, ◌+◌, ◌-◌, ◌%◌, ◌<◌, true, false, List, [], ◌∷◌, ◌++◌, slice_index, slice_set, refl, sym, ap, ◌∙◌, arith, length-set, get_or-set_same, get_or-set_other, append_assoc, rules, replicate}
+use Rattle.std.proofs.Common.{◌≡◌, ◌≢◌, ℕ, zero, suc, ◌+◌, ◌-◌, ◌%◌, ◌<◌, true, false, List, [], ◌∷◌, ◌++◌, slice_index}
+use Rattle.std.proofs.Common.{slice_set, refl, sym, ap, ◌∙◌, arith, length-set, get_or-set_same, get_or-set_other}
+use Rattle.std.proofs.Common.{append_assoc, rules, replicate}
 use Rattle.ring.specs.declared.entry.Entry.{Entry}
 use Rattle.ring.specs.declared.entry.Entry.TheVariants.{Push, Pop, Empty, Len}
 use Rattle.ring.specs.declared.law.TheConstants.{SLOTS, HEAD, TAIL, WORDS}

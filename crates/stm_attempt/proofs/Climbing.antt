@@ -1,5 +1,6 @@
 -- Locks that are taken in ascending order.
-use Rattle.std.proofs.Common.{◌≡◌, refl, ap, subst, ◌∙◌, ℕ, zero, ◌+◌, ◌<◌, Bool, cond, false, eqb, eq-eqb, List, [], ◌∷◌, ◌++◌, arith}
+use Rattle.std.proofs.Common.{◌≡◌, refl, ap, subst, ◌∙◌, ℕ, zero, ◌+◌, ◌<◌, Bool, cond, false, eqb, eq-eqb, List, []}
+use Rattle.std.proofs.Common.{◌∷◌, ◌++◌, arith}
 use Rattle.std.proofs.lemmas.Bool.{ne_eqb}
 use Rattle.std.proofs.lemmas.List.{map-append}
 use Rattle.tx_memory.specs.Image.{In}
@@ -21,19 +22,32 @@ not_mine (p ∷ ps) k above =
     let other : eqb p.0 k ≡ false = ne_eqb p.0 k (λ e. absurd (omega arith)) in
     rw other (not_mine ps k (λ j u i. above j u (in_later _ _ _ i)))
 
-module _ (lawful : RecordLaw) (t : Stamp) (lk : ℕ → ℕ) (b : Bounds) (v w : Client) (k n : ℕ) (stepped : w ≡ after t lk (probe k) n v) (above : IsAbove v k) where
+module _ (lawful : RecordLaw) (t : Stamp) (lk : ℕ → ℕ) (b : Bounds) (v w : Client) (k n : ℕ)
+    (stepped : w ≡ after t lk (probe k) n v) (above : IsAbove v k) where
   pub held_shown : IsHeld n → (k ≡ k) × (w.attempt.last ≡ probed k n) × IsHeld n × (w.attempt.mine ≡ false)
-  held_shown h = (refl, ap (λ (x : Client). x.attempt.last) stepped, h, ap (λ (x : Client). x.attempt.mine) stepped ∙ not_mine v.attempt.held k above)
+  held_shown h = (
+    refl,
+    ap (λ (x : Client). x.attempt.last) stepped,
+    h,
+    ap (λ (x : Client). x.attempt.mine) stepped ∙
+        not_mine v.attempt.held k above,
+  )
 
-  pub may_lock : v.is_gathered ≡ false → IsReading v.attempt → k < b.stripes → (u : ℕ) → n ≡ free_word u → May lawful lk b (lock k) w
+  pub may_lock : v.is_gathered ≡ false → IsReading v.attempt → k < b.stripes → (u : ℕ) → n ≡ free_word u →
+      May lawful lk b (lock k) w
   may_lock out reading range u free =
       let is_free : IsFree n = omega arith in (
         ap (λ (x : Client). x.is_gathered) stepped ∙ out,
         may_act_so lk lawful b w.attempt (lock k) (
-          (ap (λ (x : Client). x.attempt.phase) stepped ∙ reading.0, ap (λ (x : Client). x.attempt.wv) stepped ∙ reading.1),
+          (
+            ap (λ (x : Client). x.attempt.phase) stepped ∙ reading.0,
+            ap (λ (x : Client). x.attempt.wv) stepped ∙
+                reading.1,
+          ),
           range,
           (n, ap (λ (x : Client). x.attempt.last) stepped, is_free),
-          λ j u' i. above j u' (subst (λ (h : List (ℕ × ℕ)). In (j, u') h) (ap (λ (x : Client). x.attempt.held) stepped) i),
+          λ j u' i. above j u' (subst (λ (h : List (ℕ × ℕ)). In (j, u') h)
+              (ap (λ (x : Client). x.attempt.held) stepped) i),
         ),
       )
 
@@ -43,13 +57,17 @@ module _ (lawful : RecordLaw) (t : Stamp) (lk : ℕ → ℕ) (b : Bounds) (v w :
     locked_word = word_before w.attempt.last
 
     taken : d ≡ stepping (locked k locked_word locked_word) (holding k (version_of locked_word) w)
-    taken = exchanged ∙ ap (λ (won : Bool). stepping (locked k locked_word locked_word) (cond won (holding k (version_of locked_word) w) (failing w))) (eq-eqb locked_word locked_word refl)
+    taken = exchanged ∙ ap (λ (won : Bool). stepping (locked k locked_word locked_word)
+        (cond won (holding k (version_of locked_word) w) (failing w))) (eq-eqb locked_word locked_word refl)
 
     pub has_taken : HasTaken v d k
     has_taken = record {
       same = ap settling taken ∙ ap settling stepped;
       stored = ap (λ (x : Client). x.attempt.stored) taken ∙ ap (λ (x : Client). x.attempt.stored) stepped;
-      held = ap (λ (x : Client). addresses x.attempt.held) taken ∙ map-append address_of w.attempt.held ((k, version_of locked_word) ∷ []) ∙ ap (λ (x : Client). addresses x.attempt.held ++ k ∷ []) stepped;
+      held = ap (λ (x : Client). addresses x.attempt.held) taken ∙ map-append address_of w.attempt.held
+          ((k, version_of locked_word) ∷ []) ∙ ap (λ (x : Client). addresses x.attempt.held ++ k ∷ []) stepped;
       won = (k, locked_word, ap (λ (x : Client). x.attempt.last) taken);
-      steps = let a : d.attempt.steps ≡ w.attempt.steps + 1 = ap (λ (x : Client). x.attempt.steps) taken in let b : w.attempt.steps ≡ v.attempt.steps + 1 = ap (λ (x : Client). x.attempt.steps) stepped in omega (arith, a, b);
+      steps = let a : d.attempt.steps ≡ w.attempt.steps + 1 = ap (λ (x : Client). x.attempt.steps) taken in
+          let b : w.attempt.steps ≡ v.attempt.steps + 1 = ap (λ (x : Client). x.attempt.steps) stepped in
+          omega (arith, a, b);
     }

@@ -1,5 +1,6 @@
 -- A value that a read of the region answers enters the reads.
-use Rattle.std.proofs.Common.{◌≡◌, Bool, true, false, Option, inl, inr, refl, sym, ap, subst, ◌∙◌, ℕ, zero, suc, ◌<◌, List, [], ◌∷◌, ◌++◌, Some, None, Result, Ok, Err, MatchResult, arith}
+use Rattle.std.proofs.Common.{◌≡◌, Bool, true, false, Option, inl, inr, refl, sym, ap, subst, ◌∙◌, ℕ, zero, suc, ◌<◌}
+use Rattle.std.proofs.Common.{List, [], ◌∷◌, ◌++◌, Some, None, Result, Ok, Err, MatchResult, arith}
 use Rattle.std.specs.FinMap.{get, insert, empty, get-empty, len, empty_of_len}
 use Rattle.std.specs.Ordering.{nat_cmp}
 use Rattle.std.specs.Option.{is_some}
@@ -33,7 +34,8 @@ same_some x y e = cc
 none_not_some : {A B : Type 0} (x : A) → None ≡ Some x → B
 none_not_some x e = cc
 
-one_value : (image : List ℕ) (reads : List (ℕ × ℕ)) (a x w : ℕ) → Agrees image (reads ++ (a, x) ∷ []) → get (map_of reads) a ≡ Some w → x ≡ w
+one_value : (image : List ℕ) (reads : List (ℕ × ℕ)) (a x w : ℕ) → Agrees image (reads ++ (a, x) ∷ []) →
+    get (map_of reads) a ≡ Some w → x ≡ w
 one_value image reads a x w agrees e =
     elim (get-with_pairs empty reads a w e) [
       | inl none ↦ none_not_some w (sym (get-empty nat_cmp a) ∙ none)
@@ -41,36 +43,57 @@ one_value image reads a x w agrees e =
     ]
 
 -- a memory that has an address is that of a running attempt
-pub runs_inside : (running : Bool) (region : RegionShown) (fits : List ℕ → Type 0) (v : Client) (writes : LogValue) (a : ℕ) → a < (memory_of running region fits v writes).size → running ≡ true
+pub runs_inside : (running : Bool) (region : RegionShown) (fits : List ℕ → Type 0) (v : Client) (writes : LogValue)
+    (a : ℕ) → a < (memory_of running region fits v writes).size → running ≡ true
 runs_inside true region fits v writes a l = refl
 runs_inside false region fits v writes a l = absurd (omega arith)
 
-pub inside : (running : Bool) (region : RegionShown) (fits : List ℕ → Type 0) (v : Client) (writes : LogValue) (a : ℕ) → a < (memory_of running region fits v writes).size → a < region.size
+pub inside : (running : Bool) (region : RegionShown) (fits : List ℕ → Type 0) (v : Client) (writes : LogValue) (a : ℕ) →
+    a < (memory_of running region fits v writes).size → a < region.size
 inside true region fits v writes a l = l
 inside false region fits v writes a l = absurd (omega arith)
 
-pub has_entered : (running : Bool) (region : RegionShown) (fits : List ℕ → Type 0) (v v' : Client) (writes : LogValue) (a x : ℕ) → running ≡ true → get writes.words a ≡ None → HasReadWord v v' a x → StandsOn fits region.size v'.attempt.reads → HasRead (memory_of running region fits v writes) (memory_of running region fits v' writes) a x
+pub has_entered : (running : Bool) (region : RegionShown) (fits : List ℕ → Type 0) (v v' : Client) (writes : LogValue)
+    (a x : ℕ) → running ≡ true → get writes.words a ≡ None → HasReadWord v v' a x →
+    StandsOn fits region.size v'.attempt.reads → HasRead (memory_of running region fits v writes)
+    (memory_of running region fits v' writes) a x
 has_entered true region fits v v' writes a x runs none read stands = record {
   own = λ w e. none_not_some w (sym none ∙ e);
-  entered = λ _. (ap map_of read.reads ∙ with_pairs-append empty v.attempt.reads a x, λ w e. one_value stands.image v.attempt.reads a x w (subst (λ (rs : List (ℕ × ℕ)). Agrees stands.image rs) read.reads stands.agrees) e);
+  entered = λ _. (
+    ap map_of read.reads ∙ with_pairs-append empty v.attempt.reads a x,
+    λ w e. one_value stands.image v.attempt.reads a x w (subst
+        (λ (rs : List (ℕ × ℕ)). Agrees stands.image rs) read.reads stands.agrees) e,
+  );
 }
 has_entered false region fits v v' writes a x runs none read stands = cc
 
-has_entered_now : (runs : Bool) (region : RegionShown) (fits : List ℕ → Type 0) (v v' : Client) (writes : LogValue) (a x : ℕ) → runs ≡ true → get writes.words a ≡ None → HasReadWord v v' a x → StandsOn fits region.size v'.attempt.reads → HasRead (memory_of runs region fits v writes) (memory_of true region fits v' writes) a x
-has_entered_now true region fits v v' writes a x r none read stands = has_entered true region fits v v' writes a x r none read stands
+has_entered_now : (runs : Bool) (region : RegionShown) (fits : List ℕ → Type 0) (v v' : Client) (writes : LogValue)
+    (a x : ℕ) → runs ≡ true → get writes.words a ≡ None → HasReadWord v v' a x →
+    StandsOn fits region.size v'.attempt.reads → HasRead (memory_of runs region fits v writes)
+    (memory_of true region fits v' writes) a x
+has_entered_now true region fits v v' writes a x r none read stands =
+    has_entered true region fits v v' writes a x r none read stands
 has_entered_now false region fits v v' writes a x r none read stands = cc
 
 -- the same, of a memory that tells by its client's phase whether it runs
-pub has_entered_also : (runs runs' : Bool) (region : RegionShown) (fits : List ℕ → Type 0) (v v' : Client) (writes : LogValue) (a x : ℕ) → runs ≡ true → runs' ≡ true → get writes.words a ≡ None → HasReadWord v v' a x → StandsOn fits region.size v'.attempt.reads → HasRead (memory_of runs region fits v writes) (memory_of runs' region fits v' writes) a x
-has_entered_also runs true region fits v v' writes a x r r' none read stands = has_entered_now runs region fits v v' writes a x r none read stands
+pub has_entered_also : (runs runs' : Bool) (region : RegionShown) (fits : List ℕ →
+    Type 0) (v v' : Client) (writes : LogValue) (a x : ℕ) → runs ≡ true → runs' ≡ true → get writes.words a ≡ None →
+    HasReadWord v v' a x → StandsOn fits region.size v'.attempt.reads →
+    HasRead (memory_of runs region fits v writes) (memory_of runs' region fits v' writes) a x
+has_entered_also runs true region fits v v' writes a x r r' none read stands =
+    has_entered_now runs region fits v v' writes a x r none read stands
 has_entered_also runs false region fits v v' writes a x r r' none read stands = cc
 
-pub same_frame : (runs runs' : Bool) (region : RegionShown) (fits : List ℕ → Type 0) (v v' : Client) (writes : LogValue) → runs ≡ true → runs' ≡ true → SameFrame (memory_of runs region fits v writes) (memory_of runs' region fits v' writes)
+pub same_frame : (runs runs' : Bool) (region : RegionShown) (fits : List ℕ → Type 0) (v v' : Client) (writes : LogValue)
+    → runs ≡ true → runs' ≡ true → SameFrame (memory_of runs region fits v writes)
+    (memory_of runs' region fits v' writes)
 same_frame true true region fits v v' writes r r' = record { size = refl; fits = λ image h. h }
 same_frame true false region fits v v' writes r r' = cc
 same_frame false runs' region fits v v' writes r r' = cc
 
-pub same_reads : (runs runs' : Bool) (region : RegionShown) (fits : List ℕ → Type 0) (v v' : Client) (writes : LogValue) → runs ≡ true → runs' ≡ true → v'.attempt.reads ≡ v.attempt.reads → (memory_of runs' region fits v' writes).reads ≡ (memory_of runs region fits v writes).reads
+pub same_reads : (runs runs' : Bool) (region : RegionShown) (fits : List ℕ → Type 0) (v v' : Client) (writes : LogValue)
+    → runs ≡ true → runs' ≡ true → v'.attempt.reads ≡ v.attempt.reads →
+    (memory_of runs' region fits v' writes).reads ≡ (memory_of runs region fits v writes).reads
 same_reads true true region fits v v' writes r r' e = ap map_of e
 same_reads true false region fits v v' writes r r' e = cc
 same_reads false runs' region fits v v' writes r r' e = cc
@@ -82,17 +105,25 @@ none_there w a e = ap (λ (m : Words). get m a) (empty_of_len w e) ∙ get-empty
 -- nothing is placed in an empty log
 pub nothing_placed : (region : RegionShown) (writes : LogValue) → writes ≡ empty_log → IsPlaced region writes
 nothing_placed region writes e =
-    let none : (a : ℕ) → get writes.locks a ≡ None = λ a. ap (λ (w : LogValue). get w.locks a) e ∙ get-empty nat_cmp a in
-    record { lock = λ a k is. none_not_some k (sym (none a) ∙ is); inside = λ a k is. none_not_some k (sym (none a) ∙ is); range = λ a k is. none_not_some k (sym (none a) ∙ is) }
+    let none : (a : ℕ) → get writes.locks a ≡ None = λ a. ap (λ (w : LogValue). get w.locks a) e ∙
+    get-empty nat_cmp a in
+    record {
+      lock = λ a k is. none_not_some k (sym (none a) ∙ is);
+      inside = λ a k is. none_not_some k (sym (none a) ∙ is);
+      range = λ a k is. none_not_some k (sym (none a) ∙ is);
+    }
 
-module _ (region : RegionShown) (w : LogValue) (a x : ℕ) (placed : IsPlaced region w) (inside : a < region.size) (few : stripe_of region.stripes a < region.stripes) where
+module _ (region : RegionShown) (w : LogValue) (a x : ℕ) (placed : IsPlaced region w) (inside : a < region.size)
+    (few : stripe_of region.stripes a < region.stripes) where
   abbrev with_word : LogValue
   with_word = record { words = insert w.words a x; locks = insert w.locks a (stripe_of region.stripes a) }
 
-  placed_lock : (b k : ℕ) → get (insert w.locks a (stripe_of region.stripes a)) b ≡ Some k → k ≡ stripe_of region.stripes b
+  placed_lock : (b k : ℕ) → get (insert w.locks a (stripe_of region.stripes a)) b ≡ Some k →
+      k ≡ stripe_of region.stripes b
   placed_lock b k is =
       elim (same_or b a) [
-        | inl e ↦ (let here : get (insert w.locks a (stripe_of region.stripes a)) b ≡ Some (stripe_of region.stripes a) = rw e (get_here w.locks a (stripe_of region.stripes a)) in
+        | inl e ↦ (let here : get (insert w.locks a (stripe_of region.stripes a)) b ≡ Some
+            (stripe_of region.stripes a) = rw e (get_here w.locks a (stripe_of region.stripes a)) in
             sym (same_some _ _ (sym here ∙ is)) ∙ ap (stripe_of region.stripes) (sym e))
         | inr ne ↦ placed.lock b k (sym (get_other w.locks a _ b ne) ∙ is)
       ]
@@ -107,7 +138,8 @@ module _ (region : RegionShown) (w : LogValue) (a x : ℕ) (placed : IsPlaced re
   placed_range : (b k : ℕ) → get (insert w.locks a (stripe_of region.stripes a)) b ≡ Some k → k < region.stripes
   placed_range b k is =
       elim (same_or b a) [
-        | inl e ↦ (let here : get (insert w.locks a (stripe_of region.stripes a)) b ≡ Some (stripe_of region.stripes a) = rw e (get_here w.locks a (stripe_of region.stripes a)) in
+        | inl e ↦ (let here : get (insert w.locks a (stripe_of region.stripes a)) b ≡ Some
+            (stripe_of region.stripes a) = rw e (get_here w.locks a (stripe_of region.stripes a)) in
             subst (λ (n : ℕ). n < region.stripes) (same_some _ _ (sym here ∙ is)) few)
         | inr ne ↦ placed.range b k (sym (get_other w.locks a _ b ne) ∙ is)
       ]
@@ -115,13 +147,22 @@ module _ (region : RegionShown) (w : LogValue) (a x : ℕ) (placed : IsPlaced re
   pub placed_with : IsPlaced region with_word
   placed_with = record { lock = placed_lock; inside = placed_inside; range = placed_range }
 
-pub placed_put : {E U : Type 0} (r : Result U E) (region : RegionShown) (w w' : LogValue) (a lock x : ℕ) → IsPlaced region w → a < region.size → lock ≡ stripe_of region.stripes a → lock < region.stripes → MatchResult r (λ _. w' ≡ record { words = insert w.words a x; locks = insert w.locks a lock }) (λ _. w' ≡ w) → IsPlaced region w'
+pub placed_put : {E U : Type 0} (r : Result U E) (region : RegionShown) (w w' : LogValue) (a lock x : ℕ) →
+    IsPlaced region w → a < region.size → lock ≡ stripe_of region.stripes a → lock < region.stripes →
+    MatchResult r (λ _. w' ≡ record { words = insert w.words a x; locks = insert w.locks a lock }) (λ _. w' ≡ w) →
+    IsPlaced region w'
 placed_put (Ok u) region w w' a lock x placed inside is few e =
-    subst (λ (o : LogValue). IsPlaced region o) (ap (λ (k : ℕ). record { words = insert w.words a x; locks = insert w.locks a k }) (sym is) ∙ sym e) (placed_with region w a x placed inside (subst (λ (n : ℕ). n < region.stripes) is few))
-placed_put (Err x₁) region w w' a lock x placed inside is few e = subst (λ (o : LogValue). IsPlaced region o) (sym e) placed
+    subst (λ (o : LogValue). IsPlaced region o) (ap (λ (k : ℕ). record {
+      words = insert w.words a x;
+      locks = insert w.locks a k;
+    }) (sym is) ∙
+    sym e) (placed_with region w a x placed inside (subst (λ (n : ℕ). n < region.stripes) is few))
+placed_put (Err x₁) region w w' a lock x placed inside is few e =
+    subst (λ (o : LogValue). IsPlaced region o) (sym e) placed
 
 -- what is logged follows the reads
-pub logged_too : (reads reads' : List (ℕ × ℕ)) (logged logged' : List ℕ) (a x : ℕ) → logged ≡ addresses reads → logged' ≡ logged ++ a ∷ [] → reads' ≡ reads ++ (a, x) ∷ [] → logged' ≡ addresses reads'
+pub logged_too : (reads reads' : List (ℕ × ℕ)) (logged logged' : List ℕ) (a x : ℕ) → logged ≡ addresses reads →
+    logged' ≡ logged ++ a ∷ [] → reads' ≡ reads ++ (a, x) ∷ [] → logged' ≡ addresses reads'
 logged_too reads reads' logged logged' a x is pushed entered =
     pushed ∙ ap (λ (xs : List ℕ). xs ++ a ∷ []) is ∙ sym (one_more reads) ∙ ap addresses (sym entered) where
       one_more : (rs : List (ℕ × ℕ)) → addresses (rs ++ (a, x) ∷ []) ≡ addresses rs ++ a ∷ []

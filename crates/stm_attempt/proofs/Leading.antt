@@ -5,9 +5,15 @@ use Rattle.stm_attempt.specs.Leading.{IsLocal, Leads, IsFitting, KeepsFitting}
 
 module _ (fits : List ℕ → Type 0) where
   pub fitting_local : IsLocal (IsFitting fits)
-  fitting_local m m' n same h = record { image = h.image; fitting = h.fitting; length_is = h.length_is; same = λ a less. h.same a less ∙ sym (same a less) }
+  fitting_local m m' n same h = record {
+    image = h.image;
+    fitting = h.fitting;
+    length_is = h.length_is;
+    same = λ a less. h.same a less ∙ sym (same a less);
+  }
 
-  same_list : (xs ys : List ℕ) → length xs ≡ length ys → ((a : ℕ) → a < length ys → slice_index xs a ≡ slice_index ys a) → xs ≡ ys
+  same_list : (xs ys : List ℕ) → length xs ≡ length ys → ((a : ℕ) → a < length ys →
+      slice_index xs a ≡ slice_index ys a) → xs ≡ ys
   same_list [] [] l same = refl
   same_list [] (y ∷ ys) l same = absurd (omega (arith, l))
   same_list (x ∷ xs) [] l same = absurd (omega (arith, l))
@@ -16,7 +22,9 @@ module _ (fits : List ℕ → Type 0) where
       let tail : xs ≡ ys = same_list xs ys (omega (arith, l)) (λ a less. same (suc a) (omega (arith, less))) in
       rw (head, tail) refl
 
-  pub keeps_fitting : (reads writes : List (ℕ × ℕ)) → Leads fits (IsFitting fits) (IsFitting fits) reads writes → KeepsFitting fits reads writes
+  pub keeps_fitting : (reads writes : List (ℕ × ℕ)) → Leads fits (IsFitting fits) (IsFitting fits) reads writes →
+      KeepsFitting fits reads writes
   keeps_fitting reads writes leads image f agrees =
-      let after = leads image f agrees (record { image = image; fitting = f; length_is = refl; same = λ a less. refl }) in
+      let after = leads image f agrees (record { image = image; fitting = f; length_is = refl; same = λ a less. refl })
+      in
       subst fits (same_list after.image (laid image writes) after.length_is after.same) after.fitting

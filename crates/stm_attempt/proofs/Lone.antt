@@ -12,6 +12,8 @@ pub open_reading : (v : Client) → v.attempt.lone ≡ true → IsReading v.atte
 open_reading v lone reading = (lone, ap is_committed reading.0)
 
 -- a lock word is not held that is free, or the client's own below this lock
-pub none_held : {A : Type 0} (v : Client) (lock word : ℕ) → IsAbove v lock → IsFree word ⊎ Holds v.attempt.held lock → IsHeld word → A
+pub none_held : {A : Type 0} (v : Client) (lock word : ℕ) → IsAbove v lock → IsFree word ⊎ Holds v.attempt.held lock →
+    IsHeld word → A
 none_held v lock word above (inl free) held = absurd (omega (arith, free, held))
-none_held v lock word above (inr own) held = let below : lock < lock = above lock own.0 own.1 in absurd (omega (arith, below))
+none_held v lock word above (inr own) held = let below : lock < lock = above lock own.0 own.1 in
+    absurd (omega (arith, below))

@@ -1,5 +1,7 @@
 -- The parts of a commit put together.
-use Rattle.std.proofs.Common.{◌≡◌, ◌≢◌, ◌⊎◌, ⊎_elim, inl, inr, refl, sym, ap, subst, ◌∙◌, ℕ, zero, suc, ◌+◌, ◌*◌, ◌<◌, ◌≤◌, Bool, true, false, ◌||◌, cond, eqb, List, [], ◌∷◌, ◌++◌, length, length-append, append_assoc, Option, Some, None, Result, Ok, Err, IfOk, IfErr, MatchResult, take, arith}
+use Rattle.std.proofs.Common.{◌≡◌, ◌≢◌, ◌⊎◌, ⊎_elim, inl, inr, refl, sym, ap, subst, ◌∙◌, ℕ, zero, suc, ◌+◌, ◌*◌, ◌<◌}
+use Rattle.std.proofs.Common.{◌≤◌, Bool, true, false, ◌||◌, cond, eqb, List, [], ◌∷◌, ◌++◌, length, length-append}
+use Rattle.std.proofs.Common.{append_assoc, Option, Some, None, Result, Ok, Err, IfOk, IfErr, MatchResult, take, arith}
 use Rattle.std.specs.FinMap.{get, len, len-entries}
 use Rattle.std.proofs.lemmas.Bool.{ne_eqb}
 use Rattle.core.specs.Result.{IsErrAnd}
@@ -18,9 +20,14 @@ use Rattle.stm_region.specs.Findings.{StandsOn, Decides, DecidesAt}
 use Rattle.stm_region.specs.Shown.{RegionShown, unplaced}
 use Rattle.stm_core.specs.Guards.{stripe_of}
 use Rattle.stm_attempt.specs.Begun.{addresses, IsBegun, AreInside}
-use Rattle.stm_attempt.specs.Conflicts.{IsLockConflict, IsValidateConflict, IsTickConflict, IsReadLock, IsCommitConflict}
-use Rattle.stm_attempt.specs.Committing.{IsSameAttempt, settling, ticked_record, commit_record, IsCommitVersion, IsCommitStop, IsCounted, GaveBack, HasCommitted, HasStopped, DecidesWith, WasDecided}
-use Rattle.stm_attempt.specs.CommitParts.{IsReady, CanValidate, returned, is_at_once, HasFailed, HasTaken, IsClimbing, HasFailedLocking, HasFailedDeciding, HasFailedValidating, HasTicked, HasValidated, IsDecided, HasSettled}
+use Rattle.stm_attempt.specs.Conflicts.{IsLockConflict, IsValidateConflict, IsTickConflict, IsReadLock}
+use Rattle.stm_attempt.specs.Conflicts.{IsCommitConflict}
+use Rattle.stm_attempt.specs.Committing.{IsSameAttempt, settling, ticked_record, commit_record, IsCommitVersion}
+use Rattle.stm_attempt.specs.Committing.{IsCommitStop, IsCounted, GaveBack, HasCommitted, HasStopped, DecidesWith}
+use Rattle.stm_attempt.specs.Committing.{WasDecided}
+use Rattle.stm_attempt.specs.CommitParts.{IsReady, CanValidate, returned, is_at_once, HasFailed, HasTaken, IsClimbing}
+use Rattle.stm_attempt.specs.CommitParts.{HasFailedLocking, HasFailedDeciding, HasFailedValidating, HasTicked}
+use Rattle.stm_attempt.specs.CommitParts.{HasValidated, IsDecided, HasSettled}
 use Rattle.stm_attempt.proofs.Named.{apart, same_attempt, same_on}
 use Rattle.stm_attempt.specs.declared.conflict.Conflict.{Conflict}
 use Rattle.stm_attempt.specs.declared.conflict.Conflict.TheVariants.{Held, Newer, Moved, LostLock, LostTick}
@@ -29,23 +36,30 @@ use Rattle.stm_attempt.specs.declared.conflict.Stop.TheVariants.{Memory, Spent, 
 use Rattle.stm_attempt.proofs.Counting.{count_pairs, count_addresses}
 
 -- what was read from an image of the size is inside it
-pub inside_of : (fits : List ℕ → Type 0) (size : ℕ) (reads : List (ℕ × ℕ)) → StandsOn fits size reads → AreInside size reads
+pub inside_of : (fits : List ℕ → Type 0) (size : ℕ) (reads : List (ℕ × ℕ)) → StandsOn fits size reads →
+    AreInside size reads
 inside_of fits size reads s = λ a x i. subst (λ (n : ℕ). a < n) s.length_is (s.agrees a x i).0
 
-pub inside_same : (size : ℕ) (reads reads' : List (ℕ × ℕ)) → reads' ≡ reads → AreInside size reads → AreInside size reads'
+pub inside_same : (size : ℕ) (reads reads' : List (ℕ × ℕ)) → reads' ≡ reads → AreInside size reads →
+    AreInside size reads'
 inside_same size reads reads' e inside = λ a x i. inside a x (subst (λ (rs : List (ℕ × ℕ)). In (a, x) rs) e i)
 
 -- an attempt that took its locks may still commit
-pub still_ready : (region : RegionShown) (v l : Client) (rv : ℕ) → settling l ≡ settling v → IsReady region v rv → IsReady region l rv
+pub still_ready : (region : RegionShown) (v l : Client) (rv : ℕ) → settling l ≡ settling v → IsReady region v rv →
+    IsReady region l rv
 still_ready region v l rv e ready = record {
   out = ap (λ (x : Client). x.is_gathered) e ∙ ready.out;
-  reading = (ap (λ (x : Client). x.attempt.phase) e ∙ ready.reading.0, ap (λ (x : Client). x.attempt.wv) e ∙ ready.reading.1);
+  reading = (
+    ap (λ (x : Client). x.attempt.phase) e ∙ ready.reading.0,
+    ap (λ (x : Client). x.attempt.wv) e ∙ ready.reading.1,
+  );
   begun_at = ap (λ (x : Client). x.attempt.rv) e ∙ ready.begun_at;
   known = ap (λ (x : Client). x.floor) e ∙ ready.known;
   unticked = ap (λ (x : Client). x.attempt.ticks) e ∙ ready.unticked;
   from = ap (λ (x : Client). x.attempt.next_from) e ∙ ready.from;
   range = ready.range;
-  inside = inside_same region.size v.attempt.reads l.attempt.reads (ap (λ (x : Client). x.attempt.reads) e) ready.inside;
+  inside = inside_same region.size v.attempt.reads l.attempt.reads
+      (ap (λ (x : Client). x.attempt.reads) e) ready.inside;
 }
 
 none_read : (reads : List (ℕ × ℕ)) → eqb (length (addresses reads)) 0 ≡ is_empty reads
@@ -56,7 +70,9 @@ some_read : (v : Client) (version : ℕ) → is_at_once v version ≡ false → 
 some_read v version later none = let at_once : is_at_once v version ≡ true = rw none refl in cc
 
 -- a ticked attempt that is not decided may validate its reads
-pub may_validate : (region : RegionShown) (tag : List ℕ) (writes : List (ℕ × ℕ)) (v t : Client) (rv version : ℕ) → HasTicked region tag writes v t version → IsReady region v rv → 0 < version → is_at_once v version ≡ false → CanValidate region t rv
+pub may_validate : (region : RegionShown) (tag : List ℕ) (writes : List (ℕ × ℕ)) (v t : Client) (rv version : ℕ) →
+    HasTicked region tag writes v t version → IsReady region v rv → 0 < version → is_at_once v version ≡ false →
+    CanValidate region t rv
 may_validate region tag writes v t rv version ticked ready less later = record {
   out = ticked.same.is_gathered ∙ ready.out;
   phase = ticked.phase ∙ ap (λ (b : Bool). cond b committed running) later;
@@ -69,12 +85,16 @@ may_validate region tag writes v t rv version ticked ready less later = record {
 }
 
 -- the code's test is whether the tick decides
-pub once_is : (v : Client) (logged : List ℕ) (n rv version : ℕ) → n ≡ length logged → logged ≡ addresses v.attempt.reads → v.attempt.rv ≡ rv → (eqb n 0 || eqb version (rv + 1)) ≡ is_at_once v version
+pub once_is : (v : Client) (logged : List ℕ) (n rv version : ℕ) → n ≡ length logged →
+    logged ≡ addresses v.attempt.reads → v.attempt.rv ≡ rv → (eqb n 0 || eqb version (rv + 1)) ≡ is_at_once v version
 once_is v logged n rv version e l r =
-    let count : eqb n 0 ≡ is_empty v.attempt.reads = ap (λ (k : ℕ). eqb k 0) (e ∙ ap length l) ∙ none_read v.attempt.reads in
+    let count : eqb n 0 ≡ is_empty v.attempt.reads = ap (λ (k : ℕ). eqb k 0) (e ∙ ap length l) ∙
+    none_read v.attempt.reads in
     rw (count, r) refl
 
-module _ (region : RegionShown) (tag : List ℕ) (writes : List (ℕ × ℕ)) (v t : Client) (version : ℕ) (ticked : HasTicked region tag writes v t version) (later : v.attempt.rv < version) (few : t.attempt.steps ≤ v.attempt.steps + 16) where
+module _ (region : RegionShown) (tag : List ℕ) (writes : List (ℕ × ℕ)) (v t : Client) (version : ℕ)
+    (ticked : HasTicked region tag writes v t version) (later : v.attempt.rv < version)
+    (few : t.attempt.steps ≤ v.attempt.steps + 16) where
   pub decided_at_once : is_at_once v version ≡ true → IsDecided region tag writes v t version
   decided_at_once once = record {
     same = ticked.same;
@@ -83,7 +103,8 @@ module _ (region : RegionShown) (tag : List ℕ) (writes : List (ℕ × ℕ)) (v
     known = ticked.known;
     unstored = ticked.unstored;
     phase = ticked.phase ∙ ap (λ (b : Bool). cond b committed running) once;
-    records = ticked.records ∙ ap (λ (b : Bool). cond b (inserted (ticked_record region tag v writes version) v.records) v.records) once;
+    records = ticked.records ∙ ap (λ (b : Bool). cond b (inserted (ticked_record region tag v writes version) v.records)
+        v.records) once;
     later = later;
     steps = omega (arith, few);
   }
@@ -96,9 +117,11 @@ module _ (region : RegionShown) (tag : List ℕ) (writes : List (ℕ × ℕ)) (v
     attempt_same = ticked.same.number
 
     old_records : t.records ≡ v.records
-    old_records = ticked.records ∙ ap (λ (b : Bool). cond b (inserted (ticked_record region tag v writes version) v.records) v.records) not_once
+    old_records = ticked.records ∙ ap (λ (b : Bool). cond b (inserted
+        (ticked_record region tag v writes version) v.records) v.records) not_once
 
-    same_record : ticked_record region t.attempt.tag t t.attempt.writes t.attempt.wv ≡ ticked_record region tag v writes version
+    same_record : ticked_record region t.attempt.tag t t.attempt.writes t.attempt.wv ≡ ticked_record region tag v writes
+        version
     same_record = rw (ticked.tagged, ticked.writing, ticked.versioned, reads_same, attempt_same) refl
 
     pub decided_after_validation : IsDecided region tag writes v d version
@@ -109,51 +132,92 @@ module _ (region : RegionShown) (tag : List ℕ) (writes : List (ℕ × ℕ)) (v
       known = validated.known ∙ ticked.known;
       unstored = validated.unstored;
       phase = validated.phase;
-      records = validated.records ∙ ap (λ (r : Record). inserted r t.records) same_record ∙ ap (inserted (ticked_record region tag v writes version)) old_records;
+      records = validated.records ∙ ap (λ (r : Record). inserted r t.records) same_record ∙
+          ap (inserted (ticked_record region tag v writes version)) old_records;
       later = later;
-      steps = let n : length t.attempt.reads ≡ length v.attempt.reads = ap length reads_same in omega (arith, few, validated.steps, n);
+      steps = let n : length t.attempt.reads ≡ length v.attempt.reads = ap length reads_same in
+          omega (arith, few, validated.steps, n);
     }
 
 -- the record of an attempt that has this tag, these writes and this version
-recorded : (region : RegionShown) (tag : List ℕ) (writes : List (ℕ × ℕ)) (v d : Client) (version : ℕ) → IsSameAttempt v d → d.attempt.tag ≡ tag → d.attempt.writes ≡ writes → d.attempt.wv ≡ version → d.attempt.ticked_at ≡ 0 →
+recorded : (region : RegionShown) (tag : List ℕ) (writes : List (ℕ × ℕ)) (v d : Client) (version : ℕ) →
+    IsSameAttempt v d → d.attempt.tag ≡ tag → d.attempt.writes ≡ writes → d.attempt.wv ≡ version →
+    d.attempt.ticked_at ≡ 0 →
     writer_record (unplaced region.renewal) d.attempt ≡ ticked_record region tag v writes version
-recorded region tag writes v d version same e f g h = let a = same.reads in let b = same.number in λ i. record { tag = e i; reads = a i; writes = f i; writer = true; version = g i; attempt = b i; renewal = region.renewal; point = h i; client = 0 }
+recorded region tag writes v d version same e f g h = let a = same.reads in let b = same.number in
+    λ i. record {
+      tag = e i;
+      reads = a i;
+      writes = f i;
+      writer = true;
+      version = g i;
+      attempt = b i;
+      renewal = region.renewal;
+      point = h i;
+      client = 0;
+    }
 
 -- the deciding step made it: the tick, or the last validation
-pub made_by_tick : (fits : List ℕ → Type 0) (lawful : RecordLaw) (region : RegionShown) (tag : List ℕ) (writes : List (ℕ × ℕ)) (v t : Client) (version : ℕ) → HasTicked region tag writes v t version → decided t ≡ true → Decides fits lawful region t →
+pub made_by_tick : (fits : List ℕ → Type 0) (lawful : RecordLaw) (region : RegionShown) (tag : List ℕ)
+    (writes : List (ℕ × ℕ)) (v t : Client) (version : ℕ) → HasTicked region tag writes v t version → decided t ≡ true →
+    Decides fits lawful region t →
     DecidesWith fits lawful region (ticked_record region tag v writes version) t
-made_by_tick fits lawful region tag writes v t version ticked is k = (k, k.writer is ∙ recorded region tag writes v t version ticked.same ticked.tagged ticked.writing ticked.versioned ticked.unplaced)
+made_by_tick fits lawful region tag writes v t version ticked is k = (
+  k,
+  k.writer is ∙ recorded region tag writes v t version ticked.same ticked.tagged ticked.writing ticked.versioned
+      ticked.unplaced,
+)
 
-pub made_by_validation : (fits : List ℕ → Type 0) (lawful : RecordLaw) (region : RegionShown) (tag : List ℕ) (writes : List (ℕ × ℕ)) (v t d : Client) (version : ℕ) → HasTicked region tag writes v t version → HasValidated region t d → Decides fits lawful region d →
+pub made_by_validation : (fits : List ℕ → Type 0) (lawful : RecordLaw) (region : RegionShown) (tag : List ℕ)
+    (writes : List (ℕ × ℕ)) (v t d : Client) (version : ℕ) → HasTicked region tag writes v t version →
+    HasValidated region t d → Decides fits lawful region d →
     DecidesWith fits lawful region (ticked_record region tag v writes version) d
-made_by_validation fits lawful region tag writes v t d version ticked validated k =
-    (k, k.writer (ap is_committed validated.phase) ∙ recorded region tag writes v d version (same_on v t d ticked.same validated.same) (validated.tagged ∙ ticked.tagged) (validated.writing ∙ ticked.writing) (validated.versioned ∙ ticked.versioned) (validated.unplaced ∙ ticked.unplaced))
+made_by_validation fits lawful region tag writes v t d version ticked validated k = (
+  k,
+  k.writer (ap is_committed validated.phase) ∙ recorded region tag writes v d version
+      (same_on v t d ticked.same validated.same) (validated.tagged ∙ ticked.tagged)
+      (validated.writing ∙ ticked.writing) (validated.versioned ∙ ticked.versioned)
+      (validated.unplaced ∙ ticked.unplaced),
+)
 
 -- or the finish
-pub made_by_finish : (fits : List ℕ → Type 0) (lawful : RecordLaw) (region : RegionShown) (tag : List ℕ) (found : ℕ) (v u : Client) → DecidesAt fits lawful region (finish tag) found v u → DecidesWith fits lawful region (reader_record (unplaced region.renewal) tag v.attempt) u
+pub made_by_finish : (fits : List ℕ → Type 0) (lawful : RecordLaw) (region : RegionShown) (tag : List ℕ) (found : ℕ)
+    (v u : Client) → DecidesAt fits lawful region (finish tag) found v u →
+    DecidesWith fits lawful region (reader_record (unplaced region.renewal) tag v.attempt) u
 made_by_finish fits lawful region tag found v u k =
     let s = unplaced region.renewal in
     let made : Record = k.0.made in
-    let by : decision s (finish tag) found v ≡ made ∷ [] = subst (λ (x : Client). decision s (finish tag) found x ≡ made ∷ []) k.3
-    (subst (λ (n : ℕ). decision s (finish tag) n k.0.was ≡ made ∷ []) k.2 (subst (λ (e : Action). decision s e k.0.word k.0.was ≡ made ∷ []) k.1 k.0.decided_by)) in
+    let by : decision s (finish tag) found v ≡ made ∷ [] = subst
+    (λ (x : Client). decision s (finish tag) found x ≡ made ∷ []) k.3
+    (subst (λ (n : ℕ). decision s (finish tag) n k.0.was ≡ made ∷ []) k.2
+    (subst (λ (e : Action). decision s e k.0.word k.0.was ≡ made ∷ []) k.1 k.0.decided_by)) in
     (k.0, sym (some-injective (reader_record s tag v.attempt) made (ap (λ (rs : List Record). get_elem? rs 0) by)))
 
-pub finished_by : (fits : List ℕ → Type 0) (lawful : RecordLaw) (region : RegionShown) (tag : List ℕ) (writes : List (ℕ × ℕ)) (found version : ℕ) (v u w : Client) → writes ≡ [] → DecidesAt fits lawful region (finish tag) found v u → w ≡ u → WasDecided fits lawful region (commit_record region tag v writes version) w
+pub finished_by : (fits : List ℕ → Type 0) (lawful : RecordLaw) (region : RegionShown) (tag : List ℕ)
+    (writes : List (ℕ × ℕ)) (found version : ℕ) (v u w : Client) → writes ≡ [] →
+    DecidesAt fits lawful region (finish tag) found v u → w ≡ u →
+    WasDecided fits lawful region (commit_record region tag v writes version) w
 finished_by fits lawful region tag writes found version v u w none k e =
     let d = made_by_finish fits lawful region tag found v u k in
     subst (λ (ps : List (ℕ × ℕ)). WasDecided fits lawful region (commit_record region tag v ps version) w) (sym none)
     (record { then = u; same = ap settling e; decides = d.0; made = d.1 })
 
 -- whether a ticked attempt is decided
-pub decided_so : (region : RegionShown) (tag : List ℕ) (writes : List (ℕ × ℕ)) (v t : Client) (version : ℕ) → HasTicked region tag writes v t version → is_at_once v version ≡ true → decided t ≡ true
-decided_so region tag writes v t version ticked once = ap is_committed (ticked.phase ∙ ap (λ (b : Bool). cond b committed running) once)
+pub decided_so : (region : RegionShown) (tag : List ℕ) (writes : List (ℕ × ℕ)) (v t : Client) (version : ℕ) →
+    HasTicked region tag writes v t version → is_at_once v version ≡ true → decided t ≡ true
+decided_so region tag writes v t version ticked once = ap is_committed
+    (ticked.phase ∙ ap (λ (b : Bool). cond b committed running) once)
 
-pub not_decided : {A : Type 0} (region : RegionShown) (tag : List ℕ) (writes : List (ℕ × ℕ)) (v t : Client) (version : ℕ) → HasTicked region tag writes v t version → is_at_once v version ≡ false → decided t ≡ true → A
+pub not_decided : {A : Type 0} (region : RegionShown) (tag : List ℕ) (writes : List (ℕ × ℕ)) (v t : Client)
+    (version : ℕ) → HasTicked region tag writes v t version → is_at_once v version ≡ false → decided t ≡ true → A
 not_decided region tag writes v t version ticked later is =
-    let still : decided t ≡ false = ap is_committed (ticked.phase ∙ ap (λ (b : Bool). cond b committed running) later) in cc
+    let still : decided t ≡ false = ap is_committed (ticked.phase ∙ ap (λ (b : Bool). cond b committed running) later)
+    in cc
 
 -- the tick was not won
-pub failed_ticking : (region : RegionShown) (log : LogValue) (stop : Stop) (v t : Client) → HasFailed v t → IsCommitStop region log stop t → IsCounted stop v.attempt.steps t → t.attempt.steps ≤ v.attempt.steps + 16 → HasFailedDeciding region log stop v t
+pub failed_ticking : (region : RegionShown) (log : LogValue) (stop : Stop) (v t : Client) → HasFailed v t →
+    IsCommitStop region log stop t → IsCounted stop v.attempt.steps t → t.attempt.steps ≤ v.attempt.steps + 16 →
+    HasFailedDeciding region log stop v t
 failed_ticking region log stop v t failed shown counted few = record {
   same = failed.same;
   records = failed.records;
@@ -166,21 +230,27 @@ failed_ticking region log stop v t failed shown counted few = record {
 }
 
 -- the tick was won, and then a read was not valid
-pub failed_validating : (region : RegionShown) (tag : List ℕ) (writes : List (ℕ × ℕ)) (log : LogValue) (c : Conflict) (v t d : Client) (rv version : ℕ) → HasTicked region tag writes v t version → v.floor ≡ rv → rv < version → is_at_once v version ≡ false → t.attempt.steps ≤ v.attempt.steps + 16 →
-    HasFailedValidating t d → IsCommitConflict (stripe_of region.stripes) log c d → HasFailedDeciding region log (Conflicting c) v d
+pub failed_validating : (region : RegionShown) (tag : List ℕ) (writes : List (ℕ × ℕ)) (log : LogValue) (c : Conflict)
+    (v t d : Client) (rv version : ℕ) → HasTicked region tag writes v t version → v.floor ≡ rv → rv < version →
+    is_at_once v version ≡ false → t.attempt.steps ≤ v.attempt.steps + 16 →
+    HasFailedValidating t d → IsCommitConflict (stripe_of region.stripes) log c d →
+    HasFailedDeciding region log (Conflicting c) v d
 failed_validating region tag writes log c v t d rv version ticked known less later few failed shown = record {
   same = same_on v t d ticked.same failed.same;
-  records = failed.records ∙ ticked.records ∙ ap (λ (b : Bool). cond b (inserted (ticked_record region tag v writes version) v.records) v.records) later;
+  records = failed.records ∙ ticked.records ∙ ap (λ (b : Bool). cond b
+      (inserted (ticked_record region tag v writes version) v.records) v.records) later;
   held = failed.held ∙ ticked.held;
   floor = let a = failed.floor in let b = ticked.known in omega (arith, a, b, known, less);
   able = failed.able;
   shown = shown;
   counted = tt;
-  steps = let n : length t.attempt.reads ≡ length v.attempt.reads = ap length ticked.same.reads in let up = failed.steps in omega (arith, few, up, n);
+  steps = let n : length t.attempt.reads ≡ length v.attempt.reads = ap length ticked.same.reads in let up =
+      failed.steps in omega (arith, few, up, n);
 }
 
 -- no lock was taken yet
-pub climbing_none : (v : Client) (taken : ℕ) (rest all : List ℕ) → v.attempt.held ≡ [] → taken ≡ 0 → rest ≡ all → IsClimbing v v taken rest all
+pub climbing_none : (v : Client) (taken : ℕ) (rest all : List ℕ) → v.attempt.held ≡ [] → taken ≡ 0 → rest ≡ all →
+    IsClimbing v v taken rest all
 climbing_none v taken rest all none zero_taken e = record {
   same = refl;
   stored = refl;
@@ -196,8 +266,11 @@ module _ (v w d : Client) (taken : ℕ) (left all : List ℕ) (climbing : IsClim
   climbing_on k rest next more = record {
     same = more.same ∙ climbing.same;
     stored = more.stored ∙ climbing.stored;
-    held = ap (λ (xs : List ℕ). xs ++ rest) more.held ∙ append_assoc (addresses w.attempt.held) (k ∷ []) rest ∙ ap (λ (xs : List ℕ). addresses w.attempt.held ++ xs) (sym next) ∙ climbing.held;
-    count = let a = climbing.count in let b : length (addresses d.attempt.held) ≡ length (addresses w.attempt.held ++ k ∷ []) = ap length more.held in let n = length-append (addresses w.attempt.held) (k ∷ []) in omega (arith, a, b, n);
+    held = ap (λ (xs : List ℕ). xs ++ rest) more.held ∙ append_assoc (addresses w.attempt.held) (k ∷ []) rest ∙
+        ap (λ (xs : List ℕ). addresses w.attempt.held ++ xs) (sym next) ∙ climbing.held;
+    count = let a = climbing.count in let b : length (addresses d.attempt.held) ≡ length
+        (addresses w.attempt.held ++ k ∷ []) = ap length more.held in let n =
+        length-append (addresses w.attempt.held) (k ∷ []) in omega (arith, a, b, n);
     won = λ _. more.won;
     steps = let a = climbing.steps in let b = more.steps in omega (arith, a, b);
   }
@@ -250,7 +323,8 @@ pub nothing_answered : {X E : Type 0} (r : Result X E) (e : E) (P : X → Type 0
 nothing_answered (Ok x) e P is = absurd is
 nothing_answered (Err f) e P is = tt
 
-pub handed_on_of : {X E : Type 0} (r : Result X E) (e : E) (P : X → Type 0) (Q : E → Type 0) → IsErrAnd r (λ f. f ≡ e) → Q e → MatchResult r P Q
+pub handed_on_of : {X E : Type 0} (r : Result X E) (e : E) (P : X → Type 0) (Q : E → Type 0) → IsErrAnd r (λ f. f ≡ e) →
+    Q e → MatchResult r P Q
 handed_on_of (Ok x) e P Q is holds = absurd is
 handed_on_of (Err f) e P Q is holds = subst Q (sym is) holds
 
@@ -275,11 +349,13 @@ pub err_not_ok : {X E A : Type 0} (r : Result X E) (e : E) → r ≡ Err e → i
 err_not_ok (Ok x) e same is = cc
 err_not_ok (Err f) e same is = cc
 
-record_of_writer : (region : RegionShown) (tag : List ℕ) (v : Client) (writes : List (ℕ × ℕ)) (version : ℕ) → writes ≢ [] → ticked_record region tag v writes version ≡ commit_record region tag v writes version
+record_of_writer : (region : RegionShown) (tag : List ℕ) (v : Client) (writes : List (ℕ × ℕ)) (version : ℕ) →
+    writes ≢ [] → ticked_record region tag v writes version ≡ commit_record region tag v writes version
 record_of_writer region tag v [] version some = absurd (some refl)
 record_of_writer region tag v (p ∷ ps) version some = refl
 
-version_of_writer : (v : Client) (writes : List (ℕ × ℕ)) (version : ℕ) → writes ≢ [] → v.attempt.rv < version → IsCommitVersion v writes version
+version_of_writer : (v : Client) (writes : List (ℕ × ℕ)) (version : ℕ) → writes ≢ [] → v.attempt.rv < version →
+    IsCommitVersion v writes version
 version_of_writer v [] version some later = absurd (some refl)
 version_of_writer v (p ∷ ps) version some later = later
 
@@ -289,48 +365,65 @@ short (suc n) [] = omega arith
 short (suc n) (x ∷ xs) = let l = short n xs in omega (arith, l)
 
 -- the record of a commit, told of the client that has taken its locks
-pub record_on : (region : RegionShown) (tag : List ℕ) (writes : List (ℕ × ℕ)) (v l : Client) (version : ℕ) → settling l ≡ settling v → writes ≢ [] → ticked_record region tag l writes version ≡ commit_record region tag v writes version
+pub record_on : (region : RegionShown) (tag : List ℕ) (writes : List (ℕ × ℕ)) (v l : Client) (version : ℕ) →
+    settling l ≡ settling v → writes ≢ [] → ticked_record region tag l writes version ≡ commit_record region tag v
+    writes version
 record_on region tag writes v l version locked some =
     let reads : l.attempt.reads ≡ v.attempt.reads = ap (λ (x : Client). x.attempt.reads) locked in
     let attempt : l.attempt.number ≡ v.attempt.number = ap (λ (x : Client). x.attempt.number) locked in
-    let same : ticked_record region tag l writes version ≡ ticked_record region tag v writes version = rw (reads, attempt) refl in
+    let same : ticked_record region tag l writes version ≡ ticked_record region tag v writes version =
+    rw (reads, attempt) refl in
     same ∙ record_of_writer region tag v writes version some
 
 -- the first of the parts left the client as it was but for its locks
-module _ (region : RegionShown) (tag : List ℕ) (writes : List (ℕ × ℕ)) (v l d e : Client) (version : ℕ) (locked : settling l ≡ settling v) (decided : IsDecided region tag writes l d version) (settled : HasSettled d e) (some : writes ≢ []) where
+module _ (region : RegionShown) (tag : List ℕ) (writes : List (ℕ × ℕ)) (v l d e : Client) (version : ℕ)
+    (locked : settling l ≡ settling v) (decided : IsDecided region tag writes l d version) (settled : HasSettled d e)
+    (some : writes ≢ []) where
   record_same : ticked_record region tag l writes version ≡ commit_record region tag v writes version
   record_same = record_on region tag writes v l version locked some
 
   pub has_committed : HasCommitted region tag writes v e version
   has_committed = record {
-    records = ap (λ (x : Client). x.records) settled.same ∙ decided.records ∙ ap (λ (r : Record). inserted r l.records) record_same ∙ ap (λ (x : Client). inserted (commit_record region tag v writes version) x.records) locked;
-    versioned = version_of_writer v writes version some (subst (λ (n : ℕ). n < version) (ap (λ (x : Client). x.attempt.rv) locked) decided.later);
+    records = ap (λ (x : Client). x.records) settled.same ∙ decided.records ∙
+        ap (λ (r : Record). inserted r l.records) record_same ∙
+        ap (λ (x : Client). inserted (commit_record region tag v writes version) x.records) locked;
+    versioned = version_of_writer v writes version some (subst (λ (n : ℕ). n < version)
+        (ap (λ (x : Client). x.attempt.rv) locked) decided.later);
     known = ap (λ (x : Client). x.floor) settled.same ∙ decided.known;
     free = settled.free;
-    same = same_on v l e (same_attempt v l (ap apart locked)) (same_on l d e decided.same (same_attempt d e (ap apart settled.same)));
+    same = same_on v l e (same_attempt v l (ap apart locked))
+        (same_on l d e decided.same (same_attempt d e (ap apart settled.same)));
     steps = λ none. absurd (some none);
   }
 
-  module _ (w : LogValue) (taken : ℕ) (pairs : writes ≡ log_pairs w) (addressed : SameAddresses w) (holds : addresses l.attempt.held ≡ take taken (log_locks w)) (all : taken ≡ length (log_locks w)) (stepped : l.attempt.steps ≡ v.attempt.steps + 2 * taken) where
+  module _ (w : LogValue) (taken : ℕ) (pairs : writes ≡ log_pairs w) (addressed : SameAddresses w)
+      (holds : addresses l.attempt.held ≡ take taken (log_locks w)) (all : taken ≡ length (log_locks w))
+      (stepped : l.attempt.steps ≡ v.attempt.steps + 2 * taken) where
     pub steps_committed : e.attempt.steps ≤ v.attempt.steps + length v.attempt.reads + 4 * len w.words + MOST_TICKS
     steps_committed =
         let few = locks_few w addressed in
         let words : length d.attempt.writes ≡ len w.words = ap length (decided.writing ∙ pairs) ∙ count_pairs w in
-        let locks : length d.attempt.held ≤ length (log_locks w) = subst (λ (n : ℕ). n ≤ length (log_locks w)) (sym (ap length holds) ∙ count_addresses l.attempt.held ∙ ap length (sym decided.held)) (short taken (log_locks w)) in
-        let reads : length l.attempt.reads ≡ length v.attempt.reads = ap (λ (x : Client). length x.attempt.reads) locked in
+        let locks : length d.attempt.held ≤ length (log_locks w) =
+        subst (λ (n : ℕ). n ≤ length (log_locks w)) (sym (ap length holds) ∙ count_addresses l.attempt.held ∙
+        ap length (sym decided.held)) (short taken (log_locks w)) in
+        let reads : length l.attempt.reads ≡ length v.attempt.reads =
+        ap (λ (x : Client). length x.attempt.reads) locked in
         omega (arith, few, words, locks, reads, settled.steps, decided.steps, stepped, all)
 
 -- a conflict stays shown where locks are given back
-lock_kept : (k : ℕ) (c : Conflict) (l g : Client) → returned g ≡ returned l → IsLockConflict k c l → IsLockConflict k c g
+lock_kept : (k : ℕ) (c : Conflict) (l g : Client) → returned g ≡ returned l → IsLockConflict k c l →
+    IsLockConflict k c g
 lock_kept k (Held lock word) l g e i = subst (λ (x : Client). IsLockConflict k (Held lock word) x) (sym e) i
 lock_kept k (Newer lock version rv) l g e i = absurd i
 lock_kept k (Moved lock first second) l g e i = absurd i
 lock_kept k (LostLock lock found) l g e i = subst (λ (x : Client). IsLockConflict k (LostLock lock found) x) (sym e) i
 lock_kept k (LostTick found) l g e i = absurd i
 
-validate_kept : (k : ℕ) (c : Conflict) (l g : Client) → returned g ≡ returned l → IsValidateConflict k c l → IsValidateConflict k c g
+validate_kept : (k : ℕ) (c : Conflict) (l g : Client) → returned g ≡ returned l → IsValidateConflict k c l →
+    IsValidateConflict k c g
 validate_kept k (Held lock word) l g e i = subst (λ (x : Client). IsValidateConflict k (Held lock word) x) (sym e) i
-validate_kept k (Newer lock version rv) l g e i = subst (λ (x : Client). IsValidateConflict k (Newer lock version rv) x) (sym e) i
+validate_kept k (Newer lock version rv) l g e i = subst (λ (x : Client). IsValidateConflict k (Newer lock version rv) x)
+    (sym e) i
 validate_kept k (Moved lock first second) l g e i = absurd i
 validate_kept k (LostLock lock found) l g e i = absurd i
 validate_kept k (LostTick found) l g e i = absurd i
@@ -342,12 +435,18 @@ tick_kept (Moved lock first second) l g e i = absurd i
 tick_kept (LostLock lock found) l g e i = absurd i
 tick_kept (LostTick found) l g e i = subst (λ (x : Client). IsTickConflict (LostTick found) x) (sym e) i
 
-conflict_kept : (lk : ℕ → ℕ) (log : LogValue) (c : Conflict) (l g : Client) → returned g ≡ returned l → IsCommitConflict lk log c l → IsCommitConflict lk log c g
+conflict_kept : (lk : ℕ → ℕ) (log : LogValue) (c : Conflict) (l g : Client) → returned g ≡ returned l →
+    IsCommitConflict lk log c l → IsCommitConflict lk log c g
 conflict_kept lk log c l g e (inl (k, own, i)) = inl (k, own, lock_kept k c l g e i)
-conflict_kept lk log c l g e (inr (inl (k, own, i))) = inr (inl (k, subst (λ (x : Client). IsReadLock lk x.attempt.reads k) (sym e) own, validate_kept k c l g e i))
+conflict_kept lk log c l g e (inr (inl (k, own, i))) = inr (inl (
+  k,
+  subst (λ (x : Client). IsReadLock lk x.attempt.reads k) (sym e) own,
+  validate_kept k c l g e i,
+))
 conflict_kept lk log c l g e (inr (inr i)) = inr (inr (tick_kept c l g e i))
 
-stop_kept : (region : RegionShown) (log : LogValue) (stop : Stop) (l g : Client) → returned g ≡ returned l → IsCommitStop region log stop l → IsCommitStop region log stop g
+stop_kept : (region : RegionShown) (log : LogValue) (stop : Stop) (l g : Client) → returned g ≡ returned l →
+    IsCommitStop region log stop l → IsCommitStop region log stop g
 stop_kept region log Memory l g e i = absurd i
 stop_kept region log (Conflicting c) l g e i = conflict_kept (stripe_of region.stripes) log c l g e i
 stop_kept region log (Spent version) l g e i = (
@@ -360,10 +459,13 @@ stop_kept region log (Spent version) l g e i = (
 )
 
 -- the steps of a spent clock are counted on where so many locks are given back
-counted_kept : (stop : Stop) (locks : ℕ) (v l f g : Client) → l.attempt.steps ≡ v.attempt.steps + 2 * locks → returned g ≡ returned f → g.attempt.steps ≡ f.attempt.steps + locks → IsCounted stop l.attempt.steps f → IsCounted stop (v.attempt.steps + 3 * locks) g
+counted_kept : (stop : Stop) (locks : ℕ) (v l f g : Client) → l.attempt.steps ≡ v.attempt.steps + 2 * locks →
+    returned g ≡ returned f → g.attempt.steps ≡ f.attempt.steps + locks → IsCounted stop l.attempt.steps f →
+    IsCounted stop (v.attempt.steps + 3 * locks) g
 counted_kept Memory locks v l f g up back down i = tt
 counted_kept (Conflicting c) locks v l f g up back down i = tt
-counted_kept (Spent version) locks v l f g up back down i = let ticks : g.attempt.ticks ≡ f.attempt.ticks = ap (λ (x : Client). x.attempt.ticks) back in omega (arith, up, down, ticks, i)
+counted_kept (Spent version) locks v l f g up back down i = let ticks : g.attempt.ticks ≡ f.attempt.ticks =
+    ap (λ (x : Client). x.attempt.ticks) back in omega (arith, up, down, ticks, i)
 
 gave_back_at : (stop : Stop) (g : Client) → g.attempt.gave_back ≡ true → GaveBack stop g
 gave_back_at Memory g gave = tt
@@ -393,7 +495,9 @@ some_locks w some same =
 
 module _ (region : RegionShown) (log : LogValue) (v l : Client) (some : log_pairs log ≢ []) where
   -- a lock was not taken, and all others were given back
-  pub stopped_locking : (c : Conflict) (g : Client) (taken : ℕ) → HasFailedLocking v l taken → IsCommitConflict (stripe_of region.stripes) log c l → returned g ≡ returned l → g.attempt.held ≡ [] → HasStopped region log (Conflicting c) v g
+  pub stopped_locking : (c : Conflict) (g : Client) (taken : ℕ) → HasFailedLocking v l taken →
+      IsCommitConflict (stripe_of region.stripes) log c l → returned g ≡ returned l → g.attempt.held ≡ [] →
+      HasStopped region log (Conflicting c) v g
   stopped_locking c g taken failed shown back free = record {
     written = some;
     shown = conflict_kept (stripe_of region.stripes) log c l g back shown;
@@ -406,20 +510,27 @@ module _ (region : RegionShown) (log : LogValue) (v l : Client) (some : log_pair
   }
 
   -- the attempt was not decided, and all locks were given back
-  pub stopped_deciding : (stop : Stop) (f g : Client) → settling l ≡ settling v → l.attempt.steps ≡ v.attempt.steps + 2 * length (log_locks log) → HasFailedDeciding region log stop l f → returned g ≡ returned f → g.attempt.steps ≡ f.attempt.steps + length (log_locks log) → g.attempt.gave_back ≡ true → g.attempt.held ≡ [] → HasStopped region log stop v g
+  pub stopped_deciding : (stop : Stop) (f g : Client) → settling l ≡ settling v →
+      l.attempt.steps ≡ v.attempt.steps + 2 * length (log_locks log) → HasFailedDeciding region log stop l f →
+      returned g ≡ returned f → g.attempt.steps ≡ f.attempt.steps + length (log_locks log) →
+      g.attempt.gave_back ≡ true → g.attempt.held ≡ [] → HasStopped region log stop v g
   stopped_deciding stop f g locked up failed back down gave free = record {
     gave_back = gave_back_at stop g gave;
     written = some;
     shown = stop_kept region log stop f g back failed.shown;
     counted = counted_kept stop (length (log_locks log)) v l f g up back down failed.counted;
     free = free;
-    floor = let a : g.floor ≡ f.floor = ap (λ (x : Client). x.floor) back in let b : l.floor ≡ v.floor = ap (λ (x : Client). x.floor) locked in omega (arith, a, b, failed.floor);
-    same = same_on v l g (same_attempt v l (ap apart locked)) (same_on l f g failed.same (same_attempt f g (ap apart back)));
+    floor = let a : g.floor ≡ f.floor = ap (λ (x : Client). x.floor) back in let b : l.floor ≡ v.floor =
+        ap (λ (x : Client). x.floor) locked in omega (arith, a, b, failed.floor);
+    same = same_on v l g (same_attempt v l (ap apart locked))
+        (same_on l f g failed.same (same_attempt f g (ap apart back)));
     records = ap (λ (x : Client). x.records) back ∙ failed.records ∙ ap (λ (x : Client). x.records) locked;
   }
 
 -- an attempt that wrote nothing is finished as a reader
-pub has_finished : (region : RegionShown) (tag : List ℕ) (writes : List (ℕ × ℕ)) (v e : Client) (rv found : ℕ) → writes ≡ [] → IsBegun v rv → e ≡ after (unplaced region.renewal) (stripe_of region.stripes) (finish tag) found v → HasCommitted region tag writes v e rv
+pub has_finished : (region : RegionShown) (tag : List ℕ) (writes : List (ℕ × ℕ)) (v e : Client) (rv found : ℕ) →
+    writes ≡ [] → IsBegun v rv → e ≡ after (unplaced region.renewal) (stripe_of region.stripes) (finish tag) found v →
+    HasCommitted region tag writes v e rv
 has_finished region tag [] v e rv found none begun is = record {
   records = ap (λ (x : Client). x.records) is;
   versioned = sym begun.begun_at;

@@ -1,5 +1,6 @@
 -- Locks that are released after the stores.
-use Rattle.std.proofs.Common.{◌≡◌, false, sym, ap, subst, ◌∙◌, ℕ, suc, ◌+◌, ◌-◌, List, [], ◌∷◌, ◌++◌, append_assoc, length, take, arith, Some}
+use Rattle.std.proofs.Common.{◌≡◌, false, sym, ap, subst, ◌∙◌, ℕ, suc, ◌+◌, ◌-◌, List, [], ◌∷◌, ◌++◌, append_assoc}
+use Rattle.std.proofs.Common.{length, take, arith, Some}
 use Rattle.std.proofs.Math.Seq.{take-length}
 use Rattle.std.specs.FinMap.{get}
 use Rattle.tx_memory.specs.Image.{In}
@@ -24,23 +25,27 @@ pub record IsReleasing (v v' : Client) (rest all : List ℕ) : Type 0 where
   pub held : addresses v'.attempt.held ≡ rest
   pub steps : v'.attempt.steps + length rest ≡ v.attempt.steps + length v.attempt.held
 
-module _ (lawful : RecordLaw) (t : Stamp) (lk : ℕ → ℕ) (b : Bounds) (w : LogValue) (v0 v : Client) (k : ℕ) (now rest : List ℕ) (releasing : IsReleasing v0 v now (log_locks w)) (next : now ≡ k ∷ rest) where
+module _ (lawful : RecordLaw) (t : Stamp) (lk : ℕ → ℕ) (b : Bounds) (w : LogValue) (v0 v : Client) (k : ℕ)
+    (now rest : List ℕ) (releasing : IsReleasing v0 v now (log_locks w)) (next : now ≡ k ∷ rest) where
   order : releasing.gone ++ k ∷ rest ≡ log_locks w
   order = ap (λ (xs : List ℕ). releasing.gone ++ xs) (sym next) ∙ releasing.order
 
   rises : Rising (λ (x : ℕ). x) (k ∷ rest)
-  rises = rising_behind releasing.gone (k ∷ rest) (subst (λ (xs : List ℕ). Rising (λ (x : ℕ). x) xs) (sym order) (locks_rise w))
+  rises = rising_behind releasing.gone (k ∷ rest) (subst (λ (xs : List ℕ). Rising (λ (x : ℕ). x) xs) (sym order)
+      (locks_rise w))
 
   first : Holds v.attempt.held k × (addresses (without v.attempt.held k) ≡ rest)
   first =
-      let given = gives_first v.attempt.held k (suc (length rest)) rest (λ e. absurd (omega arith)) (releasing.held ∙ next ∙ ap (λ (xs : List ℕ). k ∷ xs) (sym (take-length rest))) rises in
+      let given = gives_first v.attempt.held k (suc (length rest)) rest (λ e. absurd (omega arith))
+      (releasing.held ∙ next ∙ ap (λ (xs : List ℕ). k ∷ xs) (sym (take-length rest))) rises in
       let one : suc (length rest) - 1 ≡ length rest = omega arith in
       (given.0, given.1 ∙ ap (λ (n : ℕ). take n rest) one ∙ take-length rest)
 
   pub release_logged : (a : ℕ) × (get w.locks a ≡ Some k)
   release_logged = locks_in w k (subst (λ (xs : List ℕ). Among k xs) order (among_middle releasing.gone k rest))
 
-  pub may_release : (v0.is_gathered ≡ false) × (v0.attempt.phase ≡ committed) → IsAllStored v0 → May lawful lk b (release k) v
+  pub may_release : (v0.is_gathered ≡ false) × (v0.attempt.phase ≡ committed) → IsAllStored v0 →
+      May lawful lk b (release k) v
   may_release decided stored =
       let writes : v.attempt.writes ≡ v0.attempt.writes = ap (λ (x : Client). x.attempt.writes) releasing.same in
       let kept : v.attempt.stored ≡ v0.attempt.stored = releasing.stored in (
@@ -48,7 +53,8 @@ module _ (lawful : RecordLaw) (t : Stamp) (lk : ℕ → ℕ) (b : Bounds) (w : L
         may_act_so lk lawful b v.attempt (release k) (
           ap (λ (x : Client). x.attempt.phase) releasing.same ∙ decided.1,
           first.0,
-          λ a is written. subst (In a) (sym kept) (stored a (ap (λ (ps : List (ℕ × ℕ)). writes_to ps a) (sym writes) ∙ written)),
+          λ a is written. subst (In a) (sym kept) (stored a (ap (λ (ps : List (ℕ × ℕ)). writes_to ps a) (sym writes) ∙
+              written)),
         ),
       )
 

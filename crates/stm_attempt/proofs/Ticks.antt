@@ -1,5 +1,6 @@
 -- Ticks that were lost, and the one that is won.
-use Rattle.std.proofs.Common.{◌≡◌, ◌≢◌, ◌⊎◌, inl, inr, zero, suc, refl, sym, ap, ◌∙◌, ℕ, ◌+◌, ◌<◌, Bool, true, false, cond, List, eq-eqb, arith}
+use Rattle.std.proofs.Common.{◌≡◌, ◌≢◌, ◌⊎◌, inl, inr, zero, suc, refl, sym, ap, ◌∙◌, ℕ, ◌+◌, ◌<◌, Bool, true, false}
+use Rattle.std.proofs.Common.{cond, List, eq-eqb, arith}
 use Rattle.std.proofs.lemmas.Bool.{ne_eqb}
 use Rattle.stm_core.specs.Client.{Client, running, committed, is_committed, ticked, inserted}
 use Rattle.stm_core.specs.Event.{tick, after, won, versioned, committed_by, stepping, with_ticks, forgetting}
@@ -25,12 +26,15 @@ pub record IsTicking (v v' : Client) (count from : ℕ) : Type 0 where
   pub unlost : count ≡ 0 → v'.attempt.last ≡ v.attempt.last
 
 -- the tick was won
-module _ (region : RegionShown) (tag : List ℕ) (writes : List (ℕ × ℕ)) (v w : Client) (count from : ℕ) (ticking : IsTicking v w count from) (reading : IsReading v.attempt) where
+module _ (region : RegionShown) (tag : List ℕ) (writes : List (ℕ × ℕ)) (v w : Client) (count from : ℕ)
+    (ticking : IsTicking v w count from) (reading : IsReading v.attempt) where
   abbrev with_version : Client
   with_version = versioned (unplaced region.renewal) (from + 1) tag writes w
 
   -- the same by whether it decides
-  won_by : (d : Bool) (v' : Client) → v' ≡ with_ticks (w.attempt.ticks + 1) from (stepping (ticked from from) (cond d (committed_by (unplaced region.renewal) with_version) with_version)) → d ≡ is_at_once v (from + 1) → HasTicked region tag writes v v' (from + 1)
+  won_by : (d : Bool) (v' : Client) → v' ≡ with_ticks (w.attempt.ticks + 1) from
+      (stepping (ticked from from) (cond d (committed_by (unplaced region.renewal) with_version) with_version)) →
+      d ≡ is_at_once v (from + 1) → HasTicked region tag writes v v' (from + 1)
   won_by true v' stepped at_once = record {
     same = same_attempt v v' (ap apart stepped ∙ ap apart ticking.same);
     held = ap (λ (x : Client). x.attempt.held) stepped ∙ ap (λ (x : Client). x.attempt.held) ticking.same;
@@ -42,7 +46,9 @@ module _ (region : RegionShown) (tag : List ℕ) (writes : List (ℕ × ℕ)) (v
     unvalidated = ap (λ (x : Client). x.attempt.passed) stepped;
     unplaced = ap (λ (x : Client). x.attempt.ticked_at) stepped;
     phase = ap (λ (x : Client). x.attempt.phase) stepped ∙ ap (λ (t : Bool). cond t committed running) at_once;
-    records = ap (λ (x : Client). x.records) stepped ∙ ap (λ (x : Client). inserted (ticked_record region tag x writes (from + 1)) x.records) ticking.same ∙ ap (λ (t : Bool). cond t (inserted (ticked_record region tag v writes (from + 1)) v.records) v.records) at_once;
+    records = ap (λ (x : Client). x.records) stepped ∙ ap (λ (x : Client). inserted
+        (ticked_record region tag x writes (from + 1)) x.records) ticking.same ∙
+        ap (λ (t : Bool). cond t (inserted (ticked_record region tag v writes (from + 1)) v.records) v.records) at_once;
   }
   won_by false v' stepped at_once = record {
     same = same_attempt v v' (ap apart stepped ∙ ap apart ticking.same);
@@ -54,12 +60,18 @@ module _ (region : RegionShown) (tag : List ℕ) (writes : List (ℕ × ℕ)) (v
     unstored = ap (λ (x : Client). x.attempt.stored) stepped;
     unvalidated = ap (λ (x : Client). x.attempt.passed) stepped;
     unplaced = ap (λ (x : Client). x.attempt.ticked_at) stepped;
-    phase = ap (λ (x : Client). x.attempt.phase) stepped ∙ ap (λ (x : Client). x.attempt.phase) ticking.same ∙ reading.0 ∙ ap (λ (t : Bool). cond t committed running) at_once;
-    records = ap (λ (x : Client). x.records) stepped ∙ ap (λ (x : Client). x.records) ticking.same ∙ ap (λ (t : Bool). cond t (inserted (ticked_record region tag v writes (from + 1)) v.records) v.records) at_once;
+    phase = ap (λ (x : Client). x.attempt.phase) stepped ∙ ap (λ (x : Client). x.attempt.phase) ticking.same ∙
+        reading.0 ∙ ap (λ (t : Bool). cond t committed running) at_once;
+    records = ap (λ (x : Client). x.records) stepped ∙ ap (λ (x : Client). x.records) ticking.same ∙
+        ap (λ (t : Bool). cond t (inserted (ticked_record region tag v writes (from + 1)) v.records) v.records) at_once;
   }
 
-  pub has_won : (v' : Client) → v' ≡ after (unplaced region.renewal) (stripe_of region.stripes) (tick from tag writes) from w → HasTicked region tag writes v v' (from + 1)
-  has_won v' stepped = won_by (is_at_once w (from + 1)) v' (stepped ∙ ap (λ (t : Bool). with_ticks (w.attempt.ticks + 1) from (stepping (ticked from from) (cond t (won (unplaced region.renewal) (from + 1) tag writes w) w))) (eq-eqb from from refl)) (ap (λ (x : Client). is_at_once x (from + 1)) ticking.same)
+  pub has_won : (v' : Client) → v' ≡ after (unplaced region.renewal) (stripe_of region.stripes)
+      (tick from tag writes) from w → HasTicked region tag writes v v' (from + 1)
+  has_won v' stepped = won_by (is_at_once w (from + 1)) v' (stepped ∙
+      ap (λ (t : Bool). with_ticks (w.attempt.ticks + 1) from
+      (stepping (ticked from from) (cond t (won (unplaced region.renewal) (from + 1) tag writes w) w)))
+      (eq-eqb from from refl)) (ap (λ (x : Client). is_at_once x (from + 1)) ticking.same)
 
 -- no tick was made yet
 pub ticking_none : (v : Client) (from : ℕ) → v.attempt.ticks ≡ 0 → v.attempt.next_from ≡ from → IsTicking v v 0 from
@@ -73,39 +85,53 @@ ticking_none v from none next = record {
 }
 
 -- no tick was won
-pub has_lost : (v w : Client) (count from : ℕ) → IsTicking v w count from → v.is_gathered ≡ false → IsReading v.attempt → HasFailed v w
+pub has_lost : (v w : Client) (count from : ℕ) → IsTicking v w count from → v.is_gathered ≡ false →
+    IsReading v.attempt → HasFailed v w
 has_lost v w count from ticking out reading = record {
   same = same_attempt v w (ap apart ticking.same);
   records = ap (λ (x : Client). x.records) ticking.same;
   held = ap (λ (x : Client). x.attempt.held) ticking.same;
   floor = ap (λ (x : Client). x.floor) ticking.same;
-  able = (ap (λ (x : Client). x.is_gathered) ticking.same ∙ out, inl (ap (λ (x : Client). x.attempt.phase) ticking.same ∙ reading.0));
+  able = (
+    ap (λ (x : Client). x.is_gathered) ticking.same ∙ out,
+    inl (ap (λ (x : Client). x.attempt.phase) ticking.same ∙ reading.0),
+  );
   unversioned = ap (λ (x : Client). x.attempt.wv) ticking.same ∙ reading.1;
 }
 
 -- a tick more was lost
-pub lost_on : (region : RegionShown) (tag : List ℕ) (writes : List (ℕ × ℕ)) (v w d : Client) (count from found : ℕ) → IsTicking v w count from → found ≢ from → d ≡ after (unplaced region.renewal) (stripe_of region.stripes) (tick from tag writes) found w → IsTicking v d (count + 1) found
+pub lost_on : (region : RegionShown) (tag : List ℕ) (writes : List (ℕ × ℕ)) (v w d : Client) (count from found : ℕ) →
+    IsTicking v w count from → found ≢ from → d ≡ after (unplaced region.renewal) (stripe_of region.stripes)
+    (tick from tag writes) found w → IsTicking v d (count + 1) found
 lost_on region tag writes v w d count from found ticking other e =
     let stepped : d ≡ with_ticks (w.attempt.ticks + 1) found (stepping (ticked from found) w) =
-    e ∙ ap (λ (t : Bool). with_ticks (w.attempt.ticks + 1) found (stepping (ticked from found) (cond t (won (unplaced region.renewal) (from + 1) tag writes w) w))) (ne_eqb found from other) in
+    e ∙ ap (λ (t : Bool). with_ticks (w.attempt.ticks + 1) found
+    (stepping (ticked from found) (cond t (won (unplaced region.renewal) (from + 1) tag writes w) w)))
+    (ne_eqb found from other) in
     record {
       same = ap unticked stepped ∙ ticking.same;
       ticks = ap (λ (x : Client). x.attempt.ticks) stepped ∙ ap (λ (n : ℕ). n + 1) ticking.ticks;
       next = ap (λ (x : Client). x.attempt.next_from) stepped;
-      steps = let a : d.attempt.steps ≡ w.attempt.steps + 1 = ap (λ (x : Client). x.attempt.steps) stepped in let b = ticking.steps in omega (arith, a, b);
+      steps = let a : d.attempt.steps ≡ w.attempt.steps + 1 = ap (λ (x : Client). x.attempt.steps) stepped in let b =
+          ticking.steps in omega (arith, a, b);
       lost = λ _. (from, ap (λ (x : Client). x.attempt.last) stepped, λ same. other (sym same));
       unlost = λ none. absurd (omega (arith, none));
     }
 
 -- a lone attempt is not decided before a tick is won
-pub still_open : (v w : Client) (count from : ℕ) → IsTicking v w count from → IsReading v.attempt → v.attempt.lone ≡ true → IsLoneOpen w
-still_open v w count from ticking reading lone = (ap (λ (x : Client). x.attempt.lone) ticking.same ∙ lone, ap is_committed (ap (λ (x : Client). x.attempt.phase) ticking.same ∙ reading.0))
+pub still_open : (v w : Client) (count from : ℕ) → IsTicking v w count from → IsReading v.attempt →
+    v.attempt.lone ≡ true → IsLoneOpen w
+still_open v w count from ticking reading lone = (
+  ap (λ (x : Client). x.attempt.lone) ticking.same ∙ lone,
+  ap is_committed (ap (λ (x : Client). x.attempt.phase) ticking.same ∙ reading.0),
+)
 
 -- what was lost was not won
 pub not_won : {A : Type 0} → false ≡ true → A
 not_won e = cc
 
 -- a clock that was found at this version was found by a lock's exchange, or by a tick that lost
-pub spent_shown : (v w : Client) (count from : ℕ) → IsTicking v w count from → HasWonLock v → HasWonLock w ⊎ HasLostTick from w
+pub spent_shown : (v w : Client) (count from : ℕ) → IsTicking v w count from → HasWonLock v →
+    HasWonLock w ⊎ HasLostTick from w
 spent_shown v w zero from ticking won = inl (won.0, won.1, ticking.unlost refl ∙ won.2)
 spent_shown v w (suc n) from ticking won = inr (ticking.lost (omega arith))

@@ -8,8 +8,11 @@ use Rattle.stm_core.specs.Version.{World, At, Claims, Saw, IsSound}
 use Rattle.stm_core.proofs.Lists.{same_at, clash, nothing_in}
 use Rattle.stm_core.proofs.Turns.{Heart, turn_keeps}
 
-module _ (lk : ℕ → ℕ) (s : World) (cs : List Client) (id : ℕ) (v w : Client) (h : Heart lk s cs) (at : At cs id v) (empty : v.attempt.held ≡ []) (empty' : w.attempt.held ≡ []) (wv : w.attempt.wv ≡ 0) (phase : decided w ≡ false) (rv : w.attempt.rv ≤ s.clock) (floor : w.floor ≤ s.clock)
-    (claims : (b a x : ℕ) → Claims w b a x → Claims v b a x) (records : (r : Record) → In r w.records → In r v.records) where
+module _ (lk : ℕ → ℕ) (s : World) (cs : List Client) (id : ℕ) (v w : Client) (h : Heart lk s cs) (at : At cs id v)
+    (empty : v.attempt.held ≡ []) (empty' : w.attempt.held ≡ []) (wv : w.attempt.wv ≡ 0) (phase : decided w ≡ false)
+    (rv : w.attempt.rv ≤ s.clock) (floor : w.floor ≤ s.clock)
+    (claims : (b a x : ℕ) → Claims w b a x → Claims v b a x) (records : (r : Record) → In r w.records →
+    In r v.records) where
   me : IsSound lk s v
   me = h.version.sound id v at
 
@@ -47,7 +50,10 @@ module _ (lk : ℕ → ℕ) (s : World) (cs : List Client) (id : ℕ) (v w : Cli
     own = λ i o e n z. absurd (no_version z);
     free = h.version.free;
     holder = λ k odd. let q = h.version.holder k odd in
-        dite (ℕ_discrete q.0 id) (λ e. absurd (nothing_in (k, version_of (s.lock k)) (subst (In (k, version_of (s.lock k))) (ap (λ (c : Client). c.attempt.held) (same_at cs id q.1 v (subst (λ n. At cs n q.1) e q.2) at) ∙ empty) q.3))) (λ n. inr (q.0, q.1, q.2, n, q.3));
+        dite (ℕ_discrete q.0 id) (λ e. absurd (nothing_in (k, version_of (s.lock k))
+        (subst (In (k, version_of (s.lock k))) (ap (λ (c : Client). c.attempt.held)
+        (same_at cs id q.1 v (subst (λ n. At cs n q.1) e q.2) at) ∙
+        empty) q.3))) (λ n. inr (q.0, q.1, q.2, n, q.3));
     alone = λ i o k m n e ne a b. none k n b;
     kept = λ k u g. absurd (none k u g);
     kept_else = λ i o k u e n g. h.version.kept i o k u e g;

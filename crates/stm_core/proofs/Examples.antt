@@ -4,7 +4,64 @@ use Rattle.stm_core.specs.Examples.{WorkedLists}
 
 pub worked_lists : WorkedLists
 worked_lists = record {
-  overtaken_is_allowed = (_, ((refl, tt), ((refl, tt), ((refl, tt), ((refl, tt), ((refl, tt), ((refl, tt), ((refl, tt), ((refl, tt), ((refl, tt), ((refl, tt), ((refl, tt), ((refl, tt), ((refl, tt), ((refl, tt), ((refl, tt), ((refl, tt), ((refl, tt), ((refl, tt), ((refl, tt), ((refl, tt), refl)))))))))))))))))))));
+  overtaken_is_allowed = (
+    _,
+    (
+      (refl, tt),
+      (
+        (refl, tt),
+        (
+          (refl, tt),
+          (
+            (refl, tt),
+            (
+              (refl, tt),
+              (
+                (refl, tt),
+                (
+                  (refl, tt),
+                  (
+                    (refl, tt),
+                    (
+                      (refl, tt),
+                      (
+                        (refl, tt),
+                        (
+                          (refl, tt),
+                          (
+                            (refl, tt),
+                            (
+                              (refl, tt),
+                              (
+                                (refl, tt),
+                                (
+                                  (refl, tt),
+                                  (
+                                    (refl, tt),
+                                    (
+                                      (refl, tt),
+                                      (
+                                        (refl, tt),
+                                        ((refl, tt), ((refl, tt), refl)),
+                                      ),
+                                    ),
+                                  ),
+                                ),
+                              ),
+                            ),
+                          ),
+                        ),
+                      ),
+                    ),
+                  ),
+                ),
+              ),
+            ),
+          ),
+        ),
+      ),
+    ),
+  );
   overtaken_decides = refl;
   abandoned_is_allowed = (_, ((refl, tt), ((refl, tt), ((refl, tt), ((refl, tt), ((refl, tt), ((refl, tt), refl)))))));
   abandoned_decides = refl;

@@ -1,5 +1,6 @@
 -- Lists of clients and of pairs.
-use Rattle.std.proofs.Common.{length, ◌<◌, Bool, true, false, ◌≡◌, ◌≢◌, ℕ, zero, suc, ◌⊎◌, inl, inr, ⊎_elim, List, [], ◌∷◌, ◌++◌, set, refl, sym, ap, ◌∙◌, subst, arith}
+use Rattle.std.proofs.Common.{length, ◌<◌, Bool, true, false, ◌≡◌, ◌≢◌, ℕ, zero, suc, ◌⊎◌, inl, inr, ⊎_elim, List, []}
+use Rattle.std.proofs.Common.{◌∷◌, ◌++◌, set, refl, sym, ap, ◌∙◌, subst, arith}
 use mathlib.Core.Option.{some, some-injective, some-ne-none}
 use lib.ListN.{get_elem?}
 use mathlib.Core.Logic.{dite}
@@ -8,12 +9,14 @@ use Rattle.tx_memory.specs.Image.{In}
 pub use Rattle.stm_core.specs.Merging.{nothing_in}
 
 module _ {A : Type 0} where
-  pub at_set : (l : List A) (i j : ℕ) (a b : A) → get_elem? (set l i a) j ≡ some b → ((j ≡ i) × (a ≡ b)) ⊎ ((j ≢ i) × (get_elem? l j ≡ some b))
+  pub at_set : (l : List A) (i j : ℕ) (a b : A) → get_elem? (set l i a) j ≡ some b →
+      ((j ≡ i) × (a ≡ b)) ⊎ ((j ≢ i) × (get_elem? l j ≡ some b))
   at_set [] i j a b e = absurd (some-ne-none b (sym e))
   at_set (x ∷ xs) zero zero a b e = inl (refl, some-injective a b e)
   at_set (x ∷ xs) zero (suc j) a b e = inr ((λ h. omega arith), e)
   at_set (x ∷ xs) (suc i) zero a b e = inr ((λ h. omega arith), e)
-  at_set (x ∷ xs) (suc i) (suc j) a b e = ⊎_elim (λ t. inl (ap suc t.0, t.1)) (λ t. let n = t.0 in inr ((λ h. n (omega arith)), t.1)) (at_set xs i j a b e)
+  at_set (x ∷ xs) (suc i) (suc j) a b e = ⊎_elim (λ t. inl (ap suc t.0, t.1)) (λ t. let n = t.0 in
+      inr ((λ h. n (omega arith)), t.1)) (at_set xs i j a b e)
 
   pub set_here : (l : List A) (i : ℕ) (v a : A) → get_elem? l i ≡ some v → get_elem? (set l i a) i ≡ some a
   set_here [] i v a e = absurd (some-ne-none v (sym e))
@@ -40,8 +43,11 @@ module _ {A : Type 0} where
   in_snoc l a b h = ⊎_elim (λ p. inl (h.0, p)) (λ p. inr p) (at_snoc l a b h.0 h.1)
 
   -- what holds of who is set at a place, and of all at other places, holds of whoever stands there then
-  pub who_set : (l : List A) (id : ℕ) (w : A) (P : ℕ → A → Type 0) → P id w → ((i : ℕ) (o : A) → get_elem? l i ≡ some o → i ≢ id → P i o) → (i : ℕ) (o : A) → get_elem? (set l id w) i ≡ some o → P i o
-  who_set l id w P mine else i o e = ⊎_elim (λ p. subst (λ c. P i c) p.1 (subst (λ j. P j w) (sym p.0) mine)) (λ p. else i o p.1 p.0) (at_set l id i w o e)
+  pub who_set : (l : List A) (id : ℕ) (w : A) (P : ℕ → A → Type 0) → P id w →
+      ((i : ℕ) (o : A) → get_elem? l i ≡ some o → i ≢ id → P i o) → (i : ℕ) (o : A) →
+      get_elem? (set l id w) i ≡ some o → P i o
+  who_set l id w P mine else i o e = ⊎_elim (λ p. subst (λ c. P i c) p.1 (subst (λ j. P j w) (sym p.0) mine))
+      (λ p. else i o p.1 p.0) (at_set l id i w o e)
 
   pub only_one : (x : A) (i : ℕ) (v : A) → get_elem? (x ∷ []) i ≡ some v → x ≡ v
   only_one x zero v e = some-injective x v e
@@ -51,14 +57,21 @@ module _ {A : Type 0} where
   abbrev pub Turned : A → A → A → A → Type 0
   Turned v new o w = ((o ≡ v) × (w ≡ new)) ⊎ (o ≡ w)
 
-  pub back : (l : List A) (id : ℕ) (v new : A) → get_elem? l id ≡ some v → (i : ℕ) (w : A) → get_elem? (set l id new) i ≡ some w → (o : A) × (get_elem? l i ≡ some o) × Turned v new o w
+  pub back : (l : List A) (id : ℕ) (v new : A) → get_elem? l id ≡ some v → (i : ℕ) (w : A) →
+      get_elem? (set l id new) i ≡ some w → (o : A) × (get_elem? l i ≡ some o) × Turned v new o w
   back l id v new at i w e =
-      ⊎_elim (λ t. (v, subst (λ k. get_elem? l k ≡ some v) (sym t.0) at, inl (refl, sym t.1))) (λ t. (w, t.1, inr refl)) (at_set l id i new w e)
+      ⊎_elim (λ t. (v, subst (λ k. get_elem? l k ≡ some v) (sym t.0) at, inl (refl, sym t.1))) (λ t. (w, t.1, inr refl))
+      (at_set l id i new w e)
 
-  pub forth : (l : List A) (id : ℕ) (v new : A) → get_elem? l id ≡ some v → (i : ℕ) (o : A) → get_elem? l i ≡ some o → (w : A) × (get_elem? (set l id new) i ≡ some w) × Turned v new o w
+  pub forth : (l : List A) (id : ℕ) (v new : A) → get_elem? l id ≡ some v → (i : ℕ) (o : A) → get_elem? l i ≡ some o →
+      (w : A) × (get_elem? (set l id new) i ≡ some w) × Turned v new o w
   forth l id v new at i o e =
       dite (ℕ_discrete i id)
-      (λ p. (new, subst (λ k. get_elem? (set l id new) k ≡ some new) (sym p) (set_here l id v new at), inl (some-injective o v (sym e ∙ subst (λ k. get_elem? l k ≡ some v) (sym p) at), refl)))
+      (λ p. (
+        new,
+        subst (λ k. get_elem? (set l id new) k ≡ some new) (sym p) (set_here l id v new at),
+        inl (some-injective o v (sym e ∙ subst (λ k. get_elem? l k ≡ some v) (sym p) at), refl),
+      ))
       (λ n. (o, set_else l id i new o n e, inr refl))
 
   pub at_longer : (l : List A) (a b : A) (j : ℕ) → get_elem? l j ≡ some b → get_elem? (l ++ a ∷ []) j ≡ some b

@@ -1,5 +1,7 @@
 -- The nodes in their order give the words of a lock, the locks, and the locks with their words.
-use Rattle.std.proofs.Common.{◌≡◌, ◌≢◌, ◌⊎◌, inl, inr, ℕ, zero, suc, ◌+◌, ◌-◌, ◌<◌, ◌≤◌, Bool, true, false, cond, not, ◌&&◌, nat_eq, leb, Option, Some, None, MatchOption, List, [], ◌∷◌, map, filter, drop, get_or, length, refl, sym, ap, ◌∙◌, arith, subst}
+use Rattle.std.proofs.Common.{◌≡◌, ◌≢◌, ◌⊎◌, inl, inr, ℕ, zero, suc, ◌+◌, ◌-◌, ◌<◌, ◌≤◌, Bool, true, false, cond, not}
+use Rattle.std.proofs.Common.{◌&&◌, nat_eq, leb, Option, Some, None, MatchOption, List, [], ◌∷◌, map, filter, drop}
+use Rattle.std.proofs.Common.{get_or, length, refl, sym, ap, ◌∙◌, arith, subst}
 use Rattle.std.specs.FinMap.{get, empty, entries, keys, from_entries, len-empty, len-entries}
 use Rattle.std.specs.Ordering.{nat_cmp}
 use Rattle.std.proofs.lemmas.Bool.Decides.{nat_tests}
@@ -12,7 +14,8 @@ use Rattle.stm_logs.specs.Chain.{Ends, pair_of, goes_on, words_from, locks_from,
 use Rattle.stm_logs.proofs.NodeLemmas.{same_or}
 use Rattle.stm_logs.proofs.OrderLemmas.{after_node, rank_number}
 use Rattle.stm_logs.proofs.TableLemmas.{both_bool, true_false, get_source}
-use Rattle.stm_logs.proofs.RisingLemmas.{In, Rising, rising_entries, get_in, in_get, filter_in, in_filter, rising_filter, rising_same}
+use Rattle.stm_logs.proofs.RisingLemmas.{In, Rising, rising_entries, get_in, in_get, filter_in, in_filter}
+use Rattle.stm_logs.proofs.RisingLemmas.{rising_filter, rising_same}
 use Rattle.stm_logs.proofs.LockLemmas.{locks_rise, locks_in, in_locks}
 use Rattle.stm_logs.proofs.LogLemmas.{eq_zero, not_zero, numbers, values_at, locks_at, get_word, get_lock}
 
@@ -35,7 +38,8 @@ going_on ns lock p t = elim (same_or p 0) [
   | inl is ↦ absurd (true_false _ t (ap (λ b. not b && nat_eq (at ns p).lock lock) (eq_zero p is)))
   | inr ne ↦ (
       let some : 0 < p = omega arith in
-      let there : nat_eq (at ns p).lock lock ≡ true = sym (ap (λ b. not b && nat_eq (at ns p).lock lock) (not_zero p some)) ∙ t in
+      let there : nat_eq (at ns p).lock lock ≡ true = sym (ap (λ b. not b && nat_eq (at ns p).lock lock)
+      (not_zero p some)) ∙ t in
       (some, is_equal _ _ there))
 ]
   where
@@ -94,7 +98,8 @@ above_down ns low high (suc e) h =
           omega (arith, rest, one, two))
     ]
 
-above_less : (ns : List Node) (low p n : ℕ) → 0 < p → p ≤ n → low ≤ rank_in (at ns p) → above ns (rank_in (at ns p) + 1) n + 1 ≤ above ns low n
+above_less : (ns : List Node) (low p n : ℕ) → 0 < p → p ≤ n → low ≤ rank_in (at ns p) →
+    above ns (rank_in (at ns p) + 1) n + 1 ≤ above ns low n
 above_less ns low p zero z m h = absurd (omega arith)
 above_less ns low p (suc e) z m h =
     let r : ℕ = rank_in (at ns (suc e)) in
@@ -133,23 +138,32 @@ module _ (ns : List Node) (n : ℕ) (c : IsChained ns n) (room : n < length ns) 
   ends_from (suc most) low p l few = λ some. (
       let s = l.some some in
       let less = above_less ns low p n some s.0 s.1 in
-      let inside = s.0 in
-      (omega arith, ends_from most (rank_in (at ns p) + 1) (at ns p).next (behind p some s.0) (omega (arith, few, less))))
+      let inside = s.0 in (
+        omega arith,
+        ends_from most (rank_in (at ns p) + 1) (at ns p).next (behind p some s.0)
+            (omega (arith, few, less)),
+      ))
 
   pub ends : (low p : ℕ) → Least ns n low p → Ends ns n p
   ends low p l = ends_from n low p l (above_le ns low n)
 
   -- a node from low on is the least one, or lies behind it
-  first_or : (low p e : ℕ) → Least ns n low p → 0 < e → e ≤ n → low ≤ rank_in (at ns e) → (0 < p) × ((e ≡ p) ⊎ (rank_in (at ns p) + 1 ≤ rank_in (at ns e)))
+  first_or : (low p e : ℕ) → Least ns n low p → 0 < e → e ≤ n → low ≤ rank_in (at ns e) →
+      (0 < p) × ((e ≡ p) ⊎ (rank_in (at ns p) + 1 ≤ rank_in (at ns e)))
   first_or low p e l z m up =
-      let some : 0 < p = elim (same_or p 0) [ inl is ↦ absurd (omega (arith, l.none is e z m)) | inr ne ↦ omega arith ] in
+      let some : 0 < p = elim (same_or p 0) [
+        | inl is ↦ absurd (omega (arith, l.none is e z m))
+        | inr ne ↦
+            omega arith
+      ] in
       let s = l.some some in
       let le = l.least some e z m up in (
         some,
         elim (same_or e p) [
           | inl is ↦ inl is
           | inr ne ↦ (
-              let other : rank_in (at ns e) ≢ rank_in (at ns p) = λ is. ne (c.alone e p z m some s.0 (rank_number _ _ _ _ (c.fits e m) (c.fits p s.0) is).1) in
+              let other : rank_in (at ns e) ≢ rank_in (at ns p) =
+              λ is. ne (c.alone e p z m some s.0 (rank_number _ _ _ _ (c.fits e m) (c.fits p s.0) is).1) in
               inr (omega (arith, le, other)))
         ],
       )
@@ -158,36 +172,44 @@ module _ (ns : List Node) (n : ℕ) (c : IsChained ns n) (room : n < length ns) 
   -- what stands in the words of a lock from low on
   record AreWords (lock low : ℕ) (xs : List (ℕ × ℕ)) : Type 0 where
     rising : Rising (λ (x : ℕ × ℕ). x.0) xs
-    sound : (x : ℕ × ℕ) → In x xs → (e : ℕ) × ((0 < e) × (e ≤ n) × ((at ns e).lock ≡ lock) × (low ≤ rank_in (at ns e)) × (x ≡ pair_of (at ns e)))
+    sound : (x : ℕ × ℕ) → In x xs → (e : ℕ) × ((0 < e) × (e ≤ n) × ((at ns e).lock ≡ lock) × (low ≤ rank_in (at ns e)) ×
+        (x ≡ pair_of (at ns e)))
     complete : (e : ℕ) → 0 < e → e ≤ n → (at ns e).lock ≡ lock → low ≤ rank_in (at ns e) → In (pair_of (at ns e)) xs
 
-  no_words : (lock low p : ℕ) → rank_of lock 0 ≤ low → Least ns n low p → (0 < p → (at ns p).lock ≢ lock) → AreWords lock low []
+  no_words : (lock low p : ℕ) → rank_of lock 0 ≤ low → Least ns n low p → (0 < p → (at ns p).lock ≢ lock) →
+      AreWords lock low []
   no_words lock low p from l other = record {
     rising = tt;
     sound = λ x i. absurd i;
     complete = λ e z m is up. (
         let f = first_or low p e l z m up in
         let s = l.some f.0 in
-        let at_p : lock ≤ (at ns p).lock = lock_first lock (at ns p).lock (at ns p).number (c.fits p s.0) (omega (arith, s.1, from)) in
+        let at_p : lock ≤ (at ns p).lock = lock_first lock (at ns p).lock (at ns p).number (c.fits p s.0)
+        (omega (arith, s.1, from)) in
         absurd (elim f.1 [
           | inl same ↦ other f.0 (sym (ap (λ j. (at ns j).lock) same) ∙ is)
           | inr behind ↦ (
-              let up : (at ns p).lock ≤ (at ns e).lock = lock_up (at ns p).lock (at ns e).lock (at ns p).number (at ns e).number (c.fits p s.0) (c.fits e m) (omega arith) in
+              let up : (at ns p).lock ≤ (at ns e).lock = lock_up (at ns p).lock (at ns e).lock (at ns p).number
+              (at ns e).number (c.fits p s.0) (c.fits e m) (omega arith) in
               other f.0 (omega (arith, up, at_p, is)))
         ]));
   }
 
-  words_are : (lock most low p : ℕ) → rank_of lock 0 ≤ low → Least ns n low p → Ends ns most p → AreWords lock low (words_from ns lock most p)
+  words_are : (lock most low p : ℕ) → rank_of lock 0 ≤ low → Least ns n low p → Ends ns most p →
+      AreWords lock low (words_from ns lock most p)
   words_are lock zero low p from l ends = no_words lock low p from l (λ some. absurd (omega (arith, ends)))
   words_are lock (suc most) low p from l ends = elim (both_bool (goes_on ns lock p)) [
-    | inr stops ↦ subst (AreWords lock low) (sym (ap (λ b. cond b (pair_of (at ns p) ∷ words_from ns lock most (at ns p).next) []) stops))
+    | inr stops ↦ subst (AreWords lock low) (sym (ap (λ b. cond b
+        (pair_of (at ns p) ∷ words_from ns lock most (at ns p).next) []) stops))
         (no_words lock low p from l (λ some is. true_false (goes_on ns lock p) (goes_at ns lock p some is) stops))
     | inl goes_on_here ↦ (
         let here = going_on ns lock p goes_on_here in
         let some : 0 < p = here.0 in
         let s = l.some some in
-        let rest = words_are lock most (rank_in (at ns p) + 1) (at ns p).next (omega (arith, s.1, from)) (behind p some s.0) (ends some).1 in
-        subst (AreWords lock low) (sym (ap (λ b. cond b (pair_of (at ns p) ∷ words_from ns lock most (at ns p).next) []) goes_on_here)) (record {
+        let rest = words_are lock most (rank_in (at ns p) + 1) (at ns p).next (omega (arith, s.1, from))
+        (behind p some s.0) (ends some).1 in
+        subst (AreWords lock low) (sym (ap (λ b. cond b (pair_of (at ns p) ∷ words_from ns lock most (at ns p).next) [])
+        goes_on_here)) (record {
           rising = (
             (λ y i. (
                 let e = rest.sound y i in
@@ -199,7 +221,8 @@ module _ (ns : List Node) (n : ℕ) (c : IsChained ns n) (room : n < length ns) 
           );
           sound = λ x i. elim i [
             | inl is ↦ (p, (some, s.0, here.1, s.1, is))
-            | inr j ↦ (let e = rest.sound x j in let up = e.1.3 in (e.0, (e.1.0, e.1.1, e.1.2, omega (arith, up, s.1), e.1.4)))
+            | inr j ↦ (let e = rest.sound x j in let up = e.1.3 in
+                (e.0, (e.1.0, e.1.1, e.1.2, omega (arith, up, s.1), e.1.4)))
           ];
           complete = λ e z m is up. elim (first_or low p e l z m up).1 [
             | inl same ↦ inl (ap (λ j. pair_of (at ns j)) same)
@@ -216,25 +239,30 @@ module _ (ns : List Node) (n : ℕ) (c : IsChained ns n) (room : n < length ns) 
   this_is o lock e = ap (λ p. is_number p lock) e ∙ (let s : nat_eq lock lock ≡ true = grind (arith, nat_tests) in s)
 
   -- the words from the first one of a lock on are the pairs of the lock
-  pub pairs_are : (lock most p : ℕ) → Least ns n (rank_of lock 0) p → Ends ns most p → words_from ns lock most p ≡ pairs_of (log_value ns n) lock
+  pub pairs_are : (lock most p : ℕ) → Least ns n (rank_of lock 0) p → Ends ns most p →
+      words_from ns lock most p ≡ pairs_of (log_value ns n) lock
   pairs_are lock most p l ends =
       let w : LogValue = log_value ns n in
       let test : ℕ × ℕ → Bool = λ x. is_number (get w.locks x.0) lock in
       let words = words_are lock most (rank_of lock 0) p (omega arith) l ends in
-      rising_same (λ (x : ℕ × ℕ). x.0) (words_from ns lock most p) (pairs_of w lock) words.rising (rising_filter (λ (x : ℕ × ℕ). x.0) test (log_pairs w) (rising_entries w.words))
+      rising_same (λ (x : ℕ × ℕ). x.0) (words_from ns lock most p) (pairs_of w lock) words.rising
+      (rising_filter (λ (x : ℕ × ℕ). x.0) test (log_pairs w) (rising_entries w.words))
       (λ x i. (
       let e = words.sound x i in
       let at_e : get w.locks (at ns e.0).number ≡ Some lock = get_lock ns n e.0 _ c e.1.0 e.1.1 refl ∙ ap Some e.1.2 in
       subst (λ y. In y (pairs_of w lock)) (sym e.1.4)
-      (in_filter test (log_pairs w) (pair_of (at ns e.0)) (get_in w.words _ _ (get_word ns n e.0 _ c e.1.0 e.1.1 refl)) (this_is _ lock at_e))))
+      (in_filter test (log_pairs w) (pair_of (at ns e.0)) (get_in w.words _ _ (get_word ns n e.0 _ c e.1.0 e.1.1 refl))
+      (this_is _ lock at_e))))
       (λ x i. (
       let s = filter_in test (log_pairs w) x i in
       let source = get_source (numbers ns) (values_at ns) n x.0 x.1 (in_get w.words x.0 x.1 s.0) in
       let e : ℕ = source.node in
-      let here : get w.locks x.0 ≡ Some (at ns e).lock = get_lock ns n e x.0 c source.some source.inside source.key_is in
+      let here : get w.locks x.0 ≡ Some (at ns e).lock = get_lock ns n e x.0 c source.some source.inside source.key_is
+      in
       let lock_is : (at ns e).lock ≡ lock = some_same _ _ (sym here ∙ is_this _ lock s.1) in
       let pair : pair_of (at ns e) ≡ x = λ j. (source.key_is j, source.value_is j) in
-      subst (λ y. In y (words_from ns lock most p)) pair (words.complete e source.some source.inside lock_is (first_of_lock lock (at ns e).lock (at ns e).number (omega (arith, lock_is))))))
+      subst (λ y. In y (words_from ns lock most p)) pair (words.complete e source.some source.inside lock_is
+      (first_of_lock lock (at ns e).lock (at ns e).number (omega (arith, lock_is))))))
     where
       some_same : (a b : ℕ) → Some a ≡ Some b → a ≡ b
       some_same a b e = cc
@@ -254,54 +282,72 @@ module _ (ns : List Node) (n : ℕ) (c : IsChained ns n) (room : n < length ns) 
   }
 
   -- the next node has a greater lock
-  lock_ends : (p : ℕ) → 0 < p → p ≤ n → goes_on ns (at ns p).lock (at ns p).next ≡ false → (e : ℕ) → 0 < e → e ≤ n → rank_in (at ns p) + 1 ≤ rank_in (at ns e) → (at ns p).lock < (at ns e).lock
+  lock_ends : (p : ℕ) → 0 < p → p ≤ n → goes_on ns (at ns p).lock (at ns p).next ≡ false → (e : ℕ) → 0 < e → e ≤ n →
+      rank_in (at ns p) + 1 ≤ rank_in (at ns e) → (at ns p).lock < (at ns e).lock
   lock_ends p some m stops e z k up =
       let q : ℕ = (at ns p).next in
       let f = first_or _ q e (behind p some m) z k up in
       let s = (behind p some m).some f.0 in
       let s0 = s.0 in let s1 = s.1 in
-      let other : (at ns q).lock ≢ (at ns p).lock = λ is. true_false (goes_on ns (at ns p).lock q) (goes_at ns (at ns p).lock q f.0 is) stops in
-      let step : (at ns p).lock ≤ (at ns q).lock = lock_up (at ns p).lock (at ns q).lock (at ns p).number (at ns q).number (c.fits p m) (c.fits q s0) (omega arith) in
+      let other : (at ns q).lock ≢ (at ns p).lock = λ is. true_false (goes_on ns (at ns p).lock q)
+      (goes_at ns (at ns p).lock q f.0 is) stops in
+      let step : (at ns p).lock ≤ (at ns q).lock = lock_up (at ns p).lock (at ns q).lock (at ns p).number
+      (at ns q).number (c.fits p m) (c.fits q s0) (omega arith) in
       let on : (at ns q).lock ≤ (at ns e).lock = elim f.1 [
         | inl same ↦ omega (arith, ap (λ j. (at ns j).lock) same)
-        | inr later ↦ lock_up (at ns q).lock (at ns e).lock (at ns q).number (at ns e).number (c.fits q s0) (c.fits e k) (omega arith)
+        | inr later ↦ lock_up (at ns q).lock (at ns e).lock (at ns q).number (at ns e).number (c.fits q s0) (c.fits e k)
+            (omega arith)
       ] in
       omega (arith, other, step, on)
 
   locks_are : (most low p : ℕ) → Least ns n low p → Ends ns most p → AreLocks low (locks_from ns most p)
   locks_are zero low p l ends = no_locks low p ends l
   locks_are (suc most) low p l ends = elim (same_or p 0) [
-    | inl none ↦ subst (AreLocks low) (sym (ap (λ b. cond b [] (cond (goes_on ns (at ns p).lock (at ns p).next) (locks_from ns most (at ns p).next) ((at ns p).lock ∷ locks_from ns most (at ns p).next))) (eq_zero p none))) (no_locks low p none l)
+    | inl none ↦ subst (AreLocks low) (sym (ap (λ b. cond b []
+        (cond (goes_on ns (at ns p).lock (at ns p).next) (locks_from ns most (at ns p).next)
+        ((at ns p).lock ∷ locks_from ns most (at ns p).next))) (eq_zero p none))) (no_locks low p none l)
     | inr ne ↦ (
         let some : 0 < p = omega arith in
         let s = l.some some in
         let s1 = s.1 in
         let rest = locks_are most (rank_in (at ns p) + 1) (at ns p).next (behind p some s.0) (ends some).1 in
-        let start : locks_from ns (suc most) p ≡ cond (goes_on ns (at ns p).lock (at ns p).next) (locks_from ns most (at ns p).next) ((at ns p).lock ∷ locks_from ns most (at ns p).next) =
-        ap (λ b. cond b [] (cond (goes_on ns (at ns p).lock (at ns p).next) (locks_from ns most (at ns p).next) ((at ns p).lock ∷ locks_from ns most (at ns p).next))) (not_zero p some) in
+        let start : locks_from ns (suc most) p ≡ cond (goes_on ns (at ns p).lock (at ns p).next)
+        (locks_from ns most (at ns p).next) ((at ns p).lock ∷ locks_from ns most (at ns p).next) =
+        ap (λ b. cond b [] (cond (goes_on ns (at ns p).lock (at ns p).next) (locks_from ns most (at ns p).next)
+        ((at ns p).lock ∷ locks_from ns most (at ns p).next))) (not_zero p some) in
         subst (AreLocks low) (sym start) (elim (both_bool (goes_on ns (at ns p).lock (at ns p).next)) [
-          | inl goes ↦ subst (AreLocks low) (sym (ap (λ b. cond b (locks_from ns most (at ns p).next) ((at ns p).lock ∷ locks_from ns most (at ns p).next)) goes)) (record {
-            rising = rest.rising;
-            sound = λ q i. (let e = rest.sound q i in let up = e.1.2 in (e.0, (e.1.0, e.1.1, omega (arith, up, s1), e.1.3)));
-            complete = λ e z m up. elim (first_or low p e l z m up).1 [
-              | inl same ↦ (
-                  let next = going_on ns (at ns p).lock (at ns p).next goes in
-                  let at_next = (behind p some s.0).some next.0 in
-                  subst (λ k. In k (locks_from ns most (at ns p).next)) (next.1 ∙ ap (λ j. (at ns j).lock) (sym same)) (rest.complete (at ns p).next next.0 at_next.0 at_next.1))
-              | inr later ↦ rest.complete e z m later
-            ];
-          })
-          | inr stops ↦ subst (AreLocks low) (sym (ap (λ b. cond b (locks_from ns most (at ns p).next) ((at ns p).lock ∷ locks_from ns most (at ns p).next)) stops)) (record {
-            rising = ((λ q i. (let e = rest.sound q i in let up = lock_ends p some s.0 stops e.0 e.1.0 e.1.1 e.1.2 in let is = e.1.3 in omega (arith, up, is))), rest.rising);
-            sound = λ q i. elim i [
-              | inl is ↦ (p, (some, s.0, s.1, sym is))
-              | inr j ↦ (let e = rest.sound q j in let up = e.1.2 in (e.0, (e.1.0, e.1.1, omega (arith, up, s1), e.1.3)))
-            ];
-            complete = λ e z m up. elim (first_or low p e l z m up).1 [
-              | inl same ↦ inl (ap (λ j. (at ns j).lock) same)
-              | inr later ↦ inr (rest.complete e z m later)
-            ];
-          })
+          | inl goes ↦ subst (AreLocks low) (sym (ap (λ b. cond b (locks_from ns most (at ns p).next)
+              ((at ns p).lock ∷ locks_from ns most (at ns p).next)) goes)) (record {
+                rising = rest.rising;
+                sound = λ q i. (let e = rest.sound q i in let up = e.1.2 in
+                    (e.0, (e.1.0, e.1.1, omega (arith, up, s1), e.1.3)));
+                complete = λ e z m up. elim (first_or low p e l z m up).1 [
+                  | inl same ↦ (
+                      let next = going_on ns (at ns p).lock (at ns p).next goes in
+                      let at_next = (behind p some s.0).some next.0 in
+                      subst (λ k. In k (locks_from ns most (at ns p).next))
+                      (next.1 ∙ ap (λ j. (at ns j).lock) (sym same))
+                      (rest.complete (at ns p).next next.0 at_next.0 at_next.1))
+                  | inr later ↦ rest.complete e z m later
+                ];
+              })
+          | inr stops ↦ subst (AreLocks low) (sym (ap (λ b. cond b (locks_from ns most (at ns p).next)
+              ((at ns p).lock ∷ locks_from ns most (at ns p).next)) stops)) (record {
+                rising = (
+                  (λ q i. (let e = rest.sound q i in let up = lock_ends p some s.0 stops e.0 e.1.0 e.1.1 e.1.2 in
+                      let is = e.1.3 in omega (arith, up, is))),
+                  rest.rising,
+                );
+                sound = λ q i. elim i [
+                  | inl is ↦ (p, (some, s.0, s.1, sym is))
+                  | inr j ↦ (let e = rest.sound q j in let up = e.1.2 in
+                      (e.0, (e.1.0, e.1.1, omega (arith, up, s1), e.1.3)))
+                ];
+                complete = λ e z m up. elim (first_or low p e l z m up).1 [
+                  | inl same ↦ inl (ap (λ j. (at ns j).lock) same)
+                  | inr later ↦ inr (rest.complete e z m later)
+                ];
+              })
         ]))
   ]
 
@@ -311,24 +357,33 @@ module _ (ns : List Node) (n : ℕ) (c : IsChained ns n) (room : n < length ns) 
       let w : LogValue = log_value ns n in
       let locks = locks_are most 0 p l ends in
       rising_same (λ x. x) (locks_from ns most p) (log_locks w) locks.rising (locks_rise w)
-      (λ q i. (let e = locks.sound q i in subst (λ k. In k (log_locks w)) e.1.3 (in_locks w (at ns e.0).number (at ns e.0).lock (get_lock ns n e.0 _ c e.1.0 e.1.1 refl))))
+      (λ q i. (let e = locks.sound q i in subst (λ k. In k (log_locks w)) e.1.3
+      (in_locks w (at ns e.0).number (at ns e.0).lock (get_lock ns n e.0 _ c e.1.0 e.1.1 refl))))
       (λ q i. (
       let s = locks_in w q i in
       let source = get_source (numbers ns) (locks_at ns) n s.0 q s.1 in
-      subst (λ k. In k (locks_from ns most p)) source.value_is (locks.complete source.node source.some source.inside (omega arith))))
+      subst (λ k. In k (locks_from ns most p)) source.value_is
+      (locks.complete source.node source.some source.inside (omega arith))))
 
   -- ---- the locks with their words
-  groups_are : (whole start most low p : ℕ) → Least ns n low p → Ends ns most p → (0 < p → words_from ns (at ns p).lock whole start ≡ pairs_of (log_value ns n) (at ns p).lock)
+  groups_are : (whole start most low p : ℕ) → Least ns n low p → Ends ns most p →
+      (0 < p → words_from ns (at ns p).lock whole start ≡ pairs_of (log_value ns n) (at ns p).lock)
       → groups_from ns whole start most p ≡ map (λ lock. (lock, pairs_of (log_value ns n) lock)) (locks_from ns most p)
   groups_are whole start zero low p l ends words = refl
   groups_are whole start (suc most) low p l ends words =
       let lock : ℕ = (at ns p).lock in
       let next : ℕ = (at ns p).next in
       let pairs : ℕ → ℕ × List (ℕ × ℕ) = λ k. (k, pairs_of (log_value ns n) k) in
-      let mine : Bool → Bool → List (ℕ × List (ℕ × ℕ)) = λ none goes. cond none [] (cond goes (groups_from ns whole start most next) ((lock, words_from ns lock whole start) ∷ groups_from ns most next most next)) in
-      let theirs : Bool → Bool → List ℕ = λ none goes. cond none [] (cond goes (locks_from ns most next) (lock ∷ locks_from ns most next)) in
+      let mine : Bool → Bool → List (ℕ × List (ℕ × ℕ)) = λ none goes. cond none []
+      (cond goes (groups_from ns whole start most next) ((
+        lock,
+        words_from ns lock whole start,
+      ) ∷ groups_from ns most next most next)) in
+      let theirs : Bool → Bool → List ℕ = λ none goes. cond none []
+      (cond goes (locks_from ns most next) (lock ∷ locks_from ns most next)) in
       elim (same_or p 0) [
-        | inl none ↦ ap (λ b. mine b (goes_on ns lock next)) (eq_zero p none) ∙ sym (ap (λ b. map pairs (theirs b (goes_on ns lock next))) (eq_zero p none))
+        | inl none ↦ ap (λ b. mine b (goes_on ns lock next)) (eq_zero p none) ∙
+            sym (ap (λ b. map pairs (theirs b (goes_on ns lock next))) (eq_zero p none))
         | inr ne ↦ (
             let some : 0 < p = omega arith in
             let s = l.some some in
@@ -337,22 +392,27 @@ module _ (ns : List Node) (n : ℕ) (c : IsChained ns n) (room : n < length ns) 
                   let same = (going_on ns lock next goes).1 in
                   ap (mine false) goes
                   ∙ groups_are whole start most (rank_in (at ns p) + 1) next (behind p some s.0) (ends some).1
-                  (λ _. ap (λ k. words_from ns k whole start) same ∙ words some ∙ ap (pairs_of (log_value ns n)) (sym same))
+                  (λ _. ap (λ k. words_from ns k whole start) same ∙ words some ∙ ap (pairs_of (log_value ns n))
+                  (sym same))
                   ∙ sym (ap (λ b. map pairs (theirs false b)) goes))
               | inr stops ↦ (
                   let rest = groups_are most next most (rank_in (at ns p) + 1) next (behind p some s.0) (ends some).1
-                  (λ there. pairs_are (at ns next).lock most next (least_of_lock p some s.0 stops there) (ends some).1) in
-                  ap (mine false) stops ∙ (λ i. (lock, words some i) ∷ rest i) ∙ sym (ap (λ b. map pairs (theirs false b)) stops))
+                  (λ there. pairs_are (at ns next).lock most next (least_of_lock p some s.0 stops there) (ends some).1)
+                  in
+                  ap (mine false) stops ∙ (λ i. (lock, words some i) ∷ rest i) ∙
+                  sym (ap (λ b. map pairs (theirs false b)) stops))
             ] ∙ sym (ap (λ b. map pairs (theirs b (goes_on ns lock next))) (not_zero p some)))
       ]
     where
-      least_of_lock : (p : ℕ) → 0 < p → p ≤ n → goes_on ns (at ns p).lock (at ns p).next ≡ false → 0 < (at ns p).next → Least ns n (rank_of (at ns ((at ns p).next)).lock 0) (at ns p).next
+      least_of_lock : (p : ℕ) → 0 < p → p ≤ n → goes_on ns (at ns p).lock (at ns p).next ≡ false → 0 < (at ns p).next →
+          Least ns n (rank_of (at ns ((at ns p).next)).lock 0) (at ns p).next
       least_of_lock p some m stops there =
           let q : ℕ = (at ns p).next in
           let old = behind p some m in
           let s = old.some there in
           let up = lock_ends p some m stops q there s.0 s.1 in
-          let low : rank_in (at ns p) + 1 ≤ rank_of (at ns q).lock 0 = next_lock (at ns p).lock (at ns q).lock (at ns p).number (c.fits p m) up in
+          let low : rank_in (at ns p) + 1 ≤ rank_of (at ns q).lock 0 =
+          next_lock (at ns p).lock (at ns q).lock (at ns p).number (c.fits p m) up in
           record {
             none = λ z. absurd (omega arith);
             some = λ _. (s.0, first_of_lock (at ns q).lock (at ns q).lock (at ns q).number (omega arith));
@@ -360,7 +420,8 @@ module _ (ns : List Node) (n : ℕ) (c : IsChained ns n) (room : n < length ns) 
           }
 
   -- the locks with their words from the first node on are those of the log
-  pub all_groups : (most p : ℕ) → Least ns n 0 p → Ends ns most p → groups_from ns most p most p ≡ log_groups (log_value ns n)
+  pub all_groups : (most p : ℕ) → Least ns n 0 p → Ends ns most p →
+      groups_from ns most p most p ≡ log_groups (log_value ns n)
   all_groups most p l ends =
       groups_are most p most 0 p l ends (λ some. pairs_are (at ns p).lock most p (first_lock p l some) ends)
       ∙ ap (map (λ lock. (lock, pairs_of (log_value ns n) lock))) (all_locks most p l ends)
@@ -388,15 +449,18 @@ module _ (ns : List Node) (n : ℕ) (c : IsChained ns n) (room : n < length ns) 
   least_first = c.next 0 (omega arith)
 
   -- the first node from a lock on tells whether a word has the lock
-  pub lock_there : (lock p : ℕ) → Least ns n (rank_of lock 0) p → 0 < p → (at ns p).lock ≡ lock → (a : ℕ) × (get (log_value ns n).locks a ≡ Some lock)
+  pub lock_there : (lock p : ℕ) → Least ns n (rank_of lock 0) p → 0 < p → (at ns p).lock ≡ lock →
+      (a : ℕ) × (get (log_value ns n).locks a ≡ Some lock)
   lock_there lock p l some is = ((at ns p).number, get_lock ns n p _ c some (l.some some).0 refl ∙ ap Some is)
 
-  pub there_lock : (lock p a : ℕ) → Least ns n (rank_of lock 0) p → get (log_value ns n).locks a ≡ Some lock → (0 < p) × ((at ns p).lock ≡ lock)
+  pub there_lock : (lock p a : ℕ) → Least ns n (rank_of lock 0) p → get (log_value ns n).locks a ≡ Some lock →
+      (0 < p) × ((at ns p).lock ≡ lock)
   there_lock lock p a l is =
       let source = get_source (numbers ns) (locks_at ns) n a lock is in
       let e : ℕ = source.node in
       let lock_is = source.value_is in
-      let f = first_or (rank_of lock 0) p e l source.some source.inside (first_of_lock lock (at ns e).lock (at ns e).number (omega (arith, lock_is))) in
+      let f = first_or (rank_of lock 0) p e l source.some source.inside
+      (first_of_lock lock (at ns e).lock (at ns e).number (omega (arith, lock_is))) in
       let s = l.some f.0 in
       let from = s.1 in
       let up : lock ≤ (at ns p).lock = lock_first lock (at ns p).lock (at ns p).number (c.fits p s.0) from in (
@@ -404,7 +468,8 @@ module _ (ns : List Node) (n : ℕ) (c : IsChained ns n) (room : n < length ns) 
         elim f.1 [
           | inl same ↦ ap (λ j. (at ns j).lock) (sym same) ∙ lock_is
           | inr later ↦ (
-              let on : (at ns p).lock ≤ (at ns e).lock = lock_up (at ns p).lock (at ns e).lock (at ns p).number (at ns e).number (c.fits p s.0) (c.fits source.node source.inside) (omega arith) in
+              let on : (at ns p).lock ≤ (at ns e).lock = lock_up (at ns p).lock (at ns e).lock (at ns p).number
+              (at ns e).number (c.fits p s.0) (c.fits source.node source.inside) (omega arith) in
               omega (arith, up, on, lock_is))
         ],
       )
@@ -418,7 +483,8 @@ none_entries : entries (empty {X = ℕ} {R = nat_cmp}) ≡ []
 none_entries = no_length _ (sym (len-entries (empty {X = ℕ} {R = nat_cmp})) ∙ len-empty nat_cmp ℕ)
 
 pub empty_locks : log_locks empty_log ≡ []
-empty_locks = ap (λ (es : List (ℕ × ℕ)). keys {R = nat_cmp} (from_entries (map (λ (p : ℕ × ℕ). (p.1, p.0)) es))) none_entries ∙ ap (map (λ (p : ℕ × ℕ). p.0)) none_entries
+empty_locks = ap (λ (es : List (ℕ × ℕ)). keys {R = nat_cmp} (from_entries (map (λ (p : ℕ × ℕ). (p.1, p.0)) es)))
+    none_entries ∙ ap (map (λ (p : ℕ × ℕ). p.0)) none_entries
 
 pub empty_groups : log_groups empty_log ≡ []
 empty_groups = ap (map (λ lock. (lock, pairs_of empty_log lock))) empty_locks
@@ -431,7 +497,8 @@ pub drop_more : (xs ys : List ℕ) (n x : ℕ) → drop n xs ≡ x ∷ ys → (d
 drop_more [] ys zero x e = cc
 drop_more [] ys (suc n) x e = cc
 drop_more (z ∷ xs) ys zero x e = (cc, cc)
-drop_more (z ∷ xs) ys (suc n) x e = let rest = drop_more xs ys n x e in (let up : suc n + 1 ≡ suc (n + 1) = omega arith in rw up rest.0, rest.1)
+drop_more (z ∷ xs) ys (suc n) x e = let rest = drop_more xs ys n x e in
+    (let up : suc n + 1 ≡ suc (n + 1) = omega arith in rw up rest.0, rest.1)
 
 pub drop_none : (xs : List ℕ) (n : ℕ) → drop n xs ≡ [] → length xs ≤ n
 drop_none [] n e = omega arith
@@ -445,19 +512,23 @@ drop_empty (suc n) = refl
 drop_past : (xs : List ℕ) (n : ℕ) → length xs ≤ n → drop (n + 1) xs ≡ []
 drop_past [] n h = drop_empty (n + 1)
 drop_past (x ∷ xs) zero h = absurd (omega arith)
-drop_past (x ∷ xs) (suc n) h = let rest = drop_past xs n (omega arith) in let up : suc n + 1 ≡ suc (n + 1) = omega arith in rw up rest
+drop_past (x ∷ xs) (suc n) h = let rest = drop_past xs n (omega arith) in let up : suc n + 1 ≡ suc (n + 1) =
+    omega arith in rw up rest
 
 -- an iterator that stands behind n numbers of a list goes on by one
-pub next_drop : (r : Option ℕ) (xs ys zs : List ℕ) (n : ℕ) → MatchOption r ((xs ≡ []) × (ys ≡ [])) (λ x. xs ≡ x ∷ ys) → xs ≡ drop n zs → ys ≡ drop (n + 1) zs
+pub next_drop : (r : Option ℕ) (xs ys zs : List ℕ) (n : ℕ) → MatchOption r ((xs ≡ []) × (ys ≡ [])) (λ x. xs ≡ x ∷ ys) →
+    xs ≡ drop n zs → ys ≡ drop (n + 1) zs
 next_drop None xs ys zs n h e = h.1 ∙ sym (drop_past zs n (drop_none zs n (sym e ∙ h.0)))
 next_drop (Some x) xs ys zs n h e = sym (drop_more zs ys n x (sym e ∙ h)).0
 
-pub next_some : (r : Option ℕ) (xs ys zs : List ℕ) (n : ℕ) → MatchOption r ((xs ≡ []) × (ys ≡ [])) (λ x. xs ≡ x ∷ ys) → xs ≡ drop n zs → n < length zs → r ≡ Some (get_or zs n 0)
+pub next_some : (r : Option ℕ) (xs ys zs : List ℕ) (n : ℕ) → MatchOption r ((xs ≡ []) × (ys ≡ [])) (λ x. xs ≡ x ∷ ys) →
+    xs ≡ drop n zs → n < length zs → r ≡ Some (get_or zs n 0)
 next_some None xs ys zs n h e l = let few = drop_none zs n (sym e ∙ h.0) in absurd (omega arith)
 next_some (Some x) xs ys zs n h e l = ap Some (sym (drop_more zs ys n x (sym e ∙ h)).1)
 
 -- ---- one step along a chain
-pub step_inside : (ns : List Node) (most p : ℕ) → 0 < p → Ends ns most p → (0 < most) × (p < length ns) × Ends ns (most - 1) (at ns p).next
+pub step_inside : (ns : List Node) (most p : ℕ) → 0 < p → Ends ns most p →
+    (0 < most) × (p < length ns) × Ends ns (most - 1) (at ns p).next
 step_inside ns zero p some ends = absurd (omega (arith, ends))
 step_inside ns (suc most) p some ends =
     let up : suc most - 1 ≡ most = omega arith in
@@ -471,40 +542,60 @@ step_on ns zero p some ends goes = absurd (omega (arith, ends))
 step_on ns (suc most) p some ends goes =
     let next : ℕ = (at ns p).next in
     let up : suc most - 1 ≡ most = omega arith in (
-      ap (λ b. cond b [] (cond (goes_on ns (at ns p).lock next) (locks_from ns most next) ((at ns p).lock ∷ locks_from ns most next))) (not_zero p some)
-          ∙ ap (λ b. cond b (locks_from ns most next) ((at ns p).lock ∷ locks_from ns most next)) goes ∙ ap (λ k. locks_from ns k next) (sym up),
+      ap (λ b. cond b [] (cond (goes_on ns (at ns p).lock next) (locks_from ns most next)
+          ((at ns p).lock ∷ locks_from ns most next))) (not_zero p some)
+          ∙ ap (λ b. cond b (locks_from ns most next) ((at ns p).lock ∷ locks_from ns most next)) goes ∙
+          ap (λ k. locks_from ns k next) (sym up),
       λ whole first.
-          ap (λ b. cond b [] (cond (goes_on ns (at ns p).lock next) (groups_from ns whole first most next) (((at ns p).lock, words_from ns (at ns p).lock whole first) ∷ groups_from ns most next most next))) (not_zero p some)
-          ∙ ap (λ b. cond b (groups_from ns whole first most next) (((at ns p).lock, words_from ns (at ns p).lock whole first) ∷ groups_from ns most next most next)) goes ∙ ap (λ k. groups_from ns whole first k next) (sym up),
+          ap (λ b. cond b [] (cond (goes_on ns (at ns p).lock next) (groups_from ns whole first most next)
+          (((at ns p).lock, words_from ns (at ns p).lock whole first) ∷ groups_from ns most next most next)))
+          (not_zero p some)
+          ∙ ap (λ b. cond b (groups_from ns whole first most next)
+          (((at ns p).lock, words_from ns (at ns p).lock whole first) ∷ groups_from ns most next most next)) goes ∙
+          ap (λ k. groups_from ns whole first k next) (sym up),
     )
 
 -- another lock follows, or none
-pub step_last : (ns : List Node) (most p : ℕ) → 0 < p → Ends ns most p → goes_on ns (at ns p).lock (at ns p).next ≡ false
+pub step_last : (ns : List Node) (most p : ℕ) → 0 < p → Ends ns most p →
+    goes_on ns (at ns p).lock (at ns p).next ≡ false
     → (locks_from ns most p ≡ (at ns p).lock ∷ locks_from ns (most - 1) (at ns p).next)
-    × ((whole first : ℕ) → groups_from ns whole first most p ≡ ((at ns p).lock, words_from ns (at ns p).lock whole first) ∷ groups_from ns (most - 1) (at ns p).next (most - 1) (at ns p).next)
+    × ((whole first : ℕ) → groups_from ns whole first most p ≡ (
+      (at ns p).lock,
+      words_from ns (at ns p).lock whole first,
+    ) ∷ groups_from ns (most - 1) (at ns p).next (most - 1) (at ns p).next)
 step_last ns zero p some ends stops = absurd (omega (arith, ends))
 step_last ns (suc most) p some ends stops =
     let next : ℕ = (at ns p).next in
     let up : suc most - 1 ≡ most = omega arith in (
-      ap (λ b. cond b [] (cond (goes_on ns (at ns p).lock next) (locks_from ns most next) ((at ns p).lock ∷ locks_from ns most next))) (not_zero p some)
-          ∙ ap (λ b. cond b (locks_from ns most next) ((at ns p).lock ∷ locks_from ns most next)) stops ∙ ap (λ k. (at ns p).lock ∷ locks_from ns k next) (sym up),
+      ap (λ b. cond b [] (cond (goes_on ns (at ns p).lock next) (locks_from ns most next)
+          ((at ns p).lock ∷ locks_from ns most next))) (not_zero p some)
+          ∙ ap (λ b. cond b (locks_from ns most next) ((at ns p).lock ∷ locks_from ns most next)) stops ∙
+          ap (λ k. (at ns p).lock ∷ locks_from ns k next) (sym up),
       λ whole first.
-          ap (λ b. cond b [] (cond (goes_on ns (at ns p).lock next) (groups_from ns whole first most next) (((at ns p).lock, words_from ns (at ns p).lock whole first) ∷ groups_from ns most next most next))) (not_zero p some)
-          ∙ ap (λ b. cond b (groups_from ns whole first most next) (((at ns p).lock, words_from ns (at ns p).lock whole first) ∷ groups_from ns most next most next)) stops
-          ∙ ap (λ k. ((at ns p).lock, words_from ns (at ns p).lock whole first) ∷ groups_from ns k next k next) (sym up),
+          ap (λ b. cond b [] (cond (goes_on ns (at ns p).lock next) (groups_from ns whole first most next)
+          (((at ns p).lock, words_from ns (at ns p).lock whole first) ∷ groups_from ns most next most next)))
+          (not_zero p some)
+          ∙ ap (λ b. cond b (groups_from ns whole first most next)
+          (((at ns p).lock, words_from ns (at ns p).lock whole first) ∷ groups_from ns most next most next)) stops
+          ∙ ap (λ k. ((at ns p).lock, words_from ns (at ns p).lock whole first) ∷ groups_from ns k next k next)
+          (sym up),
     )
 
 -- a node that leads on lies in the block
-pub next_inside : (ns : List Node) (left here next : ℕ) → 0 < here → Ends ns left here → next ≡ (at ns here).next → 0 < next → next < length ns
+pub next_inside : (ns : List Node) (left here next : ℕ) → 0 < here → Ends ns left here → next ≡ (at ns here).next →
+    0 < next → next < length ns
 next_inside ns left here next some ends is more =
     let rest : Ends ns (left - 1) next = subst (Ends ns (left - 1)) (sym is) (step_inside ns left here some ends).2 in
     (step_inside ns (left - 1) next more rest).1
 
 -- the locks behind the last node of a lock
-pub locks_past : (ns : List Node) (most start left here lock next : ℕ) (b : Bool) → 0 < here → Ends ns left here → (at ns here).lock ≡ (at ns start).lock → next ≡ (at ns here).next
-    → lock ≡ (at ns start).lock → b ≡ goes_on ns lock next → b ≡ false → locks_from ns most start ≡ locks_from ns left here
+pub locks_past : (ns : List Node) (most start left here lock next : ℕ) (b : Bool) → 0 < here → Ends ns left here →
+    (at ns here).lock ≡ (at ns start).lock → next ≡ (at ns here).next
+    → lock ≡ (at ns start).lock → b ≡ goes_on ns lock next → b ≡ false →
+    locks_from ns most start ≡ locks_from ns left here
     → locks_from ns most start ≡ (at ns start).lock ∷ locks_from ns (left - 1) next
 locks_past ns most start left here lock next b some ends same is lock_is goes stops kept =
     let off : goes_on ns (at ns here).lock (at ns here).next ≡ false =
     ap (λ k. goes_on ns k (at ns here).next) (same ∙ sym lock_is) ∙ ap (goes_on ns lock) (sym is) ∙ sym goes ∙ stops in
-    kept ∙ (step_last ns left here some ends off).0 ∙ ap (λ k. k ∷ locks_from ns (left - 1) (at ns here).next) same ∙ ap (λ q. (at ns start).lock ∷ locks_from ns (left - 1) q) (sym is)
+    kept ∙ (step_last ns left here some ends off).0 ∙ ap (λ k. k ∷ locks_from ns (left - 1) (at ns here).next) same ∙
+    ap (λ q. (at ns start).lock ∷ locks_from ns (left - 1) q) (sym is)

@@ -1,7 +1,9 @@
 -- Chunks as one list.
-use Rattle.std.proofs.Common.{◌≡◌, inl, inr, ℕ, zero, suc, ◌+◌, ◌-◌, ◌*◌, ◌<◌, ◌≤◌, ◌/◌, ◌%◌, Option, List, [], ◌∷◌, ◌++◌, length, take, get_or, set, refl, sym, ap, ◌∙◌, arith, append_assoc, length-append}
+use Rattle.std.proofs.Common.{◌≡◌, inl, inr, ℕ, zero, suc, ◌+◌, ◌-◌, ◌*◌, ◌<◌, ◌≤◌, ◌/◌, ◌%◌, Option, List, [], ◌∷◌}
+use Rattle.std.proofs.Common.{◌++◌, length, take, get_or, set, refl, sym, ap, ◌∙◌, arith, append_assoc, length-append}
 use Rattle.std.proofs.Math.ListN.{get_or-append}
-use Rattle.std.proofs.lemmas.List.{append-nil, get_or-append_right, get_or-set_other, get_or-take, length-set, length-take-le, take_more_set, take-append-le}
+use Rattle.std.proofs.lemmas.List.{append-nil, get_or-append_right, get_or-set_other, get_or-take, length-set}
+use Rattle.std.proofs.lemmas.List.{length-take-le, take_more_set, take-append-le}
 use Rattle.std.proofs.lemmas.Grind.{get_or-set_at}
 use Rattle.stm_logs.proofs.NodeLemmas.{same_or}
 use Rattle.stm_logs.specs.Chunks.{joined, in_hand, logged, AreWhole, HasRoom, IsLonger, IsRoomier, IsSetAside}
@@ -15,14 +17,16 @@ behind c cs full k l = full (suc k) (omega arith)
 first : (c : List ℕ) (cs : List (List ℕ)) → AllFull (c ∷ cs) → length c ≡ 1024
 first c cs full = full 0 (omega arith)
 
-pub length-joined : (cs : List (List ℕ)) → ((k : ℕ) → k < length cs → length (get_or cs k []) ≡ 1024) → length (joined cs) ≡ 1024 * length cs
+pub length-joined : (cs : List (List ℕ)) → ((k : ℕ) → k < length cs → length (get_or cs k []) ≡ 1024) →
+    length (joined cs) ≡ 1024 * length cs
 length-joined [] full = refl
 length-joined (c ∷ cs) full =
     let rest = length-joined cs (behind c cs full) in
     let one = first c cs full in
     omega (arith, rest, one, length-append c (joined cs))
 
-pub joined_at : (cs : List (List ℕ)) (q r : ℕ) → AllFull cs → q < length cs → r < 1024 → get_or (joined cs) (1024 * q + r) 0 ≡ get_or (get_or cs q []) r 0
+pub joined_at : (cs : List (List ℕ)) (q r : ℕ) → AllFull cs → q < length cs → r < 1024 →
+    get_or (joined cs) (1024 * q + r) 0 ≡ get_or (get_or cs q []) r 0
 joined_at [] q r full l m = absurd (omega arith)
 joined_at (c ∷ cs) zero r full l m =
     let one = first c cs full in
@@ -44,30 +48,40 @@ first_whole rest full whole few k below =
     let under : k < full = omega (arith, len, below) in
     ap length (get_or-take full rest k [] under) ∙ whole.each k (omega (arith, under, few))
 
-length-first : (rest : List (List ℕ)) (full : ℕ) → AreWhole rest → full ≤ length rest → length (joined (take full rest)) ≡ 1024 * full
+length-first : (rest : List (List ℕ)) (full : ℕ) → AreWhole rest → full ≤ length rest →
+    length (joined (take full rest)) ≡ 1024 * full
 length-first rest full whole few =
     length-joined (take full rest) (first_whole rest full whole few) ∙ ap (λ n. 1024 * n) (length-take-le full rest few)
 
-pub length-logged : (rest : List (List ℕ)) (full : ℕ) (hand : Option (List ℕ)) (used : ℕ) → HasRoom rest full hand → used ≤ length (in_hand hand)
+pub length-logged : (rest : List (List ℕ)) (full : ℕ) (hand : Option (List ℕ)) (used : ℕ) → HasRoom rest full hand →
+    used ≤ length (in_hand hand)
     → length (logged rest full hand used) ≡ 1024 * full + used
 length-logged rest full hand used room few =
-    omega (arith, length-append (joined (take full rest)) (take used (in_hand hand)), length-first rest full room.whole room.count, length-take-le used (in_hand hand) few)
+    omega (
+      arith,
+      length-append (joined (take full rest)) (take used (in_hand hand)),
+      length-first rest full room.whole room.count,
+      length-take-le used (in_hand hand) few,
+    )
 
 -- a value of a full chunk
-pub full_at : (rest : List (List ℕ)) (full : ℕ) (hand : Option (List ℕ)) (used i : ℕ) → HasRoom rest full hand → i / 1024 < full
+pub full_at : (rest : List (List ℕ)) (full : ℕ) (hand : Option (List ℕ)) (used i : ℕ) → HasRoom rest full hand →
+    i / 1024 < full
     → get_or (get_or rest (i / 1024) []) (i % 1024) 0 ≡ get_or (logged rest full hand used) i 0
 full_at rest full hand used i room below =
     let e : 1024 * (i / 1024) + i % 1024 ≡ i = omega arith in
     let len = length-first rest full room.whole room.count in
     let few : i / 1024 < length (take full rest) = omega (arith, below, length-take-le full rest room.count) in
     ap (λ (c : List ℕ). get_or c (i % 1024) 0) (sym (get_or-take full rest (i / 1024) [] below))
-    ∙ sym (joined_at (take full rest) (i / 1024) (i % 1024) (first_whole rest full room.whole room.count) few (omega arith))
+    ∙ sym (joined_at (take full rest) (i / 1024) (i % 1024) (first_whole rest full room.whole room.count) few
+    (omega arith))
     ∙ ap (λ k. get_or (joined (take full rest)) k 0) e
     ∙ sym (get_or-append (joined (take full rest)) (take used (in_hand hand)) 0 i (omega (arith, len, below)))
 
 -- a value of the chunk at hand
 pub hand_at : (rest : List (List ℕ)) (full : ℕ) (hand : Option (List ℕ)) (used i : ℕ) → HasRoom rest full hand
-    → used ≤ length (in_hand hand) → length (in_hand hand) ≤ 1024 → full ≤ i / 1024 → i < length (logged rest full hand used)
+    → used ≤ length (in_hand hand) → length (in_hand hand) ≤ 1024 → full ≤ i / 1024 →
+    i < length (logged rest full hand used)
     → get_or (in_hand hand) (i % 1024) 0 ≡ get_or (logged rest full hand used) i 0
 hand_at rest full hand used i room few small over inside =
     let len = length-first rest full room.whole room.count in
@@ -76,9 +90,11 @@ hand_at rest full hand used i room few small over inside =
     let under : i - 1024 * full < used = omega (arith, below, over) in
     ap (λ k. get_or (in_hand hand) k 0) e
     ∙ sym (get_or-take used (in_hand hand) (i - 1024 * full) 0 under)
-    ∙ sym (get_or-append_right (joined (take full rest)) (take used (in_hand hand)) (1024 * full) i 0 len (omega (arith, over)))
+    ∙ sym (get_or-append_right (joined (take full rest)) (take used (in_hand hand)) (1024 * full) i 0 len
+    (omega (arith, over)))
 
-set_whole : (chunks : List (List ℕ)) (i : ℕ) (chunk : List ℕ) (k : ℕ) → AreWhole chunks → length chunk ≡ 1024 → k < length (set chunks i chunk)
+set_whole : (chunks : List (List ℕ)) (i : ℕ) (chunk : List ℕ) (k : ℕ) → AreWhole chunks → length chunk ≡ 1024 →
+    k < length (set chunks i chunk)
     → length (get_or (set chunks i chunk) k []) ≡ 1024
 set_whole chunks i chunk k whole places l =
     let below : k < length chunks = omega (arith, l, length-set chunks i chunk) in
@@ -87,14 +103,16 @@ set_whole chunks i chunk k whole places l =
       | inr ne ↦ ap length (get_or-set_other chunks i k chunk [] ne) ∙ whole.each k below
     ]
 
-pub longer_roomier : (rest more : List (List ℕ)) (full : ℕ) → full ≡ length rest → IsLonger rest more → IsRoomier rest more full
+pub longer_roomier : (rest more : List (List ℕ)) (full : ℕ) → full ≡ length rest → IsLonger rest more →
+    IsRoomier rest more full
 longer_roomier rest more full e longer = record {
   whole = longer.whole;
   inside = omega (arith, e, ap length longer.appended, length-append rest (longer.chunk ∷ []));
   same = ap (take full) longer.appended ∙ take-append-le full rest (longer.chunk ∷ []) (omega (arith, e));
 }
 
-pub set_aside : (rest more : List (List ℕ)) (full : ℕ) (chunk spare : List ℕ) → IsRoomier rest more full → length chunk ≡ 1024 → spare ≡ get_or more full []
+pub set_aside : (rest more : List (List ℕ)) (full : ℕ) (chunk spare : List ℕ) → IsRoomier rest more full →
+    length chunk ≡ 1024 → spare ≡ get_or more full []
     → IsSetAside rest full chunk (set more full chunk) (full + 1) spare
 set_aside rest more full chunk spare roomier places found = record {
   whole = record {
@@ -105,5 +123,6 @@ set_aside rest more full chunk spare roomier places found = record {
   places = ap length found ∙ roomier.whole.each full roomier.inside;
   same =
       ap joined (take_more_set more full chunk roomier.inside) ∙ joined-append (take full more) (chunk ∷ [])
-      ∙ ap (λ ys. joined (take full more) ++ ys) (append-nil chunk) ∙ ap (λ (cs : List (List ℕ)). joined cs ++ chunk) roomier.same;
+      ∙ ap (λ ys. joined (take full more) ++ ys) (append-nil chunk) ∙
+      ap (λ (cs : List (List ℕ)). joined cs ++ chunk) roomier.same;
 }

@@ -5,10 +5,17 @@ use Rattle.stm_logs.specs.Held.{IsReady, IsLog, Cleared}
 use Rattle.stm_logs.proofs.NodeLemmas.{same_or, put_here, put_other, field_kept}
 use Rattle.stm_logs.proofs.LogLemmas.{none_log}
 
-pub cleared_place : (old new : List Node) (n e : ℕ) → IsReady old n → Cleared old new n e → e < n → (at new (e + 1)).place < length new
-cleared_place old new n e ready c l = omega (arith, c.places (e + 1), c.len, (ready.indexed.places (e + 1) (omega arith) (omega arith)).0)
+pub cleared_place : (old new : List Node) (n e : ℕ) → IsReady old n → Cleared old new n e → e < n →
+    (at new (e + 1)).place < length new
+cleared_place old new n e ready c l = omega (
+  arith,
+  c.places (e + 1),
+  c.len,
+  (ready.indexed.places (e + 1) (omega arith) (omega arith)).0,
+)
 
-pub cleared_more : (old new : List Node) (n e q : ℕ) → Cleared old new n e → q ≡ (at new (e + 1)).place → q < length new → Cleared old (set new q (record (at new q) { slot = 0 })) n (e + 1)
+pub cleared_more : (old new : List Node) (n e q : ℕ) → Cleared old new n e → q ≡ (at new (e + 1)).place →
+    q < length new → Cleared old (set new q (record (at new q) { slot = 0 })) n (e + 1)
 cleared_more old new n e q c is l =
     let y : Node = record (at new q) { slot = 0 } in
     let more : List Node = set new q y in
@@ -44,4 +51,5 @@ cleared_log old new log c =
       | inl is ↦ s ∙ is
       | inr ne ↦ (let h = c.left q (omega (arith, len)) (omega arith) in absurd (omega (arith, h.0, h.1)))
     ])
-    (ap (λ x. x.number) root ∙ c.numbers 0 ∙ log.ready.chained.top.0) (ap (λ x. x.lock) root ∙ c.locks 0 ∙ log.ready.chained.top.1) (ap (λ x. x.next) root)
+    (ap (λ x. x.number) root ∙ c.numbers 0 ∙ log.ready.chained.top.0)
+    (ap (λ x. x.lock) root ∙ c.locks 0 ∙ log.ready.chained.top.1) (ap (λ x. x.next) root)

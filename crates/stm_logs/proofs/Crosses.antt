@@ -37,10 +37,13 @@ module _ (R : RattleType) where
   pub Row-send : IsSend R → IsSend (Row.the_row R)
   Row-send s =
       let O = Row.the_type R in let all : AllSend (fields O) = (search sendable, (search sendable, tt)) in
-      owning_send O all (λ d. owned-Keyless s d.ptr d.len d.items d.filled) (λ k. quiet (to O) (exits_of k (fields O)) ((struct_send (shape O) all).leaving k))
+      owning_send O all (λ d. owned-Keyless s d.ptr d.len d.items d.filled)
+      (λ k. quiet (to O) (exits_of k (fields O)) ((struct_send (shape O) all).leaving k))
 
   module _ (A : RattleType) (g : Ghosts A.Denot) where
     pub Right-send : Frees g g.dealloc_token → IsSend (Right.the_row R A g)
     Right-send f =
-        let O = Right.the_type R A g in let all : AllSend (fields O) = (search sendable, (search sendable, (search sendable, tt))) in
-        owning_send O all (λ d. f.frees d.alloc _ d.ptr) (λ k. quiet (to O) (exits_of k (fields O)) ((struct_send (shape O) all).leaving k))
+        let O = Right.the_type R A g in let all : AllSend (fields O) =
+        (search sendable, (search sendable, (search sendable, tt))) in
+        owning_send O all (λ d. f.frees d.alloc _ d.ptr) (λ k. quiet (to O) (exits_of k (fields O))
+        ((struct_send (shape O) all).leaving k))

@@ -31,7 +31,11 @@ fingers_same ns = record {
 pub fingers_both : (a b c : List Node) → OnlyFingers a b → OnlyFingers b c → OnlyFingers a c
 fingers_both a b c f g = record {
   len = g.len ∙ f.len;
-  same = λ j. (let s = f.same j in let t = g.same j in record { number = t.number ∙ s.number; place = t.place ∙ s.place; slot = t.slot ∙ s.slot });
+  same = λ j. (let s = f.same j in let t = g.same j in record {
+    number = t.number ∙ s.number;
+    place = t.place ∙ s.place;
+    slot = t.slot ∙ s.slot;
+  });
   values = λ j. g.values j ∙ f.values j;
   locks = λ j. g.locks j ∙ f.locks j;
   nexts = λ j. g.nexts j ∙ f.nexts j;

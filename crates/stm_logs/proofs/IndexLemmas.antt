@@ -1,13 +1,16 @@
 -- The search in the index, and a node that enters it.
-use Rattle.std.proofs.Common.{◌≡◌, ◌≢◌, inl, inr, ℕ, suc, ◌+◌, ◌-◌, ◌<◌, ◌≤◌, cond, nat_lt, List, [], ◌∷◌, length, set, refl, sym, ap, ◌∙◌, arith, length-set, subst}
+use Rattle.std.proofs.Common.{◌≡◌, ◌≢◌, inl, inr, ℕ, suc, ◌+◌, ◌-◌, ◌<◌, ◌≤◌, cond, nat_lt, List, [], ◌∷◌, length, set}
+use Rattle.std.proofs.Common.{refl, sym, ap, ◌∙◌, arith, length-set, subst}
 use Rattle.std.proofs.lemmas.Bool.{cases_lt}
 use Rattle.std.proofs.lemmas.Bool.Decides.{nat_tests}
 use Rattle.stm_logs.specs.Nodes.{Node, at}
-use Rattle.stm_logs.specs.Index.{home, Along, IsTaken, IsOther, HasNone, IsFound, taken, IsIndexed, Answers, SameNode, Entered}
+use Rattle.stm_logs.specs.Index.{home, Along, IsTaken, IsOther, HasNone, IsFound, taken, IsIndexed, Answers, SameNode}
+use Rattle.stm_logs.specs.Index.{Entered}
 use Rattle.stm_logs.specs.Order.{SameKeys}
 use Rattle.stm_logs.proofs.NodeLemmas.{same_or, put_here, put_other, field_kept, taken_put, free_place, none_taken, bit}
 
-pub along_map : (P Q : ℕ → Type 0) (len start end : ℕ) → ((q : ℕ) → P q → Q q) → Along P len start end → Along Q len start end
+pub along_map : (P Q : ℕ → Type 0) (len start end : ℕ) → ((q : ℕ) → P q → Q q) → Along P len start end →
+    Along Q len start end
 along_map P Q len start end f a = record {
   straight = λ l q h k. f q (a.straight l q h k);
   high = λ l q h k. f q (a.high l q h k);
@@ -15,25 +18,39 @@ along_map P Q len start end f a = record {
 }
 
 -- one place further, not past the last
-pub along_on : (P : ℕ → Type 0) (len start end : ℕ) → start < len → end + 1 < len → (end + 1 ≡ start → (f : ℕ) × ((f < len) × ¬ (P f))) → Along P len start end → P end → Along P len start (end + 1)
+pub along_on : (P : ℕ → Type 0) (len start end : ℕ) → start < len → end + 1 < len →
+    (end + 1 ≡ start → (f : ℕ) × ((f < len) × ¬ (P f))) → Along P len start end → P end → Along P len start (end + 1)
 along_on P len start end s m gap a here = record {
   straight = λ l q h k. elim (cases_lt end start) [
     | inl wrapped ↦ (
         let g = gap (omega arith) in
         absurd (g.1.1 (elim (cases_lt g.0 start) [
-          | inl below ↦ (elim (same_or g.0 end) [ inl is ↦ subst P (sym is) here | inr ne ↦ a.low wrapped g.0 (omega arith) ])
+          | inl below ↦ (elim (same_or g.0 end) [
+            | inl is ↦ subst P (sym is) here
+            | inr ne ↦
+                a.low wrapped g.0 (omega arith)
+          ])
           | inr above ↦ a.high wrapped g.0 above g.1.0
         ])))
-    | inr straight ↦ (elim (same_or q end) [ inl is ↦ subst P (sym is) here | inr ne ↦ a.straight straight q h (omega arith) ])
+    | inr straight ↦ (elim (same_or q end) [
+      | inl is ↦ subst P (sym is) here
+      | inr ne ↦
+          a.straight straight q h (omega arith)
+    ])
   ];
   high = λ l q h k. a.high (omega arith) q h k;
   low = λ l q h. elim (same_or q end) [ inl is ↦ subst P (sym is) here | inr ne ↦ a.low (omega arith) q (omega arith) ];
 }
 
 -- past the last place comes the first
-pub along_round : (P : ℕ → Type 0) (len start end : ℕ) → start < len → end < len → end + 1 ≡ len → (0 ≡ start → (f : ℕ) × ((f < len) × ¬ (P f))) → Along P len start end → P end → Along P len start 0
+pub along_round : (P : ℕ → Type 0) (len start end : ℕ) → start < len → end < len → end + 1 ≡ len →
+    (0 ≡ start → (f : ℕ) × ((f < len) × ¬ (P f))) → Along P len start end → P end → Along P len start 0
 along_round P len start end s m last gap a here =
-    let all : (q : ℕ) → start ≤ q → q < len → P q = λ q h k. elim (same_or q end) [ inl is ↦ subst P (sym is) here | inr ne ↦ a.straight (omega arith) q h (omega arith) ] in
+    let all : (q : ℕ) → start ≤ q → q < len → P q = λ q h k. elim (same_or q end) [
+      | inl is ↦
+          subst P (sym is) here
+      | inr ne ↦ a.straight (omega arith) q h (omega arith)
+    ] in
     record {
       straight = λ l q h k. absurd (omega arith);
       high = λ l q h k. all q h k;
@@ -60,10 +77,13 @@ still_taken ns ns' n q y w j t = elim (same_or j q) [
   | inr ne ↦ omega (arith, w.slot_other j ne)
 ]
 
-pub along_at : (P : ℕ → Type 0) (len len' start start' end end' : ℕ) → len' ≡ len → start' ≡ start → end' ≡ end → Along P len start end → Along P len' start' end'
-along_at P len len' start start' end end' a b c h = subst (λ x. Along P x start' end') (sym a) (subst (λ x. Along P len x end') (sym b) (subst (λ x. Along P len start x) (sym c) h))
+pub along_at : (P : ℕ → Type 0) (len len' start start' end end' : ℕ) → len' ≡ len → start' ≡ start → end' ≡ end →
+    Along P len start end → Along P len' start' end'
+along_at P len len' start start' end end' a b c h = subst (λ x. Along P x start' end') (sym a)
+    (subst (λ x. Along P len x end') (sym b) (subst (λ x. Along P len start x) (sym c) h))
 
-pub entered : (ns ns' : List Node) (n q : ℕ) (y : Node) → IsIndexed ns n → n + 1 < length ns → Answers ns n y.number q → (at ns q).slot ≡ 0 → Written ns ns' n q y → Entered ns ns' n y
+pub entered : (ns ns' : List Node) (n q : ℕ) (y : Node) → IsIndexed ns n → n + 1 < length ns → Answers ns n y.number q →
+    (at ns q).slot ≡ 0 → Written ns ns' n q y → Entered ns ns' n y
 entered ns ns' n q y ix room an free w = record {
   indexed = record {
     room = omega (arith, w.len);
@@ -85,16 +105,21 @@ entered ns ns' n q y ix room an free w = record {
           (omega (arith, s), ap (λ j. (at ns' j).place) s ∙ w.place_here ∙ sym is))
       | inr ne ↦ (
           let s = w.slot_other p ne in
-          let there = ix.slots p (omega (arith, w.len)) (omega (arith, s)) in
-          (omega (arith, s, there.0), ap (λ j. (at ns' j).place) s ∙ w.place_other _ (λ is. absurd (omega (arith, there.0, is))) ∙ there.1))
+          let there = ix.slots p (omega (arith, w.len)) (omega (arith, s)) in (
+            omega (arith, s, there.0),
+            ap (λ j. (at ns' j).place) s ∙
+                w.place_other _ (λ is. absurd (omega (arith, there.0, is))) ∙ there.1,
+          ))
     ];
     reached = λ e z m. elim (same_or e (n + 1)) [
       | inl is ↦ (
           let s : SameNode y (at ns' e) = subst (λ j. SameNode y (at ns' j)) (sym is) w.here in
-          along_at (IsTaken ns') _ _ _ _ _ _ w.len (same_home y (at ns' e) _ _ s w.len) (ap (λ j. (at ns' j).place) is ∙ w.place_here)
+          along_at (IsTaken ns') _ _ _ _ _ _ w.len (same_home y (at ns' e) _ _ s w.len)
+          (ap (λ j. (at ns' j).place) is ∙ w.place_here)
           (along_map (IsTaken ns) (IsTaken ns') _ _ _ (still_taken ns ns' n q y w) (an.free free).1))
       | inr ne ↦
-          along_at (IsTaken ns') _ _ _ _ _ _ w.len (same_home (at ns e) (at ns' e) _ _ (w.others e ne) w.len) (w.place_other e ne)
+          along_at (IsTaken ns') _ _ _ _ _ _ w.len (same_home (at ns e) (at ns' e) _ _ (w.others e ne) w.len)
+          (w.place_other e ne)
           (along_map (IsTaken ns) (IsTaken ns') _ _ _ (still_taken ns ns' n q y w) (ix.reached e z (omega arith)))
     ];
   };
@@ -114,7 +139,8 @@ unplaced : (y b : Node) (q s f : ℕ) → SameNode (placed y q s f) b → SameNo
 unplaced y b q s f h = record { value = h.value; number = h.number; lock = h.lock; next = h.next }
 
 pub written : (ns : List Node) (n q f : ℕ) (y : Node) → n + 1 < length ns → q < length ns → (at ns q).slot ≡ 0
-    → Written ns (set (set ns (n + 1) (placed y q (at ns (n + 1)).slot f)) q (leads (at (set ns (n + 1) (placed y q (at ns (n + 1)).slot f)) q) (n + 1))) n q y
+    → Written ns (set (set ns (n + 1) (placed y q (at ns (n + 1)).slot f)) q
+    (leads (at (set ns (n + 1) (placed y q (at ns (n + 1)).slot f)) q) (n + 1))) n q y
 written ns n q f y room l free =
     let mid : List Node = set ns (n + 1) (placed y q (at ns (n + 1)).slot f) in
     let z : Node = leads (at mid q) (n + 1) in
@@ -155,11 +181,16 @@ pub record Stepped (P : ℕ → Type 0) (len start place next : ℕ) : Type 0 wh
   pub along : Along P len start next
   pub nearer : to_go start len next < to_go start len place
 
-stepped_on : (P : ℕ → Type 0) (len start place next : ℕ) → start < len → place + 1 < len → next ≡ place + 1 → (f : ℕ) × ((f < len) × ¬ (P f)) → Along P len start place → P place → Stepped P len start place next
+stepped_on : (P : ℕ → Type 0) (len start place next : ℕ) → start < len → place + 1 < len → next ≡ place + 1 →
+    (f : ℕ) × ((f < len) × ¬ (P f)) → Along P len start place → P place → Stepped P len start place next
 stepped_on P len start place next s l is gap a here =
     let along : Along P len start (place + 1) = along_on P len start place s l (λ _. gap) a here in
     let full : (place + 1 ≡ start) → ⊥ = λ e. gap.1.1 (elim (cases_lt gap.0 start) [
-      | inl below ↦ (elim (same_or gap.0 place) [ inl at ↦ subst P (sym at) here | inr ne ↦ a.low (omega arith) gap.0 (omega arith) ])
+      | inl below ↦ (elim (same_or gap.0 place) [
+        | inl at ↦ subst P (sym at) here
+        | inr ne ↦
+            a.low (omega arith) gap.0 (omega arith)
+      ])
       | inr above ↦ a.high (omega arith) gap.0 above gap.1.0
     ]) in
     record {
@@ -168,10 +199,15 @@ stepped_on P len start place next s l is gap a here =
       nearer = grind (arith, nat_tests, is, full);
     }
 
-stepped_round : (P : ℕ → Type 0) (len start place next : ℕ) → start < len → place + 1 ≡ len → next ≡ 0 → (f : ℕ) × ((f < len) × ¬ (P f)) → Along P len start place → P place → Stepped P len start place next
+stepped_round : (P : ℕ → Type 0) (len start place next : ℕ) → start < len → place + 1 ≡ len → next ≡ 0 →
+    (f : ℕ) × ((f < len) × ¬ (P f)) → Along P len start place → P place → Stepped P len start place next
 stepped_round P len start place next s l is gap a here =
     let along : Along P len start 0 = along_round P len start place s (omega arith) l (λ _. gap) a here in
-    let full : (0 ≡ start) → ⊥ = λ e. gap.1.1 (elim (same_or gap.0 place) [ inl at ↦ subst P (sym at) here | inr ne ↦ a.straight (omega arith) gap.0 (omega arith) (omega arith) ]) in
+    let full : (0 ≡ start) → ⊥ = λ e. gap.1.1 (elim (same_or gap.0 place) [
+      | inl at ↦ subst P (sym at) here
+      | inr ne ↦
+          a.straight (omega arith) gap.0 (omega arith) (omega arith)
+    ]) in
     record {
       inside = omega arith;
       along = subst (λ e. Along P len start e) (sym is) along;
@@ -180,17 +216,20 @@ stepped_round P len start place next s l is gap a here =
 
 pub stepped : (ns : List Node) (n k start place next : ℕ) → IsIndexed ns n → start < length ns → place < length ns
     → (place + 1 < length ns → next ≡ place + 1) → (place + 1 ≡ length ns → next ≡ 0)
-    → Along (IsOther ns k) (length ns) start place → IsOther ns k place → Stepped (IsOther ns k) (length ns) start place next
+    → Along (IsOther ns k) (length ns) start place → IsOther ns k place →
+    Stepped (IsOther ns k) (length ns) start place next
 stepped ns n k start place next ix s l on round a here =
     let g = free_place ns (omega (arith, ix.count, ix.room)) in
-    let gap : (f : ℕ) × ((f < length ns) × ¬ (IsOther ns k f)) = (g.0, (g.1.0, λ o. absurd (omega (arith, o.0, g.1.1)))) in
+    let gap : (f : ℕ) × ((f < length ns) × ¬ (IsOther ns k f)) =
+    (g.0, (g.1.0, λ o. absurd (omega (arith, o.0, g.1.1)))) in
     elim (cases_lt (place + 1) (length ns)) [
       | inl below ↦ stepped_on _ _ _ _ _ s below (on below) gap a here
       | inr last ↦ stepped_round _ _ _ _ _ s (omega arith) (round (omega arith)) gap a here
     ]
 
 -- ---- what is kept where no key, place or slot changes
-taken_same : (ns ns' : List Node) → length ns' ≡ length ns → ((q : ℕ) → (at ns' q).slot ≡ (at ns q).slot) → taken ns' ≡ taken ns
+taken_same : (ns ns' : List Node) → length ns' ≡ length ns → ((q : ℕ) → (at ns' q).slot ≡ (at ns q).slot) →
+    taken ns' ≡ taken ns
 taken_same [] [] l h = refl
 taken_same [] (m ∷ ns') l h = absurd (omega arith)
 taken_same (n ∷ ns) [] l h = absurd (omega arith)
@@ -199,7 +238,8 @@ taken_same (n ∷ ns) (m ∷ ns') l h =
     let here : bit m.slot ≡ bit n.slot = ap bit (h 0) in
     omega (arith, rest, here)
 
-pub indexed_kept : (ns ns' : List Node) (n : ℕ) → length ns' ≡ length ns → ((e : ℕ) → SameKeys (at ns e) (at ns' e)) → IsIndexed ns n → IsIndexed ns' n
+pub indexed_kept : (ns ns' : List Node) (n : ℕ) → length ns' ≡ length ns → ((e : ℕ) → SameKeys (at ns e) (at ns' e)) →
+    IsIndexed ns n → IsIndexed ns' n
 indexed_kept ns ns' n len same ix = record {
   room = omega (arith, len, ix.room);
   limit = omega (arith, len, ix.limit);
@@ -218,7 +258,8 @@ indexed_kept ns ns' n len same ix = record {
 }
 
 -- a block without nodes
-pub indexed_none : (ns : List Node) → 0 < length ns → length ns ≤ 2147483648 → ((q : ℕ) → q < length ns → (at ns q).slot ≡ 0) → IsIndexed ns 0
+pub indexed_none : (ns : List Node) → 0 < length ns → length ns ≤ 2147483648 →
+    ((q : ℕ) → q < length ns → (at ns q).slot ≡ 0) → IsIndexed ns 0
 indexed_none ns some limit free = record {
   room = some;
   limit = limit;

@@ -1,5 +1,6 @@
 -- One place of the block is put anew.
-use Rattle.std.proofs.Common.{◌≡◌, ◌≢◌, ◌⊎◌, inl, inr, ℕ, zero, suc, ◌+◌, ◌<◌, cond, nat_eq, List, [], ◌∷◌, length, set, refl, sym, ap, ◌∙◌, arith, get_or-set_same, get_or-set_other}
+use Rattle.std.proofs.Common.{◌≡◌, ◌≢◌, ◌⊎◌, inl, inr, ℕ, zero, suc, ◌+◌, ◌<◌, cond, nat_eq, List, [], ◌∷◌, length, set}
+use Rattle.std.proofs.Common.{refl, sym, ap, ◌∙◌, arith, get_or-set_same, get_or-set_other}
 use Rattle.std.proofs.lemmas.Bool.{cases_lt}
 use Rattle.std.proofs.lemmas.Bool.Decides.{nat_tests}
 use Rattle.stm_logs.specs.Nodes.{Node, at, blank}
@@ -18,7 +19,8 @@ pub put_other : (ns : List Node) (i j : ℕ) (y : Node) → j ≢ i → at (set 
 put_other ns i j y ne = get_or-set_other ns i j y blank ne
 
 -- a field that the new node has as the old one is the same everywhere
-pub field_kept : {X : Type 0} (f : Node → X) (ns : List Node) (i : ℕ) (y : Node) → i < length ns → f y ≡ f (at ns i) → (j : ℕ) → f (at (set ns i y) j) ≡ f (at ns j)
+pub field_kept : {X : Type 0} (f : Node → X) (ns : List Node) (i : ℕ) (y : Node) → i < length ns → f y ≡ f (at ns i) →
+    (j : ℕ) → f (at (set ns i y) j) ≡ f (at ns j)
 field_kept f ns i y l e j = elim (same_or j i) [
   | inl is ↦ ap (λ k. f (at (set ns i y) k)) is ∙ ap f (put_here ns i y l) ∙ e ∙ ap (λ k. f (at ns k)) (sym is)
   | inr ne ↦ ap f (put_other ns i j y ne)
@@ -28,7 +30,8 @@ abbrev pub bit : ℕ → ℕ
 bit s = cond (nat_eq s 0) 0 1
 
 -- the count of the taken places where one is put anew
-pub taken_put : (ns : List Node) (i : ℕ) (y : Node) → i < length ns → taken (set ns i y) + bit (at ns i).slot ≡ taken ns + bit y.slot
+pub taken_put : (ns : List Node) (i : ℕ) (y : Node) → i < length ns →
+    taken (set ns i y) + bit (at ns i).slot ≡ taken ns + bit y.slot
 taken_put [] i y l = absurd (omega arith)
 taken_put (n ∷ ns) zero y l = omega arith
 taken_put (n ∷ ns) (suc i) y l =

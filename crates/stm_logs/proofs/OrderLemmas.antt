@@ -37,9 +37,11 @@ rank_same ns ns' n e s m = ap (λ l. rank_of l (at ns' e).number) (s e m).1 ∙ 
 after_same : (ns ns' : List Node) (n e : ℕ) → SameRanks ns ns' n → e ≤ n → after ns' e ≡ after ns e
 after_same ns ns' n e s m = ap (λ r. cond (nat_eq e 0) 0 (r + 1)) (rank_same ns ns' n e s m)
 
-least_same : (ns ns' : List Node) (n low low' p p' : ℕ) → SameRanks ns ns' n → low' ≡ low → p' ≡ p → Least ns n low p → Least ns' n low' p'
+least_same : (ns ns' : List Node) (n low low' p p' : ℕ) → SameRanks ns ns' n → low' ≡ low → p' ≡ p → Least ns n low p →
+    Least ns' n low' p'
 least_same ns ns' n low low' p p' same elow ep h = record {
-  none = λ e f z m. (let less = h.none (omega (arith, ep)) f z m in omega (arith, less, rank_same ns ns' n f same m, elow));
+  none = λ e f z m. (let less = h.none (omega (arith, ep)) f z m in
+      omega (arith, less, rank_same ns ns' n f same m, elow));
   some = λ z.
       let s = h.some (omega (arith, ep)) in
       let inside : p' ≤ n = omega (arith, s.0, ep) in
@@ -48,11 +50,18 @@ least_same ns ns' n low low' p p' same elow ep h = record {
       let s = h.some (omega (arith, ep)) in
       let inside : p' ≤ n = omega (arith, s.0, ep) in
       let less = h.least (omega (arith, ep)) f y m (omega (arith, low_is, elow, rank_same ns ns' n f same m)) in
-      omega (arith, less, rank_same ns ns' n f same m, rank_same ns ns' n p' same inside, ap (λ j. rank_in (at ns j)) ep);
+      omega (
+        arith,
+        less,
+        rank_same ns ns' n f same m,
+        rank_same ns ns' n p' same inside,
+        ap (λ j. rank_in (at ns j)) ep,
+      );
 }
 
 -- a chain over nodes with the same numbers, locks and successors
-pub chain_kept : (ns ns' : List Node) (n : ℕ) → SameRanks ns ns' n → ((e : ℕ) → e ≤ n → (at ns' e).next ≡ (at ns e).next) → IsChained ns n → IsChained ns' n
+pub chain_kept : (ns ns' : List Node) (n : ℕ) → SameRanks ns ns' n →
+    ((e : ℕ) → e ≤ n → (at ns' e).next ≡ (at ns e).next) → IsChained ns n → IsChained ns' n
 chain_kept ns ns' n same nexts c = record {
   top = ((same 0 (omega arith)).0 ∙ c.top.0, (same 0 (omega arith)).1 ∙ c.top.1);
   fits = λ e m. omega (arith, c.fits e m, (same e m).0);
@@ -122,7 +131,8 @@ module _ (ns ns' : List Node) (n b : ℕ) (c : IsChained ns n) (h : IsBehind ns 
                 | inl less ↦ inr (some_b, omega (arith, less, after_node ns e some))
                 | inr more ↦ (
                     let apart_b : rank_in (at ns e) ≢ rank_in (at ns b) = λ is.
-                    ne (c.alone e b some m some_b inside_b (rank_number _ _ _ _ (c.fits e m) (c.fits b inside_b) is).1) in
+                    ne (c.alone e b some m some_b inside_b (rank_number _ _ _ _ (c.fits e m) (c.fits b inside_b) is).1)
+                    in
                     let up = gap e some m (omega (arith, more, apart_b, after_node ns b some_b)) in
                     inl (omega (arith, up, after_node ns e some)))
               ])
@@ -218,25 +228,30 @@ module _ (ns ns' : List Node) (n b : ℕ) (c : IsChained ns n) (h : IsBehind ns 
     alone = λ e f z m y k num. elim (same_or e (n + 1)) [
       | inl is ↦ elim (same_or f (n + 1)) [
         | inl is' ↦ is ∙ sym is'
-        | inr ne ↦ absurd (new f y (omega arith) (sym (number_kept f (omega arith)) ∙ sym num ∙ ap (λ j. (at ns' j).number) is))
+        | inr ne ↦ absurd (new f y (omega arith) (sym (number_kept f (omega arith)) ∙ sym num ∙
+            ap (λ j. (at ns' j).number) is))
       ]
       | inr ne ↦ elim (same_or f (n + 1)) [
-        | inl is' ↦ absurd (new e z (omega arith) (sym (number_kept e (omega arith)) ∙ num ∙ ap (λ j. (at ns' j).number) is'))
-        | inr ne' ↦ c.alone e f z (omega arith) y (omega arith) (sym (number_kept e (omega arith)) ∙ num ∙ number_kept f (omega arith))
+        | inl is' ↦ absurd (new e z (omega arith) (sym (number_kept e (omega arith)) ∙ num ∙
+            ap (λ j. (at ns' j).number) is'))
+        | inr ne' ↦ c.alone e f z (omega arith) y (omega arith) (sym (number_kept e (omega arith)) ∙ num ∙
+            number_kept f (omega arith))
       ]
     ];
     next = λ e m. elim (same_or e (n + 1)) [
       | inl is ↦
           let next : (at ns' e).next ≡ (at ns b).next = ap (λ j. (at ns' j).next) is ∙ h.here in
           let low : after ns' e ≡ x + 1 = after_node ns' e (omega arith) ∙ ap (λ j. rank_in (at ns' j) + 1) is in
-          subst (λ l. Least ns' (n + 1) l (at ns' e).next) (sym low) (subst (λ p. Least ns' (n + 1) (x + 1) p) (sym next) next_here)
+          subst (λ l. Least ns' (n + 1) l (at ns' e).next) (sym low)
+          (subst (λ p. Least ns' (n + 1) (x + 1) p) (sym next) next_here)
       | inr old ↦
           let k : e ≤ n = omega arith in
           let low : after ns' e ≡ after ns e = after_same ns ns' n e h.same k in
           subst (λ l. Least ns' (n + 1) l (at ns' e).next) (sym low) (elim (same_or e b) [
             | inl is ↦
                 let next : (at ns' e).next ≡ n + 1 = ap (λ j. (at ns' j).next) is ∙ h.before in
-                subst (λ p. Least ns' (n + 1) (after ns e) p) (sym next) (subst (λ j. Least ns' (n + 1) (after ns j) (n + 1)) (sym is) next_before)
+                subst (λ p. Least ns' (n + 1) (after ns e) p) (sym next)
+                (subst (λ j. Least ns' (n + 1) (after ns j) (n + 1)) (sym is) next_before)
             | inr ne ↦ subst (λ p. Least ns' (n + 1) (after ns e) p) (sym (h.others e k ne)) (next_other e k ne)
           ])
     ];

@@ -1,5 +1,6 @@
 -- Lists whose keys rise, and what stands in them.
-use Rattle.std.proofs.Common.{◌≡◌, ◌≢◌, ◌⊎◌, inl, inr, ℕ, ◌<◌, ◌≤◌, Bool, true, false, cond, ◌&&◌, T, Some, List, [], ◌∷◌, map, filter, length, refl, sym, ap, ◌∙◌, arith, subst}
+use Rattle.std.proofs.Common.{◌≡◌, ◌≢◌, ◌⊎◌, inl, inr, ℕ, ◌<◌, ◌≤◌, Bool, true, false, cond, ◌&&◌, T, Some, List, []}
+use Rattle.std.proofs.Common.{◌∷◌, map, filter, length, refl, sym, ap, ◌∙◌, arith, subst}
 use Rattle.std.specs.FinMap.{FinMap, get, entries, entries_sorted, get-entries, find, is_sorted}
 use Rattle.std.specs.FinMap.Entries.{below_all}
 use Rattle.std.specs.Ordering.{nat_cmp, eq_by_cmp, is_lt}
@@ -53,23 +54,27 @@ pub find_in : {X : Type 0} (es : List (ℕ × X)) (q : ℕ) (v : X) → find nat
 find_in [] q v h = absurd (some_none v (sym h))
 find_in (e ∷ es) q v h = elim (same_or q e.0) [
   | inl is ↦ (
-      let t : find nat_cmp q (e ∷ es) ≡ Some e.1 = ap (λ b. cond b (Some e.1) (find nat_cmp q es)) (same_key q e.0 is) in
+      let t : find nat_cmp q (e ∷ es) ≡ Some e.1 = ap (λ b. cond b (Some e.1) (find nat_cmp q es))
+      (same_key q e.0 is) in
       let value : Some v ≡ Some e.1 = sym h ∙ t in
       let v_is : v ≡ e.1 = cc in
       inl (λ i. (is i, v_is i)))
   | inr ne ↦ inr (find_in es q v (sym (ap (λ b. cond b (Some e.1) (find nat_cmp q es)) (other_key q e.0 ne)) ∙ h))
 ]
 
-pub in_find : {X : Type 0} (es : List (ℕ × X)) (q : ℕ) (v : X) → Rising (λ p. p.0) es → In (q, v) es → find nat_cmp q es ≡ Some v
+pub in_find : {X : Type 0} (es : List (ℕ × X)) (q : ℕ) (v : X) → Rising (λ p. p.0) es → In (q, v) es →
+    find nat_cmp q es ≡ Some v
 in_find [] q v r i = absurd i
 in_find (e ∷ es) q v r (inl is) =
     ap (λ b. cond b (Some e.1) (find nat_cmp q es)) (same_key q e.0 (ap (λ p. p.0) is)) ∙ ap (λ p. Some p.1) (sym is)
 in_find (e ∷ es) q v r (inr i) =
     let l = r.0 (q, v) i in
-    ap (λ b. cond b (Some e.1) (find nat_cmp q es)) (other_key q e.0 (λ is. absurd (omega (arith, l, is)))) ∙ in_find es q v r.1 i
+    ap (λ b. cond b (Some e.1) (find nat_cmp q es)) (other_key q e.0 (λ is. absurd (omega (arith, l, is)))) ∙
+    in_find es q v r.1 i
 
 -- some entry of a key that stands in the list is found
-pub found_some : {X : Type 0} (es : List (ℕ × X)) (q : ℕ) (v : X) → In (q, v) es → (u : X) × (find nat_cmp q es ≡ Some u)
+pub found_some : {X : Type 0} (es : List (ℕ × X)) (q : ℕ) (v : X) → In (q, v) es →
+    (u : X) × (find nat_cmp q es ≡ Some u)
 found_some [] q v i = absurd i
 found_some (e ∷ es) q v i = elim (same_or q e.0) [
   | inl is ↦ (e.1, ap (λ b. cond b (Some e.1) (find nat_cmp q es)) (same_key q e.0 is))
@@ -95,15 +100,20 @@ map_in f [] y i = absurd i
 map_in f (x ∷ xs) y (inl is) = (x, (inl refl, is))
 map_in f (x ∷ xs) y (inr i) = let s = map_in f xs y i in (s.0, (inr s.1.0, s.1.1))
 
-pub rising_map : {X Y : Type 0} (f : X → Y) (key : X → ℕ) (key' : Y → ℕ) → ((x : X) → key' (f x) ≡ key x) → (xs : List X) → Rising key xs → Rising key' (map f xs)
+pub rising_map : {X Y : Type 0} (f : X → Y) (key : X → ℕ) (key' : Y → ℕ) → ((x : X) → key' (f x) ≡ key x) →
+    (xs : List X) → Rising key xs → Rising key' (map f xs)
 rising_map f key key' same [] r = tt
-rising_map f key key' same (x ∷ xs) r =
-    ((λ y i. let s = map_in f xs y i in let l = r.0 s.0 s.1.0 in omega (arith, l, same x, same s.0, ap key' s.1.1)), rising_map f key key' same xs r.1)
+rising_map f key key' same (x ∷ xs) r = (
+  (λ y i. let s = map_in f xs y i in let l = r.0 s.0 s.1.0 in omega (arith, l, same x, same s.0, ap key' s.1.1)),
+  rising_map f key key' same xs r.1,
+)
 
-filter_yes : {X : Type 0} (test : X → Bool) (x : X) (xs : List X) → test x ≡ true → filter test (x ∷ xs) ≡ x ∷ filter test xs
+filter_yes : {X : Type 0} (test : X → Bool) (x : X) (xs : List X) → test x ≡ true →
+    filter test (x ∷ xs) ≡ x ∷ filter test xs
 filter_yes test x xs t = ap (λ b. cond b (x ∷ filter test xs) (filter test xs)) t
 
-filter_no : {X : Type 0} (test : X → Bool) (x : X) (xs : List X) → test x ≡ false → filter test (x ∷ xs) ≡ filter test xs
+filter_no : {X : Type 0} (test : X → Bool) (x : X) (xs : List X) → test x ≡ false →
+    filter test (x ∷ xs) ≡ filter test xs
 filter_no test x xs t = ap (λ b. cond b (x ∷ filter test xs) (filter test xs)) t
 
 pub filter_in : {X : Type 0} (test : X → Bool) (xs : List X) (y : X) → In y (filter test xs) → In y xs × (test y ≡ true)
@@ -119,14 +129,26 @@ filter_in test (x ∷ xs) y i = elim (both_bool (test x)) [
 pub in_filter : {X : Type 0} (test : X → Bool) (xs : List X) (y : X) → In y xs → test y ≡ true → In y (filter test xs)
 in_filter test [] y i p = absurd i
 in_filter test (x ∷ xs) y i p = elim (both_bool (test x)) [
-  | inl t ↦ subst (In y) (sym (filter_yes test x xs t)) (elim i [ inl is ↦ inl is | inr j ↦ inr (in_filter test xs y j p) ])
-  | inr f ↦ subst (In y) (sym (filter_no test x xs f)) (elim i [ inl is ↦ absurd (true_false (test y) p (ap test is ∙ f)) | inr j ↦ in_filter test xs y j p ])
+  | inl t ↦ subst (In y) (sym (filter_yes test x xs t)) (elim i [
+    | inl is ↦ inl is
+    | inr j ↦
+        inr (in_filter test xs y j p)
+  ])
+  | inr f ↦ subst (In y) (sym (filter_no test x xs f)) (elim i [
+    | inl is ↦
+        absurd (true_false (test y) p (ap test is ∙ f))
+    | inr j ↦ in_filter test xs y j p
+  ])
 ]
 
-pub rising_filter : {X : Type 0} (key : X → ℕ) (test : X → Bool) (xs : List X) → Rising key xs → Rising key (filter test xs)
+pub rising_filter : {X : Type 0} (key : X → ℕ) (test : X → Bool) (xs : List X) → Rising key xs →
+    Rising key (filter test xs)
 rising_filter key test [] r = tt
 rising_filter key test (x ∷ xs) r = elim (both_bool (test x)) [
-  | inl t ↦ subst (Rising key) (sym (filter_yes test x xs t)) ((λ y i. r.0 y (filter_in test xs y i).0), rising_filter key test xs r.1)
+  | inl t ↦ subst (Rising key) (sym (filter_yes test x xs t)) (
+    (λ y i. r.0 y (filter_in test xs y i).0),
+    rising_filter key test xs r.1,
+  )
   | inr f ↦ subst (Rising key) (sym (filter_no test x xs f)) (rising_filter key test xs r.1)
 ]
 
@@ -140,7 +162,8 @@ length_filter_le test (x ∷ xs) =
     ]
 
 -- two rising lists with the same members are the same
-pub rising_same : {X : Type 0} (key : X → ℕ) (xs ys : List X) → Rising key xs → Rising key ys → ((q : X) → In q xs → In q ys) → ((q : X) → In q ys → In q xs) → xs ≡ ys
+pub rising_same : {X : Type 0} (key : X → ℕ) (xs ys : List X) → Rising key xs → Rising key ys →
+    ((q : X) → In q xs → In q ys) → ((q : X) → In q ys → In q xs) → xs ≡ ys
 rising_same key [] [] r s f g = refl
 rising_same key [] (y ∷ ys) r s f g = absurd (g y (inl refl))
 rising_same key (x ∷ xs) [] r s f g = absurd (f x (inl refl))
@@ -153,6 +176,14 @@ rising_same key (x ∷ xs) (y ∷ ys) r s f g =
       ]
     ] in
     let rest : xs ≡ ys = rising_same key xs ys r.1 s.1
-    (λ q i. elim (f q (inr i)) [ inl is ↦ (let a = r.0 q i in let same : key q ≡ key x = ap key is ∙ sym (ap key first) in absurd (omega (arith, a, same))) | inr j ↦ j ])
-    (λ q i. elim (g q (inr i)) [ inl is ↦ (let a = s.0 q i in let same : key q ≡ key y = ap key is ∙ ap key first in absurd (omega (arith, a, same))) | inr j ↦ j ]) in
+    (λ q i. elim (f q (inr i)) [
+      | inl is ↦ (let a = r.0 q i in let same : key q ≡ key x =
+          ap key is ∙ sym (ap key first) in absurd (omega (arith, a, same)))
+      | inr j ↦ j
+    ])
+    (λ q i. elim (g q (inr i)) [
+      | inl is ↦ (let a = s.0 q i in let same : key q ≡ key y = ap key is ∙ ap key first in
+          absurd (omega (arith, a, same)))
+      | inr j ↦ j
+    ]) in
     λ i. first i ∷ rest i

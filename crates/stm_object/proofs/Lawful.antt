@@ -1,5 +1,6 @@
 -- A body that was run over a running transaction makes a lawful record.
-use Rattle.std.proofs.Common.{◌≡◌, ℕ, suc, ◌<◌, Bool, true, false, List, [], ◌∷◌, Option, length, slice_index, unwrap_or, refl, sym, ap, ◌∙◌, arith}
+use Rattle.std.proofs.Common.{◌≡◌, ℕ, suc, ◌<◌, Bool, true, false, List, [], ◌∷◌, Option, length, slice_index}
+use Rattle.std.proofs.Common.{unwrap_or, refl, sym, ap, ◌∙◌, arith}
 use Rattle.std.specs.FinMap.{entries, get-empty}
 use Rattle.std.specs.Ordering.{nat_cmp}
 use Rattle.tx_memory.specs.Image.{laid}

@@ -1,5 +1,6 @@
 -- Attempts, one after the other, and why they stopped.
-use Rattle.std.proofs.Common.{◌≡◌, ℕ, zero, suc, ◌+◌, Bool, true, false, List, [], Result, Ok, Err, IfOk, IfErr, IsOk, inr, refl, sym, ap, ◌∙◌, subst, arith}
+use Rattle.std.proofs.Common.{◌≡◌, ℕ, zero, suc, ◌+◌, Bool, true, false, List, [], Result, Ok, Err, IfOk, IfErr, IsOk}
+use Rattle.std.proofs.Common.{inr, refl, sym, ap, ◌∙◌, subst, arith}
 use Rattle.stm_core.specs.Client.{Client, Record, inserted}
 use Rattle.stm_core.specs.Guards.{stripe_of}
 use Rattle.stm_logs.specs.Log.{LogValue, log_pairs}
@@ -11,7 +12,8 @@ use Rattle.stm_attempt.specs.declared.conflict.Conflict.{Conflict}
 use Rattle.stm_attempt.specs.declared.conflict.Stop.{Stop}
 use Rattle.stm_attempt.specs.declared.conflict.Stop.TheVariants as stop
 use Rattle.stm_object.specs.Object.{IsLawful}
-use Rattle.stm_object.specs.History.{Adds, Spares, Records, WasInOrder, IsAlone, IsNoConflict, WasRead, WasShown, WouldWrite, IsStop, IsConflict, Missed, Misses, AreTries, HasRun, HasAsked}
+use Rattle.stm_object.specs.History.{Adds, Spares, Records, WasInOrder, IsAlone, IsNoConflict, WasRead, WasShown}
+use Rattle.stm_object.specs.History.{WouldWrite, IsStop, IsConflict, Missed, Misses, AreTries, HasRun, HasAsked}
 
 -- a read showed the conflict that the attempt kept
 pub shown_by_read : (region region' : RegionShown) (conflict : Conflict) (v v' : Client) → region' ≡ region
@@ -120,7 +122,8 @@ module _ {E : Type 0} (fits : List ℕ → Type 0) (code : E → List ℕ) (find
   conflict_shown entry changes region conflict v v' result is h = let k = (rw is at h) in k.1
 
   -- where the last attempt met a conflict no other try was left
-  last_stop : {A B : Type 0} (entry : A → E) (changes : A → Bool) (region : RegionShown) (tries left : ℕ) (v0 v v' : Client)
+  last_stop : {A B : Type 0} (entry : A → E) (changes : A → Bool) (region : RegionShown) (tries left : ℕ)
+      (v0 v v' : Client)
       (result : Result B Stop) → v.attempt.number + left ≡ v0.attempt.number + tries
       → ((conflict : Conflict) → result ≡ Err (stop.Conflict conflict) → left ≡ 1)
       → IfErr result (λ s. IsStop fits code finds after region entry changes 1 s v v')
@@ -190,10 +193,12 @@ module _ {E : Type 0} (fits : List ℕ → Type 0) (code : E → List ℕ) (find
         order = order_from region entry v w v' result start order;
         spares = spares_from changes v w v' result start spares;
         alone = λ a. alone (grants ∙ a);
-        attempts = tried (λ conflict x. WasShown fits code finds after region entry changes conflict x) tries left left' v w v'
+        attempts = tried (λ conflict x. WasShown fits code finds after region entry changes conflict x) tries left left'
+            v w v'
             t less next;
         stopped = last_stop entry changes region tries left v w v' result
-            (let n = misses_count (λ conflict x. WasShown fits code finds after region entry changes conflict x) t.missed v w
+            (let n = misses_count (λ conflict x. WasShown fits code finds after region entry changes conflict x)
+            t.missed v w
             t.misses in let c = t.count in omega (arith, n, c))
             (λ conflict met. let none = last conflict met in omega (arith, less, none)) stopped;
       })

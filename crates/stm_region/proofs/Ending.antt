@@ -1,5 +1,6 @@
 -- The opening meets the rule, and what is known at the end.
-use Rattle.std.proofs.Common.{◌≡◌, ◌≢◌, ℕ, zero, suc, ◌+◌, ◌-◌, ◌%◌, ◌^◌, ◌<◌, ◌≤◌, false, List, [], ◌∷◌, ◌++◌, length, drop, replicate, get_or, slice_index, refl, sym, ap, ◌∙◌, subst, arith}
+use Rattle.std.proofs.Common.{◌≡◌, ◌≢◌, ℕ, zero, suc, ◌+◌, ◌-◌, ◌%◌, ◌^◌, ◌<◌, ◌≤◌, false, List, [], ◌∷◌, ◌++◌, length}
+use Rattle.std.proofs.Common.{drop, replicate, get_or, slice_index, refl, sym, ap, ◌∙◌, subst, arith}
 use Rattle.std.proofs.lemmas.List.{length-replicate}
 use mathlib.Core.Option.{some}
 use lib.ListN.{get_elem?}
@@ -31,16 +32,29 @@ drop_all (x ∷ xs) ys zero e = absurd (omega arith)
 drop_all (x ∷ xs) ys (suc n) e = drop_all xs ys n (omega arith)
 
 -- what lies behind the zeros is the image
-image_behind : (image : List ℕ) (stripes : ℕ) → drop (first_cell stripes) (replicate (first_cell stripes) 0 ++ image) ≡ image
-image_behind image stripes = drop_all (replicate (first_cell stripes) 0) image (first_cell stripes) (length-replicate (first_cell stripes) 0)
+image_behind : (image : List ℕ) (stripes : ℕ) → drop (first_cell stripes)
+    (replicate (first_cell stripes) 0 ++ image) ≡ image
+image_behind image stripes = drop_all (replicate (first_cell stripes) 0) image (first_cell stripes)
+    (length-replicate (first_cell stripes) 0)
 
-laid_out : (image : List ℕ) (stripes : ℕ) → replicate (first_cell stripes) 0 ++ image ≡ 0 ∷ (replicate (FIRST_LOCK - 1) 0 ++ (replicate stripes 0 ++ (replicate (padding stripes) 0 ++ image)))
+laid_out : (image : List ℕ) (stripes : ℕ) → replicate (first_cell stripes) 0 ++ image ≡ 0 ∷
+    (replicate (FIRST_LOCK - 1) 0 ++ (replicate stripes 0 ++ (replicate (padding stripes) 0 ++ image)))
 laid_out image stripes =
     let e : first_cell stripes ≡ suc (FIRST_LOCK - 1 + (stripes + padding stripes)) = omega arith in
-    rw e (ap (λ xs. 0 ∷ xs) (zeros (FIRST_LOCK - 1) (stripes + padding stripes) image ∙ ap (λ xs. replicate (FIRST_LOCK - 1) 0 ++ xs) (zeros stripes (padding stripes) image)))
+    rw e (ap (λ xs. 0 ∷ xs) (zeros (FIRST_LOCK - 1) (stripes + padding stripes) image ∙
+    ap (λ xs. replicate (FIRST_LOCK - 1) 0 ++ xs) (zeros stripes (padding stripes) image)))
 
 module _ (fits : List ℕ → Type 0) (lawful : RecordLaw) where
-  opens : {S : Type 0} (image : List ℕ) (last stripes : ℕ) → fits image → last < 2 ^ 62 → 0 < stripes → IsCoreState {S = S} fits lawful record { image = image; last = last; stripes = stripes; first = image; renewal = 0; start = opener } (opening (replicate (first_cell stripes) 0 ++ image) [] opener)
+  opens : {S : Type 0} (image : List ℕ) (last stripes : ℕ) → fits image → last < 2 ^ 62 → 0 < stripes →
+      IsCoreState {S = S} fits lawful record {
+        image = image;
+        last = last;
+        stripes = stripes;
+        first = image;
+        renewal = 0;
+        start =
+            opener;
+      } (opening (replicate (first_cell stripes) 0 ++ image) [] opener)
   opens image last stripes f top one = record {
     core = opened image last stripes;
     gap = replicate (FIRST_LOCK - 1) 0;
@@ -62,17 +76,45 @@ module _ (fits : List ℕ → Type 0) (lawful : RecordLaw) where
   }
 
   -- a table of these words meets the rule at its opening
-  pub opens_on : {S : Type 0} (image words : List ℕ) (last stripes : ℕ) → fits image → last < 2 ^ 62 → 0 < stripes → words ≡ replicate (first_cell stripes) 0 ++ image
-      → IsCoreState {S = S} fits lawful record { image = drop (first_cell stripes) words; last = last; stripes = stripes; first = drop (first_cell stripes) words; renewal = 0; start = opener } (opening words [] opener)
+  pub opens_on : {S : Type 0} (image words : List ℕ) (last stripes : ℕ) → fits image → last < 2 ^ 62 → 0 < stripes →
+      words ≡ replicate (first_cell stripes) 0 ++ image
+      → IsCoreState {S = S} fits lawful record {
+        image = drop (first_cell stripes) words;
+        last = last;
+        stripes = stripes;
+        first = drop (first_cell stripes) words;
+        renewal = 0;
+        start =
+            opener;
+      } (opening words [] opener)
   opens_on {S} image words last stripes f top one e =
-      subst (λ ws. IsCoreState {S = S} fits lawful record { image = drop (first_cell stripes) ws; last = last; stripes = stripes; first = drop (first_cell stripes) ws; renewal = 0; start = opener } (opening ws [] opener)) (sym e)
-      (subst (λ ys. IsCoreState {S = S} fits lawful record { image = ys; last = last; stripes = stripes; first = ys; renewal = 0; start = opener } (opening (replicate (first_cell stripes) 0 ++ image) [] opener)) (sym (image_behind image stripes)) (opens image last stripes f top one))
+      subst (λ ws. IsCoreState {S = S} fits lawful record {
+        image = drop (first_cell stripes) ws;
+        last = last;
+        stripes = stripes;
+        first = drop (first_cell stripes) ws;
+        renewal = 0;
+        start =
+            opener;
+      } (opening ws [] opener)) (sym e)
+      (subst (λ ys. IsCoreState {S = S} fits lawful record {
+        image = ys;
+        last = last;
+        stripes = stripes;
+        first = ys;
+        renewal = 0;
+        start =
+            opener;
+      } (opening (replicate (first_cell stripes) 0 ++ image) [] opener)) (sym (image_behind image stripes))
+      (opens image last stripes f top one))
 
 -- the data words, from their place on
-cells_behind : (gap pad : List ℕ) (c : Core) (s : ℕ) → length gap ≡ FIRST_LOCK - 1 → length c.locks ≡ s → length pad ≡ padding s → drop (first_cell s) (listed gap pad c) ≡ c.cells
+cells_behind : (gap pad : List ℕ) (c : Core) (s : ℕ) → length gap ≡ FIRST_LOCK - 1 → length c.locks ≡ s →
+    length pad ≡ padding s → drop (first_cell s) (listed gap pad c) ≡ c.cells
 cells_behind gap pad c s g l p =
     let e : first_cell s ≡ suc (length gap + (length c.locks + length pad)) = omega arith in
-    rw e (behind gap (c.locks ++ (pad ++ c.cells)) (length c.locks + length pad) ∙ (behind c.locks (pad ++ c.cells) (length pad) ∙ drop_all pad c.cells (length pad) refl))
+    rw e (behind gap (c.locks ++ (pad ++ c.cells)) (length c.locks + length pad) ∙
+    (behind c.locks (pad ++ c.cells) (length pad) ∙ drop_all pad c.cells (length pad) refl))
   where
     behind : (xs ys : List ℕ) (n : ℕ) → drop (length xs + n) (xs ++ ys) ≡ drop n ys
     behind [] ys n = rw Rattle.std.proofs.Common.zero-add refl
@@ -80,13 +122,17 @@ cells_behind gap pad c s g l p =
 
 module _ (fits : List ℕ → Type 0) (lawful : RecordLaw) (r : RegionShown) where
   -- a state that meets the rule, in which the client is the only one out
-  ends : {S : Type 0} (id : ℕ) (v : Client) → IsFreeHanded v → v.grants ≡ 63 → (s : State S Client) → IsCoreState fits lawful (opened_with r) s → get_elem? s.views id ≡ some v → Ends lawful r v (drop (first_cell r.stripes) s.words) (slice_index s.words 0)
+  ends : {S : Type 0} (id : ℕ) (v : Client) → IsFreeHanded v → v.grants ≡ 63 → (s : State S Client) →
+      IsCoreState fits lawful (opened_with r) s → get_elem? s.views id ≡ some v →
+      Ends lawful r v (drop (first_cell r.stripes) s.words) (slice_index s.words 0)
   ends id v free all s h at =
       let c : Core = h.core in
       let at' : get_elem? c.clients id ≡ some v = subst (λ vs. get_elem? vs id ≡ some v) h.views at in
       let only = all_grants lawful (stripe_of r.stripes) c h.rule id v at' free.0 all in
       let known = closes lawful (stripe_of r.stripes) c h.rule id v at' free only in
-      let cells : c.cells ≡ drop (first_cell r.stripes) s.words = sym (cells_behind h.gap h.pad c r.stripes h.before_locks h.locks h.before_cells) ∙ ap (drop (first_cell r.stripes)) (sym h.words) in
+      let cells : c.cells ≡ drop (first_cell r.stripes) s.words =
+      sym (cells_behind h.gap h.pad c r.stripes h.before_locks h.locks h.before_cells) ∙
+      ap (drop (first_cell r.stripes)) (sym h.words) in
       record {
         core = c;
         rule = h.rule;
@@ -103,24 +149,40 @@ module _ (fits : List ℕ → Type 0) (lawful : RecordLaw) (r : RegionShown) whe
         cells = cells;
         abides = known.2;
         sorted = own_sorted lawful (stripe_of r.stripes) c h.rule id v at';
-        eras = λ x m. (let p = past_before lawful (stripe_of r.stripes) c h.rule id v at' free only 0 x m in let e = h.renewal in omega arith);
+        eras = λ x m. (let p = past_before lawful (stripe_of r.stripes) c h.rule id v at' free only 0 x m in let e =
+            h.renewal in omega arith);
         serial = subst (λ image. Serial image v.records) h.first known.0;
         newest = sym cells ∙ (sym known.1 ∙ ap (λ image. image_after image v.records) h.first);
       }
 
-  pub ends_with : {S : Type 0} (key : Opened) → key ≡ opened_with r → (id : ℕ) (u v : Client) → u ≡ v → IsFreeHanded v → v.grants ≡ 63 → (ws : List ℕ) (xs : List S) → Final (Seen (IsCoreState fits lawful key) id u) ws xs
-      → (words : List ℕ) (clock : ℕ) → words ≡ drop (first_cell r.stripes) ws → clock ≡ slice_index ws 0 → Ends lawful r v words clock
+  pub ends_with : {S : Type 0} (key : Opened) → key ≡ opened_with r → (id : ℕ) (u v : Client) → u ≡ v → IsFreeHanded v →
+      v.grants ≡ 63 → (ws : List ℕ) (xs : List S) → Final (Seen (IsCoreState fits lawful key) id u) ws xs
+      → (words : List ℕ) (clock : ℕ) → words ≡ drop (first_cell r.stripes) ws → clock ≡ slice_index ws 0 →
+      Ends lawful r v words clock
   ends_with {S} key e id u v q free all ws xs f words clock is now =
       rw (is, now) (subst (λ ys. Ends lawful r v (drop (first_cell r.stripes) ys) (slice_index ys 0)) f.2
-      (ends id v free all f.0 (subst (λ k. IsCoreState {S = S} fits lawful k f.0) e f.1.0) (subst (λ w. get_elem? f.0.views id ≡ some w) q f.1.1)))
+      (ends id v free all f.0 (subst (λ k. IsCoreState {S = S} fits lawful k f.0) e f.1.0)
+      (subst (λ w. get_elem? f.0.views id ≡ some w) q f.1.1)))
 
   -- the first image of such a table fits
-  pub fits_with : {S : Type 0} (key : Opened) → key ≡ opened_with r → (id : ℕ) (u : Client) (ws : List ℕ) (xs : List S) → Final (Seen (IsCoreState fits lawful key) id u) ws xs → fits r.first
+  pub fits_with : {S : Type 0} (key : Opened) → key ≡ opened_with r →
+      (id : ℕ) (u : Client) (ws : List ℕ) (xs : List S) → Final (Seen (IsCoreState fits lawful key) id u) ws xs →
+      fits r.first
   fits_with key e id u ws xs f = subst (λ (k : Opened). fits k.first) e f.1.0.fitting
 
 -- what a region ended with, opened anew, meets the rule of the next renewal
-pub reopens : {S : Type 0} (fits : List ℕ → Type 0) (lawful : RecordLaw) (r : RegionShown) (v : Client) (words : List ℕ) (version last : ℕ) → Ends lawful r v words version → IsFreeHanded v → MayRenew r.renewal last v.grants → fits r.first → 0 < r.stripes
-    → IsCoreState {S = S} fits lawful record { image = words; last = last; stripes = r.stripes; first = r.first; renewal = r.renewal + 1; start = renewing v } (opening (replicate (first_cell r.stripes) 0 ++ words) [] (renewing v))
+pub reopens : {S : Type 0} (fits : List ℕ → Type 0) (lawful : RecordLaw) (r : RegionShown) (v : Client) (words : List ℕ)
+    (version last : ℕ) → Ends lawful r v words version → IsFreeHanded v → MayRenew r.renewal last v.grants →
+    fits r.first → 0 < r.stripes
+    → IsCoreState {S = S} fits lawful record {
+      image = words;
+      last = last;
+      stripes = r.stripes;
+      first = r.first;
+      renewal = r.renewal + 1;
+      start =
+          renewing v;
+    } (opening (replicate (first_cell r.stripes) 0 ++ words) [] (renewing v))
 reopens {S} fits lawful r v words version last h free may f one = record {
   core = begun_on r.first words (r.renewal + 1) last r.stripes (renewing v);
   gap = replicate (FIRST_LOCK - 1) 0;
@@ -134,19 +196,56 @@ reopens {S} fits lawful r v words version last h free may f one = record {
   opening = refl;
   first = refl;
   renewal = refl;
-  rule = begins_rules lawful (stripe_of r.stripes) r.first words (r.renewal + 1) last r.stripes (renewing v) refl may.2 h.serial (sym h.newest) h.abides h.eras h.sorted;
+  rule = begins_rules lawful (stripe_of r.stripes) r.first words (r.renewal + 1) last r.stripes
+      (renewing v) refl may.2 h.serial (sym h.newest) h.abides h.eras h.sorted;
   traced =
       let alone = all_grants lawful (stripe_of r.stripes) h.core h.rule h.number v h.member free.0 may.2 in
-      subst (λ ws. IsTraced lawful record { image = ws; last = last; stripes = r.stripes; first = r.first; renewal = r.renewal + 1; start = renewing v } (begun_on r.first ws (r.renewal + 1) last r.stripes (renewing v))) h.cells
-      (renewal_traced lawful (opened_with r) h.core h.traced h.number v h.member free alone last may.0.0 may.0.1 may.1 h.first h.renewal h.locks);
+      subst (λ ws. IsTraced lawful record {
+        image = ws;
+        last = last;
+        stripes = r.stripes;
+        first = r.first;
+        renewal = r.renewal + 1;
+        start =
+            renewing v;
+      } (begun_on r.first ws (r.renewal + 1) last r.stripes (renewing v))) h.cells
+      (renewal_traced lawful (opened_with r) h.core h.traced h.number v h.member free alone last may.0.0 may.0.1 may.1
+      h.first h.renewal h.locks);
   fitting = f;
   bounded = may.0.1;
   some = one;
 }
 
 -- and so does a table of these words
-pub renews_on : {S : Type 0} (fits : List ℕ → Type 0) (lawful : RecordLaw) (r : RegionShown) (v : Client) (words laid : List ℕ) (version last : ℕ) → Ends lawful r v words version → IsFreeHanded v → MayRenew r.renewal last v.grants → fits r.first → 0 < r.stripes
-    → laid ≡ replicate (first_cell r.stripes) 0 ++ words → IsCoreState {S = S} fits lawful record { image = drop (first_cell r.stripes) laid; last = last; stripes = r.stripes; first = r.first; renewal = r.renewal + 1; start = renewing v } (opening laid [] (renewing v))
+pub renews_on : {S : Type 0} (fits : List ℕ → Type 0) (lawful : RecordLaw) (r : RegionShown) (v : Client)
+    (words laid : List ℕ) (version last : ℕ) → Ends lawful r v words version → IsFreeHanded v →
+    MayRenew r.renewal last v.grants → fits r.first → 0 < r.stripes
+    → laid ≡ replicate (first_cell r.stripes) 0 ++ words → IsCoreState {S = S} fits lawful record {
+      image = drop (first_cell r.stripes) laid;
+      last = last;
+      stripes = r.stripes;
+      first = r.first;
+      renewal =
+          r.renewal + 1;
+      start = renewing v;
+    } (opening laid [] (renewing v))
 renews_on {S} fits lawful r v words laid version last h free may f one e =
-    subst (λ ws. IsCoreState {S = S} fits lawful record { image = drop (first_cell r.stripes) ws; last = last; stripes = r.stripes; first = r.first; renewal = r.renewal + 1; start = renewing v } (opening ws [] (renewing v))) (sym e)
-    (subst (λ ys. IsCoreState {S = S} fits lawful record { image = ys; last = last; stripes = r.stripes; first = r.first; renewal = r.renewal + 1; start = renewing v } (opening (replicate (first_cell r.stripes) 0 ++ words) [] (renewing v))) (sym (image_behind words r.stripes)) (reopens fits lawful r v words version last h free may f one))
+    subst (λ ws. IsCoreState {S = S} fits lawful record {
+      image = drop (first_cell r.stripes) ws;
+      last = last;
+      stripes = r.stripes;
+      first = r.first;
+      renewal = r.renewal + 1;
+      start =
+          renewing v;
+    } (opening ws [] (renewing v))) (sym e)
+    (subst (λ ys. IsCoreState {S = S} fits lawful record {
+      image = ys;
+      last = last;
+      stripes = r.stripes;
+      first = r.first;
+      renewal = r.renewal + 1;
+      start =
+          renewing v;
+    } (opening (replicate (first_cell r.stripes) 0 ++ words) [] (renewing v)))
+    (sym (image_behind words r.stripes)) (reopens fits lawful r v words version last h free may f one))

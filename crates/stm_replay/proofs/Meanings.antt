@@ -11,6 +11,8 @@ pub filtered : (l : List (ℕ × ℕ)) (k : ℕ) → filter (λ (p : ℕ × ℕ)
 filtered [] k = refl
 filtered (p ∷ ps) k = go (p.0 == k) (filtered ps k)
   where
-    go : (b : Bool) → filter (λ (q : ℕ × ℕ). not (q.0 == k)) ps ≡ without ps k → cond (not b) (p ∷ filter (λ (q : ℕ × ℕ). not (q.0 == k)) ps) (filter (λ (q : ℕ × ℕ). not (q.0 == k)) ps) ≡ cond b (without ps k) (p ∷ without ps k)
+    go : (b : Bool) → filter (λ (q : ℕ × ℕ). not (q.0 == k)) ps ≡ without ps k →
+        cond (not b) (p ∷ filter (λ (q : ℕ × ℕ). not (q.0 == k)) ps)
+        (filter (λ (q : ℕ × ℕ). not (q.0 == k)) ps) ≡ cond b (without ps k) (p ∷ without ps k)
     go true e = e
     go false e = ap (λ l. p ∷ l) e

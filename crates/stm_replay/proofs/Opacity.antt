@@ -1,5 +1,7 @@
 -- What an attempt has read is what the committed attempts before its begin leave, then and after all later events.
-use Rattle.std.proofs.Common.{◌≡◌, ℕ, zero, suc, ◌+◌, ◌-◌, ◌≤◌, ◌<◌, ◌⊎◌, inl, inr, ⊎_elim, Bool, true, false, cond, eqb, leb, ltb, ◌||◌, List, [], ◌∷◌, ◌++◌, append_assoc, append-nil, length, slice_index, refl, sym, ap, ◌∙◌, subst, arith}
+use Rattle.std.proofs.Common.{◌≡◌, ℕ, zero, suc, ◌+◌, ◌-◌, ◌≤◌, ◌<◌, ◌⊎◌, inl, inr, ⊎_elim, Bool, true, false, cond}
+use Rattle.std.proofs.Common.{eqb, leb, ltb, ◌||◌, List, [], ◌∷◌, ◌++◌, append_assoc, append-nil, length, slice_index}
+use Rattle.std.proofs.Common.{refl, sym, ap, ◌∙◌, subst, arith}
 use Rattle.std.proofs.lemmas.Bool.Decides.{nat_tests}
 use Rattle.tx_memory.specs.Image.{In, laid}
 use Rattle.stm_core.specs.Client.{Client, Record, RecordLaw, shed, running, writes_to, is_committed}
@@ -17,8 +19,10 @@ use Rattle.stm_core.proofs.Conditions.{CanPlay, can_play}
 use Rattle.stm_core.proofs.Histories.{laid_value, laid_length, image_length}
 use Rattle.stm_core.proofs.Facts.{ahead_by, agrees_by}
 use Rattle.stm_core.proofs.Dating.{placed, placed_in, ranked_by}
-use Rattle.stm_core.proofs.Tracing.{Trace, begin_first, step_stays, at_most_one, decided_since, writing_before, opening_trace}
-use Rattle.stm_core.proofs.Playing.{filed, earlier_after, history_after, Beside, event_beside, event_traced, first_stays, opening_beside, is_history, every_list_is_serializable}
+use Rattle.stm_core.proofs.Tracing.{Trace, begin_first, step_stays, at_most_one, decided_since, writing_before}
+use Rattle.stm_core.proofs.Tracing.{opening_trace}
+use Rattle.stm_core.proofs.Playing.{filed, earlier_after, history_after, Beside, event_beside, event_traced}
+use Rattle.stm_core.proofs.Playing.{first_stays, opening_beside, is_history, every_list_is_serializable}
 use Rattle.stm_replay.specs.Opacity.{before_place, IsLive, EveryListIsOpaque}
 use Rattle.stm_replay.proofs.Placing.{one_history}
 
@@ -200,14 +204,17 @@ image_before v p (r ∷ rs) f m a l =
     inside = rw (laid_length m r.writes) l
 
     go : (b b' : Bool) → (b ≡ b') ⊎ (r.writes ≡ [])
-        → ((k : List ℕ) → a < length k → slice_index (image_at k v rs) a ≡ over_all (slice_index k a) (before_place p rs) a)
+        → ((k : List ℕ) → a < length k → slice_index (image_at k v rs) a ≡ over_all (slice_index k a)
+        (before_place p rs) a)
         → slice_index (image_at (cond b (laid m r.writes) m) v rs) a
         ≡ over_all (slice_index m a) (cond b' (r ∷ before_place p rs) (before_place p rs)) a
-    go true true s rest = rest (laid m r.writes) inside ∙ ap (λ d. over_all d (before_place p rs) a) (laid_value m r.writes a l)
+    go true true s rest = rest (laid m r.writes) inside ∙ ap (λ d. over_all d (before_place p rs) a)
+        (laid_value m r.writes a l)
     go false false s rest = rest m l
     go true false s rest = ⊎_elim (λ e. absurd (let k : true ≡ false = e in cc))
         (λ e. rest (laid m r.writes) inside
-        ∙ ap (λ d. over_all d (before_place p rs) a) (laid_value m r.writes a l ∙ ap (λ ws. over (slice_index m a) ws a) e)) s
+        ∙ ap (λ d. over_all d (before_place p rs) a) (laid_value m r.writes a l ∙
+        ap (λ ws. over (slice_index m a) ws a) e)) s
     go false true s rest = ⊎_elim (λ e. absurd (let k : false ≡ true = e in cc))
         (λ e. rest m l ∙ sym (ap (λ d. over_all d (before_place p rs) a) (ap (λ ws. over (slice_index m a) ws a) e))) s
 
@@ -246,7 +253,8 @@ module _ (lawful : RecordLaw) (lk : ℕ → ℕ) (c : Core) (old h : List Record
       let leads : image_after c.first old ≡ c.opening = b.earlier.leads in
       let long = image_length c.opening k.story h c.opening v.attempt.rv in
       let inside : a < length c.opening = (let l = q.0 in omega (arith, l, long)) in
-      let size : length c.opening ≡ length c.first = ap (λ (y : List ℕ). length y) (sym leads) ∙ image_long old c.first in
+      let size : length c.opening ≡ length c.first = ap (λ (y : List ℕ). length y) (sym leads) ∙
+      image_long old c.first in
       let there : a < length c.first = omega (arith, inside, size) in
       let all_old : before_place v.attempt.began_at old ≡ old = before_all v.attempt.began_at old
       (λ r n. d.old_marked i (shed c.renewal v) v.attempt.began_at r (at_now i v at) (inl (live, refl)) n) in
@@ -295,7 +303,8 @@ module _ (lawful : RecordLaw) (lk : ℕ → ℕ) (start : Core) where
   fits_through first p reads (e ∷ es) before c d old h b t l f =
       let may = can_play lawful lk e c l.0 in
       let next = event_beside lawful lk c e old h b may in
-      fits_through first p reads es (before ++ e ∷ []) (played lk e c) d (earlier_after e old h) (history_after lk e c h)
+      fits_through first p reads es (before ++ e ∷ []) (played lk e c) d (earlier_after e old h)
+      (history_after lk e c h)
       next (event_traced lawful lk start before c e old h t may) l.1
       (fits_on lawful lk start before c old h t first p reads f e may next)
 
@@ -318,7 +327,8 @@ module _ (lawful : RecordLaw) (lk : ℕ → ℕ) (start : Core) where
   placed_now es before c d old h b t l same i v at live = (
     step_through es before (suc i) v.attempt.number v.attempt.began_at begin (t.runs i v at live.0).0,
     fits_through start.first v.attempt.began_at v.attempt.reads es before c d old h b t l
-        (subst (λ m. Fits m v.attempt.began_at v.attempt.reads old h c) same (fits_now lawful lk c old h b i v at live)),
+        (subst (λ m. Fits m v.attempt.began_at v.attempt.reads old h c) same
+        (fits_now lawful lk c old h b i v at live)),
   )
 
   placed_then : (n : ℕ) (es before : List Event) (c d : Core) (old h : List Record) → Beside lawful lk old h c
@@ -359,7 +369,8 @@ every_list_is_opaque lawful image last stripes es c leads =
                 let rs = before_place v.attempt.began_at (s.earlier ++ s.present) in (
                   (let long = image_long rs image in let l = f.0 in omega (arith, long, l)),
                   image_value rs image a f.0
-                      ∙ (sym (ap (λ l. over_all (slice_index image a) (before_place v.attempt.began_at l) a) same) ∙ f.1),
+                      ∙ (sym (ap (λ l. over_all (slice_index image a) (before_place v.attempt.began_at l) a) same) ∙
+                      f.1),
                 );
             behind = λ r m ended. by_bool r.writer
                 (λ w. let y = (s.is_listed.each r m).writer w in ended r.point _ y.1)

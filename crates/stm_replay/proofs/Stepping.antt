@@ -1,10 +1,12 @@
 -- What a step of the running core makes of its fields.
-use Rattle.std.proofs.Common.{◌≡◌, ℕ, zero, suc, ◌+◌, ◌-◌, ◌<◌, List, [], ◌∷◌, length, set, get_or, Result, Ok, Err, OnErr, refl, ap, ◌∙◌, subst, arith, Bool, true, false, cond, eqb, ◌&&◌, ◌||◌}
+use Rattle.std.proofs.Common.{◌≡◌, ℕ, zero, suc, ◌+◌, ◌-◌, ◌<◌, List, [], ◌∷◌, length, set, get_or, Result, Ok, Err}
+use Rattle.std.proofs.Common.{OnErr, refl, ap, ◌∙◌, subst, arith, Bool, true, false, cond, eqb, ◌&&◌, ◌||◌}
 use Rattle.std.proofs.lemmas.List.{get_or_default}
 use Rattle.std.proofs.lemmas.Bool.Decides.{nat_tests}
 use Rattle.std.specs.Vec.{with_item}
 use Rattle.stm_core.specs.Client.{Client, Record}
-use Rattle.stm_core.specs.Event.{Action, tick, validate, finish, decision, gone, is_empty, passes, versioned, decides_at_once, writer_record}
+use Rattle.stm_core.specs.Event.{Action, tick, validate, finish, decision, gone, is_empty, passes, versioned}
+use Rattle.stm_core.specs.Event.{decides_at_once, writer_record}
 use Rattle.stm_core.specs.Core.{Core, found, left, written, client_of, stamp_of}
 use Rattle.stm_replay.specs.Seat.{seat_after, tag_number}
 use Rattle.stm_replay.specs.Running.{Running, stripes_of, entered, entry_of, run_acts}
@@ -22,10 +24,13 @@ set_own (x ∷ l) zero d = refl
 set_own (x ∷ l) (suc i) d = ap (λ m. x ∷ m) (set_own l i d)
 
 -- a seat that is written back as it was
-pub kept_seat : {A : Type 0} (i : Inside A) (s : Running) (k : ℕ) (x y : Client) → running_of i ≡ s → x ≡ get_or i.seats.items k x → y ≡ x → running_of (record i { seats = with_item i.seats k y }) ≡ s
-kept_seat i s k x y v e f = ap (λ l. record (running_of i) { core = record (running_of i).core { clients = l } }) (ap (λ z. set i.seats.items k z) (f ∙ e) ∙ set_own i.seats.items k x) ∙ v
+pub kept_seat : {A : Type 0} (i : Inside A) (s : Running) (k : ℕ) (x y : Client) → running_of i ≡ s →
+    x ≡ get_or i.seats.items k x → y ≡ x → running_of (record i { seats = with_item i.seats k y }) ≡ s
+kept_seat i s k x y v e f = ap (λ l. record (running_of i) { core = record (running_of i).core { clients = l } })
+    (ap (λ z. set i.seats.items k z) (f ∙ e) ∙ set_own i.seats.items k x) ∙ v
 
-entered_apart : (rs : List Record) (s : Running) (c : Core) → record { core = c; order = (entered rs s).order } ≡ entered rs (record s { core = c })
+entered_apart : (rs : List Record) (s : Running) (c : Core) →
+    record { core = c; order = (entered rs s).order } ≡ entered rs (record s { core = c })
 entered_apart [] s c = refl
 entered_apart (r ∷ rs) s c = refl
 
@@ -35,20 +40,31 @@ acts_in : {A : Type 0} (i : Inside A) (k : ℕ) (e : Action) (n next : ℕ) (x y
     → next ≡ i.events + 1
     → y ≡ seat_after i.events e n x
     → d ≡ written e (left e n (client_of (running_of i).core k)) (running_of i).core
-    → o ≡ (entered (decision (stamp_of (running_of i).core k) e n (client_of (running_of i).core k)) (running_of i)).order
-    → record { core = record d { clients = set i.seats.items (k - 1) y; events = next }; order = o } ≡ run_acts k e (running_of i)
+    → o ≡ (entered (decision (stamp_of (running_of i).core k) e n (client_of (running_of i).core k))
+    (running_of i)).order
+    → record { core = record d { clients = set i.seats.items (k - 1) y; events = next }; order = o } ≡ run_acts k e
+    (running_of i)
 acts_in i k e n next x y d o inside value word more seat words filed =
     let r : Running = running_of i in
     let m : ℕ = found (stripes_of r.core) r.core e in
     let same : x ≡ client_of r.core k = value ∙ get_or_default i.seats.items (k - 1) x gone inside in
-    rw (words, filed, seat, more, word, same) (entered_apart (decision (stamp_of r.core k) e m (client_of r.core k)) r (record (written e (left e m (client_of r.core k)) r.core) { clients = set r.core.clients (k - 1) (seat_after r.core.events e m (client_of r.core k)); events = r.core.events + 1 }))
+    rw (words, filed, seat, more, word, same) (entered_apart (decision (stamp_of r.core k) e m (client_of r.core k)) r
+    (record (written e (left e m (client_of r.core k)) r.core) {
+      clients = set r.core.clients (k - 1) (seat_after r.core.events e m (client_of r.core k));
+      events =
+          r.core.events + 1;
+    }))
 
 -- the seat that is lent is the client's
-pub seen : {A : Type 0} (i : Inside A) (s : Running) (k : ℕ) (x : Client) → running_of i ≡ s → k - 1 < length s.core.clients → x ≡ get_or i.seats.items (k - 1) x → x ≡ client_of s.core k
-seen i s k x v = subst (λ (r : Running). k - 1 < length r.core.clients → x ≡ get_or i.seats.items (k - 1) x → x ≡ client_of r.core k) v (λ inside value. value ∙ get_or_default i.seats.items (k - 1) x gone inside)
+pub seen : {A : Type 0} (i : Inside A) (s : Running) (k : ℕ) (x : Client) → running_of i ≡ s →
+    k - 1 < length s.core.clients → x ≡ get_or i.seats.items (k - 1) x → x ≡ client_of s.core k
+seen i s k x v = subst (λ (r : Running). k - 1 < length r.core.clients → x ≡ get_or i.seats.items (k - 1) x →
+    x ≡ client_of r.core k) v (λ inside value. value ∙ get_or_default i.seats.items (k - 1) x gone inside)
 
--- a step of a client that is there, by the word that it finds, the seat before and after, and what it makes of the words and of the order
-pub acts_is : {A : Type 0} (i : Inside A) (s : Running) (k : ℕ) (e : Action) (n next : ℕ) (x y : Client) (d : Core) (o : Placed)
+--  a step of a client that is there, by the word that it finds, the seat before and after, and what it makes of the
+-- words and of the order
+pub acts_is : {A : Type 0} (i : Inside A) (s : Running) (k : ℕ) (e : Action) (n next : ℕ) (x y : Client) (d : Core)
+    (o : Placed)
     → running_of i ≡ s
     → k - 1 < length s.core.clients → x ≡ get_or i.seats.items (k - 1) x
     → n ≡ found (stripes_of s.core) s.core e
@@ -58,7 +74,11 @@ pub acts_is : {A : Type 0} (i : Inside A) (s : Running) (k : ℕ) (e : Action) (
     → o ≡ (entered (decision (stamp_of s.core k) e n (client_of s.core k)) s).order
     → record { core = record d { clients = set i.seats.items (k - 1) y; events = next }; order = o } ≡ run_acts k e s
 acts_is i s k e n next x y d o v =
-    subst (λ (r : Running). k - 1 < length r.core.clients → x ≡ get_or i.seats.items (k - 1) x → n ≡ found (stripes_of r.core) r.core e → next ≡ r.core.events + 1 → y ≡ seat_after r.core.events e n x → d ≡ written e (left e n (client_of r.core k)) (running_of i).core → o ≡ (entered (decision (stamp_of r.core k) e n (client_of r.core k)) r).order → record { core = record d { clients = set i.seats.items (k - 1) y; events = next }; order = o } ≡ run_acts k e r)
+    subst (λ (r : Running). k - 1 < length r.core.clients → x ≡ get_or i.seats.items (k - 1) x →
+    n ≡ found (stripes_of r.core) r.core e → next ≡ r.core.events + 1 → y ≡ seat_after r.core.events e n x →
+    d ≡ written e (left e n (client_of r.core k)) (running_of i).core →
+    o ≡ (entered (decision (stamp_of r.core k) e n (client_of r.core k)) r).order →
+    record { core = record d { clients = set i.seats.items (k - 1) y; events = next }; order = o } ≡ run_acts k e r)
     v (acts_in i k e n next x y d o)
 
 -- what an exchange leaves, by the number found or by the number wanted
@@ -66,48 +86,66 @@ pub exchange : (n m : ℕ) → cond (eqb n m) (n + 1) n ≡ cond (eqb n m) (m + 
 exchange n m = grind (arith, nat_tests)
 
 -- a record that two tests decide
-twice : (a b : Bool) (r : Record) (s : Running) → cond (a && b) (put_in (entry_of r) r.point s.order) s.order ≡ (entered (cond a (cond b (r ∷ []) []) []) s).order
+twice : (a b : Bool) (r : Record) (s : Running) → cond (a && b) (put_in (entry_of r) r.point s.order) s.order ≡
+    (entered (cond a (cond b (r ∷ []) []) []) s).order
 twice true true r s = refl
 twice true false r s = refl
 twice false b r s = refl
 
 -- the order after a tick
-pub ticked_order : {A : Type 0} (i : Inside A) (s : Running) (k from tag : ℕ) (writes : List (ℕ × ℕ)) (b : Bool) (z : Client) (o : Placed)
+pub ticked_order : {A : Type 0} (i : Inside A) (s : Running) (k from tag : ℕ) (writes : List (ℕ × ℕ)) (b : Bool)
+    (z : Client) (o : Placed)
     → running_of i ≡ s → z ≡ client_of s.core k
     → b ≡ (eqb i.clock from && (is_empty z.attempt.reads || eqb (from + 1) (z.attempt.rv + 1)))
-    → o ≡ cond b (put_in (record { client = k; tag = tag; version = from + 1; writer = true; renewal = i.renewal }) i.events i.order) i.order
+    → o ≡ cond b (put_in (record { client = k; tag = tag; version = from + 1; writer = true; renewal = i.renewal })
+    i.events i.order) i.order
     → o ≡ (entered (decision (stamp_of s.core k) (tick from (tag ∷ []) writes) i.clock (client_of s.core k)) s).order
 ticked_order i s k from tag writes b z o v = subst (λ (r : Running). z ≡ client_of r.core k
     → b ≡ (eqb i.clock from && (is_empty z.attempt.reads || eqb (from + 1) (z.attempt.rv + 1)))
-    → o ≡ cond b (put_in (record { client = k; tag = tag; version = from + 1; writer = true; renewal = i.renewal }) i.events i.order) i.order
+    → o ≡ cond b (put_in (record { client = k; tag = tag; version = from + 1; writer = true; renewal = i.renewal })
+    i.events i.order) i.order
     → o ≡ (entered (decision (stamp_of r.core k) (tick from (tag ∷ []) writes) i.clock (client_of r.core k)) r).order) v
     (λ e h q.
     let r : Running = running_of i in
     let w : Client = versioned (stamp_of r.core k) (from + 1) (tag ∷ []) writes (client_of r.core k) in
-    q ∙ ap (λ d. cond d (put_in (record { client = k; tag = tag; version = from + 1; writer = true; renewal = i.renewal }) i.events i.order) i.order)
+    q ∙ ap (λ d. cond d (put_in (record {
+      client = k;
+      tag = tag;
+      version = from + 1;
+      writer = true;
+      renewal = i.renewal;
+    }) i.events i.order) i.order)
     (h ∙ ap (λ (u : Client). eqb i.clock from && (is_empty u.attempt.reads || eqb (from + 1) (u.attempt.rv + 1))) e)
     ∙ twice (eqb i.clock from) (decides_at_once w) (writer_record (stamp_of r.core k) w.attempt) r)
 
 -- the order after a validation
-pub validated_order : {A : Type 0} (i : Inside A) (s : Running) (k stripe word tag version point : ℕ) (b : Bool) (z : Client) (o : Placed)
+pub validated_order : {A : Type 0} (i : Inside A) (s : Running) (k stripe word tag version point : ℕ) (b : Bool)
+    (z : Client) (o : Placed)
     → running_of i ≡ s → z ≡ client_of s.core k
     → tag ≡ tag_number z.attempt.tag → version ≡ z.attempt.wv → point ≡ z.attempt.ticked_at
     → b ≡ (passes stripe word z && eqb (z.attempt.passed + 1) (length z.attempt.reads))
-    → o ≡ cond b (put_in (record { client = k; tag = tag; version = version; writer = true; renewal = i.renewal }) point i.order) i.order
+    → o ≡ cond b (put_in (record { client = k; tag = tag; version = version; writer = true; renewal = i.renewal }) point
+    i.order) i.order
     → o ≡ (entered (decision (stamp_of s.core k) (validate stripe) word (client_of s.core k)) s).order
 validated_order i s k stripe word tag version point b z o v e et ev ep h q =
     let r : Running = running_of i in
     let here : o ≡ (entered (decision (stamp_of r.core k) (validate stripe) word z) r).order =
-    q ∙ rw (et, ev, ep, h) (twice (passes stripe word z) (eqb (z.attempt.passed + 1) (length z.attempt.reads)) (writer_record (stamp_of r.core k) z.attempt) r) in
-    here ∙ ap (λ (u : Client). (entered (decision (stamp_of r.core k) (validate stripe) word u) r).order) e ∙ ap (λ (t : Running). (entered (decision (stamp_of t.core k) (validate stripe) word (client_of s.core k)) t).order) v
+    q ∙ rw (et, ev, ep, h) (twice (passes stripe word z) (eqb (z.attempt.passed + 1) (length z.attempt.reads))
+    (writer_record (stamp_of r.core k) z.attempt) r) in
+    here ∙ ap (λ (u : Client). (entered (decision (stamp_of r.core k) (validate stripe) word u) r).order) e ∙
+    ap (λ (t : Running). (entered (decision (stamp_of t.core k) (validate stripe) word (client_of s.core k))
+    t).order) v
 
 -- the order after a finish
 pub finished_order : {A : Type 0} (i : Inside A) (s : Running) (k n tag version point : ℕ) (z : Client) (o : Placed)
     → running_of i ≡ s → z ≡ client_of s.core k
     → version ≡ z.attempt.rv → point ≡ z.attempt.began_at
-    → o ≡ put_in (record { client = k; tag = tag; version = version; writer = false; renewal = i.renewal }) point i.order
+    → o ≡ put_in (record { client = k; tag = tag; version = version; writer = false; renewal = i.renewal }) point
+    i.order
     → o ≡ (entered (decision (stamp_of s.core k) (finish (tag ∷ [])) n (client_of s.core k)) s).order
 finished_order i s k n tag version point z o v e ev ep q =
     let r : Running = running_of i in
     let here : o ≡ (entered (decision (stamp_of r.core k) (finish (tag ∷ [])) n z) r).order = q ∙ rw (ev, ep) refl in
-    here ∙ ap (λ (u : Client). (entered (decision (stamp_of r.core k) (finish (tag ∷ [])) n u) r).order) e ∙ ap (λ (t : Running). (entered (decision (stamp_of t.core k) (finish (tag ∷ [])) n (client_of s.core k)) t).order) v
+    here ∙ ap (λ (u : Client). (entered (decision (stamp_of r.core k) (finish (tag ∷ [])) n u) r).order) e ∙
+    ap (λ (t : Running). (entered (decision (stamp_of t.core k) (finish (tag ∷ [])) n (client_of s.core k))
+    t).order) v

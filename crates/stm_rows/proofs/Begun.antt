@@ -13,12 +13,17 @@ use Rattle.stm_rows.specs.Laws.{Fits, HoldsUnder}
 unwritten : (image : List ℕ) → memory image (empty {K = ℕ} {X = ℕ} {R = nat_cmp}) ≡ words_of image
 unwritten image = λ i a. ap (λ (o : Option ℕ). unwrap_or o (slice_index image a)) (get-empty nat_cmp a) i
 
-held : (P : Property) (size : ℕ) (in_use : Bool) (region : RegionShown) (v : Client) (w : LogValue) → in_use ≡ true → region.size ≡ size → w ≡ empty_log → HoldsUnder P size (memory_of in_use region (λ (image : List ℕ). Fits P image) v w)
+held : (P : Property) (size : ℕ) (in_use : Bool) (region : RegionShown) (v : Client) (w : LogValue) → in_use ≡ true →
+    region.size ≡ size → w ≡ empty_log → HoldsUnder P size (memory_of in_use region
+    (λ (image : List ℕ). Fits P image) v w)
 held P size false region v w u n e = absurd (let x = u in cc)
 held P size true region v w u n e = record {
   size_is = n;
   under = λ image i. rw e (rw (unwritten image) i.fits);
 }
 
-pub held_begun : (P : Property) (size : ℕ) (in_use : Bool) (region region' : RegionShown) (v : Client) (w : LogValue) → in_use ≡ true → region' ≡ region → region.size ≡ size → w ≡ empty_log → HoldsUnder P size (memory_of in_use region' (λ (image : List ℕ). Fits P image) v w)
-held_begun P size in_use region region' v w u same n e = held P size in_use region' v w u (ap (λ (r : RegionShown). r.size) same ∙ n) e
+pub held_begun : (P : Property) (size : ℕ) (in_use : Bool) (region region' : RegionShown) (v : Client) (w : LogValue) →
+    in_use ≡ true → region' ≡ region → region.size ≡ size → w ≡ empty_log →
+    HoldsUnder P size (memory_of in_use region' (λ (image : List ℕ). Fits P image) v w)
+held_begun P size in_use region region' v w u same n e = held P size in_use region' v w u
+    (ap (λ (r : RegionShown). r.size) same ∙ n) e

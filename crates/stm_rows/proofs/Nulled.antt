@@ -1,5 +1,7 @@
 -- Structures over images that have the words that lead to them at 0, asked for at one length alone.
-use Rattle.std.proofs.Common.{◌≡◌, ◌≢◌, inl, inr, ℕ, ◌+◌, ◌*◌, ◌<◌, ◌≤◌, ◌^◌, List, [], ◌∷◌, Option, Some, None, MatchOption, length, replicate, slice_index, nat_eq, false, refl, sym, ap, ◌∙◌, subst, arith}
+use Rattle.std.proofs.Common.{◌≡◌, ◌≢◌, inl, inr, ℕ, ◌+◌, ◌*◌, ◌<◌, ◌≤◌, ◌^◌, List, [], ◌∷◌, Option, Some, None}
+use Rattle.std.proofs.Common.{MatchOption, length, replicate, slice_index, nat_eq, false, refl, sym, ap, ◌∙◌, subst}
+use Rattle.std.proofs.Common.{arith}
 use Rattle.std.proofs.lemmas.Bool.Decides.{nat_tests}
 use Rattle.std.proofs.lemmas.List.{get_or-replicate}
 use Rattle.tx_memory.specs.Seen.{same_or}
@@ -30,7 +32,12 @@ null_pool m n e h = record { lists = λ i l. h.free i l; once = λ x b. refl; al
 pub nulls_pool : (s : View) → Nulls s → HasPool s
 nulls_pool s h = record {
   small = omega (arith, h.size);
-  under = λ image i. record { free = λ (i : ℕ). []; used = λ (x : ℕ). 1; count = 10; pool = null_pool (mem s image) (length image) (i.size ∙ h.size) (h.under image i) };
+  under = λ image i. record {
+    free = λ (i : ℕ). [];
+    used = λ (x : ℕ). 1;
+    count = 10;
+    pool = null_pool (mem s image) (length image) (i.size ∙ h.size) (h.under image i);
+  };
 }
 
 read : (s s' : View) → Kept s s' → s'.writes ≡ s.writes → Nulls s → Nulls s'
@@ -39,13 +46,15 @@ read s s' k w h = record { size = k.size ∙ h.size; under = λ image i. rw w (h
 pub nulls_loaded : (s s' : View) (a v : ℕ) → Nulls s → Loaded s s' a v → Nulls s'
 nulls_loaded s s' a v h l = read s s' l.kept l.writes h
 
-pub nulls_took : (taken : Option ℕ) (s s' : View) (start : ℕ) → Nulls s → MatchOption taken (NoneFree s s') (λ b. Taken s s' start b) → Nulls s'
+pub nulls_took : (taken : Option ℕ) (s s' : View) (start : ℕ) → Nulls s →
+    MatchOption taken (NoneFree s s') (λ b. Taken s s' start b) → Nulls s'
 nulls_took None s s' start h t = read s s' t.kept t.writes h
 nulls_took (Some b) s s' start h t = record {
   size = t.kept.size ∙ h.size;
   under = λ image i.
       let i0 = stood t.kept image i in
-      let g = t.taking image (λ (i : ℕ). []) (λ (x : ℕ). 1) 10 i.sees (null_pool (mem s image) (length image) (i0.size ∙ h.size) (h.under image i0)) in
+      let g = t.taking image (λ (i : ℕ). []) (λ (x : ℕ). 1) 10 i.sees
+      (null_pool (mem s image) (length image) (i0.size ∙ h.size) (h.under image i0)) in
       let none : 0 ≡ length (b ∷ g.rest) = ap (λ (xs : List ℕ). length xs) g.first in
       absurd (omega (arith, none));
 }
@@ -81,7 +90,8 @@ only : (key b a : ℕ) → 0 < times a ((key, b) ∷ []) → a ≡ b
 only key b a h =
     elim (same_or a b) [
       | inl e ↦ e
-      | inr ne ↦ (let t : nat_eq b a ≡ false = grind (arith, nat_tests) in let z : 0 < 0 = rw t at h in absurd (omega (arith, z)))
+      | inr ne ↦ (let t : nat_eq b a ≡ false = grind (arith, nat_tests) in let z : 0 < 0 = rw t at h in
+          absurd (omega (arith, z)))
     ]
 
 -- the word that leads to a list is 0
@@ -101,20 +111,32 @@ head_inserted s s' key h fresh p = record {
 }
 
 pub head_loaded : (s s' : View) (a v : ℕ) → NullHead s → Loaded s s' a v → NullHead s'
-head_loaded s s' a v h l = record { size = l.kept.size ∙ h.size; under = λ image i. rw l.writes (h.under image (stood l.kept image i)) }
+head_loaded s s' a v h l = record {
+  size = l.kept.size ∙ h.size;
+  under = λ image i. rw l.writes (h.under image (stood l.kept image i));
+}
 
 pub head_list : (s : View) → NullHead s → HasList s 5
 head_list s h = record {
   small = omega (arith, h.size);
   room = omega (arith, h.size);
-  under = λ image i. record { entries = []; is = record { list = record { linked = h.under image i }; outside = λ a x. absurd (omega (arith, x)) } };
+  under = λ image i. record {
+    entries = [];
+    is = record {
+      list = record {
+        linked = h.under image i;
+      };
+      outside = λ a x. absurd (omega (arith, x));
+    };
+  };
 }
 
 no_bookings : (m : ℕ → ℕ) (n : ℕ) (rs : Rows) → m 5 ≡ 0 → IsListAt m n 5 rs → rs ≡ []
 no_bookings m n [] e l = refl
 no_bookings m n (r ∷ rs) e l = (let b = l.list.linked.0 in absurd (omega (arith, e, b.at, b.block.1.1)))
 
-pub head_fresh : (s s1 s2 : View) (kind id : ℕ) → NullHead s → Loaded s s1 24 kind → Loaded s1 s2 25 id → list.IsFresh s2 5 (record { kind = kind; id = id }) 24
+pub head_fresh : (s s1 s2 : View) (kind id : ℕ) → NullHead s → Loaded s s1 24 kind → Loaded s1 s2 25 id →
+    list.IsFresh s2 5 (record { kind = kind; id = id }) 24
 head_fresh s s1 s2 kind id h k l = record {
   under = λ image rs i at.
       let h2 = head_loaded s1 s2 25 id (head_loaded s s1 24 kind h k) l in

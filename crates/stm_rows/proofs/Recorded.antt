@@ -16,14 +16,26 @@ node_held s h = record { inside = omega (arith, h.size_is); small = omega (arith
 node_kept : (s s' : View) (node : ℕ) → IsNode s node → Kept s s' → IsNode s' node
 node_kept s s' node h k = record { inside = omega (arith, h.inside, k.size); small = omega (arith, h.small, k.size) }
 
-pub item_made : (s s' : View) (node key num price : ℕ) → IsNode s node → ItemMade s s' node key num price → HasItem s' node 0 num num price
+pub item_made : (s s' : View) (node key num price : ℕ) → IsNode s node → ItemMade s s' node key num price →
+    HasItem s' node 0 num num price
 item_made s s' node key num price n m = record {
   node_is = node_kept s s' node n m.kept;
-  under = λ image i. let t = m.made image i in λ j. record { used = t.used_is j; free = t.free_is j; total = t.total_is j; price = t.price_is j };
+  under = λ image i. let t = m.made image i in λ j. record {
+    used = t.used_is j;
+    free = t.free_is j;
+    total = t.total_is j;
+    price = t.price_is j;
+  };
 }
 
 module _ (s s' : View) (node used free total price : ℕ) (h : HasItem s node used free total price) where
-  pub item_changed : (f : Item → Item) → ItemChanged s s' node f → (used' free' total' : ℕ) → f (record { used = used; free = free; total = total; price = price }) ≡ record { used = used'; free = free'; total = total'; price = price } → HasItem s' node used' free' total' price
+  pub item_changed : (f : Item → Item) → ItemChanged s s' node f → (used' free' total' : ℕ) →
+      f (record { used = used; free = free; total = total; price = price }) ≡ record {
+        used = used';
+        free = free';
+        total = total';
+        price = price;
+      } → HasItem s' node used' free' total' price
   item_changed f c used' free' total' e = record {
     node_is = node_kept s s' node h.node_is c.kept;
     under = λ image i. (c.changed image i).is ∙ (ap f (h.under image (c.kept.seen image i)) ∙ e);
@@ -32,13 +44,15 @@ module _ (s s' : View) (node used free total price : ℕ) (h : HasItem s node us
   pub item_added : (num : ℕ) → UnitsAdded s s' node num → HasItem s' node used (free + num) (total + num) price
   item_added num a = record {
     node_is = node_kept s s' node h.node_is a.kept;
-    under = λ image i. more_item (mem s image) (mem s' image) node num (a.added image i) ∙ ap (λ (item : Item). added item num None) (h.under image (a.kept.seen image i));
+    under = λ image i. more_item (mem s image) (mem s' image) node num (a.added image i) ∙
+        ap (λ (item : Item). added item num None) (h.under image (a.kept.seen image i));
   }
 
   pub item_priced : (now : ℕ) → Stored s s' (node + 7) now → HasItem s' node used free total now
   item_priced now w = record {
     node_is = node_kept s s' node h.node_is w.kept;
-    under = λ image i. priced_item (mem s image) (mem s' image) node now (w.written image) ∙ ap (λ (item : Item). record item { price = now }) (h.under image (w.kept.seen image i));
+    under = λ image i. priced_item (mem s image) (mem s' image) node now (w.written image) ∙
+        ap (λ (item : Item). record item { price = now }) (h.under image (w.kept.seen image i));
   }
 
 module _ (s : View) (node used free total price : ℕ) (h : HasItem s node used free total price) where

@@ -1,5 +1,6 @@
 -- Rows in ascending order, put together from what is in front of a place and what is behind it.
-use Rattle.std.proofs.Common.{◌≡◌, ◌≢◌, inl, inr, ℕ, ◌+◌, ◌<◌, ◌≤◌, true, false, nat_eq, nat_lt, [], ◌∷◌, cond, ◌++◌, refl, ap, arith}
+use Rattle.std.proofs.Common.{◌≡◌, ◌≢◌, inl, inr, ℕ, ◌+◌, ◌<◌, ◌≤◌, true, false, nat_eq, nat_lt, [], ◌∷◌, cond, ◌++◌}
+use Rattle.std.proofs.Common.{refl, ap, arith}
 use Rattle.std.proofs.lemmas.Bool.{cases_lt}
 use Rattle.std.proofs.lemmas.Bool.Decides.{nat_tests}
 use Rattle.tx_memory.specs.Seen.{same_or}
@@ -29,7 +30,8 @@ below_both k [] ys h g = g
 below_both k (x ∷ xs) ys h g = (h.0, below_both k xs ys h.1 g)
 
 -- a row between rows below its key and rows above it
-pub put_between : (xs ys : Rows) (key b : ℕ) → AllBelow key xs → IsFrom (key + 1) ys → put_row (xs ++ ys) key b ≡ xs ++ ((key, b) ∷ ys)
+pub put_between : (xs ys : Rows) (key b : ℕ) → AllBelow key xs → IsFrom (key + 1) ys →
+    put_row (xs ++ ys) key b ≡ xs ++ ((key, b) ∷ ys)
 put_between [] [] key b h g = refl
 put_between [] (y ∷ ys) key b h g =
     let t : nat_lt y.0 key ≡ false = grind (arith, nat_tests) in rw t refl
@@ -63,7 +65,8 @@ none_between (x ∷ xs) ys key h g =
     let t : nat_eq x.0 key ≡ false = grind (arith, nat_tests) in
     rw t (none_between xs ys key h.1 g)
 
-pub from_put : (lo : ℕ) (xs ys : Rows) (key b : ℕ) → lo ≤ key → AllBelow key xs → IsFrom (key + 1) ys → IsFrom lo (xs ++ ys) → IsFrom lo (xs ++ ((key, b) ∷ ys))
+pub from_put : (lo : ℕ) (xs ys : Rows) (key b : ℕ) → lo ≤ key → AllBelow key xs → IsFrom (key + 1) ys →
+    IsFrom lo (xs ++ ys) → IsFrom lo (xs ++ ((key, b) ∷ ys))
 from_put lo [] ys key b l h g f = (l, g)
 from_put lo (x ∷ xs) ys key b l h g f = (f.0, from_put (x.0 + 1) xs ys key b (omega (arith, h.0)) h.1 g f.1)
 
@@ -79,8 +82,10 @@ times_both x (r ∷ xs) ys = let i = times_both x xs ys in omega arith
 pub cut_absent : (rs : Rows) (key : ℕ) → ((x : ℕ) → 0 < times x rs → x ≢ 0) → block_at rs key ≡ 0 → cut_row rs key ≡ rs
 cut_absent [] key some e = refl
 cut_absent (r ∷ rs) key some e = elim (same_or r.0 key) [
-  | inl same ↦ absurd (some r.1 (grind (arith, nat_tests)) (let t : nat_eq r.0 key ≡ true = grind (arith, nat_tests) in rw t at e))
-  | inr other ↦ (let t : nat_eq r.0 key ≡ false = grind (arith, nat_tests) in rw t (ap (λ (z : Rows). r ∷ z) (cut_absent rs key (λ x l. some x (omega arith)) (rw t at e))))
+  | inl same ↦ absurd (some r.1 (grind (arith, nat_tests)) (let t : nat_eq r.0 key ≡ true = grind (arith, nat_tests) in
+      rw t at e))
+  | inr other ↦ (let t : nat_eq r.0 key ≡ false = grind (arith, nat_tests) in
+      rw t (ap (λ (z : Rows). r ∷ z) (cut_absent rs key (λ x l. some x (omega arith)) (rw t at e))))
 ]
 
 -- rows as a finite map
@@ -90,7 +95,8 @@ at_put (r ∷ rs) key b q =
     let ih = at_put rs key b q in
     elim (cases_lt r.0 key) [ inl below ↦ grind (arith, nat_tests) | inr here ↦ grind (arith, nat_tests) ]
 
-pub at_cut : (rs : Rows) (lo key q : ℕ) → IsFrom lo rs → block_at (cut_row rs key) q ≡ cond (nat_eq key q) 0 (block_at rs q)
+pub at_cut : (rs : Rows) (lo key q : ℕ) → IsFrom lo rs → block_at (cut_row rs key) q ≡ cond (nat_eq key q) 0
+    (block_at rs q)
 at_cut [] lo key q h = grind (arith, nat_tests)
 at_cut (r ∷ rs) lo key q h =
     elim (same_or r.0 key) [

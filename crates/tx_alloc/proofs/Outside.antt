@@ -5,18 +5,30 @@ use Rattle.tx_alloc.specs.Pool.{IsBlock}
 use Rattle.tx_alloc.specs.Rows.{Rows, times, Relinks}
 
 -- the words of a block that is none of these rows
-pub outside_block : {first : ℕ} → (m m' : ℕ → ℕ) (n root c k : ℕ) (rs : Rows) → Relinks m m' first root rs → ((a : ℕ) → 0 < times a rs → IsBlock n a) → IsBlock n c → times c rs ≡ 0 → k < 8 → c + k ≢ root → m' (c + k) ≡ m (c + k)
+pub outside_block : {first : ℕ} → (m m' : ℕ → ℕ) (n root c k : ℕ) (rs : Rows) → Relinks m m' first root rs →
+    ((a : ℕ) → 0 < times a rs → IsBlock n a) → IsBlock n c → times c rs ≡ 0 → k < 8 → c + k ≢ root →
+    m' (c + k) ≡ m (c + k)
 outside_block m m' n root c k rs r blocks bc none l ne = r.others (c + k) ne (λ a i.
     let ba = blocks a i in
     let apart : a ≢ c = λ q. absurd (omega (arith, i, none, ap (λ (z : ℕ). times z rs) q)) in
-    elim (cases_lt a c) [ inl below ↦ inr (omega (arith, ba.1.1, bc.1.1)) | inr above ↦ inl (omega (arith, ba.1.1, bc.1.1)) ])
+    elim (cases_lt a c) [
+      | inl below ↦ inr (omega (arith, ba.1.1, bc.1.1))
+      | inr above ↦
+          inl (omega (arith, ba.1.1, bc.1.1))
+    ])
 
 -- the words behind the links of any block
-pub outside_links : {first : ℕ} → (m m' : ℕ → ℕ) (n root c k : ℕ) (rs : Rows) → Relinks m m' first root rs → ((a : ℕ) → 0 < times a rs → IsBlock n a) → IsBlock n c → 4 ≤ k → k < 8 → c + k ≢ root → m' (c + k) ≡ m (c + k)
+pub outside_links : {first : ℕ} → (m m' : ℕ → ℕ) (n root c k : ℕ) (rs : Rows) → Relinks m m' first root rs →
+    ((a : ℕ) → 0 < times a rs → IsBlock n a) → IsBlock n c → 4 ≤ k → k < 8 → c + k ≢ root → m' (c + k) ≡ m (c + k)
 outside_links m m' n root c k rs r blocks bc g l ne = r.others (c + k) ne (λ a i.
     let ba = blocks a i in
-    elim (cases_lt c a) [ inl below ↦ inl (omega (arith, ba.1.1, bc.1.1)) | inr above ↦ inr (omega (arith, ba.1.1, bc.1.1)) ])
+    elim (cases_lt c a) [
+      | inl below ↦ inl (omega (arith, ba.1.1, bc.1.1))
+      | inr above ↦
+          inr (omega (arith, ba.1.1, bc.1.1))
+    ])
 
 -- the words in front of the blocks
-pub outside_low : {first : ℕ} → (m m' : ℕ → ℕ) (n root x : ℕ) (rs : Rows) → Relinks m m' first root rs → ((a : ℕ) → 0 < times a rs → IsBlock n a) → x < 16 → x ≢ root → m' x ≡ m x
+pub outside_low : {first : ℕ} → (m m' : ℕ → ℕ) (n root x : ℕ) (rs : Rows) → Relinks m m' first root rs →
+    ((a : ℕ) → 0 < times a rs → IsBlock n a) → x < 16 → x ≢ root → m' x ≡ m x
 outside_low m m' n root x rs r blocks l ne = r.others x ne (λ a i. let ba = blocks a i in inl (omega (arith, ba.1.1)))

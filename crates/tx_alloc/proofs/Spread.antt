@@ -1,5 +1,6 @@
 -- The words of a heap whose lists have a piece of it each are a pool of which every block is free.
-use Rattle.std.proofs.Common.{◌≡◌, ◌≢◌, inl, inr, ℕ, ◌+◌, ◌*◌, ◌<◌, ◌≤◌, List, nat_eq, nat_lt, true, false, length, slice_index, refl, arith, zero, suc}
+use Rattle.std.proofs.Common.{◌≡◌, ◌≢◌, inl, inr, ℕ, ◌+◌, ◌*◌, ◌<◌, ◌≤◌, List, nat_eq, nat_lt, true, false, length}
+use Rattle.std.proofs.Common.{slice_index, refl, arith, zero, suc}
 use Rattle.std.proofs.lemmas.Bool.Decides.{nat_tests}
 use Rattle.std.proofs.lemmas.Bool.{cases_lt, lt-ltb, le-ltb}
 use Rattle.tx_memory.specs.Seen.{same_or}

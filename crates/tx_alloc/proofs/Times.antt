@@ -1,5 +1,6 @@
 -- How often rows have a block.
-use Rattle.std.proofs.Common.{◌≡◌, ◌≢◌, inl, inr, ℕ, ◌+◌, ◌<◌, ◌≤◌, [], ◌∷◌, cond, nat_eq, length, true, false, refl, sym, ap, ◌∙◌, arith}
+use Rattle.std.proofs.Common.{◌≡◌, ◌≢◌, inl, inr, ℕ, ◌+◌, ◌<◌, ◌≤◌, [], ◌∷◌, cond, nat_eq, length, true, false, refl}
+use Rattle.std.proofs.Common.{sym, ap, ◌∙◌, arith}
 use Rattle.std.proofs.lemmas.Bool.Decides.{nat_tests}
 use Rattle.std.proofs.lemmas.Bool.{cases_lt}
 use Rattle.tx_memory.specs.Seen.{same_or}
@@ -38,15 +39,22 @@ length_put key b ((k, a) ∷ rs) =
 pub cut_is : (k a key : ℕ) (rs : Rows) → k ≡ key → (cut_row ((k, a) ∷ rs) key ≡ rs) × (block_at ((k, a) ∷ rs) key ≡ a)
 cut_is k a key rs e = let t : nat_eq k key ≡ true = grind (arith, nat_tests) in rw t (refl, refl)
 
-pub cut_else : (k a key : ℕ) (rs : Rows) → k ≢ key → (cut_row ((k, a) ∷ rs) key ≡ (k, a) ∷ cut_row rs key) × (block_at ((k, a) ∷ rs) key ≡ block_at rs key)
+pub cut_else : (k a key : ℕ) (rs : Rows) → k ≢ key → (cut_row ((k, a) ∷ rs) key ≡ (k, a) ∷ cut_row rs key) ×
+    (block_at ((k, a) ∷ rs) key ≡ block_at rs key)
 cut_else k a key rs e = let t : nat_eq k key ≡ false = grind (arith, nat_tests) in rw t (refl, refl)
 
-pub times_cut : (x key b : ℕ) (rs : Rows) → block_at rs key ≡ b → b ≢ 0 → cond (nat_eq b x) 1 0 + times x (cut_row rs key) ≡ times x rs
+pub times_cut : (x key b : ℕ) (rs : Rows) → block_at rs key ≡ b → b ≢ 0 →
+    cond (nat_eq b x) 1 0 + times x (cut_row rs key) ≡ times x rs
 times_cut x key b [] e ne = absurd (ne (sym e))
 times_cut x key b ((k, a) ∷ rs) e ne =
     elim (same_or k key) [
-      | inl q ↦ (let c = cut_is k a key rs q in let same : a ≡ b = sym c.1 ∙ e in omega (arith, ap (times x) c.0, ap (λ (z : ℕ). cond {A = ℕ} (nat_eq z x) 1 0) same))
-      | inr q ↦ (let c = cut_else k a key rs q in omega (arith, ap (times x) c.0, times_cut x key b rs (sym c.1 ∙ e) ne))
+      | inl q ↦ (let c = cut_is k a key rs q in let same : a ≡ b = sym c.1 ∙ e in
+          omega (arith, ap (times x) c.0, ap (λ (z : ℕ). cond {A = ℕ} (nat_eq z x) 1 0) same))
+      | inr q ↦ (let c = cut_else k a key rs q in omega (
+        arith,
+        ap (times x) c.0,
+        times_cut x key b rs (sym c.1 ∙ e) ne,
+      ))
     ]
 
 pub length_cut : (key b : ℕ) (rs : Rows) → block_at rs key ≡ b → b ≢ 0 → 1 + length (cut_row rs key) ≡ length rs
@@ -54,5 +62,9 @@ length_cut key b [] e ne = absurd (ne (sym e))
 length_cut key b ((k, a) ∷ rs) e ne =
     elim (same_or k key) [
       | inl q ↦ omega (arith, ap (λ (z : Rows). length z) (cut_is k a key rs q).0)
-      | inr q ↦ (let c = cut_else k a key rs q in omega (arith, ap (λ (z : Rows). length z) c.0, length_cut key b rs (sym c.1 ∙ e) ne))
+      | inr q ↦ (let c = cut_else k a key rs q in omega (
+        arith,
+        ap (λ (z : Rows). length z) c.0,
+        length_cut key b rs (sym c.1 ∙ e) ne,
+      ))
     ]

@@ -1,5 +1,6 @@
 -- The walk along the blocks of a list, over every memory that there may be.
-use Rattle.std.proofs.Common.{◌≡◌, ◌≢◌, ℕ, ◌+◌, ◌<◌, ◌≤◌, List, [], ◌∷◌, ◌++◌, append_assoc, length, length-append, refl, sym, ap, ◌∙◌, subst, arith}
+use Rattle.std.proofs.Common.{◌≡◌, ◌≢◌, ℕ, ◌+◌, ◌<◌, ◌≤◌, List, [], ◌∷◌, ◌++◌, append_assoc, length, length-append}
+use Rattle.std.proofs.Common.{refl, sym, ap, ◌∙◌, subst, arith}
 use Rattle.tx_memory.specs.Seen.{some_le}
 use Rattle.tx_memory.specs.View.{View, Sees, RestsOn, Kept, Loaded}
 use Rattle.tx_alloc.specs.Steps.{mem, kept_none, kept_both, stood, at_start}

@@ -21,7 +21,8 @@ behind_has ((k, a) ∷ rs) b c e ne =
       | inr q ↦ (let at : c ≡ block_behind rs b = grind (arith, nat_tests) in omega (arith, behind_has rs b c at ne))
     ]
 
-pub first_booking : (s s' : View) (head : ℕ) (found : Option ℕ) (b : ℕ) → HasList s head → First s s' head found → found ≡ Some b → HasBooking s' b
+pub first_booking : (s s' : View) (head : ℕ) (found : Option ℕ) (b : ℕ) → HasList s head → First s s' head found →
+    found ≡ Some b → HasBooking s' b
 first_booking s s' head found b h f e =
     let g = subst (λ (o : Option ℕ). First s s' head o) e f in
     record {
@@ -32,13 +33,15 @@ first_booking s s' head found b h f e =
           rw g.writes (record { start = mem s image head; entries = t.entries; list = t.is.list; has = has });
     }
 
-pub next_booking : (s s' : View) (a : ℕ) (found : Option ℕ) (b : ℕ) → HasBooking s a → Next s s' a found → found ≡ Some b → HasBooking s' b
+pub next_booking : (s s' : View) (a : ℕ) (found : Option ℕ) (b : ℕ) → HasBooking s a → Next s s' a found →
+    found ≡ Some b → HasBooking s' b
 next_booking s s' a found b h f e =
     let g = subst (λ (o : Option ℕ). Next s s' a o) e f in
     record {
       small = omega (arith, h.small, g.kept.size);
       under = λ image i.
           let t = h.under image (stood g.kept image i) in
-          let has = behind_has t.entries a b (g.is image t.start t.entries i.sees t.list t.has) (omega (arith, g.within.0)) in
+          let has = behind_has t.entries a b (g.is image t.start t.entries i.sees t.list t.has)
+          (omega (arith, g.within.0)) in
           rw g.writes (record { start = t.start; entries = t.entries; list = t.list; has = has });
     }

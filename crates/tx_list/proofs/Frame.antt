@@ -14,17 +14,28 @@ pub record SameBooking (m m' : ℕ → ℕ) (a : ℕ) : Type 0 where
   pub id : m' (a + 1) ≡ m (a + 1)
   pub next : m' (a + 3) ≡ m (a + 3)
 
-pub linked_frame : (m m' : ℕ → ℕ) (n p lo : ℕ) (rs : Rows) → ((a : ℕ) → 0 < times a rs → SameBooking m m' a) → Linked m n p lo rs → Linked m' n p lo rs
+pub linked_frame : (m m' : ℕ → ℕ) (n p lo : ℕ) (rs : Rows) → ((a : ℕ) → 0 < times a rs → SameBooking m m' a) →
+    Linked m n p lo rs → Linked m' n p lo rs
 linked_frame m m' n p lo [] same h = h
 linked_frame m m' n p lo ((k, a) ∷ rs) same (r, h) =
     let s = same a (times_first k a rs) in (
-      record { at = r.at; block = r.block; kind = omega (arith, r.kind, s.kind); id = omega (arith, r.id, s.id); key = omega (arith, r.key, s.kind, s.id); low = r.low },
-      rw s.next (linked_frame m m' n (m (a + 3)) (k + 1) rs (λ x i. same x (omega (arith, i, times_more (k, a) x rs))) h),
+      record {
+        at = r.at;
+        block = r.block;
+        kind = omega (arith, r.kind, s.kind);
+        id = omega (arith, r.id, s.id);
+        key = omega (arith, r.key, s.kind, s.id);
+        low = r.low;
+      },
+      rw s.next (linked_frame m m' n (m (a + 3)) (k + 1) rs (λ x i. same x (omega (arith, i, times_more (k, a) x rs)))
+          h),
     )
 
-pub list_frame : (m m' : ℕ → ℕ) (n p : ℕ) (rs : Rows) → IsList m n p rs → ((a : ℕ) → 0 < times a rs → SameLinks m m' a) → IsList m' n p rs
+pub list_frame : (m m' : ℕ → ℕ) (n p : ℕ) (rs : Rows) → IsList m n p rs →
+    ((a : ℕ) → 0 < times a rs → SameLinks m m' a) → IsList m' n p rs
 list_frame m m' n p rs h same = record {
-  linked = linked_frame m m' n p 0 rs (λ a i. let s = same a i in record { kind = s 0 (omega arith); id = s 1 (omega arith); next = s 3 (omega arith) }) h.linked;
+  linked = linked_frame m m' n p 0 rs (λ a i. let s = same a i in
+      record { kind = s 0 (omega arith); id = s 1 (omega arith); next = s 3 (omega arith) }) h.linked;
 }
 
 -- a block with a kind and an id, whose code is lo or more
@@ -41,7 +52,12 @@ linked_booked m n p lo a ((k, b) ∷ rs) (r, h) i =
       | inl more ↦ (let t = linked_booked m n (m (b + 3)) (k + 1) a rs h more in
           record { block = t.block; kind = t.kind; id = t.id; low = omega (arith, t.low, r.low) })
       | inr none ↦ (let e : b ≡ a = grind (arith, nat_tests) in
-          subst (λ (x : ℕ). Booked m n lo x) e (record { block = r.block; kind = r.kind; id = r.id; low = omega (arith, r.low, r.key) }))
+          subst (λ (x : ℕ). Booked m n lo x) e (record {
+            block = r.block;
+            kind = r.kind;
+            id = r.id;
+            low = omega (arith, r.low, r.key);
+          }))
     ]
 
 pub list_booked : (m : ℕ → ℕ) (n p a : ℕ) (rs : Rows) → IsList m n p rs → 0 < times a rs → Booked m n 0 a
@@ -74,7 +90,12 @@ linked_once m n p lo x ((k, a) ∷ rs) (r, h) =
     let ih = linked_once m n (m (a + 3)) (k + 1) x rs h in
     elim (same_or a x) [
       | inl e ↦ elim (cases_lt 0 (times x rs)) [
-        | inl more ↦ absurd (omega (arith, (linked_booked m n (m (a + 3)) (k + 1) x rs h more).low, r.key, ap (place_code m) e))
+        | inl more ↦ absurd (omega (
+          arith,
+          (linked_booked m n (m (a + 3)) (k + 1) x rs h more).low,
+          r.key,
+          ap (place_code m) e,
+        ))
         | inr none ↦ grind (arith, nat_tests)
       ]
       | inr ne ↦ grind (arith, nat_tests)
@@ -84,7 +105,8 @@ pub list_once : (m : ℕ → ℕ) (n p x : ℕ) (rs : Rows) → IsList m n p rs 
 list_once m n p x rs h = linked_once m n p 0 x rs h.linked
 
 -- and a block is at the key that it has
-linked_at : (m : ℕ → ℕ) (n p lo a : ℕ) (rs : Rows) → Linked m n p lo rs → 0 < times a rs → block_at rs (place_code m a) ≡ a
+linked_at : (m : ℕ → ℕ) (n p lo a : ℕ) (rs : Rows) → Linked m n p lo rs → 0 < times a rs →
+    block_at rs (place_code m a) ≡ a
 linked_at m n p lo a [] h i = absurd (omega arith)
 linked_at m n p lo a ((k, b) ∷ rs) (r, h) i =
     elim (same_or k (place_code m a)) [
@@ -112,7 +134,8 @@ linked_one m n p lo lo' (r ∷ rs) [] h g = absurd (omega (arith, g, h.0.at, h.0
 linked_one m n p lo lo' (r ∷ rs) (r' ∷ rs') h g =
     let block : r.1 ≡ r'.1 = sym h.0.at ∙ g.0.at in
     let key : r.0 ≡ r'.0 = sym h.0.key ∙ (ap (place_code m) block ∙ g.0.key) in
-    let rest : rs ≡ rs' = linked_one m n (m (r.1 + 3)) (r.0 + 1) (r'.0 + 1) rs rs' h.1 (subst (λ (a : ℕ). Linked m n (m (a + 3)) (r'.0 + 1) rs') (sym block) g.1) in
+    let rest : rs ≡ rs' = linked_one m n (m (r.1 + 3)) (r.0 + 1) (r'.0 + 1) rs rs' h.1
+    (subst (λ (a : ℕ). Linked m n (m (a + 3)) (r'.0 + 1) rs') (sym block) g.1) in
     λ i. (key i, block i) ∷ rest i
 
 pub list_one : (m : ℕ → ℕ) (n p : ℕ) (rs rs' : Rows) → IsList m n p rs → IsList m n p rs' → rs ≡ rs'

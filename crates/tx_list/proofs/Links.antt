@@ -26,15 +26,21 @@ outside_spares l a (inr above) = record { kind = omega arith; id = omega arith; 
 
 -- the word of a block that leads on is no such word of another block
 pub next_spares : (n a b : ℕ) → IsBlock n a → IsBlock n b → a ≢ b → Spares (a + 3) b
-next_spares n a b ba bb ne = record { kind = omega (arith, ba.1.1, bb.1.1); id = omega (arith, ba.1.1, bb.1.1); next = λ e. ne (omega arith) }
+next_spares n a b ba bb ne = record {
+  kind = omega (arith, ba.1.1, bb.1.1);
+  id = omega (arith, ba.1.1, bb.1.1);
+  next = λ e. ne (omega arith);
+}
 
-pub link_next : (m : ℕ → ℕ) (n q k p : ℕ) (rs : Rows) → IsBlock n q → place_code m q ≡ k → Linked m n p (k + 1) rs → SparesAll (q + 3) rs
+pub link_next : (m : ℕ → ℕ) (n q k p : ℕ) (rs : Rows) → IsBlock n q → place_code m q ≡ k → Linked m n p (k + 1) rs →
+    SparesAll (q + 3) rs
 link_next m n q k p rs bq e h a i =
     let t = linked_booked m n p (k + 1) a rs h i in
     next_spares n q a bq t.block (λ same. absurd (omega (arith, t.low, e, ap (place_code m) same)))
 
 -- the word that leads to the key's place is l, or the word of a block of the rows that leads on
-pub link_is : (l key : ℕ) (rs : Rows) → (link_of l rs key ≡ l) ⊎ ((a : ℕ) × ((link_of l rs key ≡ a + 3) × (0 < times a rs)))
+pub link_is : (l key : ℕ) (rs : Rows) → (link_of l rs key ≡ l) ⊎
+    ((a : ℕ) × ((link_of l rs key ≡ a + 3) × (0 < times a rs)))
 link_is l key [] = inl refl
 link_is l key ((k, b) ∷ rs) =
     elim (cases_lt k key) [
@@ -52,10 +58,15 @@ pub record Behind (l b x : ℕ) : Type 0 where
   pub kind : b + 0 ≢ x
   pub id : b + 1 ≢ x
 
-pub link_behind : (m : ℕ → ℕ) (n l k b key : ℕ) (rs : Rows) → SparesAll l ((k, b) ∷ rs) → IsBlock n b → Linked m n (m (b + 3)) (k + 1) rs → Behind l b (link_of (b + 3) rs key)
+pub link_behind : (m : ℕ → ℕ) (n l k b key : ℕ) (rs : Rows) → SparesAll l ((k, b) ∷ rs) → IsBlock n b →
+    Linked m n (m (b + 3)) (k + 1) rs → Behind l b (link_of (b + 3) rs key)
 link_behind m n l k b key rs link bb h =
     elim (link_is (b + 3) key rs) [
-      | inl at ↦ record { link = λ e. (link b (times_first k b rs)).next (e ∙ at); kind = omega (arith, at); id = omega (arith, at) }
+      | inl at ↦ record {
+        link = λ e. (link b (times_first k b rs)).next (e ∙ at);
+        kind = omega (arith, at);
+        id = omega (arith, at);
+      }
       | inr (a, (at, i)) ↦ (
           let t = linked_booked m n (m (b + 3)) (k + 1) a rs h i in
           record {
@@ -79,7 +90,8 @@ pub record Keyed (m : ℕ → ℕ) (n key b : ℕ) : Type 0 where
   pub code : place_code m b ≡ key
 
 -- it keeps its words
-pub keyed_booked : (m m' : ℕ → ℕ) (n p lo key b : ℕ) → Keyed m n key b → p ≡ b → lo ≤ key → m' (b + 0) ≡ m (b + 0) → m' (b + 1) ≡ m (b + 1) → IsBooked m' n p lo (key, b)
+pub keyed_booked : (m m' : ℕ → ℕ) (n p lo key b : ℕ) → Keyed m n key b → p ≡ b → lo ≤ key → m' (b + 0) ≡ m (b + 0) →
+    m' (b + 1) ≡ m (b + 1) → IsBooked m' n p lo (key, b)
 keyed_booked m m' n p lo key b h e l kind_is id_is = record {
   at = e;
   block = h.block;
@@ -92,9 +104,12 @@ keyed_booked m m' n p lo key b h e l kind_is id_is = record {
 pub booked_keyed : (m : ℕ → ℕ) (n p lo : ℕ) (r : ℕ × ℕ) → IsBooked m n p lo r → Keyed m n r.0 r.1
 booked_keyed m n p lo r h = record { block = h.block; kind = h.kind; id = h.id; code = h.key }
 
-pub put_linked : (m m' : ℕ → ℕ) (n l lo key b : ℕ) (rs : Rows) → Linked m n (m l) lo rs → SparesAll l rs → Spares l b → Keyed m n key b → times b rs ≡ 0 → lo ≤ key → block_at rs key ≡ 0 → Puts m m' b (link_of l rs key) → Linked m' n (m' l) lo (put_row rs key b)
+pub put_linked : (m m' : ℕ → ℕ) (n l lo key b : ℕ) (rs : Rows) → Linked m n (m l) lo rs → SparesAll l rs → Spares l b →
+    Keyed m n key b → times b rs ≡ 0 → lo ≤ key → block_at rs key ≡ 0 → Puts m m' b (link_of l rs key) →
+    Linked m' n (m' l) lo (put_row rs key b)
 put_linked m m' n l lo key b [] h link own k out low none w = (
-  keyed_booked m m' n (m' l) lo key b k w.here low (w.others (b + 0) (λ e. own.kind (sym e)) (omega arith)) (w.others (b + 1) (λ e. own.id (sym e)) (omega arith)),
+  keyed_booked m m' n (m' l) lo key b k w.here low (w.others (b + 0) (λ e. own.kind (sym e)) (omega arith))
+      (w.others (b + 1) (λ e. own.id (sym e)) (omega arith)),
   w.next ∙ h,
 )
 put_linked m m' n l lo key b ((j, a) ∷ rs) (r, h) link own k out low none w =
@@ -106,10 +121,14 @@ put_linked m m' n l lo key b ((j, a) ∷ rs) (r, h) link own k out low none w =
           let none' : block_at rs key ≡ 0 = grind (arith, nat_tests) in
           let f = link_behind m n l j a key rs link r.block h in
           let w' = subst (λ (x : ℕ). Puts m m' b x) e w in
-          let ih = put_linked m m' n (a + 3) (j + 1) key b rs h (link_next m n a j (m (a + 3)) rs r.block r.key h) (next_spares n a b r.block k.block ab) k (omega (arith, out, times_more (j, a) b rs)) (omega arith) none' w' in
+          let ih = put_linked m m' n (a + 3) (j + 1) key b rs h (link_next m n a j (m (a + 3)) rs r.block r.key h)
+          (next_spares n a b r.block k.block ab) k (omega (arith, out, times_more (j, a) b rs))
+          (omega arith) none' w' in
           rw p (
-            keyed_booked m m' n (m' l) lo j a (booked_keyed m n (m l) lo (j, a) r) (w'.others l f.link own.next ∙ r.at) r.low
-                (w'.others (a + 0) f.kind (omega (arith, k.block.1.1, r.block.1.1))) (w'.others (a + 1) f.id (omega (arith, k.block.1.1, r.block.1.1))),
+            keyed_booked m m' n (m' l) lo j a (booked_keyed m n (m l) lo (j, a) r)
+                (w'.others l f.link own.next ∙ r.at) r.low
+                (w'.others (a + 0) f.kind (omega (arith, k.block.1.1, r.block.1.1)))
+                (w'.others (a + 1) f.id (omega (arith, k.block.1.1, r.block.1.1))),
             ih,
           ))
       | inr here ↦ (
@@ -117,7 +136,8 @@ put_linked m m' n l lo key b ((j, a) ∷ rs) (r, h) link own k out low none w =
           let p : put_row ((j, a) ∷ rs) key b ≡ (key, b) ∷ ((j, a) ∷ rs) = grind (arith, nat_tests) in
           let ne : key + 1 ≤ j = grind (arith, nat_tests, r.block.1.1) in
           let w' = subst (λ (x : ℕ). Puts m m' b x) e w in
-          let old : Linked m n (m l) (key + 1) ((j, a) ∷ rs) = (record { at = r.at; block = r.block; kind = r.kind; id = r.id; key = r.key; low = ne }, h) in
+          let old : Linked m n (m l) (key + 1) ((j, a) ∷ rs) =
+          (record { at = r.at; block = r.block; kind = r.kind; id = r.id; key = r.key; low = ne }, h) in
           let same : (x : ℕ) → 0 < times x ((j, a) ∷ rs) → SameBooking m m' x = λ x i.
           let t = linked_booked m n (m l) (key + 1) x ((j, a) ∷ rs) old i in
           let g = link x i in
@@ -128,7 +148,8 @@ put_linked m m' n l lo key b ((j, a) ∷ rs) (r, h) link own k out low none w =
             next = w'.others (x + 3) (λ q. g.next (sym q)) (λ q. bx (omega (arith, q)));
           } in
           rw p (
-            keyed_booked m m' n (m' l) lo key b k w'.here low (w'.others (b + 0) (λ q. own.kind (sym q)) (omega arith)) (w'.others (b + 1) (λ q. own.id (sym q)) (omega arith)),
+            keyed_booked m m' n (m' l) lo key b k w'.here low (w'.others (b + 0) (λ q. own.kind (sym q)) (omega arith))
+                (w'.others (b + 1) (λ q. own.id (sym q)) (omega arith)),
             rw w'.next (linked_frame m m' n (m l) (key + 1) ((j, a) ∷ rs) same old),
           ))
     ]
@@ -138,7 +159,8 @@ pub record Cuts (m m' : ℕ → ℕ) (l : ℕ) : Type 0 where
   pub here : m' l ≡ m (m l + 3)
   pub others : (x : ℕ) → x ≢ l → m' x ≡ m x
 
-pub cut_linked : (m m' : ℕ → ℕ) (n l lo key : ℕ) (rs : Rows) → Linked m n (m l) lo rs → SparesAll l rs → block_at rs key ≢ 0 → Cuts m m' (link_of l rs key) → Linked m' n (m' l) lo (cut_row rs key)
+pub cut_linked : (m m' : ℕ → ℕ) (n l lo key : ℕ) (rs : Rows) → Linked m n (m l) lo rs → SparesAll l rs →
+    block_at rs key ≢ 0 → Cuts m m' (link_of l rs key) → Linked m' n (m' l) lo (cut_row rs key)
 cut_linked m m' n l lo key [] h link some w = absurd (some refl)
 cut_linked m m' n l lo key ((j, a) ∷ rs) (r, h) link some w =
     elim (cases_lt j key) [
@@ -148,7 +170,8 @@ cut_linked m m' n l lo key ((j, a) ∷ rs) (r, h) link some w =
           let there : block_at ((j, a) ∷ rs) key ≡ block_at rs key = grind (arith, nat_tests) in
           let f = link_behind m n l j a key rs link r.block h in
           let w' = subst (λ (x : ℕ). Cuts m m' x) e w in
-          let ih = cut_linked m m' n (a + 3) (j + 1) key rs h (link_next m n a j (m (a + 3)) rs r.block r.key h) (λ q. some (there ∙ q)) w' in
+          let ih = cut_linked m m' n (a + 3) (j + 1) key rs h (link_next m n a j (m (a + 3)) rs r.block r.key h)
+          (λ q. some (there ∙ q)) w' in
           rw p (
             keyed_booked m m' n (m' l) lo j a (booked_keyed m n (m l) lo (j, a) r) (w'.others l f.link ∙ r.at) r.low
                 (w'.others (a + 0) f.kind) (w'.others (a + 1) f.id),
@@ -156,7 +179,17 @@ cut_linked m m' n l lo key ((j, a) ∷ rs) (r, h) link some w =
           ))
       | inr here ↦ (
           let past : key < j → block_at ((j, a) ∷ rs) key ≡ 0 = λ lt.
-          none_below m n (m l) j ((j, a) ∷ rs) (record { at = r.at; block = r.block; kind = r.kind; id = r.id; key = r.key; low = omega arith }, h) key lt in
+          none_below m n (m l) j ((j, a) ∷ rs) (
+            record {
+              at = r.at;
+              block = r.block;
+              kind = r.kind;
+              id = r.id;
+              key = r.key;
+              low = omega arith;
+            },
+            h,
+          ) key lt in
           let q : j ≡ key = omega (arith, (λ (lt : key < j). some (past lt))) in
           let e : link_of l ((j, a) ∷ rs) key ≡ l = grind (arith, nat_tests) in
           let p : cut_row ((j, a) ∷ rs) key ≡ rs = grind (arith, nat_tests) in

@@ -24,7 +24,8 @@ open_list m n p lo ((k, a) ∷ rest) (r, h) ne =
       low = omega (arith, r.low, key);
       rest = rest;
       is = ap (λ (x : ℕ × ℕ). x ∷ rest) (rw (key, at) refl);
-      next = subst (λ (x : ℕ). Linked m n (m (p + 3)) (x + 1) rest) (sym key) (subst (λ (x : ℕ). Linked m n (m (x + 3)) (k + 1) rest) (sym at) h);
+      next = subst (λ (x : ℕ). Linked m n (m (p + 3)) (x + 1) rest) (sym key)
+          (subst (λ (x : ℕ). Linked m n (m (x + 3)) (k + 1) rest) (sym at) h);
     }
 
 pub closed_list : (m : ℕ → ℕ) (n p lo : ℕ) (rs : Rows) → Linked m n p lo rs → p ≡ 0 → rs ≡ []

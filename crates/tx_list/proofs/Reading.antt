@@ -1,5 +1,6 @@
 -- Pointers of a list, read over every memory that there may be.
-use Rattle.std.proofs.Common.{◌≡◌, ◌≢◌, inl, inr, ℕ, ◌+◌, ◌<◌, ◌≤◌, ◌^◌, List, [], ◌∷◌, length, Some, sym, ap, ◌∙◌, subst, arith}
+use Rattle.std.proofs.Common.{◌≡◌, ◌≢◌, inl, inr, ℕ, ◌+◌, ◌<◌, ◌≤◌, ◌^◌, List, [], ◌∷◌, length, Some, sym, ap, ◌∙◌}
+use Rattle.std.proofs.Common.{subst, arith}
 use Rattle.std.proofs.lemmas.Bool.Decides.{nat_tests}
 use Rattle.tx_memory.specs.Seen.{some_le, same_or}
 use Rattle.tx_memory.specs.View.{View, RestsOn, Loaded}
@@ -19,7 +20,8 @@ pub record Inside (s : View) (p : ℕ) : Type 0 where
   pub room : p + 8 ≤ s.size
   pub small : p + 8 ≤ 2 ^ 32
 
-pub followed_in : (s s' : View) (link p : ℕ) → Leads s link → Loaded s s' link p → p ≢ 0 → ∥ ((image : List ℕ) × RestsOn s' image) ∥₁ → Inside s' p
+pub followed_in : (s s' : View) (link p : ℕ) → Leads s link → Loaded s s' link p → p ≢ 0 →
+    ∥ ((image : List ℕ) × RestsOn s' image) ∥₁ → Inside s' p
 followed_in s s' link p has l ne ws =
     let block : (w : (image : List ℕ) × RestsOn s' image) → IsBlock (length w.0) p = λ w.
     let at = l.answer w.0 w.1.sees in
@@ -31,7 +33,8 @@ followed_in s s' link p has l ne ws =
       small = omega (arith, room, l.kept.size, has.small);
     }
 
-pub followed_some : (s s' : View) (link p : ℕ) → Leads s link → Loaded s s' link p → p ≢ 0 → ∥ ((image : List ℕ) × RestsOn s' image) ∥₁ → Followed s s' link (Some p)
+pub followed_some : (s s' : View) (link p : ℕ) → Leads s link → Loaded s s' link p → p ≢ 0 →
+    ∥ ((image : List ℕ) × RestsOn s' image) ∥₁ → Followed s s' link (Some p)
 followed_some s s' link p has l ne ws = let i = followed_in s s' link p has l ne ws in record {
   kept = l.kept;
   writes = l.writes;
@@ -57,11 +60,13 @@ first_followed s s' head found f = record {
   kept = f.kept;
   writes = f.writes;
   within = f.within;
-  is = λ image rs seen h. sym (f.is image seen) ∙ linked_first (mem s image) (length image) (mem s image head) 0 rs h.list.linked;
+  is = λ image rs seen h. sym (f.is image seen) ∙ linked_first (mem s image) (length image)
+      (mem s image head) 0 rs h.list.linked;
 }
 
 -- the word of a block that leads on leads to the block behind it
-pub linked_behind : (m : ℕ → ℕ) (n p lo b : ℕ) (rs : Rows) → Linked m n p lo rs → 0 < times b rs → m (b + 3) ≡ block_behind rs b
+pub linked_behind : (m : ℕ → ℕ) (n p lo b : ℕ) (rs : Rows) → Linked m n p lo rs → 0 < times b rs →
+    m (b + 3) ≡ block_behind rs b
 linked_behind m n p lo b [] h i = absurd (omega arith)
 linked_behind m n p lo b ((k, a) ∷ rs) (r, h) i =
     elim (same_or a b) [
@@ -75,7 +80,8 @@ linked_behind m n p lo b ((k, a) ∷ rs) (r, h) i =
           grind (arith, nat_tests))
     ]
 
-pub behind_block : (m : ℕ → ℕ) (n p lo b : ℕ) (rs : Rows) → Linked m n p lo rs → 0 < times b rs → m (b + 3) ≢ 0 → IsBlock n (m (b + 3))
+pub behind_block : (m : ℕ → ℕ) (n p lo b : ℕ) (rs : Rows) → Linked m n p lo rs → 0 < times b rs → m (b + 3) ≢ 0 →
+    IsBlock n (m (b + 3))
 behind_block m n p lo b [] h i ne = absurd (omega arith)
 behind_block m n p lo b ((k, a) ∷ rs) (r, h) i ne =
     elim (same_or a b) [
@@ -111,5 +117,6 @@ next_followed s s' b found f = record {
   kept = f.kept;
   writes = f.writes;
   within = f.within;
-  is = λ image start rs seen h i. sym (f.is image seen) ∙ linked_behind (mem s image) (length image) start 0 b rs h.linked i;
+  is = λ image start rs seen h i. sym (f.is image seen) ∙ linked_behind (mem s image)
+      (length image) start 0 b rs h.linked i;
 }

@@ -11,7 +11,9 @@ use Rattle.tx_list.proofs.Links.{link_is}
 use Rattle.tx_list.proofs.Trail.{trail_start, trail_here}
 
 -- the spot that a search came to is the key's
-pub sought_spot : (s s' : View) (head key : ℕ) (spot : Spot) → Sought s s' head key spot → (image : List ℕ) (rs : Rows) → Sees s' image → IsListAt (mem s image) (length image) head rs → SpotAt (mem s image) head key spot rs
+pub sought_spot : (s s' : View) (head key : ℕ) (spot : Spot) → Sought s s' head key spot →
+    (image : List ℕ) (rs : Rows) → Sees s' image → IsListAt (mem s image) (length image) head rs →
+    SpotAt (mem s image) head key spot rs
 sought_spot s s' head key spot k image rs seen h = record {
   link = k.link image rs seen h;
   word = k.word image seen;
@@ -19,7 +21,8 @@ sought_spot s s' head key spot k image rs seen h = record {
 }
 
 -- and what it has is what a look-up finds
-pub sought_found : (s s' : View) (head key : ℕ) (spot : Spot) → Sought s s' head key spot → Found s s' head key spot.entry
+pub sought_found : (s s' : View) (head key : ℕ) (spot : Spot) → Sought s s' head key spot →
+    Found s s' head key spot.entry
 sought_found s s' head key spot k = record { kept = k.kept; writes = k.writes; within = k.within; is = k.entry }
 
 -- the words that a search may go over are as before
@@ -28,7 +31,8 @@ pub record Unmoved (m m' : ℕ → ℕ) (head : ℕ) (rs : Rows) : Type 0 where
   pub blocks : (a : ℕ) → 0 < times a rs → SameLinks m m' a
 
 -- what was sought stays sought then
-pub spot_stays : (m m' : ℕ → ℕ) (head key : ℕ) (spot : Spot) (rs : Rows) → Unmoved m m' head rs → SpotAt m head key spot rs → SpotAt m' head key spot rs
+pub spot_stays : (m m' : ℕ → ℕ) (head key : ℕ) (spot : Spot) (rs : Rows) → Unmoved m m' head rs →
+    SpotAt m head key spot rs → SpotAt m' head key spot rs
 spot_stays m m' head key spot rs u p = record {
   link = p.link;
   word = elim (link_is head key rs) [
@@ -39,7 +43,8 @@ spot_stays m m' head key spot rs u p = record {
 }
 
 -- the spot of the first booking is the head
-pub first_spot : (m : ℕ → ℕ) (n head b key : ℕ) (rs : Rows) → IsListAt m n head rs → m head ≡ b → b ≢ 0 → place_code m b ≡ key →
+pub first_spot : (m : ℕ → ℕ) (n head b key : ℕ) (rs : Rows) → IsListAt m n head rs → m head ≡ b → b ≢ 0 →
+    place_code m b ≡ key →
     SpotAt m head key (record { link = record { 0 = head }; word = b; entry = Some b }) rs
 first_spot m n head b key rs h at some is =
     let ended = trail_here m n head head 0 key b rs (trail_start m n head key rs h.list.linked) at some is in

@@ -21,10 +21,12 @@ pub record Ended (head link entry key : ℕ) (rs : Rows) : Type 0 where
   pub link_is : link ≡ link_of head rs key
   pub entry_is : entry ≡ block_at rs key
 
-pub trail_opened : (m : ℕ → ℕ) (n head link low key p : ℕ) (rs : Rows) (t : Trail m n head link low key rs) → m link ≡ p → p ≢ 0 → Opened m n p low t.rest
+pub trail_opened : (m : ℕ → ℕ) (n head link low key p : ℕ) (rs : Rows) (t : Trail m n head link low key rs) →
+    m link ≡ p → p ≢ 0 → Opened m n p low t.rest
 trail_opened m n head link low key p rs t at ne = open_list m n p low t.rest (rw at at t.linked) ne
 
-pub trail_end : (m : ℕ → ℕ) (n head link low key : ℕ) (rs : Rows) → Trail m n head link low key rs → m link ≡ 0 → Ended head link 0 key rs
+pub trail_end : (m : ℕ → ℕ) (n head link low key : ℕ) (rs : Rows) → Trail m n head link low key rs → m link ≡ 0 →
+    Ended head link 0 key rs
 trail_end m n head link low key rs t z =
     let e = closed_list m n (m link) low t.rest t.linked z in
     record {
@@ -32,7 +34,8 @@ trail_end m n head link low key rs t z =
       entry_is = sym (t.same_entry ∙ ap (λ (x : Rows). block_at x key) e);
     }
 
-pub trail_here : (m : ℕ → ℕ) (n head link low key p : ℕ) (rs : Rows) → Trail m n head link low key rs → m link ≡ p → p ≢ 0 → place_code m p ≡ key → Ended head link p key rs
+pub trail_here : (m : ℕ → ℕ) (n head link low key p : ℕ) (rs : Rows) → Trail m n head link low key rs → m link ≡ p →
+    p ≢ 0 → place_code m p ≡ key → Ended head link p key rs
 trail_here m n head link low key p rs t at ne e =
     let o = trail_opened m n head link low key p rs t at ne in
     let first = ap (λ (x : Rows). link_of link x key) o.is in
@@ -42,7 +45,8 @@ trail_here m n head link low key p rs t at ne e =
       entry_is = grind (arith, nat_tests, t.same_entry, first');
     }
 
-pub trail_past : (m : ℕ → ℕ) (n head link low key p : ℕ) (rs : Rows) → Trail m n head link low key rs → m link ≡ p → p ≢ 0 → key < place_code m p → Ended head link 0 key rs
+pub trail_past : (m : ℕ → ℕ) (n head link low key p : ℕ) (rs : Rows) → Trail m n head link low key rs → m link ≡ p →
+    p ≢ 0 → key < place_code m p → Ended head link 0 key rs
 trail_past m n head link low key p rs t at ne l =
     let o = trail_opened m n head link low key p rs t at ne in
     let first = ap (λ (x : Rows). link_of link x key) o.is in
@@ -53,7 +57,8 @@ trail_past m n head link low key p rs t at ne l =
       entry_is = grind (arith, nat_tests, t.same_entry, first', none);
     }
 
-pub trail_step : (m : ℕ → ℕ) (n head link low key p : ℕ) (rs : Rows) → Trail m n head link low key rs → m link ≡ p → p ≢ 0 → place_code m p < key → Trail m n head (p + 3) (place_code m p + 1) key rs
+pub trail_step : (m : ℕ → ℕ) (n head link low key p : ℕ) (rs : Rows) → Trail m n head link low key rs → m link ≡ p →
+    p ≢ 0 → place_code m p < key → Trail m n head (p + 3) (place_code m p + 1) key rs
 trail_step m n head link low key p rs t at ne l =
     let o = trail_opened m n head link low key p rs t at ne in
     let first = ap (λ (x : Rows). link_of link x key) o.is in
@@ -66,7 +71,8 @@ trail_step m n head link low key p rs t at ne l =
     }
 
 -- rows from low on are rows from any lower key on
-pub trail_lower : (m : ℕ → ℕ) (n head link low lower key : ℕ) (rs : Rows) → lower ≤ low → Trail m n head link low key rs → Trail m n head link lower key rs
+pub trail_lower : (m : ℕ → ℕ) (n head link low lower key : ℕ) (rs : Rows) → lower ≤ low →
+    Trail m n head link low key rs → Trail m n head link lower key rs
 trail_lower m n head link low lower key rs l t = record {
   rest = t.rest;
   linked = linked_lower m n (m link) low lower t.rest l t.linked;

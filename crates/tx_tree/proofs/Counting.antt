@@ -1,5 +1,6 @@
 -- A table with the number of its entries over the calls of this crate, by their contracts alone.
-use Rattle.std.proofs.Common.{◌≡◌, ℕ, zero, suc, ◌+◌, ◌-◌, ◌*◌, ◌<◌, ◌≤◌, List, [], ◌∷◌, length, slice_index, unwrap_or, Option, Some, refl, sym, ap, ◌∙◌, subst, arith, get_or}
+use Rattle.std.proofs.Common.{◌≡◌, ℕ, zero, suc, ◌+◌, ◌-◌, ◌*◌, ◌<◌, ◌≤◌, List, [], ◌∷◌, length, slice_index, unwrap_or}
+use Rattle.std.proofs.Common.{Option, Some, refl, sym, ap, ◌∙◌, subst, arith, get_or}
 use Rattle.std.specs.FinMap.{get}
 use Rattle.tx_memory.specs.View.{View, Kept, Loaded}
 use Rattle.tx_memory.specs.Plain.{flat_view, numbered}
@@ -22,7 +23,8 @@ has_table s root blocks count h = record {
 }
 
 -- only reads were made
-pub after_reads : (s s' : View) (root blocks count : ℕ) → HasEntries s root blocks count → Kept s s' → s'.writes ≡ s.writes → HasEntries s' root blocks count
+pub after_reads : (s s' : View) (root blocks count : ℕ) → HasEntries s root blocks count → Kept s s' →
+    s'.writes ≡ s.writes → HasEntries s' root blocks count
 after_reads s s' root blocks count h k w = record {
   size = k.size ∙ h.size;
   small = h.small;
@@ -31,7 +33,8 @@ after_reads s s' root blocks count h k w = record {
   under = λ image i. rw w (h.under image (stood k image i));
 }
 
-pub after_put : (s s' : View) (root blocks count key b : ℕ) → HasEntries s root blocks count → count < 262144 → IsFresh s root key b → Inserted s s' root key b → HasEntries s' root blocks (count + 1)
+pub after_put : (s s' : View) (root blocks count key b : ℕ) → HasEntries s root blocks count → count < 262144 →
+    IsFresh s root key b → Inserted s s' root key b → HasEntries s' root blocks (count + 1)
 after_put s s' root blocks count key b h room fresh p = record {
   size = p.kept.size ∙ h.size;
   small = h.small;
@@ -49,7 +52,8 @@ after_put s s' root blocks count key b h room fresh p = record {
       };
 }
 
-pub after_cut : (s s' : View) (root blocks count key b : ℕ) → HasEntries s root blocks count → Removed s s' root key b → HasEntries s' root blocks (count - 1)
+pub after_cut : (s s' : View) (root blocks count key b : ℕ) → HasEntries s root blocks count → Removed s s' root key b →
+    HasEntries s' root blocks (count - 1)
 after_cut s s' root blocks count key b h p = record {
   size = p.kept.size ∙ h.size;
   small = h.small;
@@ -62,12 +66,17 @@ after_cut s s' root blocks count key b h p = record {
       record {
         entries = cut_row e.entries key;
         table = p.table image e.entries i.sees t;
-        is = omega (arith, length_cut key b e.entries (sym (p.is image e.entries i.sees t)) (omega (arith, p.inside.0)), e.is);
+        is = omega (
+          arith,
+          length_cut key b e.entries (sym (p.is image e.entries i.sees t)) (omega (arith, p.inside.0)),
+          e.is,
+        );
       };
 }
 
 -- a block whose first word was read as a key that the table does not have
-pub fresh_read : (s s1 s2 : View) (root blocks count key number b : ℕ) → HasEntries s root blocks count → number < blocks → b ≡ 16 + 8 * number → Loaded s s1 b key → Found s1 s2 root key 0 → IsFresh s2 root key b
+pub fresh_read : (s s1 s2 : View) (root blocks count key number b : ℕ) → HasEntries s root blocks count →
+    number < blocks → b ≡ 16 + 8 * number → Loaded s s1 b key → Found s1 s2 root key 0 → IsFresh s2 root key b
 fresh_read s s1 s2 root blocks count key number b h inside e l f = record {
   under = λ image rs i t.
       let i1 = stood f.kept image i in
@@ -80,7 +89,8 @@ fresh_read s s1 s2 root blocks count key number b h inside e l f = record {
 }
 
 -- plain words whose root word is 0
-pub none_yet : (xs : List ℕ) (root blocks : ℕ) → length xs ≡ 16 + 8 * blocks → blocks ≤ 262144 → root < 16 → slice_index xs root ≡ 0 → HasEntries (flat_view xs) root blocks 0
+pub none_yet : (xs : List ℕ) (root blocks : ℕ) → length xs ≡ 16 + 8 * blocks → blocks ≤ 262144 → root < 16 →
+    slice_index xs root ≡ 0 → HasEntries (flat_view xs) root blocks 0
 none_yet xs root blocks size small low at_root = record {
   size = size;
   small = small;
@@ -88,8 +98,14 @@ none_yet xs root blocks size small low at_root = record {
   few = omega arith;
   under = λ image i.
       let g : get (numbered 0 xs) root ≡ Some (get_or xs root 0) = get_at xs root (omega (arith, size)) in
-      let at : mem (flat_view xs) image root ≡ 0 = ap (λ (o : Option ℕ). unwrap_or o (slice_index image root)) g ∙ at_root in
-      record { entries = []; table = subst (λ (p : ℕ). IsTable (mem (flat_view xs) image) (length image) p []) (sym at) (table_empty (mem (flat_view xs) image) (length image)); is = refl };
+      let at : mem (flat_view xs) image root ≡ 0 = ap (λ (o : Option ℕ). unwrap_or o (slice_index image root)) g ∙
+      at_root in
+      record {
+        entries = [];
+        table = subst (λ (p : ℕ). IsTable (mem (flat_view xs) image)
+            (length image) p []) (sym at) (table_empty (mem (flat_view xs) image) (length image));
+        is = refl;
+      };
 }
 
 -- a word inside of a list is the same whatever stands for those outside

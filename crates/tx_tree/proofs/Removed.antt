@@ -1,5 +1,6 @@
 -- A removal: from the place that the search found to the pieces, and from the mended tree to the table. In one memory.
-use Rattle.std.proofs.Common.{◌≡◌, ◌≢◌, ℕ, ◌≤◌, Bool, List, ◌∷◌, ◌++◌, length, slice_index, refl, sym, ap, ◌∙◌, subst, arith, append_assoc}
+use Rattle.std.proofs.Common.{◌≡◌, ◌≢◌, ℕ, ◌≤◌, Bool, List, ◌∷◌, ◌++◌, length, slice_index, refl, sym, ap, ◌∙◌, subst}
+use Rattle.std.proofs.Common.{arith, append_assoc}
 use Rattle.tx_alloc.specs.Rows.{Rows, times, cut_row, Relinks, AllBelow, IsFrom}
 use Rattle.tx_tree.specs.Tree.{Tree, node, rows, blacks, height}
 use Rattle.tx_tree.specs.Way.{Way, plug, depth, front, behind}
@@ -26,11 +27,14 @@ pub record NodeHere (m : ℕ → ℕ) (n root key p : ℕ) (xs : List ℕ) (d : 
   pub is : rs ≡ (front way ++ rows left) ++ ((key, p) ∷ (rows right ++ behind way))
   pub below : AllBelow key (front way ++ rows left)
 
-pub node_here : (m : ℕ → ℕ) (n root key p : ℕ) (xs : List ℕ) (d : ℕ) (rs : Rows) → Place m n root key xs d rs → m (slice_index xs d) ≡ p → p ≢ 0 → m p ≡ key → Table m n root rs → NodeHere m n root key p xs d rs
+pub node_here : (m : ℕ → ℕ) (n root key p : ℕ) (xs : List ℕ) (d : ℕ) (rs : Rows) → Place m n root key xs d rs →
+    m (slice_index xs d) ≡ p → p ≢ 0 → m p ≡ key → Table m n root rs → NodeHere m n root key p xs d rs
 node_here m n root key p xs d rs h e ne k table =
     let o = place_node m n root key p xs d rs h e ne in
-    let x : h.tree ≡ node o.colour o.left (key, p) o.right = o.is ∙ ap (λ (z : ℕ). node o.colour o.left (z, p) o.right) k in
-    let is' : rows (plug h.way (node o.colour o.left (key, p) o.right)) ≡ rs = sym (ap (λ (z : Tree). rows (plug h.way z)) x) ∙ h.is in
+    let x : h.tree ≡ node o.colour o.left (key, p) o.right =
+    o.is ∙ ap (λ (z : ℕ). node o.colour o.left (z, p) o.right) k in
+    let is' : rows (plug h.way (node o.colour o.left (key, p) o.right)) ≡ rs =
+    sym (ap (λ (z : Tree). rows (plug h.way z)) x) ∙ h.is in
     let s = split_here h.way o.colour o.left (key, p) o.right rs is' table.table.ascending in
     let few : length (rows (plug h.way h.tree)) ≤ 262144 = rw h.is table.few in
     let low = low_tree (plug h.way h.tree) h.even h.apart h.black few in
@@ -54,12 +58,19 @@ pub record Cut (m m' : ℕ → ℕ) (n root key : ℕ) (rs : Rows) : Type 0 wher
   pub table : IsTable m' n (m' root) (cut_row rs key)
   pub relinks : Relinks m m' 1 root rs
 
-pub cut_ends : (m m' : ℕ → ℕ) (n root key p : ℕ) (xs : List ℕ) (d : ℕ) (rs : Rows) → (h : NodeHere m n root key p xs d rs) → IsFrom 0 rs → GoneEnds m m' n root (λ x. times x rs) p (front h.way ++ ((rows h.left ++ rows h.right) ++ behind h.way)) → Cut m m' n root key rs
+pub cut_ends : (m m' : ℕ → ℕ) (n root key p : ℕ) (xs : List ℕ) (d : ℕ) (rs : Rows) →
+    (h : NodeHere m n root key p xs d rs) → IsFrom 0 rs → GoneEnds m m' n root (λ x. times x rs) p
+    (front h.way ++ ((rows h.left ++ rows h.right) ++ behind h.way)) → Cut m m' n root key rs
 cut_ends m m' n root key p xs d rs h from e =
-    let cut : cut_row rs key ≡ (front h.way ++ rows h.left) ++ (rows h.right ++ behind h.way) = ap (λ (z : Rows). cut_row z key) h.is ∙ cut_between (front h.way ++ rows h.left) (rows h.right ++ behind h.way) key p h.below in
-    let same : front h.way ++ ((rows h.left ++ rows h.right) ++ behind h.way) ≡ (front h.way ++ rows h.left) ++ (rows h.right ++ behind h.way) = simp append_assoc in
+    let cut : cut_row rs key ≡ (front h.way ++ rows h.left) ++ (rows h.right ++ behind h.way) =
+    ap (λ (z : Rows). cut_row z key) h.is ∙ cut_between (front h.way ++ rows h.left)
+    (rows h.right ++ behind h.way) key p h.below in
+    let same : front h.way ++ ((rows h.left ++ rows h.right) ++ behind h.way) ≡ (front h.way ++ rows h.left) ++
+    (rows h.right ++ behind h.way) = simp append_assoc in
     let is : rows e.tree ≡ cut_row rs key = e.is ∙ (same ∙ sym cut) in
-    let from' : IsFrom 0 ((front h.way ++ rows h.left) ++ (rows h.right ++ behind h.way)) = from_cut 0 (front h.way ++ rows h.left) (key, p) (rows h.right ++ behind h.way) (subst (λ (z : Rows). IsFrom 0 z) h.is from) in
+    let from' : IsFrom 0 ((front h.way ++ rows h.left) ++ (rows h.right ++ behind h.way)) =
+    from_cut 0 (front h.way ++ rows h.left) (key, p) (rows h.right ++ behind h.way)
+    (subst (λ (z : Rows). IsFrom 0 z) h.is from) in
     record {
       table = record {
         tree = e.tree;

@@ -1,5 +1,6 @@
 -- Trees put together from a way and a tree: black nodes, colours, rows, height.
-use Rattle.std.proofs.Common.{◌≡◌, ℕ, ◌+◌, ◌*◌, ◌≤◌, ◌^◌, Bool, true, false, cond, ◌∷◌, ◌++◌, length, refl, sym, ap, ◌∙◌, append_assoc, arith, rules, add-zero, length-append, append-nil}
+use Rattle.std.proofs.Common.{◌≡◌, ℕ, ◌+◌, ◌*◌, ◌≤◌, ◌^◌, Bool, true, false, cond, ◌∷◌, ◌++◌, length, refl, sym, ap}
+use Rattle.std.proofs.Common.{◌∙◌, append_assoc, arith, rules, add-zero, length-append, append-nil}
 use Rattle.std.proofs.lemmas.Nat.{pow-add}
 use Rattle.std.proofs.Math.Pow.{pow_mono}
 use Rattle.std.proofs.Math.Nat.{mul-le-mul}
@@ -21,12 +22,14 @@ even_parts (step true c r o w) t e =
     let same : blacks o ≡ blacks t = i.0.0 in
     (i.0.2, ((i.0.1, i.0.0), rw same at i.1))
 
-pub apart_plug : (w : Way) (t : Tree) → IsApart t → IsApartWay w (is_red t) → IsApart (plug w t) × (is_red (plug w t) ≡ false)
+pub apart_plug : (w : Way) (t : Tree) → IsApart t → IsApartWay w (is_red t) →
+    IsApart (plug w t) × (is_red (plug w t) ≡ false)
 apart_plug top t a f = (a, f)
 apart_plug (step false c r o w) t a f = apart_plug w (node c t r o) (f.0, a, f.1) f.2
 apart_plug (step true c r o w) t a f = apart_plug w (node c o r t) ((λ e. let p = f.0 e in (p.1, p.0)), f.1, a) f.2
 
-pub apart_parts : (w : Way) (t : Tree) → IsApart (plug w t) → is_red (plug w t) ≡ false → IsApart t × IsApartWay w (is_red t)
+pub apart_parts : (w : Way) (t : Tree) → IsApart (plug w t) → is_red (plug w t) ≡ false →
+    IsApart t × IsApartWay w (is_red t)
 apart_parts top t a b = (a, b)
 apart_parts (step false c r o w) t a b =
     let i = apart_parts w (node c t r o) a b in (i.0.1, (i.0.0, i.0.2, i.1))
@@ -75,14 +78,17 @@ height_blacks (node false l r t) e a =
 pub blacks_size : (t : Tree) → IsEven t → 2 ^ blacks t ≤ length (rows t) + 1
 blacks_size leaf e = omega arith
 blacks_size (node true l r t) e =
-    let n : length (rows l ++ (r ∷ rows t)) ≡ length (rows l) + (1 + length (rows t)) = length-append (rows l) (r ∷ rows t) ∙ omega arith in
+    let n : length (rows l ++ (r ∷ rows t)) ≡ length (rows l) + (1 + length (rows t)) =
+    length-append (rows l) (r ∷ rows t) ∙ omega arith in
     rw (add-zero, n) (omega (arith, blacks_size l e.1))
 blacks_size (node false l r t) e =
-    let n : length (rows l ++ (r ∷ rows t)) ≡ length (rows l) + (1 + length (rows t)) = length-append (rows l) (r ∷ rows t) ∙ omega arith in
+    let n : length (rows l ++ (r ∷ rows t)) ≡ length (rows l) + (1 + length (rows t)) =
+    length-append (rows l) (r ∷ rows t) ∙ omega arith in
     let ht : 2 ^ blacks l ≤ length (rows t) + 1 = rw (← e.0) at (blacks_size t e.2) in
     rw (pow-add, n) (omega (arith, blacks_size l e.1, ht))
 
-pub height_log : (t : Tree) → IsEven t → IsApart t → is_red t ≡ false → 2 ^ height t ≤ (length (rows t) + 1) * (length (rows t) + 1)
+pub height_log : (t : Tree) → IsEven t → IsApart t → is_red t ≡ false →
+    2 ^ height t ≤ (length (rows t) + 1) * (length (rows t) + 1)
 height_log t e a black =
     let h : height t ≤ 2 * blacks t + 0 = rw black at (height_blacks t e a) in
     let low : height t ≤ blacks t + blacks t = omega arith in

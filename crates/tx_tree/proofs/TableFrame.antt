@@ -1,5 +1,6 @@
 -- What stands above a table knows of it: these lemmas, and nothing of its shape.
-use Rattle.std.proofs.Common.{◌≡◌, ◌≢◌, inl, inr, ℕ, zero, suc, ◌+◌, ◌*◌, ◌<◌, ◌≤◌, ◌^◌, true, false, [], ◌∷◌, ◌++◌, nat_eq, length, refl, sym, ap, ◌∙◌, subst, arith}
+use Rattle.std.proofs.Common.{◌≡◌, ◌≢◌, inl, inr, ℕ, zero, suc, ◌+◌, ◌*◌, ◌<◌, ◌≤◌, ◌^◌, true, false, [], ◌∷◌, ◌++◌}
+use Rattle.std.proofs.Common.{nat_eq, length, refl, sym, ap, ◌∙◌, subst, arith}
 use Rattle.std.proofs.lemmas.Bool.Decides.{nat_tests}
 use Rattle.std.proofs.Math.Pow.{pow_mono}
 use Rattle.std.proofs.Math.Nat.{pow-suc, pow-zero}
@@ -14,10 +15,12 @@ use Rattle.tx_tree.proofs.Zipped.{hangs_frame, has_block}
 use Rattle.tx_tree.proofs.Seeking.{has_times}
 
 -- a memory with the same words 0 to 3 of the table's blocks has the same table
-pub table_frame : (m m' : ℕ → ℕ) (n p : ℕ) (rs : Rows) → IsTable m n p rs → ((a : ℕ) → 0 < times a rs → SameLinks m m' a) → IsTable m' n p rs
+pub table_frame : (m m' : ℕ → ℕ) (n p : ℕ) (rs : Rows) → IsTable m n p rs →
+    ((a : ℕ) → 0 < times a rs → SameLinks m m' a) → IsTable m' n p rs
 table_frame m m' n p rs h same = record {
   tree = h.tree;
-  hangs = hangs_frame m m' n p h.tree (λ a k i l. same a (omega (arith, i, has_times h.tree a, ap (times a) h.is)) k l) h.hangs;
+  hangs = hangs_frame m m' n p h.tree (λ a k i l. same a (omega (arith, i, has_times h.tree a, ap (times a) h.is)) k l)
+      h.hangs;
   is = h.is;
   even = h.even;
   apart = h.apart;
@@ -39,7 +42,16 @@ table_rises m n p rs h = h.ascending
 
 -- nothing hangs at 0
 pub table_empty : (m : ℕ → ℕ) (n : ℕ) → IsTable m n 0 []
-table_empty m n = record { tree = leaf; hangs = refl; is = refl; even = tt; apart = tt; black = refl; ascending = tt; once = λ x. omega arith }
+table_empty m n = record {
+  tree = leaf;
+  hangs = refl;
+  is = refl;
+  even = tt;
+  apart = tt;
+  black = refl;
+  ascending = tt;
+  once = λ x. omega arith;
+}
 
 none_at : (m : ℕ → ℕ) (n : ℕ) (rs : Rows) (t : Tree) → Hangs m n 0 t → rows t ≡ rs → rs ≡ []
 none_at m n rs leaf h is = sym is
@@ -56,10 +68,12 @@ keys_both m (x ∷ xs) ys h g = (h.0, keys_both m xs ys h.1 g)
 
 tree_keys : (m : ℕ → ℕ) (n p : ℕ) (t : Tree) → Hangs m n p t → HaveKeys m (rows t)
 tree_keys m n p leaf h = tt
-tree_keys m n p (node c l (k, a) t) (i, (hl, ht)) = keys_both m (rows l) ((k, a) ∷ rows t) (tree_keys m n (m (a + 1)) l hl) (i.key, tree_keys m n (m (a + 2)) t ht)
+tree_keys m n p (node c l (k, a) t) (i, (hl, ht)) = keys_both m (rows l) ((k, a) ∷ rows t)
+    (tree_keys m n (m (a + 1)) l hl) (i.key, tree_keys m n (m (a + 2)) t ht)
 
 -- a block that has a key which the table does not have is not in the table
-keys_loose : (m : ℕ → ℕ) (key b : ℕ) (rs : Rows) → HaveKeys m rs → ((x : ℕ) → 0 < times x rs → x ≢ 0) → m b ≡ key → block_at rs key ≡ 0 → times b rs ≡ 0
+keys_loose : (m : ℕ → ℕ) (key b : ℕ) (rs : Rows) → HaveKeys m rs → ((x : ℕ) → 0 < times x rs → x ≢ 0) → m b ≡ key →
+    block_at rs key ≡ 0 → times b rs ≡ 0
 keys_loose m key b [] h some is e = refl
 keys_loose m key b (r ∷ rs) h some is e = elim (same_or r.0 key) [
   | inl same ↦ (
@@ -76,9 +90,11 @@ keys_loose m key b (r ∷ rs) h some is e = elim (same_or r.0 key) [
       rw t' (omega (arith, i)))
 ]
 
-pub table_loose : (m : ℕ → ℕ) (n p key b : ℕ) (rs : Rows) → IsTable m n p rs → m b ≡ key → block_at rs key ≡ 0 → times b rs ≡ 0
+pub table_loose : (m : ℕ → ℕ) (n p key b : ℕ) (rs : Rows) → IsTable m n p rs → m b ≡ key → block_at rs key ≡ 0 →
+    times b rs ≡ 0
 table_loose m n p key b rs h is e =
-    keys_loose m key b rs (subst (λ (x : Rows). HaveKeys m x) h.is (tree_keys m n p h.tree h.hangs)) (λ x i z. absurd (omega (arith, (table_block m n p x rs h i).1.1))) is e
+    keys_loose m key b rs (subst (λ (x : Rows). HaveKeys m x) h.is (tree_keys m n p h.tree h.hangs))
+    (λ x i z. absurd (omega (arith, (table_block m n p x rs h i).1.1))) is e
 
 descends_height : (m : ℕ → ℕ) (n p h : ℕ) (t : Tree) → Hangs m n p t → Descends m p h → h ≤ height t
 descends_height m n p zero t g d = omega arith
@@ -104,5 +120,6 @@ pub table_height : (m : ℕ → ℕ) (n p h : ℕ) (rs : Rows) → IsTable m n p
 table_height m n p h rs t d =
     let low = descends_height m n p h t.tree t.hangs d in
     let a : 2 ^ h ≤ 2 ^ height t.tree = pow_mono low in
-    let b : 2 ^ height t.tree ≤ (length rs + 1) * (length rs + 1) = rw t.is at (height_log t.tree t.even t.apart t.black) in
+    let b : 2 ^ height t.tree ≤ (length rs + 1) * (length rs + 1) =
+    rw t.is at (height_log t.tree t.even t.apart t.black) in
     omega (arith, a, b, square (length rs + 1))

@@ -1,5 +1,6 @@
 -- A way and a tree at its end in a memory: looking at another place, and what writes make of them.
-use Rattle.std.proofs.Common.{◌≡◌, ◌≢◌, ◌⊎◌, inl, inr, ℕ, ◌+◌, ◌-◌, ◌<◌, ◌≤◌, Bool, true, false, not, [], ◌∷◌, refl, sym, ap, ◌∙◌, subst, arith, add-zero}
+use Rattle.std.proofs.Common.{◌≡◌, ◌≢◌, ◌⊎◌, inl, inr, ℕ, ◌+◌, ◌-◌, ◌<◌, ◌≤◌, Bool, true, false, not, [], ◌∷◌, refl}
+use Rattle.std.proofs.Common.{sym, ap, ◌∙◌, subst, arith, add-zero}
 use Rattle.std.proofs.lemmas.Bool.Decides.{nat_tests}
 use Rattle.std.proofs.lemmas.Bool.{cases_lt}
 use Rattle.tx_alloc.specs.Pool.{IsBlock}
@@ -23,14 +24,22 @@ pub self_one : (k x v : ℕ) → 0 < times v ((k, x) ∷ []) → v ≡ x
 self_one k x v e = grind (arith, nat_tests)
 
 -- the four words of each block are as before
-pub hangs_frame : (m m' : ℕ → ℕ) (n p : ℕ) (t : Tree) → ((a k : ℕ) → 0 < has a t → k < 4 → m' (a + k) ≡ m (a + k)) → Hangs m n p t → Hangs m' n p t
+pub hangs_frame : (m m' : ℕ → ℕ) (n p : ℕ) (t : Tree) → ((a k : ℕ) → 0 < has a t → k < 4 → m' (a + k) ≡ m (a + k)) →
+    Hangs m n p t → Hangs m' n p t
 hangs_frame m m' n p leaf same h = h
 hangs_frame m m' n p (node c l (k, a) t) same (i, (hl, ht)) =
     let root : 0 < has a (node c l (k, a) t) = omega (arith, one_self k a a refl) in (
-      record { at = i.at; block = i.block; key = rw add-zero at (same a 0 root (omega arith)) ∙ i.key; colour = same a 3 root (omega arith) ∙ i.colour },
+      record {
+        at = i.at;
+        block = i.block;
+        key = rw add-zero at (same a 0 root (omega arith)) ∙ i.key;
+        colour = same a 3 root (omega arith) ∙ i.colour;
+      },
       (
-        rw (same a 1 root (omega arith)) (hangs_frame m m' n (m (a + 1)) l (λ x j q z. same x j (omega (arith, q)) z) hl),
-        rw (same a 2 root (omega arith)) (hangs_frame m m' n (m (a + 2)) t (λ x j q z. same x j (omega (arith, q)) z) ht),
+        rw (same a 1 root (omega arith)) (hangs_frame m m' n (m (a + 1)) l
+            (λ x j q z. same x j (omega (arith, q)) z) hl),
+        rw (same a 2 root (omega arith)) (hangs_frame m m' n (m (a + 2)) t
+            (λ x j q z. same x j (omega (arith, q)) z) ht),
       ),
     )
 
@@ -76,29 +85,38 @@ link_is root (step right c (k, a) o w) = inr (record {
   is = refl;
 })
 
-link_same : (m m' : ℕ → ℕ) (root : ℕ) (w : Way) → m' root ≡ m root → ((a k : ℕ) → 0 < way_has a w → k < 4 → m' (a + k) ≡ m (a + k)) → m' (link_of root w) ≡ m (link_of root w)
+link_same : (m m' : ℕ → ℕ) (root : ℕ) (w : Way) → m' root ≡ m root →
+    ((a k : ℕ) → 0 < way_has a w → k < 4 → m' (a + k) ≡ m (a + k)) → m' (link_of root w) ≡ m (link_of root w)
 link_same m m' root w at same = elim (link_is root w) [
   | inl e ↦ ap m' e ∙ (at ∙ ap m (sym e))
   | inr i ↦ ap m' i.is ∙ (same i.block i.place i.there (omega (arith, i.high)) ∙ ap m (sym i.is))
 ]
 
-pub way_same : (m m' : ℕ → ℕ) (n root : ℕ) (w : Way) → m' root ≡ m root → ((a k : ℕ) → 0 < way_has a w → k < 4 → m' (a + k) ≡ m (a + k)) → HangsWay m n root w → HangsWay m' n root w
+pub way_same : (m m' : ℕ → ℕ) (n root : ℕ) (w : Way) → m' root ≡ m root →
+    ((a k : ℕ) → 0 < way_has a w → k < 4 → m' (a + k) ≡ m (a + k)) → HangsWay m n root w → HangsWay m' n root w
 way_same m m' n root top at same h = tt
 way_same m m' n root (step right c (k, a) o w) at same (i, (ho, hw)) =
     let self : 0 < way_has a (step right c (k, a) o w) = omega (arith, one_self k a a refl) in
-    let above : (x j : ℕ) → 0 < way_has x w → j < 4 → m' (x + j) ≡ m (x + j) = λ x j q z. same x j (omega (arith, q)) z in
-    let far : m' (a + off (not right)) ≡ m (a + off (not right)) = same a (off (not right)) self (omega (arith, off_range (not right))) in (
+    let above : (x j : ℕ) → 0 < way_has x w → j < 4 → m' (x + j) ≡ m (x + j) =
+    λ x j q z. same x j (omega (arith, q)) z in
+    let far : m' (a + off (not right)) ≡ m (a + off (not right)) =
+    same a (off (not right)) self (omega (arith, off_range (not right))) in (
       record {
         at = link_same m m' root w at above ∙ i.at;
         block = i.block;
         key = rw add-zero at (same a 0 self (omega arith)) ∙ i.key;
         colour = same a 3 self (omega arith) ∙ i.colour;
       },
-      (rw far (hangs_frame m m' n (m (a + off (not right))) o (λ x j q z. same x j (omega (arith, q)) z) ho), way_same m m' n root w at above hw),
+      (
+        rw far (hangs_frame m m' n (m (a + off (not right))) o (λ x j q z. same x j (omega (arith, q)) z) ho),
+        way_same m m' n root w at above hw,
+      ),
     )
 
 -- all words of the way's blocks but the one that leads to the hole are as before
-pub way_frame : (m m' : ℕ → ℕ) (n root : ℕ) (w : Way) → root < 16 → ((x : ℕ) → way_has x w ≤ 1) → (root ≢ link_of root w → m' root ≡ m root) → ((a k : ℕ) → 0 < way_has a w → k < 4 → a + k ≢ link_of root w → m' (a + k) ≡ m (a + k)) → HangsWay m n root w → HangsWay m' n root w
+pub way_frame : (m m' : ℕ → ℕ) (n root : ℕ) (w : Way) → root < 16 → ((x : ℕ) → way_has x w ≤ 1) →
+    (root ≢ link_of root w → m' root ≡ m root) → ((a k : ℕ) → 0 < way_has a w → k < 4 → a + k ≢ link_of root w →
+    m' (a + k) ≡ m (a + k)) → HangsWay m n root w → HangsWay m' n root w
 way_frame m m' n root top low once at same h = tt
 way_frame m m' n root (step right c (k, a) o w) low once at same (i, (ho, hw)) =
     let self : 0 < way_has a (step right c (k, a) o w) = omega (arith, one_self k a a refl) in
@@ -107,11 +125,14 @@ way_frame m m' n root (step right c (k, a) o w) low once at same (i, (ho, hw)) =
     let root_same : m' root ≡ m root = at (λ e. absurd (omega (arith, ib))) in
     let beside : (x j : ℕ) → 0 < has x o → j < 4 → m' (x + j) ≡ m (x + j) = λ x j q z.
     let b = has_block m n (m (a + off (not right))) x o ho q in
-    same x j (omega (arith, q)) z (λ e. let ne : x ≡ a = omega (arith, b.1.1) in absurd (omega (arith, once x, q, one_self k a x ne))) in
+    same x j (omega (arith, q)) z (λ e. let ne : x ≡ a = omega (arith, b.1.1) in
+    absurd (omega (arith, once x, q, one_self k a x ne))) in
     let above : (x j : ℕ) → 0 < way_has x w → j < 4 → m' (x + j) ≡ m (x + j) = λ x j q z.
     let b = way_block m n root x w hw q in
-    same x j (omega (arith, q)) z (λ e. let ne : x ≡ a = omega (arith, b.1.1) in absurd (omega (arith, once x, q, one_self k a x ne))) in
-    let far : m' (a + off (not right)) ≡ m (a + off (not right)) = same a (off (not right)) self (omega arith) (omega arith) in (
+    same x j (omega (arith, q)) z (λ e. let ne : x ≡ a = omega (arith, b.1.1) in
+    absurd (omega (arith, once x, q, one_self k a x ne))) in
+    let far : m' (a + off (not right)) ≡ m (a + off (not right)) =
+    same a (off (not right)) self (omega arith) (omega arith) in (
       record {
         at = link_same m m' root w root_same above ∙ i.at;
         block = i.block;
@@ -127,44 +148,61 @@ pub record Joined (m : ℕ → ℕ) (n p : ℕ) (right c : Bool) (near : Tree) (
   pub on_near : Hangs m n (m (r.1 + off right)) near
   pub on_far : Hangs m n (m (r.1 + off (not right))) far
 
-pub joined : (m : ℕ → ℕ) (n p : ℕ) (right c : Bool) (near : Tree) (r : ℕ × ℕ) (far : Tree) → Hangs m n p (join right c near r far) → Joined m n p right c near r far
+pub joined : (m : ℕ → ℕ) (n p : ℕ) (right c : Bool) (near : Tree) (r : ℕ × ℕ) (far : Tree) →
+    Hangs m n p (join right c near r far) → Joined m n p right c near r far
 joined m n p false c near r far (i, (hn, hf)) = record { is_node = i; on_near = hn; on_far = hf }
 joined m n p true c near r far (i, (hf, hn)) = record { is_node = i; on_near = hn; on_far = hf }
 
-pub rejoined : (m : ℕ → ℕ) (n p : ℕ) (right c : Bool) (near : Tree) (r : ℕ × ℕ) (far : Tree) → Joined m n p right c near r far → Hangs m n p (join right c near r far)
+pub rejoined : (m : ℕ → ℕ) (n p : ℕ) (right c : Bool) (near : Tree) (r : ℕ × ℕ) (far : Tree) →
+    Joined m n p right c near r far → Hangs m n p (join right c near r far)
 rejoined m n p false c near r far j = (j.is_node, (j.on_near, j.on_far))
 rejoined m n p true c near r far j = (j.is_node, (j.on_far, j.on_near))
 
-pub has_join : (right c : Bool) (near : Tree) (r : ℕ × ℕ) (far : Tree) (x : ℕ) → has x (join right c near r far) ≡ times x (r ∷ []) + (has x near + has x far)
+pub has_join : (right c : Bool) (near : Tree) (r : ℕ × ℕ) (far : Tree) (x : ℕ) →
+    has x (join right c near r far) ≡ times x (r ∷ []) + (has x near + has x far)
 has_join false c near r far x = refl
 has_join true c near r far x = omega arith
 
 -- the hole goes down, or up
-pub down : (m : ℕ → ℕ) (n root : ℕ) (total : ℕ → ℕ) (w : Way) (right c : Bool) (near : Tree) (r : ℕ × ℕ) (far : Tree) → Zip m n root total w (join right c near r far) → Zip m n root total (step right c r far w) near
+pub down : (m : ℕ → ℕ) (n root : ℕ) (total : ℕ → ℕ) (w : Way) (right c : Bool) (near : Tree) (r : ℕ × ℕ) (far : Tree) →
+    Zip m n root total w (join right c near r far) → Zip m n root total (step right c r far w) near
 down m n root total w right c near r far z =
     let j = joined m n (m (link_of root w)) right c near r far z.tree in
-    record { way = (j.is_node, (j.on_far, z.way)); tree = j.on_near; count = λ x. omega (arith, z.count x, has_join right c near r far x); once = z.once; low = z.low }
-
-pub up : (m : ℕ → ℕ) (n root : ℕ) (total : ℕ → ℕ) (w : Way) (right c : Bool) (near : Tree) (r : ℕ × ℕ) (far : Tree) → Zip m n root total (step right c r far w) near → Zip m n root total w (join right c near r far)
-up m n root total w right c near r far z =
     record {
-      way = z.way.1.1;
-      tree = rejoined m n (m (link_of root w)) right c near r far (record { is_node = z.way.0; on_near = z.tree; on_far = z.way.1.0 });
+      way = (j.is_node, (j.on_far, z.way));
+      tree = j.on_near;
       count = λ x. omega (arith, z.count x, has_join right c near r far x);
       once = z.once;
       low = z.low;
     }
 
-pub up_under : (m : ℕ → ℕ) (n root : ℕ) (total : ℕ → ℕ) (v w : Way) (t : Tree) → Zip m n root total (under v w) t → Zip m n root total w (plug v t)
-up_under m n root total top w t z = z
-up_under m n root total (step right c r o v) w t z = up_under m n root total v w (join right c t r o) (up m n root total (under v w) right c t r o z)
+pub up : (m : ℕ → ℕ) (n root : ℕ) (total : ℕ → ℕ) (w : Way) (right c : Bool) (near : Tree) (r : ℕ × ℕ) (far : Tree) →
+    Zip m n root total (step right c r far w) near → Zip m n root total w (join right c near r far)
+up m n root total w right c near r far z =
+    record {
+      way = z.way.1.1;
+      tree = rejoined m n (m (link_of root w)) right c near r far
+          (record { is_node = z.way.0; on_near = z.tree; on_far = z.way.1.0 });
+      count = λ x. omega (arith, z.count x, has_join right c near r far x);
+      once = z.once;
+      low = z.low;
+    }
 
-pub down_under : (m : ℕ → ℕ) (n root : ℕ) (total : ℕ → ℕ) (v w : Way) (t : Tree) → Zip m n root total w (plug v t) → Zip m n root total (under v w) t
+pub up_under : (m : ℕ → ℕ) (n root : ℕ) (total : ℕ → ℕ) (v w : Way) (t : Tree) → Zip m n root total (under v w) t →
+    Zip m n root total w (plug v t)
+up_under m n root total top w t z = z
+up_under m n root total (step right c r o v) w t z = up_under m n root total v w (join right c t r o)
+    (up m n root total (under v w) right c t r o z)
+
+pub down_under : (m : ℕ → ℕ) (n root : ℕ) (total : ℕ → ℕ) (v w : Way) (t : Tree) → Zip m n root total w (plug v t) →
+    Zip m n root total (under v w) t
 down_under m n root total top w t z = z
-down_under m n root total (step right c r o v) w t z = down m n root total (under v w) right c t r o (down_under m n root total v w (join right c t r o) z)
+down_under m n root total (step right c r o v) w t z = down m n root total (under v w) right c t r o
+    (down_under m n root total v w (join right c t r o) z)
 
 -- the word that leads to the hole is no word of a block that is not in the way
-pub link_away : (m : ℕ → ℕ) (n root : ℕ) (w : Way) (b j : ℕ) → root < 16 → HangsWay m n root w → IsBlock n b → way_has b w ≡ 0 → j < 8 → link_of root w ≢ b + j
+pub link_away : (m : ℕ → ℕ) (n root : ℕ) (w : Way) (b j : ℕ) → root < 16 → HangsWay m n root w → IsBlock n b →
+    way_has b w ≡ 0 → j < 8 → link_of root w ≢ b + j
 link_away m n root w b j low h block none l e = elim (link_is root w) [
   | inl q ↦ absurd (omega (arith, block.1.1))
   | inr i ↦ (
@@ -182,12 +220,15 @@ pub record InWay (w : Way) (x : ℕ) : Type 0 where
   pub is : x ≡ block + place
 
 -- what is written in a block outside of the way, and at the word that leads to the hole, keeps the way
-pub way_kept : (m m' : ℕ → ℕ) (n root : ℕ) (w : Way) → root < 16 → ((x : ℕ) → way_has x w ≤ 1) → HangsWay m n root w → ((x : ℕ) → x ≢ link_of root w → ((x ≡ root) ⊎ InWay w x) → m' x ≡ m x) → HangsWay m' n root w
+pub way_kept : (m m' : ℕ → ℕ) (n root : ℕ) (w : Way) → root < 16 → ((x : ℕ) → way_has x w ≤ 1) → HangsWay m n root w →
+    ((x : ℕ) → x ≢ link_of root w → ((x ≡ root) ⊎ InWay w x) → m' x ≡ m x) → HangsWay m' n root w
 way_kept m m' n root w low once h same =
-    way_frame m m' n root w low once (λ e. same root e (inl refl)) (λ a k q l e. same (a + k) e (inr (record { block = a; place = k; there = q; high = l; is = refl }))) h
+    way_frame m m' n root w low once (λ e. same root e (inl refl))
+    (λ a k q l e. same (a + k) e (inr (record { block = a; place = k; there = q; high = l; is = refl }))) h
 
 -- such a word, or the root, is no word of a block that is not in the way
-pub way_away : (m : ℕ → ℕ) (n root : ℕ) (w : Way) (b x j : ℕ) → root < 16 → HangsWay m n root w → IsBlock n b → way_has b w ≡ 0 → j < 8 → (x ≡ root) ⊎ InWay w x → x ≢ b + j
+pub way_away : (m : ℕ → ℕ) (n root : ℕ) (w : Way) (b x j : ℕ) → root < 16 → HangsWay m n root w → IsBlock n b →
+    way_has b w ≡ 0 → j < 8 → (x ≡ root) ⊎ InWay w x → x ≢ b + j
 way_away m n root w b x j low h block none l s e = elim s [
   | inl q ↦ absurd (omega (arith, block.1.1))
   | inr i ↦ (

@@ -13,10 +13,14 @@ use Rattle.vac_audit.proofs.Showing.{state_law}
 use Rattle.vac_audit.proofs.Represented.{represented}
 use Rattle.vac_audit.proofs.Balanced.{balanced}
 
-of_parts : (m : ℕ → ℕ) (blocks : ℕ) (p : Parts) → blocks ≤ MOST_BLOCKS → IsSound m (16 + 8 * blocks) p → StateWith m blocks (report_of m p)
+of_parts : (m : ℕ → ℕ) (blocks : ℕ) (p : Parts) → blocks ≤ MOST_BLOCKS → IsSound m (16 + 8 * blocks) p →
+    StateWith m blocks (report_of m p)
 of_parts m blocks p few h = record {
   state = state_of m blocks p;
-  represented = record { represents = represented m blocks p h; small = record { balanced = balanced m blocks p h; small = few } };
+  represented = record {
+    represents = represented m blocks p h;
+    small = record { balanced = balanced m blocks p h; small = few };
+  };
   report_is = sym (state_law m blocks p h).1;
 }
 

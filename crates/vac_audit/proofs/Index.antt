@@ -1,5 +1,6 @@
 -- The rows of tables that were walked, and the lists of their codes and blocks.
-use Rattle.std.proofs.Common.{◌≡◌, ◌≢◌, ◌⊎◌, inl, inr, ℕ, ◌+◌, ◌*◌, ◌^◌, ◌<◌, ◌≤◌, Bool, true, false, cond, List, [], ◌∷◌, ◌++◌, length, zero, suc, refl, sym, ap, ◌∙◌, subst, arith, nat_eq}
+use Rattle.std.proofs.Common.{◌≡◌, ◌≢◌, ◌⊎◌, inl, inr, ℕ, ◌+◌, ◌*◌, ◌^◌, ◌<◌, ◌≤◌, Bool, true, false, cond, List, []}
+use Rattle.std.proofs.Common.{◌∷◌, ◌++◌, length, zero, suc, refl, sym, ap, ◌∙◌, subst, arith, nat_eq}
 use Rattle.std.specs.Prelude.{Ok, Err, not, slice_index}
 use Rattle.std.specs.List.{All}
 use Rattle.std.proofs.lemmas.Bool.Decides.{nat_tests}
@@ -41,7 +42,8 @@ key_high : (m : ℕ → ℕ) (p lo : ℕ) → is_key m p lo ≡ true → m p < 4
 key_high m p lo e = grind (arith, nat_tests)
 
 module _ (m : ℕ → ℕ) (n : ℕ) (look : Look) where
-  tree_good : (levels a lo : ℕ) (s : Seen) (x : Tree × Seen) → walk_tree m n look levels a lo s ≡ Ok x → GoodRows n lo (rows x.0)
+  tree_good : (levels a lo : ℕ) (s : Seen) (x : Tree × Seen) → walk_tree m n look levels a lo s ≡ Ok x →
+      GoodRows n lo (rows x.0)
   tree_good zero a lo s x e = absurd (let q : Err (Shared a) ≡ Ok x = e in cc)
   tree_good (suc levels) a lo s x e = enter_ok _ m n a s.blocks _ _ x e
       (λ z q. let r : (leaf, s) ≡ x = cc in subst (λ (y : Tree × Seen). GoodRows n lo (rows y.0)) r tt)
@@ -51,10 +53,12 @@ module _ (m : ℕ → ℕ) (n : ℕ) (look : Look) where
       both_ok _ (walk_tree m n look levels (p + 2) (m p + 1) s3) _ x q3 (λ t et q4.
       test_ok _ (is_coloured (m (p + 3)) l.0 t.0) (Colour (p + 3)) _ x q4 (λ ec q5.
       let r : (node (nat_eq (m (p + 3)) 1) l.0 (m p, p) t.0, t.1) ≡ x = cc in
-      subst (λ (y : Tree × Seen). GoodRows n lo (rows y.0)) r (good_append n lo (rows l.0) ((m p, p) ∷ rows t.0) (tree_good levels (p + 1) lo _ l el)
+      subst (λ (y : Tree × Seen). GoodRows n lo (rows y.0)) r
+      (good_append n lo (rows l.0) ((m p, p) ∷ rows t.0) (tree_good levels (p + 1) lo _ l el)
       (key_low m p _ ek, key_high m p _ ek, h.block, tree_good levels (p + 2) (m p + 1) s3 t et))))))))
 
-  pub table_good : (levels root : ℕ) (s : Seen) (x : Rows × Seen) → walk_table m n look levels root s ≡ Ok x → GoodRows n 1 x.0
+  pub table_good : (levels root : ℕ) (s : Seen) (x : Rows × Seen) → walk_table m n look levels root s ≡ Ok x →
+      GoodRows n 1 x.0
   table_good levels root s x e = both_ok _ (walk_tree m n look levels root 1 s) _ x e (λ t f q.
       test_ok _ (not (is_red t.0)) (Colour (m root + 3)) _ x q (λ b q1.
       let r : (rows t.0, t.1) ≡ x = cc in
@@ -98,7 +102,11 @@ climbs_rising lo (x ∷ xs) h (suc i) (suc j) l k = climbs_rising (x + 1) xs h.1
 
 codes_climb : (n lo kind : ℕ) (rs : Rows) → GoodRows n lo rs → Climbs (kind * 4294967296 + lo) (codes_of kind rs)
 codes_climb n lo kind [] h = tt
-codes_climb n lo kind (r ∷ rs) h = (omega (arith, h.0), climbs_less (kind * 4294967296 + (r.0 + 1)) (key_code kind r.0 + 1) (codes_of kind rs) (omega arith) (codes_climb n (r.0 + 1) kind rs h.3))
+codes_climb n lo kind (r ∷ rs) h = (
+  omega (arith, h.0),
+  climbs_less (kind * 4294967296 + (r.0 + 1))
+      (key_code kind r.0 + 1) (codes_of kind rs) (omega arith) (codes_climb n (r.0 + 1) kind rs h.3),
+)
 
 codes_below : (n lo kind : ℕ) (rs : Rows) → GoodRows n lo rs → Below ((kind + 1) * 4294967296) (codes_of kind rs)
 codes_below n lo kind [] h = tt
@@ -148,7 +156,8 @@ rows_in kind id (r ∷ rs) ne = elim (same_or r.0 id) [
 block_some : (n p : ℕ) → IsBlock n p → p ≢ 0
 block_some n p h e = absurd (omega (arith, e, h.1.1))
 
-at_some : (n id : ℕ) (r : ℕ × ℕ) (rs : Rows) → IsBlock n r.1 → ((r.0 ≡ id) ⊎ (block_at rs id ≢ 0)) → block_at (r ∷ rs) id ≢ 0
+at_some : (n id : ℕ) (r : ℕ × ℕ) (rs : Rows) → IsBlock n r.1 → ((r.0 ≡ id) ⊎ (block_at rs id ≢ 0)) →
+    block_at (r ∷ rs) id ≢ 0
 at_some n id r rs b h e = elim (same_or r.0 id) [
   | inl q ↦ (
       let t : nat_eq r.0 id ≡ true = grind (arith, nat_tests) in
@@ -161,7 +170,8 @@ at_some n id r rs b h e = elim (same_or r.0 id) [
       ])
 ]
 
-in_rows : (n lo kind kind' id : ℕ) (rs : Rows) → GoodRows n lo rs → id < 4294967296 → In (key_code kind' id) (codes_of kind rs) → (kind ≡ kind') × (block_at rs id ≢ 0)
+in_rows : (n lo kind kind' id : ℕ) (rs : Rows) → GoodRows n lo rs → id < 4294967296 →
+    In (key_code kind' id) (codes_of kind rs) → (kind ≡ kind') × (block_at rs id ≢ 0)
 in_rows n lo kind kind' id [] h l w = absurd w
 in_rows n lo kind kind' id (r ∷ rs) h l (inl e) =
     let key : r.0 ≡ id = omega (arith, h.1, e) in
@@ -172,11 +182,13 @@ in_rows n lo kind kind' id (r ∷ rs) h l (inr w) =
 
 noted_short : (n lo kind : ℕ) (rs : Rows) → GoodRows n lo rs → All (λ item. item.key.id < 2 ^ 32) (noted_of kind rs)
 noted_short n lo kind [] h = All-nil (λ (item : NotedItem). item.key.id < 2 ^ 32)
-noted_short n lo kind (r ∷ rs) h = All-cons (λ (item : NotedItem). item.key.id < 2 ^ 32) _ (noted_of kind rs) h.1 (noted_short n (r.0 + 1) kind rs h.3)
+noted_short n lo kind (r ∷ rs) h = All-cons (λ (item : NotedItem). item.key.id < 2 ^ 32) _ (noted_of kind rs) h.1
+    (noted_short n (r.0 + 1) kind rs h.3)
 
 noted_inside : (n lo kind : ℕ) (rs : Rows) → GoodRows n lo rs → All (λ item. item.block + 8 ≤ n) (noted_of kind rs)
 noted_inside n lo kind [] h = All-nil (λ (item : NotedItem). item.block + 8 ≤ n)
-noted_inside n lo kind (r ∷ rs) h = All-cons (λ (item : NotedItem). item.block + 8 ≤ n) _ (noted_of kind rs) (omega (arith, h.2.1.0)) (noted_inside n (r.0 + 1) kind rs h.3)
+noted_inside n lo kind (r ∷ rs) h = All-cons (λ (item : NotedItem). item.block + 8 ≤ n) _ (noted_of kind rs)
+    (omega (arith, h.2.1.0)) (noted_inside n (r.0 + 1) kind rs h.3)
 
 -- three tables of items, as they were written down
 module _ (a b c : Rows) where
@@ -184,27 +196,36 @@ module _ (a b c : Rows) where
   all_noted = (noted_of 0 a ++ noted_of 1 b) ++ noted_of 2 c
 
   pub all_codes : codes_in all_noted ≡ (codes_of 0 a ++ codes_of 1 b) ++ codes_of 2 c
-  all_codes = codes_append (noted_of 0 a ++ noted_of 1 b) (noted_of 2 c) ∙ ap (λ (z : List ℕ). z ++ codes_of 2 c) (codes_append (noted_of 0 a) (noted_of 1 b))
+  all_codes = codes_append (noted_of 0 a ++ noted_of 1 b) (noted_of 2 c) ∙ ap (λ (z : List ℕ). z ++ codes_of 2 c)
+      (codes_append (noted_of 0 a) (noted_of 1 b))
 
   pub all_blocks : blocks_in all_noted ≡ (blocks_of 0 a ++ blocks_of 1 b) ++ blocks_of 2 c
-  all_blocks = blocks_append (noted_of 0 a ++ noted_of 1 b) (noted_of 2 c) ∙ ap (λ (z : List ℕ). z ++ blocks_of 2 c) (blocks_append (noted_of 0 a) (noted_of 1 b))
+  all_blocks = blocks_append (noted_of 0 a ++ noted_of 1 b) (noted_of 2 c) ∙ ap (λ (z : List ℕ). z ++ blocks_of 2 c)
+      (blocks_append (noted_of 0 a) (noted_of 1 b))
 
-  all_of : (P : NotedItem → Type 0) → All P (noted_of 0 a) → All P (noted_of 1 b) → All P (noted_of 2 c) → All P all_noted
-  all_of P ha hb hc = All-append P (noted_of 0 a ++ noted_of 1 b) (noted_of 2 c) (All-append P (noted_of 0 a) (noted_of 1 b) ha hb) hc
+  all_of : (P : NotedItem → Type 0) → All P (noted_of 0 a) → All P (noted_of 1 b) → All P (noted_of 2 c) →
+      All P all_noted
+  all_of P ha hb hc = All-append P (noted_of 0 a ++ noted_of 1 b) (noted_of 2 c)
+      (All-append P (noted_of 0 a) (noted_of 1 b) ha hb) hc
 
   pub all_none : All (λ item. item.booked ≡ 0) all_noted
   all_none = all_of (λ item. item.booked ≡ 0) (noted_none 0 a) (noted_none 1 b) (noted_none 2 c)
 
 module _ (n : ℕ) (a b c : Rows) (ga : GoodRows n 1 a) (gb : GoodRows n 1 b) (gc : GoodRows n 1 c) where
   all_rising : Rising ((codes_of 0 a ++ codes_of 1 b) ++ codes_of 2 c)
-  all_rising = climbs_rising 0 ((codes_of 0 a ++ codes_of 1 b) ++ codes_of 2 c) (climbs_append 0 8589934592 (codes_of 0 a ++ codes_of 1 b) (codes_of 2 c)
-      (climbs_append 0 4294967296 (codes_of 0 a) (codes_of 1 b) (climbs_less 1 0 (codes_of 0 a) (omega arith) (codes_climb n 1 0 a ga)) (codes_below n 1 0 a ga) (omega arith)
+  all_rising = climbs_rising 0 ((codes_of 0 a ++ codes_of 1 b) ++ codes_of 2 c)
+      (climbs_append 0 8589934592 (codes_of 0 a ++ codes_of 1 b) (codes_of 2 c)
+      (climbs_append 0 4294967296 (codes_of 0 a) (codes_of 1 b)
+      (climbs_less 1 0 (codes_of 0 a) (omega arith) (codes_climb n 1 0 a ga)) (codes_below n 1 0 a ga) (omega arith)
       (climbs_less 4294967297 4294967296 (codes_of 1 b) (omega arith) (codes_climb n 1 1 b gb)))
-      (below_append 8589934592 (codes_of 0 a) (codes_of 1 b) (below_less 4294967296 8589934592 (codes_of 0 a) (omega arith) (codes_below n 1 0 a ga)) (codes_below n 1 1 b gb))
+      (below_append 8589934592 (codes_of 0 a) (codes_of 1 b)
+      (below_less 4294967296 8589934592 (codes_of 0 a) (omega arith) (codes_below n 1 0 a ga))
+      (codes_below n 1 1 b gb))
       (omega arith) (climbs_less 8589934593 8589934592 (codes_of 2 c) (omega arith) (codes_climb n 1 2 c gc)))
 
   all_short : All (λ item. item.key.id < 2 ^ 32) (all_noted a b c)
-  all_short = all_of a b c (λ item. item.key.id < 2 ^ 32) (noted_short n 1 0 a ga) (noted_short n 1 1 b gb) (noted_short n 1 2 c gc)
+  all_short = all_of a b c (λ item. item.key.id < 2 ^ 32) (noted_short n 1 0 a ga) (noted_short n 1 1 b gb)
+      (noted_short n 1 2 c gc)
 
   pub all_order : InOrder (all_noted a b c)
   all_order = record {
@@ -213,19 +234,26 @@ module _ (n : ℕ) (a b c : Rows) (ga : GoodRows n 1 a) (gb : GoodRows n 1 b) (g
   }
 
   pub all_inside : All (λ item. item.block + 8 ≤ n) (all_noted a b c)
-  all_inside = all_of a b c (λ item. item.block + 8 ≤ n) (noted_inside n 1 0 a ga) (noted_inside n 1 1 b gb) (noted_inside n 1 2 c gc)
+  all_inside = all_of a b c (λ item. item.block + 8 ≤ n) (noted_inside n 1 0 a ga) (noted_inside n 1 1 b gb)
+      (noted_inside n 1 2 c gc)
 
-  there : (kind id : ℕ) → kind < 3 → block_at (tables_of a b c kind) id ≢ 0 → In (key_code kind id) ((codes_of 0 a ++ codes_of 1 b) ++ codes_of 2 c)
-  there zero id l ne = in_left _ (codes_of 0 a ++ codes_of 1 b) (codes_of 2 c) (in_left _ (codes_of 0 a) (codes_of 1 b) (rows_in 0 id a ne))
-  there (suc zero) id l ne = in_left _ (codes_of 0 a ++ codes_of 1 b) (codes_of 2 c) (in_right _ (codes_of 0 a) (codes_of 1 b) (rows_in 1 id b ne))
+  there : (kind id : ℕ) → kind < 3 → block_at (tables_of a b c kind) id ≢ 0 →
+      In (key_code kind id) ((codes_of 0 a ++ codes_of 1 b) ++ codes_of 2 c)
+  there zero id l ne = in_left _ (codes_of 0 a ++ codes_of 1 b) (codes_of 2 c)
+      (in_left _ (codes_of 0 a) (codes_of 1 b) (rows_in 0 id a ne))
+  there (suc zero) id l ne = in_left _ (codes_of 0 a ++ codes_of 1 b) (codes_of 2 c)
+      (in_right _ (codes_of 0 a) (codes_of 1 b) (rows_in 1 id b ne))
   there (suc (suc zero)) id l ne = in_right _ (codes_of 0 a ++ codes_of 1 b) (codes_of 2 c) (rows_in 2 id c ne)
   there (suc (suc (suc k))) id l ne = absurd (omega arith)
 
-  back : (kind id : ℕ) → id < 4294967296 → In (key_code kind id) ((codes_of 0 a ++ codes_of 1 b) ++ codes_of 2 c) → block_at (tables_of a b c kind) id ≢ 0
+  back : (kind id : ℕ) → id < 4294967296 → In (key_code kind id) ((codes_of 0 a ++ codes_of 1 b) ++ codes_of 2 c) →
+      block_at (tables_of a b c kind) id ≢ 0
   back kind id l h = elim (in_split _ (codes_of 0 a ++ codes_of 1 b) (codes_of 2 c) h) [
     | inl w ↦ elim (in_split _ (codes_of 0 a) (codes_of 1 b) w) [
-      | inl u ↦ (let v = in_rows n 1 0 kind id a ga l u in subst (λ (z : ℕ). block_at (tables_of a b c z) id ≢ 0) v.0 v.1)
-      | inr u ↦ (let v = in_rows n 1 1 kind id b gb l u in subst (λ (z : ℕ). block_at (tables_of a b c z) id ≢ 0) v.0 v.1)
+      | inl u ↦ (let v = in_rows n 1 0 kind id a ga l u in subst
+          (λ (z : ℕ). block_at (tables_of a b c z) id ≢ 0) v.0 v.1)
+      | inr u ↦ (let v = in_rows n 1 1 kind id b gb l u in subst
+          (λ (z : ℕ). block_at (tables_of a b c z) id ≢ 0) v.0 v.1)
     ]
     | inr u ↦ (let v = in_rows n 1 2 kind id c gc l u in subst (λ (z : ℕ). block_at (tables_of a b c z) id ≢ 0) v.0 v.1)
   ]

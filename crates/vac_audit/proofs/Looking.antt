@@ -27,7 +27,12 @@ abbrev pub GoodCustomer : (ℕ → ℕ) → ℕ → (ℕ → Rows) → ℕ → �
 GoodCustomer m n tables levels p rs = IsList m n (m (p + 4)) rs × Each (IsBookingRow m tables) rs × (length rs < levels)
 
 item_at : (m : ℕ → ℕ) (p : ℕ) → is_item m p ≡ true → IsItemAt m p
-item_at m p e = record { some = grind (arith, nat_tests); few = grind (arith, nat_tests); sum = grind (arith, nat_tests); price = grind (arith, nat_tests) }
+item_at m p e = record {
+  some = grind (arith, nat_tests);
+  few = grind (arith, nat_tests);
+  sum = grind (arith, nat_tests);
+  price = grind (arith, nat_tests);
+}
 
 item_test : (m : ℕ → ℕ) (p : ℕ) → IsItemAt m p → is_item m p ≡ true
 item_test m p h = let a = h.some in let b = h.few in let c = h.sum in let d = h.price in grind (arith, nat_tests)
@@ -35,26 +40,38 @@ item_test m p h = let a = h.some in let b = h.few in let c = h.sum in let d = h.
 pub item_looked : (m : ℕ → ℕ) (n p : ℕ) (s s' : Seen) → look_at_item m p s ≡ Ok s' → Looked n bare (GoodItem m) p s s'
 item_looked m n p s s' e = test_ok _ (is_item m p) (Counts (p + 4)) _ s' e (λ t q.
     let r : s ≡ s' = cc in
-    subst (λ (y : Seen). Looked n bare (GoodItem m) p s y) r (record { good = item_at m p t; reaches = none_reached n s.blocks; kept = λ q ne. refl }))
+    subst (λ (y : Seen). Looked n bare (GoodItem m) p s y) r
+    (record { good = item_at m p t; reaches = none_reached n s.blocks; kept = λ q ne. refl }))
 
 pub item_found : (m : ℕ → ℕ) (n p : ℕ) (s : Seen) → IsItemAt m p → LookFound n (look_at_item m) bare (λ q. []) p s
-item_found m n p s h = record { s' = s; is = test_with (is_item m p) (Counts (p + 4)) _ _ (item_test m p h) refl; reaches = none_reached n s.blocks; list = refl; kept = λ q ne. refl }
+item_found m n p s h = record {
+  s' = s;
+  is = test_with (is_item m p) (Counts (p + 4)) _ _ (item_test m p h) refl;
+  reaches = none_reached n s.blocks;
+  list = refl;
+  kept = λ q ne. refl;
+}
 
 -- the list's length is not looked at
 abbrev pub GoodList : (ℕ → ℕ) → ℕ → (ℕ → Rows) → ℕ → Rows → Type 0
 GoodList m n tables p rs = IsList m n (m (p + 4)) rs × Each (IsBookingRow m tables) rs
 
-pub customer_looked : (m : ℕ → ℕ) (n : ℕ) (tables : ℕ → Rows) (levels p : ℕ) (s s' : Seen) → look_at_customer m n tables levels p s ≡ Ok s' → Looked n all_lists (GoodList m n tables) p s s'
-customer_looked m n tables levels p s s' e = both_ok _ (walk_bookings m n tables levels (p + 4) 0 s.blocks) _ s' e (λ y f g.
+pub customer_looked : (m : ℕ → ℕ) (n : ℕ) (tables : ℕ → Rows) (levels p : ℕ) (s s' : Seen) →
+    look_at_customer m n tables levels p s ≡ Ok s' → Looked n all_lists (GoodList m n tables) p s s'
+customer_looked m n tables levels p s s' e = both_ok _ (walk_bookings m n tables levels (p + 4) 0 s.blocks) _ s' e
+    (λ y f g.
     let r : record { blocks = y.1; lists = with_at s.lists p y.0 } ≡ s' = cc in
     let w = list_walked m n tables levels (p + 4) 0 s.blocks y f in
     subst (λ (z : Seen). Looked n all_lists (GoodList m n tables) p s z) r (record {
-      good = subst (λ (rs : Rows). GoodList m n tables p rs) (sym (with_here s.lists p p y.0 refl)) (record { linked = w.linked }, w.rows);
-      reaches = subst (λ (rs : Rows). Reaches n s.blocks y.1 (λ x. times x rs) (length rs)) (sym (with_here s.lists p p y.0 refl)) w.reaches;
+      good = subst (λ (rs : Rows). GoodList m n tables p rs) (sym (with_here s.lists p p y.0 refl))
+          (record { linked = w.linked }, w.rows);
+      reaches = subst (λ (rs : Rows). Reaches n s.blocks y.1 (λ x. times x rs) (length rs))
+          (sym (with_here s.lists p p y.0 refl)) w.reaches;
       kept = λ q ne. with_else s.lists p q y.0 ne;
     }))
 
-pub customer_found : (m : ℕ → ℕ) (n : ℕ) (tables : ℕ → Rows) (levels : ℕ) (L : ℕ → Rows) (p : ℕ) (s : Seen) → GoodCustomer m n tables levels p (L p) → Apart (λ x. times x (L p)) s.blocks
+pub customer_found : (m : ℕ → ℕ) (n : ℕ) (tables : ℕ → Rows) (levels : ℕ) (L : ℕ → Rows) (p : ℕ) (s : Seen) →
+    GoodCustomer m n tables levels p (L p) → Apart (λ x. times x (L p)) s.blocks
     → LookFound n (look_at_customer m n tables levels) all_lists L p s
 customer_found m n tables levels L p s g d =
     let w = list_found m n tables levels (p + 4) 0 s.blocks (L p) g.0.linked g.1 g.2 d in

@@ -1,5 +1,6 @@
 -- The lists of what a walk wrote down.
-use Rattle.std.proofs.Common.{◌≡◌, inl, inr, ℕ, ◌+◌, ◌<◌, ◌≤◌, ◌^◌, List, [], ◌∷◌, ◌++◌, map, length, get_or, set, refl, sym, ap, ◌∙◌, subst, arith}
+use Rattle.std.proofs.Common.{◌≡◌, inl, inr, ℕ, ◌+◌, ◌<◌, ◌≤◌, ◌^◌, List, [], ◌∷◌, ◌++◌, map, length, get_or, set, refl}
+use Rattle.std.proofs.Common.{sym, ap, ◌∙◌, subst, arith}
 use Rattle.std.specs.Prelude.{slice_index}
 use Rattle.std.specs.List.{All}
 use Rattle.std.proofs.lemmas.Bool.{cases_lt}
@@ -32,7 +33,8 @@ length_booked items = length-map items (λ (item : NotedItem). item.booked)
 -- what is said of the item at an index
 module _ (items : List NotedItem) (i : ℕ) (d : NotedItem) (inside : i < length items) where
   pub code_at : slice_index (codes_in items) i ≡ code_of (get_or items i d).key
-  code_at = get_or-map code_of (keys_in items) i d.key 0 (omega (arith, inside, length_keys items)) ∙ ap code_of (get_or-map (λ (item : NotedItem). item.key) items i d d.key inside)
+  code_at = get_or-map code_of (keys_in items) i d.key 0 (omega (arith, inside, length_keys items)) ∙
+      ap code_of (get_or-map (λ (item : NotedItem). item.key) items i d d.key inside)
 
   pub block_at : slice_index (blocks_in items) i ≡ (get_or items i d).block
   block_at = get_or-map (λ (item : NotedItem). item.block) items i d 0 inside
@@ -41,14 +43,20 @@ module _ (items : List NotedItem) (i : ℕ) (d : NotedItem) (inside : i < length
   units_at = get_or-map (λ (item : NotedItem). item.booked) items i d 0 inside
 
   pub short_at : InOrder items → (get_or items i d).key.id < 2 ^ 32
-  short_at order = subst (λ (key : Key). key.id < 2 ^ 32) (get_or-map (λ (item : NotedItem). item.key) items i d d.key inside) (All-get_or (λ (key : Key). key.id < 2 ^ 32) (keys_in items) i d.key (omega (arith, inside, length_keys items)) order.ids)
+  short_at order = subst (λ (key : Key). key.id < 2 ^ 32) (get_or-map
+      (λ (item : NotedItem). item.key) items i d d.key inside)
+      (All-get_or (λ (key : Key). key.id < 2 ^ 32) (keys_in items) i d.key
+      (omega (arith, inside, length_keys items)) order.ids)
 
   -- what another item in its place leaves as it was
-  pub kept_at : {A : Type 0} (f : NotedItem → A) (item : NotedItem) → f item ≡ f (get_or items i d) → map f (set items i item) ≡ map f items
-  kept_at f item e = map-set f items i item ∙ (ap (λ a. set (map f items) i a) (e ∙ sym (get_or-map f items i d (f d) inside)) ∙ set-get_or (map f items) i (f d))
+  pub kept_at : {A : Type 0} (f : NotedItem → A) (item : NotedItem) → f item ≡ f (get_or items i d) →
+      map f (set items i item) ≡ map f items
+  kept_at f item e = map-set f items i item ∙ (ap (λ a. set (map f items) i a)
+      (e ∙ sym (get_or-map f items i d (f d) inside)) ∙ set-get_or (map f items) i (f d))
 
 -- where no booking was counted
-pub booked_none : (items : List NotedItem) (i : ℕ) → All (λ item. item.booked ≡ 0) items → slice_index (booked_in items) i ≡ 0
+pub booked_none : (items : List NotedItem) (i : ℕ) → All (λ item. item.booked ≡ 0) items →
+    slice_index (booked_in items) i ≡ 0
 booked_none items i h = elim (cases_lt i (length items)) [
   | inl l ↦ units_at items i no_item l ∙ All-get_or (λ (item : NotedItem). item.booked ≡ 0) items i no_item l h
   | inr l ↦ get_or_past (booked_in items) i 0 (omega (arith, l, length_booked items))
@@ -60,7 +68,12 @@ module _ (notes notes' : Notes) (same : SameItems notes notes') where
   same_codes = ap (λ (keys : List _). map code_of keys) same.keys
 
   pub same_length : length notes'.items.items ≡ length notes.items.items
-  same_length = omega (arith, length_blocks notes.items.items, length_blocks notes'.items.items, ap (λ (z : List ℕ). length z) same.blocks)
+  same_length = omega (
+    arith,
+    length_blocks notes.items.items,
+    length_blocks notes'.items.items,
+    ap (λ (z : List ℕ). length z) same.blocks,
+  )
 
   pub same_order : InOrder notes.items.items → InOrder notes'.items.items
   same_order h = record {
@@ -68,17 +81,25 @@ module _ (notes notes' : Notes) (same : SameItems notes notes') where
     ids = subst (λ keys. All (λ key. key.id < 2 ^ 32) keys) (sym same.keys) h.ids;
   }
 
-  pub same_inside : (n : ℕ) → All (λ item. item.block + 8 ≤ n) notes.items.items → All (λ item. item.block + 8 ≤ n) notes'.items.items
+  pub same_inside : (n : ℕ) → All (λ item. item.block + 8 ≤ n) notes.items.items →
+      All (λ item. item.block + 8 ≤ n) notes'.items.items
   same_inside n h = All-from_get_or (λ (item : NotedItem). item.block + 8 ≤ n) notes'.items.items no_item (λ i l.
       let inside : i < length notes.items.items = omega (arith, l, same_length) in
-      omega (arith, block_at notes'.items.items i no_item l, ap (λ (z : List ℕ). slice_index z i) same.blocks, block_at notes.items.items i no_item inside, h i no_item inside))
+      omega (
+        arith,
+        block_at notes'.items.items i no_item l,
+        ap (λ (z : List ℕ). slice_index z i) same.blocks,
+        block_at notes.items.items i no_item inside,
+        h i no_item inside,
+      ))
 
 -- lists one behind the other
 pub noted_append : (kind : ℕ) (rs ts : Rows) → noted_of kind (rs ++ ts) ≡ noted_of kind rs ++ noted_of kind ts
 noted_append kind rs ts = map-append _ rs ts
 
 pub codes_append : (xs ys : List NotedItem) → codes_in (xs ++ ys) ≡ codes_in xs ++ codes_in ys
-codes_append xs ys = ap (λ (keys : List _). map code_of keys) (map-append (λ (item : NotedItem). item.key) xs ys) ∙ map-append code_of (keys_in xs) (keys_in ys)
+codes_append xs ys = ap (λ (keys : List _). map code_of keys) (map-append (λ (item : NotedItem). item.key) xs ys) ∙
+    map-append code_of (keys_in xs) (keys_in ys)
 
 pub blocks_append : (xs ys : List NotedItem) → blocks_in (xs ++ ys) ≡ blocks_in xs ++ blocks_in ys
 blocks_append xs ys = map-append (λ (item : NotedItem). item.block) xs ys
@@ -86,4 +107,5 @@ blocks_append xs ys = map-append (λ (item : NotedItem). item.block) xs ys
 -- no booking was counted of rows that were written down
 pub noted_none : (kind : ℕ) (rs : Rows) → All (λ item. item.booked ≡ 0) (noted_of kind rs)
 noted_none kind [] = All-nil (λ (item : NotedItem). item.booked ≡ 0)
-noted_none kind (r ∷ rs) = All-cons (λ (item : NotedItem). item.booked ≡ 0) _ (noted_of kind rs) refl (noted_none kind rs)
+noted_none kind (r ∷ rs) = All-cons (λ (item : NotedItem). item.booked ≡ 0) _ (noted_of kind rs) refl
+    (noted_none kind rs)

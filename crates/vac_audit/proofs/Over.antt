@@ -1,5 +1,6 @@
 -- Rows one behind the other, facts of each row, and sums over their lists.
-use Rattle.std.proofs.Common.{◌≡◌, inl, inr, ℕ, ◌+◌, ◌<◌, ◌≤◌, Bool, true, false, cond, List, [], ◌∷◌, ◌++◌, refl, ap, arith, nat_eq}
+use Rattle.std.proofs.Common.{◌≡◌, inl, inr, ℕ, ◌+◌, ◌<◌, ◌≤◌, Bool, true, false, cond, List, [], ◌∷◌, ◌++◌, refl, ap}
+use Rattle.std.proofs.Common.{arith, nat_eq}
 use Rattle.std.specs.Prelude.{◌&&◌, ◌||◌, not, nat_le}
 use Rattle.std.proofs.lemmas.Bool.Decides.{nat_tests}
 use Rattle.std.proofs.lemmas.Bool.{cases_lt}
@@ -16,7 +17,8 @@ pub times_append : (x : ℕ) (rs ts : Rows) → times x (rs ++ ts) ≡ times x r
 times_append x [] ts = omega arith
 times_append x (r ∷ rs) ts = omega (arith, times_append x rs ts)
 
-pub over_append : (f : Rows → ℕ) (rs ts : Rows) (lists : ℕ → Rows) → over f (rs ++ ts) lists ≡ over f rs lists + over f ts lists
+pub over_append : (f : Rows → ℕ) (rs ts : Rows) (lists : ℕ → Rows) →
+    over f (rs ++ ts) lists ≡ over f rs lists + over f ts lists
 over_append f [] ts lists = omega arith
 over_append f (r ∷ rs) ts lists = omega (arith, over_append f rs ts lists)
 
@@ -34,12 +36,21 @@ each_back P (r ∷ rs) ts h = each_back P rs ts h.1
 
 pub each_as : (P Q : ℕ × ℕ → Type 0) (rs : Rows) → ((r : ℕ × ℕ) → 0 < times r.1 rs → P r → Q r) → Each P rs → Each Q rs
 each_as P Q [] f h = tt
-each_as P Q (r ∷ rs) f h = (f r (times_first r.0 r.1 rs) h.0, each_as P Q rs (λ q o. f q (omega (arith, o, times_more r q.1 rs))) h.1)
+each_as P Q (r ∷ rs) f h = (
+  f r (times_first r.0 r.1 rs) h.0,
+  each_as P Q rs (λ q o. f q (omega (arith, o, times_more r q.1 rs))) h.1,
+)
 
-pub over_as : (f : Rows → ℕ) (rs : Rows) (lists lists' : ℕ → Rows) → ((q : ℕ) → 0 < times q rs → lists' q ≡ lists q) → over f rs lists' ≡ over f rs lists
+pub over_as : (f : Rows → ℕ) (rs : Rows) (lists lists' : ℕ → Rows) → ((q : ℕ) → 0 < times q rs → lists' q ≡ lists q) →
+    over f rs lists' ≡ over f rs lists
 over_as f [] lists lists' e = refl
 over_as f (r ∷ rs) lists lists' e =
-    omega (arith, ap f (e r.1 (times_first r.0 r.1 rs)), over_as f rs lists lists' (λ q o. e q (omega (arith, o, times_more r q rs))))
+    omega (
+      arith,
+      ap f (e r.1 (times_first r.0 r.1 rs)),
+      over_as f rs lists lists'
+          (λ q o. e q (omega (arith, o, times_more r q rs))),
+    )
 
 pub rises_append : (lo : ℕ) (rs ts : Rows) → IsFrom lo rs → IsFrom (above lo rs) ts → IsFrom lo (rs ++ ts)
 rises_append lo [] ts h k = k
@@ -54,7 +65,8 @@ rises_back lo [] ts h = h
 rises_back lo (r ∷ rs) ts h = rises_back (r.0 + 1) rs ts h.1
 
 -- one part of a walk, and then the next
-pub both_reached : (n : ℕ) (s s' s'' : List ℕ) (c c' : ℕ → ℕ) (k k' : ℕ) → Reaches n s s' c k → Reaches n s' s'' c' k' → Reaches n s s'' (λ x. c x + c' x) (k + k')
+pub both_reached : (n : ℕ) (s s' s'' : List ℕ) (c c' : ℕ → ℕ) (k k' : ℕ) → Reaches n s s' c k → Reaches n s' s'' c' k' →
+    Reaches n s s'' (λ x. c x + c' x) (k + k')
 both_reached n s s' s'' c c' k k' h h' = record {
   counts = λ x. omega (arith, h.counts x, h'.counts x);
   once = λ x l. elim (cases_lt 0 (c' x)) [
@@ -68,7 +80,8 @@ both_reached n s s' s'' c c' k k' h h' = record {
   more = omega (arith, h.more, h'.more);
 }
 
-pub reached_as : (n : ℕ) (s s' : List ℕ) (c c' : ℕ → ℕ) (k k' : ℕ) → ((x : ℕ) → c' x ≡ c x) → k' ≡ k → Reaches n s s' c k → Reaches n s s' c' k'
+pub reached_as : (n : ℕ) (s s' : List ℕ) (c c' : ℕ → ℕ) (k k' : ℕ) → ((x : ℕ) → c' x ≡ c x) → k' ≡ k →
+    Reaches n s s' c k → Reaches n s s' c' k'
 reached_as n s s' c c' k k' e f h = record {
   counts = λ x. omega (arith, h.counts x, e x);
   once = λ x l. h.once x (omega (arith, l, e x));

@@ -1,5 +1,6 @@
 -- The memory of a sound heap represents the state of its parts.
-use Rattle.std.proofs.Common.{◌≡◌, inl, inr, ℕ, ◌+◌, ◌*◌, ◌<◌, ◌≤◌, Bool, cond, false, [], ◌∷◌, refl, ap, subst, arith, nat_eq}
+use Rattle.std.proofs.Common.{◌≡◌, inl, inr, ℕ, ◌+◌, ◌*◌, ◌<◌, ◌≤◌, Bool, cond, false, [], ◌∷◌, refl, ap, subst, arith}
+use Rattle.std.proofs.Common.{nat_eq}
 use Rattle.std.proofs.lemmas.Bool.Decides.{nat_tests}
 use Rattle.std.proofs.lemmas.Bool.{cases_lt}
 use Rattle.tx_memory.specs.Seen.{same_or}
@@ -21,7 +22,8 @@ pub each_at : (P : ℕ → Type 0) (c : ℕ) (rs : Rows) → 0 < times c rs → 
 each_at P c [] o h = absurd (omega (arith, o))
 each_at P c (r ∷ rs) o h = elim (same_or r.1 c) [
   | inl same ↦ subst P same h.0
-  | inr other ↦ (let t : nat_eq r.1 c ≡ false = grind (arith, nat_tests) in each_at P c rs (omega (arith, o, ap (λ (b : Bool). cond {A = ℕ} b 1 0) t)) h.1)
+  | inr other ↦ (let t : nat_eq r.1 c ≡ false = grind (arith, nat_tests) in
+      each_at P c rs (omega (arith, o, ap (λ (b : Bool). cond {A = ℕ} b 1 0) t)) h.1)
 ]
 
 -- a tree with each block once is a table
@@ -59,4 +61,11 @@ module _ (m : ℕ → ℕ) (blocks : ℕ) (p : Parts) (h : IsSound m (16 + 8 * b
   abbrev pub represented : Represents m (16 + 8 * blocks) [] (state_of m blocks p)
   represented =
       let shows = (state_law m blocks p h).0 in
-      record { size = refl; parts = p; heap = heap; held = h.none_out; items = shows.items; customers = shows.customers }
+      record {
+        size = refl;
+        parts = p;
+        heap = heap;
+        held = h.none_out;
+        items = shows.items;
+        customers = shows.customers;
+      }

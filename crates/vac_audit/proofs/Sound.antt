@@ -41,8 +41,10 @@ pub record IsSound (m : ℕ → ℕ) (n : ℕ) (p : Parts) : Type 0 where
   pub tables : (i : ℕ) → i < 4 → IsTreeTable m n (m (1 + i)) (p.tables i)
   pub keys : (i : ℕ) → i < 4 → Each (λ r. r.0 < 2 ^ 32) (p.tables i)
   pub items : (i : ℕ) → i < 3 → Each (λ r. IsItemAt m r.1) (p.tables i)
-  pub lists : Each (λ r. IsList m n (m (r.1 + 4)) (p.lists r.1) × Each (IsBookingRow m p.tables) (p.lists r.1)) (p.tables 3)
-  pub used : (i : ℕ) → i < 3 → Each (λ r. m (r.1 + 4) ≡ over (units_in m (i * 2 ^ 32 + r.0)) (p.tables 3) p.lists) (p.tables i)
+  pub lists : Each (λ r. IsList m n (m (r.1 + 4)) (p.lists r.1) × Each (IsBookingRow m p.tables) (p.lists r.1))
+      (p.tables 3)
+  pub used : (i : ℕ) → i < 3 → Each (λ r. m (r.1 + 4) ≡ over (units_in m (i * 2 ^ 32 + r.0)) (p.tables 3) p.lists)
+      (p.tables i)
   pub pool : IsPool m n p.free (used_in p) (count_in p)
   pub none_out : p.out ≡ []
 

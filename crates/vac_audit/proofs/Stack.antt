@@ -1,5 +1,6 @@
 -- The walk of a tree with a stack of its own: what is left to do above a tree that is walked.
-use Rattle.std.proofs.Common.{◌≡◌, ℕ, ◌+◌, Bool, true, false, cond, List, [], ◌∷◌, ◌++◌, suc, refl, sym, ap, ◌∙◌, subst, nat_eq}
+use Rattle.std.proofs.Common.{◌≡◌, ℕ, ◌+◌, Bool, true, false, cond, List, [], ◌∷◌, ◌++◌, suc, refl, sym, ap, ◌∙◌, subst}
+use Rattle.std.proofs.Common.{nat_eq}
 use Rattle.std.specs.Prelude.{Result, Ok, Err}
 use Rattle.tx_alloc.specs.Pool.{IsBlock}
 use Rattle.tx_alloc.specs.Rows.{Rows}
@@ -23,7 +24,8 @@ least m (in_right p l ∷ fs) = m p + 1
 
 -- the colour of a node, when both sides are walked
 abbrev pub hang : (ℕ → ℕ) → ℕ → Tree → Tree → Seen → Result (Tree × Seen) Flaw
-hang m p l t s = then (wants (is_coloured (m (p + 3)) l t) (Colour (p + 3))) (λ _. Ok (node (nat_eq (m (p + 3)) 1) l (m p, p) t, s))
+hang m p l t s = then (wants (is_coloured (m (p + 3)) l t) (Colour (p + 3)))
+    (λ _. Ok (node (nat_eq (m (p + 3)) 1) l (m p, p) t, s))
 
 -- the node itself, when the left side is walked, and its right side
 abbrev pub go_right : (ℕ → ℕ) → ℕ → Look → ℕ → ℕ → ℕ → Tree → Seen → Result (Tree × Seen) Flaw
@@ -35,7 +37,8 @@ go_right m n look levels lo p l s =
 -- what the walk of a tree below these nodes makes of the whole
 abbrev pub unwind : (ℕ → ℕ) → ℕ → Look → List Frame → ℕ → Result (Tree × Seen) Flaw → Result (Tree × Seen) Flaw
 unwind m n look [] levels r = r
-unwind m n look (in_left p ∷ fs) levels r = unwind m n look fs (suc levels) (then r (λ x. go_right m n look levels (least m fs) p x.0 x.1))
+unwind m n look (in_left p ∷ fs) levels r = unwind m n look fs (suc levels)
+    (then r (λ x. go_right m n look levels (least m fs) p x.0 x.1))
 unwind m n look (in_right p l ∷ fs) levels r = unwind m n look fs (suc levels) (then r (λ x. hang m p l x.0 x.1))
 
 module _ (m : ℕ → ℕ) (n : ℕ) (look : Look) where
@@ -45,18 +48,25 @@ module _ (m : ℕ → ℕ) (n : ℕ) (look : Look) where
   unwind_err (in_left p ∷ fs) levels f = unwind_err fs (suc levels) f
   unwind_err (in_right p l ∷ fs) levels f = unwind_err fs (suc levels) f
 
-  unwind_as : (fs : List Frame) (levels : ℕ) (r r' whole : Result (Tree × Seen) Flaw) → r ≡ r' → unwind m n look fs levels r ≡ whole → unwind m n look fs levels r' ≡ whole
-  unwind_as fs levels r r' whole e h = subst (λ (z : Result (Tree × Seen) Flaw). unwind m n look fs levels z ≡ whole) e h
+  unwind_as : (fs : List Frame) (levels : ℕ) (r r' whole : Result (Tree × Seen) Flaw) → r ≡ r' →
+      unwind m n look fs levels r ≡ whole → unwind m n look fs levels r' ≡ whole
+  unwind_as fs levels r r' whole e h = subst (λ (z : Result (Tree × Seen) Flaw). unwind m n look fs levels z ≡ whole) e
+      h
 
-  flaw_as : (fs : List Frame) (levels : ℕ) (r whole : Result (Tree × Seen) Flaw) (f : Flaw) → r ≡ Err f → unwind m n look fs levels r ≡ whole → whole ≡ Err f
+  flaw_as : (fs : List Frame) (levels : ℕ) (r whole : Result (Tree × Seen) Flaw) (f : Flaw) → r ≡ Err f →
+      unwind m n look fs levels r ≡ whole → whole ≡ Err f
   flaw_as fs levels r whole f e h = sym (unwind_as fs levels r (Err f) whole e h) ∙ unwind_err fs levels f
 
   -- the steps: down
-  pub down_end : (fs : List Frame) (levels at : ℕ) (s : Seen) (whole : Result (Tree × Seen) Flaw) → follow m n at s.blocks ≡ Ok 0
-      → unwind m n look fs (suc levels) (walk_tree m n look (suc levels) at (least m fs) s) ≡ whole → unwind m n look fs (suc levels) (Ok (leaf, s)) ≡ whole
-  down_end fs levels at s whole e h = unwind_as fs (suc levels) _ _ whole (then_with (follow m n at s.blocks) _ 0 _ e refl) h
+  pub down_end : (fs : List Frame) (levels at : ℕ) (s : Seen) (whole : Result (Tree × Seen) Flaw) →
+      follow m n at s.blocks ≡ Ok 0
+      → unwind m n look fs (suc levels) (walk_tree m n look (suc levels) at (least m fs) s) ≡ whole →
+      unwind m n look fs (suc levels) (Ok (leaf, s)) ≡ whole
+  down_end fs levels at s whole e h = unwind_as fs (suc levels) _ _ whole
+      (then_with (follow m n at s.blocks) _ 0 _ e refl) h
 
-  pub down_flaw : (fs : List Frame) (levels at : ℕ) (s : Seen) (whole : Result (Tree × Seen) Flaw) (f : Flaw) → follow m n at s.blocks ≡ Err f
+  pub down_flaw : (fs : List Frame) (levels at : ℕ) (s : Seen) (whole : Result (Tree × Seen) Flaw) (f : Flaw) →
+      follow m n at s.blocks ≡ Err f
       → unwind m n look fs (suc levels) (walk_tree m n look (suc levels) at (least m fs) s) ≡ whole → whole ≡ Err f
   down_flaw fs levels at s whole f e h = flaw_as fs (suc levels) _ whole f (then_err (follow m n at s.blocks) _ f e) h
 
@@ -64,34 +74,52 @@ module _ (m : ℕ → ℕ) (n : ℕ) (look : Look) where
       → unwind m n look fs 0 (walk_tree m n look 0 at (least m fs) s) ≡ whole → whole ≡ Err (Shared at)
   down_out fs at s whole h = flaw_as fs 0 _ whole (Shared at) refl h
 
-  pub down_block : (fs : List Frame) (levels at p : ℕ) (s : Seen) (whole : Result (Tree × Seen) Flaw) → follow m n at s.blocks ≡ Ok p → IsBlock n p
+  pub down_block : (fs : List Frame) (levels at p : ℕ) (s : Seen) (whole : Result (Tree × Seen) Flaw) →
+      follow m n at s.blocks ≡ Ok p → IsBlock n p
       → unwind m n look fs (suc levels) (walk_tree m n look (suc levels) at (least m fs) s) ≡ whole
-      → unwind m n look (in_left p ∷ fs) levels (walk_tree m n look levels (p + 1) (least m fs) (record s { blocks = p ∷ s.blocks })) ≡ whole
+      → unwind m n look (in_left p ∷ fs) levels (walk_tree m n look levels (p + 1) (least m fs)
+      (record s { blocks = p ∷ s.blocks })) ≡ whole
   down_block fs levels at p s whole e b h =
-      unwind_as fs (suc levels) _ _ whole (then_with (follow m n at s.blocks) _ p _ e (ap (λ (z : Bool). cond z (Ok (leaf, s))
-      (then (walk_tree m n look levels (p + 1) (least m fs) (record s { blocks = p ∷ s.blocks })) (λ x. go_right m n look levels (least m fs) p x.0 x.1))) (not_none n p b))) h
+      unwind_as fs (suc levels) _ _ whole (then_with (follow m n at s.blocks) _ p _ e
+      (ap (λ (z : Bool). cond z (Ok (leaf, s))
+      (then (walk_tree m n look levels (p + 1) (least m fs) (record s { blocks = p ∷ s.blocks }))
+      (λ x. go_right m n look levels (least m fs) p x.0 x.1))) (not_none n p b))) h
 
   -- up to a node whose left side is done
-  pub left_order : (fs : List Frame) (levels p : ℕ) (t : Tree) (s : Seen) (whole : Result (Tree × Seen) Flaw) → is_key m p (above (least m fs) (rows t)) ≡ false
+  pub left_order : (fs : List Frame) (levels p : ℕ) (t : Tree) (s : Seen) (whole : Result (Tree × Seen) Flaw) →
+      is_key m p (above (least m fs) (rows t)) ≡ false
       → unwind m n look (in_left p ∷ fs) levels (Ok (t, s)) ≡ whole → whole ≡ Err (Order p)
-  left_order fs levels p t s whole e h = flaw_as fs (suc levels) _ whole (Order p) (then_err (wants (is_key m p (above (least m fs) (rows t))) (Order p)) _ (Order p) (ap (λ (z : Bool). wants z (Order p)) e)) h
+  left_order fs levels p t s whole e h = flaw_as fs (suc levels) _ whole (Order p)
+      (then_err (wants (is_key m p (above (least m fs) (rows t))) (Order p)) _ (Order p)
+      (ap (λ (z : Bool). wants z (Order p)) e)) h
 
-  pub left_flaw : (fs : List Frame) (levels p : ℕ) (t : Tree) (s : Seen) (whole : Result (Tree × Seen) Flaw) (f : Flaw) → is_key m p (above (least m fs) (rows t)) ≡ true → look p s ≡ Err f
+  pub left_flaw : (fs : List Frame) (levels p : ℕ) (t : Tree) (s : Seen) (whole : Result (Tree × Seen) Flaw) (f : Flaw)
+      → is_key m p (above (least m fs) (rows t)) ≡ true → look p s ≡ Err f
       → unwind m n look (in_left p ∷ fs) levels (Ok (t, s)) ≡ whole → whole ≡ Err f
-  left_flaw fs levels p t s whole f e g h = flaw_as fs (suc levels) _ whole f (test_with (is_key m p (above (least m fs) (rows t))) (Order p) _ _ e (then_err (look p s) _ f g)) h
+  left_flaw fs levels p t s whole f e g h = flaw_as fs (suc levels) _ whole f
+      (test_with (is_key m p (above (least m fs) (rows t))) (Order p) _ _ e (then_err (look p s) _ f g)) h
 
-  pub left_done : (fs : List Frame) (levels p : ℕ) (t : Tree) (s s' : Seen) (whole : Result (Tree × Seen) Flaw) → is_key m p (above (least m fs) (rows t)) ≡ true → look p s ≡ Ok s'
-      → unwind m n look (in_left p ∷ fs) levels (Ok (t, s)) ≡ whole → unwind m n look (in_right p t ∷ fs) levels (walk_tree m n look levels (p + 2) (m p + 1) s') ≡ whole
-  left_done fs levels p t s s' whole e g h = unwind_as fs (suc levels) _ _ whole (test_with (is_key m p (above (least m fs) (rows t))) (Order p) _ _ e (then_with (look p s) _ s' _ g refl)) h
+  pub left_done : (fs : List Frame) (levels p : ℕ) (t : Tree) (s s' : Seen) (whole : Result (Tree × Seen) Flaw) →
+      is_key m p (above (least m fs) (rows t)) ≡ true → look p s ≡ Ok s'
+      → unwind m n look (in_left p ∷ fs) levels (Ok (t, s)) ≡ whole →
+      unwind m n look (in_right p t ∷ fs) levels (walk_tree m n look levels (p + 2) (m p + 1) s') ≡ whole
+  left_done fs levels p t s s' whole e g h = unwind_as fs (suc levels) _ _ whole
+      (test_with (is_key m p (above (least m fs) (rows t))) (Order p) _ _ e (then_with (look p s) _ s' _ g refl)) h
 
   -- up to a node whose right side is done
-  pub right_flaw : (fs : List Frame) (levels p : ℕ) (l t : Tree) (s : Seen) (whole : Result (Tree × Seen) Flaw) → is_coloured (m (p + 3)) l t ≡ false
+  pub right_flaw : (fs : List Frame) (levels p : ℕ) (l t : Tree) (s : Seen) (whole : Result (Tree × Seen) Flaw) →
+      is_coloured (m (p + 3)) l t ≡ false
       → unwind m n look (in_right p l ∷ fs) levels (Ok (t, s)) ≡ whole → whole ≡ Err (Colour (p + 3))
-  right_flaw fs levels p l t s whole e h = flaw_as fs (suc levels) _ whole (Colour (p + 3)) (then_err (wants (is_coloured (m (p + 3)) l t) (Colour (p + 3))) _ (Colour (p + 3)) (ap (λ (z : Bool). wants z (Colour (p + 3))) e)) h
+  right_flaw fs levels p l t s whole e h = flaw_as fs (suc levels) _ whole (Colour (p + 3))
+      (then_err (wants (is_coloured (m (p + 3)) l t) (Colour (p + 3))) _ (Colour (p + 3))
+      (ap (λ (z : Bool). wants z (Colour (p + 3))) e)) h
 
-  pub right_done : (fs : List Frame) (levels p : ℕ) (l t : Tree) (s : Seen) (whole : Result (Tree × Seen) Flaw) → is_coloured (m (p + 3)) l t ≡ true
-      → unwind m n look (in_right p l ∷ fs) levels (Ok (t, s)) ≡ whole → unwind m n look fs (suc levels) (Ok (node (nat_eq (m (p + 3)) 1) l (m p, p) t, s)) ≡ whole
-  right_done fs levels p l t s whole e h = unwind_as fs (suc levels) _ _ whole (test_with (is_coloured (m (p + 3)) l t) (Colour (p + 3)) _ _ e refl) h
+  pub right_done : (fs : List Frame) (levels p : ℕ) (l t : Tree) (s : Seen) (whole : Result (Tree × Seen) Flaw) →
+      is_coloured (m (p + 3)) l t ≡ true
+      → unwind m n look (in_right p l ∷ fs) levels (Ok (t, s)) ≡ whole →
+      unwind m n look fs (suc levels) (Ok (node (nat_eq (m (p + 3)) 1) l (m p, p) t, s)) ≡ whole
+  right_done fs levels p l t s whole e h = unwind_as fs (suc levels) _ _ whole
+      (test_with (is_coloured (m (p + 3)) l t) (Colour (p + 3)) _ _ e refl) h
 
 -- the next key, behind a node
 pub above_node : (lo k p : ℕ) (rs ts : Rows) → above lo (rs ++ ((k, p) ∷ ts)) ≡ above (k + 1) ts

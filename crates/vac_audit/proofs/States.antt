@@ -31,4 +31,5 @@ pub record Shows (m : ℕ → ℕ) (n : ℕ) (p : Parts) (s : State) : Type 0 wh
 
 -- a sound heap is a state's, and its report is the state's
 abbrev pub StateLaw : Type 0
-StateLaw = (m : ℕ → ℕ) (blocks : ℕ) (p : Parts) → IsSound m (16 + 8 * blocks) p → Shows m (16 + 8 * blocks) p (state_of m blocks p) × (report_of m p ≡ report (state_of m blocks p))
+StateLaw = (m : ℕ → ℕ) (blocks : ℕ) (p : Parts) → IsSound m (16 + 8 * blocks) p →
+    Shows m (16 + 8 * blocks) p (state_of m blocks p) × (report_of m p ≡ report (state_of m blocks p))

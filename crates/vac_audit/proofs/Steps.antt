@@ -1,5 +1,6 @@
 -- Steps of the walk.
-use Rattle.std.proofs.Common.{◌≡◌, ◌≢◌, ◌⊎◌, inl, inr, ℕ, ◌+◌, ◌-◌, ◌/◌, ◌%◌, ◌≤◌, Bool, true, false, cond, List, refl, ap, ◌∙◌, subst, arith, nat_eq}
+use Rattle.std.proofs.Common.{◌≡◌, ◌≢◌, ◌⊎◌, inl, inr, ℕ, ◌+◌, ◌-◌, ◌/◌, ◌%◌, ◌≤◌, Bool, true, false, cond, List, refl}
+use Rattle.std.proofs.Common.{ap, ◌∙◌, subst, arith, nat_eq}
 use Rattle.std.specs.Prelude.{Result, Ok, Err}
 use Rattle.std.proofs.lemmas.Bool.Decides.{nat_tests}
 use Rattle.tx_alloc.specs.Pool.{IsBlock, held}
@@ -7,7 +8,8 @@ use Rattle.vac_audit.specs.Walk.{then, wants, follow, is_place}
 use Rattle.vac_audit.specs.declared.Flaw.{Flaw}
 use Rattle.vac_audit.specs.declared.Flaw.TheVariants.{Pointer, Shared}
 
-pub then_with : {A B : Type 0} (x : Result A Flaw) (k : A → Result B Flaw) (a : A) (r : Result B Flaw) → x ≡ Ok a → k a ≡ r → then x k ≡ r
+pub then_with : {A B : Type 0} (x : Result A Flaw) (k : A → Result B Flaw) (a : A) (r : Result B Flaw) → x ≡ Ok a →
+    k a ≡ r → then x k ≡ r
 then_with {A = A} x k a r e f = ap (λ (z : Result A Flaw). then z k) e ∙ f
 
 pub wants_ok : (t : Bool) (f : Flaw) (u : Unit {0}) → wants t f ≡ Ok u → t ≡ true
@@ -40,9 +42,14 @@ pub record IsFresh (m : ℕ → ℕ) (n a : ℕ) (seen : List ℕ) (p : ℕ) : T
   pub block : IsBlock n p
   pub fresh : held p seen ≡ 0
 
-follow_at : (m : ℕ → ℕ) (n a : ℕ) (seen : List ℕ) (p : ℕ) (z u v : Bool) → nat_eq (m a) 0 ≡ z → is_place n (m a) ≡ u → nat_eq (held (m a) seen) 0 ≡ v
-    → cond z (Ok 0) (cond u (cond v (Ok (m a)) (Err (Shared a))) (Err (Pointer a))) ≡ Ok p → ((p ≡ 0) × (m a ≡ 0)) ⊎ IsFresh m n a seen p
-follow_at m n a seen p true u v z' u' v' e = inl ((let z : ◌≡◌ {A = Result ℕ Flaw} (Ok 0) (Ok p) = e in cc), grind (arith, nat_tests))
+follow_at : (m : ℕ → ℕ) (n a : ℕ) (seen : List ℕ) (p : ℕ) (z u v : Bool) → nat_eq (m a) 0 ≡ z → is_place n (m a) ≡ u →
+    nat_eq (held (m a) seen) 0 ≡ v
+    → cond z (Ok 0) (cond u (cond v (Ok (m a)) (Err (Shared a))) (Err (Pointer a))) ≡ Ok p →
+    ((p ≡ 0) × (m a ≡ 0)) ⊎ IsFresh m n a seen p
+follow_at m n a seen p true u v z' u' v' e = inl (
+  (let z : ◌≡◌ {A = Result ℕ Flaw} (Ok 0) (Ok p) = e in cc),
+  grind (arith, nat_tests),
+)
 follow_at m n a seen p false true true z' u' v' e =
     let same : m a ≡ p = let z : ◌≡◌ {A = Result ℕ Flaw} (Ok (m a)) (Ok p) = e in cc in
     inr (record {
@@ -53,7 +60,8 @@ follow_at m n a seen p false true true z' u' v' e =
 follow_at m n a seen p false true false z' u' v' e = absurd (let z : Err (Shared a) ≡ Ok p = e in cc)
 follow_at m n a seen p false false v z' u' v' e = absurd (let z : Err (Pointer a) ≡ Ok p = e in cc)
 
-pub follow_ok : (m : ℕ → ℕ) (n a : ℕ) (seen : List ℕ) (p : ℕ) → follow m n a seen ≡ Ok p → ((p ≡ 0) × (m a ≡ 0)) ⊎ IsFresh m n a seen p
+pub follow_ok : (m : ℕ → ℕ) (n a : ℕ) (seen : List ℕ) (p : ℕ) → follow m n a seen ≡ Ok p →
+    ((p ≡ 0) × (m a ≡ 0)) ⊎ IsFresh m n a seen p
 follow_ok m n a seen p e = follow_at m n a seen p _ _ _ refl refl refl e
 
 pub follow_end : (m : ℕ → ℕ) (n a : ℕ) (seen : List ℕ) → m a ≡ 0 → follow m n a seen ≡ Ok 0
@@ -71,35 +79,46 @@ pub not_none : (n p : ℕ) → IsBlock n p → nat_eq p 0 ≡ false
 not_none n p (b, (high, is)) = let ne : p ≢ 0 = omega arith in grind (arith, nat_tests)
 
 -- where two parts succeed, both do
-pub both_ok : {A B : Type 0} (G : Type 0) (x : Result A Flaw) (k : A → Result B Flaw) (b : B) → then x k ≡ Ok b → ((a : A) → x ≡ Ok a → k a ≡ Ok b → G) → G
+pub both_ok : {A B : Type 0} (G : Type 0) (x : Result A Flaw) (k : A → Result B Flaw) (b : B) → then x k ≡ Ok b →
+    ((a : A) → x ≡ Ok a → k a ≡ Ok b → G) → G
 both_ok G (Ok a) k b e go = go a refl e
 both_ok G (Err f) k b e go = absurd (let q : Err f ≡ Ok b = e in cc)
 
-pub test_ok : {B : Type 0} (G : Type 0) (t : Bool) (f : Flaw) (k : Unit {0} → Result B Flaw) (b : B) → then (wants t f) k ≡ Ok b → (t ≡ true → k tt ≡ Ok b → G) → G
+pub test_ok : {B : Type 0} (G : Type 0) (t : Bool) (f : Flaw) (k : Unit {0} → Result B Flaw) (b : B) →
+    then (wants t f) k ≡ Ok b → (t ≡ true → k tt ≡ Ok b → G) → G
 test_ok G true f k b e go = go refl e
 test_ok G false f k b e go = absurd (let q : Err f ≡ Ok b = e in cc)
 
-pub test_with : {B : Type 0} (t : Bool) (f : Flaw) (k : Unit {0} → Result B Flaw) (r : Result B Flaw) → t ≡ true → k tt ≡ r → then (wants t f) k ≡ r
+pub test_with : {B : Type 0} (t : Bool) (f : Flaw) (k : Unit {0} → Result B Flaw) (r : Result B Flaw) → t ≡ true →
+    k tt ≡ r → then (wants t f) k ≡ r
 test_with t f k r e g = ap (λ (z : Bool). then (wants z f) k) e ∙ g
 
-cond_ok : {A : Type 0} (G : Type 0) (t : Bool) (x y z : A) → cond t x y ≡ z → (t ≡ true → x ≡ z → G) → (t ≡ false → y ≡ z → G) → G
+cond_ok : {A : Type 0} (G : Type 0) (t : Bool) (x y z : A) → cond t x y ≡ z → (t ≡ true → x ≡ z → G) →
+    (t ≡ false → y ≡ z → G) → G
 cond_ok G true x y z e at else = at refl e
 cond_ok G false x y z e at else = else refl e
 
 -- a walk that goes on at the pointer in word a, and ends without a flaw
-pub enter_ok : {A : Type 0} (G : Type 0) (m : ℕ → ℕ) (n a : ℕ) (seen : List ℕ) (x : Result A Flaw) (k : ℕ → Result A Flaw) (b : A)
-    → then (follow m n a seen) (λ p. cond (nat_eq p 0) x (k p)) ≡ Ok b → (m a ≡ 0 → x ≡ Ok b → G) → ((p : ℕ) → IsFresh m n a seen p → k p ≡ Ok b → G) → G
+pub enter_ok : {A : Type 0} (G : Type 0) (m : ℕ → ℕ) (n a : ℕ) (seen : List ℕ) (x : Result A Flaw) (k : ℕ →
+    Result A Flaw) (b : A)
+    → then (follow m n a seen) (λ p. cond (nat_eq p 0) x (k p)) ≡ Ok b → (m a ≡ 0 → x ≡ Ok b → G) →
+    ((p : ℕ) → IsFresh m n a seen p → k p ≡ Ok b → G) → G
 enter_ok G m n a seen x k b e stop go = both_ok G (follow m n a seen) _ b e (λ p f g.
     elim (follow_ok m n a seen p f) [
-      | inl w ↦ cond_ok G (nat_eq p 0) _ _ _ g (λ t q. stop w.1 q) (λ t q. absurd (let u : nat_eq p 0 ≡ true = grind (arith, nat_tests, w.0) in cc))
-      | inr h ↦ cond_ok G (nat_eq p 0) _ _ _ g (λ t q. absurd (let u : nat_eq p 0 ≡ false = not_none n p h.block in cc)) (λ t q. go p h q)
+      | inl w ↦ cond_ok G (nat_eq p 0) _ _ _ g (λ t q. stop w.1 q) (λ t q. absurd (let u : nat_eq p 0 ≡ true =
+          grind (arith, nat_tests, w.0) in cc))
+      | inr h ↦ cond_ok G (nat_eq p 0) _ _ _ g (λ t q. absurd (let u : nat_eq p 0 ≡ false = not_none n p h.block in cc))
+          (λ t q. go p h q)
     ])
 
-pub enter_end : {A : Type 0} (m : ℕ → ℕ) (n a : ℕ) (seen : List ℕ) (x : Result A Flaw) (k : ℕ → Result A Flaw) (r : Result A Flaw)
+pub enter_end : {A : Type 0} (m : ℕ → ℕ) (n a : ℕ) (seen : List ℕ) (x : Result A Flaw) (k : ℕ →
+    Result A Flaw) (r : Result A Flaw)
     → m a ≡ 0 → x ≡ r → then (follow m n a seen) (λ p. cond (nat_eq p 0) x (k p)) ≡ r
 enter_end m n a seen x k r e q = then_with (follow m n a seen) _ 0 r (follow_end m n a seen e) q
 
-pub enter_block : {A : Type 0} (m : ℕ → ℕ) (n a : ℕ) (seen : List ℕ) (x : Result A Flaw) (k : ℕ → Result A Flaw) (p : ℕ) (r : Result A Flaw)
+pub enter_block : {A : Type 0} (m : ℕ → ℕ) (n a : ℕ) (seen : List ℕ) (x : Result A Flaw) (k : ℕ →
+    Result A Flaw) (p : ℕ) (r : Result A Flaw)
     → IsFresh m n a seen p → k p ≡ r → then (follow m n a seen) (λ p. cond (nat_eq p 0) x (k p)) ≡ r
 enter_block m n a seen x k p r h q =
-    then_with (follow m n a seen) _ p r (follow_block m n a seen p h) (ap (λ (z : Bool). cond z x (k p)) (not_none n p h.block) ∙ q)
+    then_with (follow m n a seen) _ p r (follow_block m n a seen p h)
+    (ap (λ (z : Bool). cond z x (k p)) (not_none n p h.block) ∙ q)

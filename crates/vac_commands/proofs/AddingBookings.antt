@@ -1,5 +1,6 @@
 -- Units are booked of an item that has so many: by a customer who has no booking of it.
-use Rattle.std.proofs.Common.{◌≡◌, inl, inr, ℕ, ◌+◌, ◌<◌, ◌≤◌, ◌^◌, List, [], ◌∷◌, length, Option, Some, None, true, false, nat_le, nat_lt, refl, sym, ap, ◌∙◌, subst, arith}
+use Rattle.std.proofs.Common.{◌≡◌, inl, inr, ℕ, ◌+◌, ◌<◌, ◌≤◌, ◌^◌, List, [], ◌∷◌, length, Option, Some, None, true}
+use Rattle.std.proofs.Common.{false, nat_le, nat_lt, refl, sym, ap, ◌∙◌, subst, arith}
 use Rattle.std.proofs.lemmas.Bool.Decides.{nat_tests}
 use Rattle.std.specs.FinMap.{get, insert}
 use Rattle.tx_memory.specs.Seen.{same_or}
@@ -45,7 +46,8 @@ use Rattle.vac_commands.specs.declared.bookings.Offer.{Offer}
 use Rattle.vac_commands.specs.Entries.{ItemIsAt, CustomerIsAt}
 use Rattle.vac_commands.specs.BookingSteps.{booking_block, Here, AtSpot, HasSpot, IsOffered, Lands, Serves}
 use Rattle.vac_commands.proofs.Serving.{reads_serve}
-use Rattle.vac_commands.proofs.Owners.{here_at, owned, at_owner, its_list, at_item, its_item, not_booked, owner_in_table, owner_is_block}
+use Rattle.vac_commands.proofs.Owners.{here_at, owned, at_owner, its_list, at_item, its_item, not_booked}
+use Rattle.vac_commands.proofs.Owners.{owner_in_table, owner_is_block}
 use Rattle.vac_commands.proofs.InHand.{loose, outside, same_rows}
 use Rattle.vac_commands.proofs.Cancelling.{item_stays, item_words}
 use Rattle.vac_commands.proofs.Extending.{counts_fit}
@@ -64,22 +66,30 @@ has_no_room s e = nat_le_true s.capacity (size s) e where
   nat_le_true a b e = grind (arith, nat_tests)
 
 -- the customer stands where it stood, with the same bookings
-customer_stays : (m m' : ℕ → ℕ) (n : ℕ) (out out' : List ℕ) (s : State) (h : Represents m n out s) (customer owner : ℕ) (bs : Bookings) → (g : Stays h m' out' s) → IsCustomerAt h customer owner bs → IsCustomerAt g.after customer owner bs
+customer_stays : (m m' : ℕ → ℕ) (n : ℕ) (out out' : List ℕ) (s : State) (h : Represents m n out s) (customer owner : ℕ)
+    (bs : Bookings) → (g : Stays h m' out' s) → IsCustomerAt h customer owner bs →
+    IsCustomerAt g.after customer owner bs
 customer_stays m m' n out out' s h customer owner bs g at =
     let four : 3 < 4 = omega arith in
     record { at = ap (λ (rs : Rows). block_at rs customer) (g.tables 3 four) ∙ at.at; some = at.some; there = at.there }
 
 -- a booking that the state does not have is in no list
-no_row : (m : ℕ → ℕ) (n : ℕ) (out : List ℕ) (s : State) (h : Represents m n out s) (customer owner : ℕ) (bs : Bookings) (place : Place) → IsCustomerAt h customer owner bs → place.1 < 2 ^ 32 → get bs place ≡ None → block_at (h.parts.lists owner) (place_key place) ≡ 0
-no_row m n out s h customer owner bs place at small missing = elim (same_or (block_at (h.parts.lists owner) (place_key place)) 0) [
-  | inl z ↦ z
-  | inr nz ↦ (
-      let b = block_at (h.parts.lists owner) (place_key place) in
-      let never : ◌≡◌ {A = Option Booking} None (Some (booking_in m b)) = sym missing ∙ booking_found m n out s h customer owner bs place b at (record { small = small; at = refl; some = nz }) in
-      absurd cc)
-]
+no_row : (m : ℕ → ℕ) (n : ℕ) (out : List ℕ) (s : State) (h : Represents m n out s) (customer owner : ℕ) (bs : Bookings)
+    (place : Place) → IsCustomerAt h customer owner bs → place.1 < 2 ^ 32 → get bs place ≡ None →
+    block_at (h.parts.lists owner) (place_key place) ≡ 0
+no_row m n out s h customer owner bs place at small missing =
+    elim (same_or (block_at (h.parts.lists owner) (place_key place)) 0) [
+      | inl z ↦ z
+      | inr nz ↦ (
+          let b = block_at (h.parts.lists owner) (place_key place) in
+          let never : ◌≡◌ {A = Option Booking} None (Some (booking_in m b)) =
+          sym missing ∙ booking_found m n out s h customer owner bs place b at
+          (record { small = small; at = refl; some = nz }) in
+          absurd cc)
+    ]
 
-module _ (m : ℕ → ℕ) (n : ℕ) (s : State) (h : IsState m n s) (customer owner : ℕ) (kind : Kind) (id item : ℕ) (e : Here h customer owner kind id item)
+module _ (m : ℕ → ℕ) (n : ℕ) (s : State) (h : IsState m n s) (customer owner : ℕ) (kind : Kind) (id item : ℕ)
+    (e : Here h customer owner kind id item)
     (none : booking_block h owner (kind, id) ≡ 0) where
   abbrev had : Bookings
   had = (owned m n s h customer owner kind id item e).bookings
@@ -90,7 +100,8 @@ module _ (m : ℕ → ℕ) (n : ℕ) (s : State) (h : IsState m n s) (customer o
   there : item_of s kind id ≡ Some (item_in m item)
   there = its_item m n s h customer owner kind id item e
 
-  pub no_place : (num : ℕ) → num ≤ m (item + 5) → ((i : ℕ) → i < 8 → h.represents.parts.free i ≡ []) → step s (command.Reserve customer kind id num) ≡ refused s Full
+  pub no_place : (num : ℕ) → num ≤ m (item + 5) → ((i : ℕ) → i < 8 → h.represents.parts.free i ≡ []) →
+      step s (command.Reserve customer kind id num) ≡ refused s Full
   no_place num free all =
       let f : nat_lt (item_in m item).free num ≡ false = enough_free (m (item + 5)) num free in
       let t : is_full s ≡ true = has_no_room s (none_left m n s h.represents all) in
@@ -102,7 +113,8 @@ module _ (m : ℕ → ℕ) (n : ℕ) (s : State) (h : IsState m n s) (customer o
     hand = block_drawn m m1 n start b [] s h.represents t
 
     at_hand : IsCustomerAt hand.after customer owner had
-    at_hand = customer_stays m m1 n [] (b ∷ []) s h.represents customer owner had hand (at_owner m n s h customer owner kind id item e (owned m n s h customer owner kind id item e))
+    at_hand = customer_stays m m1 n [] (b ∷ []) s h.represents customer owner had hand
+        (at_owner m n s h customer owner kind id item e (owned m n s h customer owner kind id item e))
 
     pub rows_now : Rows
     rows_now = hand.after.parts.lists owner
@@ -122,7 +134,8 @@ module _ (m : ℕ → ℕ) (n : ℕ) (s : State) (h : IsState m n s) (customer o
           loose = loose m1 n b s t.block hand.after customer owner had at_hand;
         })
 
-    module _ (m2 : ℕ → ℕ) (num price : ℕ) (k : IsBooked m1 m2 n owner rows_now (kind, id) num price b) (free : num ≤ m (item + 5)) (price_is : m (item + 7) ≡ price) where
+    module _ (m2 : ℕ → ℕ) (num price : ℕ) (k : IsBooked m1 m2 n owner rows_now (kind, id) num price b)
+        (free : num ≤ m (item + 5)) (price_is : m (item + 7) ≡ price) where
       written : Stays hand.after k.between (b ∷ []) s
       written = block_written m1 k.between n b [] s t.block hand.after k.made.others
 
@@ -131,7 +144,8 @@ module _ (m : ℕ → ℕ) (n : ℕ) (s : State) (h : IsState m n s) (customer o
 
       grown : ListGrown k.between m2 n owner (written.after.parts.lists owner) (place_key (kind, id)) b
       unfolding rows_now
-      grown = subst (λ (z : Rows). ListGrown k.between m2 n owner z (place_key (kind, id)) b) (same_rows m1 n b s t.block hand.after customer owner had at_hand k.between written k.made.others)
+      grown = subst (λ (z : Rows). ListGrown k.between m2 n owner z (place_key (kind, id)) b)
+          (same_rows m1 n b s t.block hand.after customer owner had at_hand k.between written k.made.others)
           (record { list = k.list.list; relinks = k.relinks })
 
       placed : place_in k.between b ≡ (kind, id)
@@ -144,17 +158,24 @@ module _ (m : ℕ → ℕ) (n : ℕ) (s : State) (h : IsState m n s) (customer o
       more = with_bookings s customer (insert had (kind, id) (booking_in k.between b))
 
       hung : Stays written.after m2 [] more
-      hung = booking_inserted k.between m2 n b [] s customer owner had (kind, id) t.block written.after at_written e.small
-          (no_row k.between n (b ∷ []) s written.after customer owner had (kind, id) at_written e.small missing) placed grown
+      hung = booking_inserted k.between m2 n b [] s customer owner had (
+        kind,
+        id,
+      ) t.block written.after at_written e.small
+          (no_row k.between n (b ∷ []) s written.after customer owner had (kind, id) at_written e.small missing) placed
+          grown
 
       joined : Stays h.represents m2 [] more
       joined = record { after = hung.after; tables = λ i l. hung.tables i l ∙ (written.tables i l ∙ hand.tables i l) }
 
       item_at : IsItemAt joined.after kind id item
-      item_at = item_stays m m2 n [] [] s more h.represents kind id item joined (at_item m n s h customer owner kind id item e)
+      item_at = item_stays m m2 n [] [] s more h.represents kind id item joined
+          (at_item m n s h customer owner kind id item e)
 
       item_same : item_in m2 item ≡ item_in m item
-      item_same = item_words m m2 n [] [] s more h.represents kind id item joined (at_item m n s h customer owner kind id item e) (item_of-with_bookings s customer (insert had (kind, id) (booking_in k.between b)) kind id)
+      item_same = item_words m m2 n [] [] s more h.represents kind id item joined
+          (at_item m n s h customer owner kind id item e) (item_of-with_bookings s customer
+          (insert had (kind, id) (booking_in k.between b)) kind id)
 
       pub free_same : m2 (item + 5) ≡ m (item + 5)
       free_same = ap (λ (x : Item). x.free) item_same
@@ -162,39 +183,53 @@ module _ (m : ℕ → ℕ) (n : ℕ) (s : State) (h : IsState m n s) (customer o
       pub used_fits : m2 (item + 4) + num < 2 ^ 64
       used_fits = omega (arith, counts_fit m n s h kind id item num there free, ap (λ (x : Item). x.used) item_same)
 
-      pub added_lands : (m3 : ℕ → ℕ) → IsItemNow m2 m3 item (taken (item_in m2 item) num) → Lands h m3 (command.Reserve customer kind id num) reply.Done
+      pub added_lands : (m3 : ℕ → ℕ) → IsItemNow m2 m3 item (taken (item_in m2 item) num) →
+          Lands h m3 (command.Reserve customer kind id num) reply.Done
       added_lands m3 made =
           let after = item_replaced m2 m3 n [] more kind id item joined.after item_at made.others in
           let f : nat_lt (item_in m item).free num ≡ false = enough_free (m (item + 5)) num free in
           let r : is_full s ≡ false = has_room s (some_left m1 n b s hand.after) in
-          let stepped : step s (command.Reserve customer kind id num) ≡ done (with_item (with_bookings s customer (insert had (kind, id) (new_booking num (m (item + 7))))) kind id (taken (item_in m item) num)) =
+          let stepped : step s (command.Reserve customer kind id num) ≡ done
+          (with_item (with_bookings s customer (insert had (kind, id) (new_booking num (m (item + 7))))) kind id
+          (taken (item_in m item) num)) =
           rw ((owned m n s h customer owner kind id item e).there, there, f, missing, r) refl in
-          let booked : new_booking num (m (item + 7)) ≡ booking_in k.between b = ap (new_booking num) price_is ∙ sym k.made.is in
-          let put : taken (item_in m item) num ≡ item_in m3 item = ap (λ (x : Item). taken x num) (sym item_same) ∙ sym made.is in
+          let booked : new_booking num (m (item + 7)) ≡ booking_in k.between b =
+          ap (new_booking num) price_is ∙ sym k.made.is in
+          let put : taken (item_in m item) num ≡ item_in m3 item =
+          ap (λ (x : Item). taken x num) (sym item_same) ∙ sym made.is in
           record {
             state = with_item more kind id (item_in m3 item);
-            is = stepped ∙ (ap (λ (x : Booking). done (with_item (with_bookings s customer (insert had (kind, id) x)) kind id (taken (item_in m item) num))) booked
+            is = stepped ∙ (ap (λ (x : Booking). done (with_item
+                (with_bookings s customer (insert had (kind, id) x)) kind id (taken (item_in m item) num))) booked
                 ∙ ap (λ (x : Item). done (with_item more kind id x)) put);
             stays = record { after = after.after; tables = λ i l. after.tables i l ∙ joined.tables i l };
           }
 
 -- the customer has no booking where the spot has none
-none_at : (m : ℕ → ℕ) (n : ℕ) (s : State) (h : IsState m n s) (customer owner : ℕ) (kind : Kind) (id item : ℕ) (spot : Spot) → spot.entry ≡ None → AtSpot customer owner kind id item spot m n s h → booking_block h owner (kind, id) ≡ 0
+none_at : (m : ℕ → ℕ) (n : ℕ) (s : State) (h : IsState m n s) (customer owner : ℕ) (kind : Kind) (id item : ℕ)
+    (spot : Spot) → spot.entry ≡ None → AtSpot customer owner kind id item spot m n s h →
+    booking_block h owner (kind, id) ≡ 0
 none_at m n s h customer owner kind id item spot absent p = sym p.at.entry ∙ ap pointer absent
 
 -- the calls, under each image
-module _ (s : View) (customer owner : ℕ) (kind : Kind) (id item num : ℕ) (offer : Offer) (spot : Spot) (o : IsOffered s item num offer) (absent : spot.entry ≡ None) where
+module _ (s : View) (customer owner : ℕ) (kind : Kind) (id item num : ℕ) (offer : Offer) (spot : Spot)
+    (o : IsOffered s item num offer) (absent : spot.entry ≡ None) where
   enough_at : (image : List ℕ) → Sees s image → num ≤ mem s image (item + 5)
   enough_at image i = omega (arith, o.enough, o.free_is image i)
 
-  none : (image : List ℕ) (state : State) (h : IsState (mem s image) (length image) state) → AtSpot customer owner kind id item spot (mem s image) (length image) state h → booking_block h owner (kind, id) ≡ 0
+  none : (image : List ℕ) (state : State) (h : IsState (mem s image) (length image) state) →
+      AtSpot customer owner kind id item spot (mem s image) (length image) state h →
+      booking_block h owner (kind, id) ≡ 0
   none image state h p = none_at (mem s image) (length image) state h customer owner kind id item spot absent p
 
-  pub no_block : (s1 : View) → NoneFree s s1 → Serves s s1 (command.Reserve customer kind id num) (reply.No Full) (AtSpot customer owner kind id item spot)
-  no_block s1 z = reads_serve s s1 (command.Reserve customer kind id num) (reply.No Full) (AtSpot customer owner kind id item spot) (record { kept = z.kept; writes = z.writes }) (λ image state i h p.
+  pub no_block : (s1 : View) → NoneFree s s1 → Serves s s1 (command.Reserve customer kind id num) (reply.No Full)
+      (AtSpot customer owner kind id item spot)
+  no_block s1 z = reads_serve s s1 (command.Reserve customer kind id num) (reply.No Full)
+      (AtSpot customer owner kind id item spot) (record { kept = z.kept; writes = z.writes }) (λ image state i h p.
       let q = h.represents.parts in
       no_place (mem s image) (length image) state h customer owner kind id item p.here (none image state h p)
-      num (enough_at image (z.kept.seen image i)) (z.none image q.free (used_in q) (count_in q) i (pool_there (mem s image) (length image) [] state h.represents)))
+      num (enough_at image (z.kept.seen image i)) (z.none image q.free (used_in q) (count_in q) i
+      (pool_there (mem s image) (length image) [] state h.represents)))
 
   module _ (s1 : View) (b start : ℕ) (t : Drawn s s1 start b) where
     its_taking : (image : List ℕ) (state : State) → Sees s1 image → (h : IsState (mem s image) (length image) state) →
@@ -212,9 +247,12 @@ module _ (s : View) (customer owner : ℕ) (kind : Kind) (id item num : ℕ) (of
 
     module _ (s2 : View) (w : BookedAt s1 s2 spot (kind, id) num offer.price b) where
       -- the words of the customer's list are as before, and so its spots
-      its_booking : (image : List ℕ) (state : State) → Sees s2 image → (i1 : Sees s1 image) → (h : IsState (mem s image) (length image) state) → (p : AtSpot customer owner kind id item spot (mem s image) (length image) state h) →
+      its_booking : (image : List ℕ) (state : State) → Sees s2 image → (i1 : Sees s1 image) →
+          (h : IsState (mem s image) (length image) state) →
+          (p : AtSpot customer owner kind id item spot (mem s image) (length image) state h) →
           IsBooked (mem s1 image) (mem s2 image) (length image) owner
-          (rows_now (mem s image) (length image) state h customer owner kind id item p.here (none image state h p) (mem s1 image) b start (its_taking image state i1 h))
+          (rows_now (mem s image) (length image) state h customer owner kind id item p.here (none image state h p)
+          (mem s1 image) b start (its_taking image state i1 h))
           (kind, id) num offer.price b
       its_booking image state i i1 h p =
           let m = mem s image in
@@ -237,21 +275,34 @@ module _ (s : View) (customer owner : ℕ) (kind : Kind) (id item num : ℕ) (of
                 draw_same m m1 n start b parts h.represents.heap g a k ba
                 (omega (arith, o, over_has (times a) owner (parts.tables 3) parts.lists inside)) (omega arith);
           } in
-          let kept : IsList m1 n (m1 (head_of owner)) rows = rw still.start (list_frame m m1 n (m (head_of owner)) rows list.list still.blocks) in
+          let kept : IsList m1 n (m1 (head_of owner)) rows =
+          rw still.start (list_frame m m1 n (m (head_of owner)) rows list.list still.blocks) in
           let same : rows ≡ now = list_one m1 n (m1 (head_of owner)) rows now kept listed.list in
           let there = spot_stays m m1 (head_of owner) (place_key (kind, id)) spot rows still p.at in
-          w.booked image i owner now listed (subst (λ (z : Rows). SpotAt m1 (head_of owner) (place_key (kind, id)) spot z) same there)
+          w.booked image i owner now listed (subst (λ (z : Rows). SpotAt m1 (head_of owner)
+          (place_key (kind, id)) spot z) same there)
           (can_hang m n state h customer owner kind id item p.here (none image state h p) m1 b start g now listed)
 
-      free_now : (image : List ℕ) (state : State) → Sees s2 image → (i1 : Sees s1 image) → Sees s image → (h : IsState (mem s image) (length image) state) → (p : AtSpot customer owner kind id item spot (mem s image) (length image) state h) → mem s2 image (item + 5) ≡ offer.free
+      free_now : (image : List ℕ) (state : State) → Sees s2 image → (i1 : Sees s1 image) → Sees s image →
+          (h : IsState (mem s image) (length image) state) →
+          (p : AtSpot customer owner kind id item spot (mem s image) (length image) state h) →
+          mem s2 image (item + 5) ≡ offer.free
       free_now image state i i1 i0 h p =
-          free_same (mem s image) (length image) state h customer owner kind id item p.here (none image state h p) (mem s1 image) b start (its_taking image state i1 h)
-          (mem s2 image) num offer.price (its_booking image state i i1 h p) (enough_at image i0) (o.price_is image i0) ∙ o.free_is image i0
+          free_same (mem s image) (length image) state h customer owner kind id item p.here (none image state h p)
+          (mem s1 image) b start (its_taking image state i1 h)
+          (mem s2 image) num offer.price (its_booking image state i i1 h p) (enough_at image i0) (o.price_is image i0) ∙
+          o.free_is image i0
 
-      pub can_make : HoldsState s → CustomerIsAt s customer owner → ItemIsAt s kind id item → HasSpot s owner (kind, id) spot → id < 2 ^ 32 → CanMakeOf s2 item num offer.free
+      pub can_make : HoldsState s → CustomerIsAt s customer owner → ItemIsAt s kind id item →
+          HasSpot s owner (kind, id) spot → id < 2 ^ 32 → CanMakeOf s2 item num offer.free
       can_make held c f q small =
-          let at : (image : List ℕ) (state : State) → RestsOn s image → (h : IsState (mem s image) (length image) state) → AtSpot customer owner kind id item spot (mem s image) (length image) state h = λ image state i h.
-          record { here = here_at s customer owner kind id item c f small image state i h; at = q.at image state i h } in
+          let at : (image : List ℕ) (state : State) → RestsOn s image →
+          (h : IsState (mem s image) (length image) state) →
+          AtSpot customer owner kind id item spot (mem s image) (length image) state h = λ image state i h.
+          record {
+            here = here_at s customer owner kind id item c f small image state i h;
+            at = q.at image state i h;
+          } in
           record {
             free_is = λ image i.
                 let i1 = stood w.kept image i in
@@ -265,12 +316,15 @@ module _ (s : View) (customer owner : ℕ) (kind : Kind) (id item num : ℕ) (of
                   let i0 = stood t.kept image i1 in
                   let r = held.under image i0 in
                   let p = at image r.0 i0 r.1 in
-                  used_fits (mem s image) (length image) r.0 r.1 customer owner kind id item p.here (none image r.0 r.1 p) (mem s1 image) b start (its_taking image r.0 i1.sees r.1)
-                  (mem s2 image) num offer.price (its_booking image r.0 i.sees i1.sees r.1 p) (enough_at image i0.sees) (o.price_is image i0.sees);
+                  used_fits (mem s image) (length image) r.0 r.1 customer owner kind id item p.here
+                  (none image r.0 r.1 p) (mem s1 image) b start (its_taking image r.0 i1.sees r.1)
+                  (mem s2 image) num offer.price (its_booking image r.0 i.sees i1.sees r.1 p) (enough_at image i0.sees)
+                  (o.price_is image i0.sees);
             };
           }
 
-      pub add_done : (s3 : View) → ItemChangedOf s2 s3 item offer.free (λ x. taken x num) → Serves s s3 (command.Reserve customer kind id num) reply.Done (AtSpot customer owner kind id item spot)
+      pub add_done : (s3 : View) → ItemChangedOf s2 s3 item offer.free (λ x. taken x num) →
+          Serves s s3 (command.Reserve customer kind id num) reply.Done (AtSpot customer owner kind id item spot)
       add_done s3 made = record {
         kept = kept_both s s2 s3 (kept_both s s1 s2 t.kept w.kept) made.kept;
         untouched = tt;
@@ -279,7 +333,9 @@ module _ (s : View) (customer owner : ℕ) (kind : Kind) (id item num : ℕ) (of
             let i2 = made.kept.seen image i in
             let i1 = w.kept.seen image i2 in
             let i0 = t.kept.seen image i1 in
-            added_lands (mem s image) (length image) state h customer owner kind id item p.here (none image state h p) (mem s1 image) b start (its_taking image state i1 h)
-            (mem s2 image) num offer.price (its_booking image state i2 i1 h p) (enough_at image i0) (o.price_is image i0) (mem s3 image)
+            added_lands (mem s image) (length image) state h customer owner kind id item p.here (none image state h p)
+            (mem s1 image) b start (its_taking image state i1 h)
+            (mem s2 image) num offer.price (its_booking image state i2 i1 h p) (enough_at image i0)
+            (o.price_is image i0) (mem s3 image)
             (made.changed image i (free_now image state i2 i1 i0 h p));
       }

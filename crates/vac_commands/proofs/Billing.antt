@@ -30,7 +30,8 @@ pub record Seated {m : ℕ → ℕ} {n : ℕ} {state : State} (h : IsState m n s
   pub is : IsCustomerAt h.represents id c bookings
   pub entries_are : entries bookings ≡ bookings_in m (h.represents.parts.lists c)
 
-pub seated : (m : ℕ → ℕ) (n : ℕ) (state : State) (h : IsState m n state) (id c : ℕ) → customer_block h id ≡ c → c ≢ 0 → Seated h id c
+pub seated : (m : ℕ → ℕ) (n : ℕ) (state : State) (h : IsState m n state) (id c : ℕ) → customer_block h id ≡ c → c ≢ 0 →
+    Seated h id c
 seated m n state h id c at some =
     let f = customer_found m n [] state h.represents id c at some in
     record {
@@ -68,7 +69,8 @@ can_bill s id c h at = record {
       let t = h.under image i in
       record {
         entries = t.1.represents.parts.lists c;
-        is = has_bill (mem s image) (length image) t.0 id c t.1 (seated (mem s image) (length image) t.0 t.1 id c (at.at image t.0 i t.1) at.some);
+        is = has_bill (mem s image) (length image) t.0 id c t.1
+            (seated (mem s image) (length image) t.0 t.1 id c (at.at image t.0 i t.1) at.some);
       };
 }
 
@@ -84,12 +86,15 @@ bill_found s s' id c total some b = record {
       let bill : bill_of t.bookings ≡ total =
       sym (bill_there (mem s image) (length image) [] state id c t.bookings h.represents t.is) ∙ sym sum in
       let there = t.is.there in
-      let stepped : step state (command.Bill id) ≡ (state, reply.Number (Some total)) = rw there (ap (λ (z : ℕ). answered state (Some z)) bill) in
-      outcome_same (mem s' image) (length image) state (command.Bill id) (reply.Number (Some total)) (state_on s s' image state b.writes h) stepped;
+      let stepped : step state (command.Bill id) ≡ (state, reply.Number (Some total)) =
+      rw there (ap (λ (z : ℕ). answered state (Some z)) bill) in
+      outcome_same (mem s' image) (length image) state (command.Bill id) (reply.Number (Some total))
+      (state_on s s' image state b.writes h) stepped;
 }
 
 -- a command on a customer who was found, or who was missing
-pub ran_found : (s s' : View) (id c : ℕ) (command : Command) (r : Reply) → HasCustomerAt s id c → RanOn s s' id c command r → Ran s s' command r
+pub ran_found : (s s' : View) (id c : ℕ) (command : Command) (r : Reply) → HasCustomerAt s id c →
+    RanOn s s' id c command r → Ran s s' command r
 ran_found s s' id c command r at v = record {
   kept = v.kept;
   untouched = v.untouched;
@@ -97,7 +102,8 @@ ran_found s s' id c command r at v = record {
   outcome = λ image state i h. v.outcome image state i h (at.at image state (v.kept.seen image i) h);
 }
 
-pub ran_missing : (s s' : View) (id : ℕ) (command : Command) (r : Reply) → LacksCustomer s id → RanOn s s' id 0 command r → Ran s s' command r
+pub ran_missing : (s s' : View) (id : ℕ) (command : Command) (r : Reply) → LacksCustomer s id →
+    RanOn s s' id 0 command r → Ran s s' command r
 ran_missing s s' id command r lacks v = record {
   kept = v.kept;
   untouched = v.untouched;
@@ -105,7 +111,8 @@ ran_missing s s' id command r lacks v = record {
   outcome = λ image state i h. v.outcome image state i h (lacks.none image state (v.kept.seen image i) h);
 }
 
-pub asked_found : (s s' : View) (id block : ℕ) (c : Command) (r : Reply) → HasCustomerAt s id block → RanOn s s' id block c r → s'.writes ≡ s.writes → Asked s s' c r
+pub asked_found : (s s' : View) (id block : ℕ) (c : Command) (r : Reply) → HasCustomerAt s id block →
+    RanOn s s' id block c r → s'.writes ≡ s.writes → Asked s s' c r
 asked_found s s' id block c r at v w = record { ran = ran_found s s' id block c r at v; writes = w }
 
 pub bill_missing : (s s' : View) (id : ℕ) → OnlyRead s s' → LacksCustomer s' id →

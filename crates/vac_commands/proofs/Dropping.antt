@@ -4,12 +4,14 @@ use Rattle.std.specs.Prelude.{Option, Some, None, T}
 use Rattle.std.specs.Cmp.{nat_cmp_total, tied_itself}
 use Rattle.std.specs.Ordering.{nat_cmp, eq_by_cmp, is_eq}
 use Rattle.std.specs.FinMap as map
-use Rattle.std.specs.FinMap.{find, is_sorted, empty, get, insert, remove, entries, len, from_sorted, nat_cmp-IsAntisymmetric}
+use Rattle.std.specs.FinMap.{find, is_sorted, empty, get, insert, remove, entries, len, from_sorted}
+use Rattle.std.specs.FinMap.{nat_cmp-IsAntisymmetric}
 use Rattle.vac_model.specs.declared.items.Kind.{Kind}
 use Rattle.vac_model.specs.declared.items.Kind.TheVariants.{Car, Flight, Room}
 use Rattle.vac_model.specs.declared.items.Item.{Item}
 use Rattle.vac_model.specs.declared.items.Booking.{Booking}
-use Rattle.vac_model.specs.State.{State, Bookings, Customers, Place, place_cmp, item_of, with_item, bookings_of, with_bookings, without_customer}
+use Rattle.vac_model.specs.State.{State, Bookings, Customers, Place, place_cmp, item_of, with_item, bookings_of}
+use Rattle.vac_model.specs.State.{with_bookings, without_customer}
 use Rattle.vac_model.specs.Step.{done, given_back, give_back, give_back_all, cancel, drop_customer}
 use Rattle.vac_model.proofs.Sums.{first, second, find_below, either_key, apart_test, get_here, len_removed}
 use Rattle.vac_model.proofs.Places.{place_cmp_total, place_cmp-IsAntisymmetric}
@@ -65,11 +67,29 @@ leaves_item : (s : State) (c : ℕ) (b : Bookings) (kind : Kind) (id : ℕ) (ite
     without_customer (with_item (with_bookings s c b) kind id item) c
     ≡ with_item (without_customer s c) kind id item
 leaves_item s c b Car id item = let g = gone s.customers c b in
-    λ i. record { capacity = s.capacity; cars = insert s.cars id item; flights = s.flights; rooms = s.rooms; customers = g i }
+    λ i. record {
+      capacity = s.capacity;
+      cars = insert s.cars id item;
+      flights = s.flights;
+      rooms = s.rooms;
+      customers = g i;
+    }
 leaves_item s c b Flight id item = let g = gone s.customers c b in
-    λ i. record { capacity = s.capacity; cars = s.cars; flights = insert s.flights id item; rooms = s.rooms; customers = g i }
+    λ i. record {
+      capacity = s.capacity;
+      cars = s.cars;
+      flights = insert s.flights id item;
+      rooms = s.rooms;
+      customers = g i;
+    }
 leaves_item s c b Room id item = let g = gone s.customers c b in
-    λ i. record { capacity = s.capacity; cars = s.cars; flights = s.flights; rooms = insert s.rooms id item; customers = g i }
+    λ i. record {
+      capacity = s.capacity;
+      cars = s.cars;
+      flights = s.flights;
+      rooms = insert s.rooms id item;
+      customers = g i;
+    }
 
 pub drop_is : (s : State) (c : ℕ) (b : Bookings) → bookings_of s c ≡ Some b →
     drop_customer s c ≡ done (give_back_all (without_customer s c) (entries b))
@@ -99,8 +119,10 @@ drop_same s c b kind id item x es h there e =
     let after = cancelled s c b kind id item x in
     let left : give_back_all (without_customer after c) (entries (remove b (kind, id)))
     ≡ give_back_all (with_item (without_customer s c) kind id (given_back item x.units)) es =
-    ap (λ (t : State). give_back_all t (entries (remove b (kind, id)))) (leaves_item s c (remove b (kind, id)) kind id (given_back item x.units))
-    ∙ ap (give_back_all (with_item (without_customer s c) kind id (given_back item x.units))) (rest_of b (kind, id) x es e) in
+    ap (λ (t : State). give_back_all t (entries (remove b (kind, id))))
+    (leaves_item s c (remove b (kind, id)) kind id (given_back item x.units))
+    ∙ ap (give_back_all (with_item (without_customer s c) kind id (given_back item x.units)))
+    (rest_of b (kind, id) x es e) in
     let right : give_back_all (without_customer s c) (entries b)
     ≡ give_back_all (with_item (without_customer s c) kind id (given_back item x.units)) es =
     ap (give_back_all (without_customer s c)) e

@@ -1,5 +1,6 @@
 -- An item that is missing is made, in a block that was free.
-use Rattle.std.proofs.Common.{◌≡◌, ◌≢◌, inl, inr, ℕ, ◌+◌, ◌<◌, List, [], ◌∷◌, length, Some, None, true, false, nat_eq, refl, sym, ap, ◌∙◌, subst, arith}
+use Rattle.std.proofs.Common.{◌≡◌, ◌≢◌, inl, inr, ℕ, ◌+◌, ◌<◌, List, [], ◌∷◌, length, Some, None, true, false, nat_eq}
+use Rattle.std.proofs.Common.{refl, sym, ap, ◌∙◌, subst, arith}
 use Rattle.std.proofs.lemmas.Bool.Decides.{nat_tests}
 use Rattle.tx_memory.specs.View.{View, Sees}
 use Rattle.vac_model.specs.declared.items.Kind.{Kind}
@@ -31,43 +32,57 @@ use Rattle.vac_commands.specs.Ran.{Ran}
 use Rattle.vac_commands.proofs.Held.{read_none, item_none, outcome_of, ran_reads}
 
 -- refusals of a missing item
-pub needs_price : (s : View) (kind : Kind) (id num : ℕ) → LacksItem s kind id → Ran s s (command.Add kind id num None) (reply.No NeedsCountAndPrice)
-needs_price s kind id num l = ran_reads s s (command.Add kind id num None) (reply.No NeedsCountAndPrice) (read_none s) (λ image state i h.
+pub needs_price : (s : View) (kind : Kind) (id num : ℕ) → LacksItem s kind id →
+    Ran s s (command.Add kind id num None) (reply.No NeedsCountAndPrice)
+needs_price s kind id num l = ran_reads s s (command.Add kind id num None) (reply.No NeedsCountAndPrice) (read_none s)
+    (λ image state i h.
     let none = item_none s kind id l image state i h in
     rw none refl)
 
-zero_step : (state : State) (kind : Kind) (id num p : ℕ) → item_of state kind id ≡ None → num ≡ 0 → step state (command.Add kind id num (Some p)) ≡ (state, reply.No NeedsCountAndPrice)
+zero_step : (state : State) (kind : Kind) (id num p : ℕ) → item_of state kind id ≡ None → num ≡ 0 →
+    step state (command.Add kind id num (Some p)) ≡ (state, reply.No NeedsCountAndPrice)
 zero_step state kind id num p none z =
     let t : nat_eq num 0 ≡ true = grind (arith, nat_tests) in
     rw (none, t) refl
 
-full_step : (state : State) (kind : Kind) (id num p : ℕ) → item_of state kind id ≡ None → num ≢ 0 → is_full state ≡ true → step state (command.Add kind id num (Some p)) ≡ (state, reply.No Full)
+full_step : (state : State) (kind : Kind) (id num p : ℕ) → item_of state kind id ≡ None → num ≢ 0 →
+    is_full state ≡ true → step state (command.Add kind id num (Some p)) ≡ (state, reply.No Full)
 full_step state kind id num p none nz is =
     let t : nat_eq num 0 ≡ false = grind (arith, nat_tests) in
     rw (none, t, is) refl
 
-new_step : (state : State) (kind : Kind) (id num p : ℕ) → item_of state kind id ≡ None → num ≢ 0 → is_full state ≡ false → step state (command.Add kind id num (Some p)) ≡ (with_item state kind id (new_item num p), reply.Done)
+new_step : (state : State) (kind : Kind) (id num p : ℕ) → item_of state kind id ≡ None → num ≢ 0 →
+    is_full state ≡ false → step state (command.Add kind id num (Some p)) ≡ (
+      with_item state kind id (new_item num p),
+      reply.Done,
+    )
 new_step state kind id num p none nz is =
     let t : nat_eq num 0 ≡ false = grind (arith, nat_tests) in
     rw (none, t, is) refl
 
-pub needs_count : (s : View) (kind : Kind) (id num p : ℕ) → LacksItem s kind id → num ≡ 0 → Ran s s (command.Add kind id num (Some p)) (reply.No NeedsCountAndPrice)
-needs_count s kind id num p l z = ran_reads s s (command.Add kind id num (Some p)) (reply.No NeedsCountAndPrice) (read_none s) (λ image state i h.
+pub needs_count : (s : View) (kind : Kind) (id num p : ℕ) → LacksItem s kind id → num ≡ 0 →
+    Ran s s (command.Add kind id num (Some p)) (reply.No NeedsCountAndPrice)
+needs_count s kind id num p l z = ran_reads s s (command.Add kind id num (Some p)) (reply.No NeedsCountAndPrice)
+    (read_none s) (λ image state i h.
     zero_step state kind id num p (item_none s kind id l image state i h) z)
 
 -- no list has a block: there is no place for an entry
-pub full : (m : ℕ → ℕ) (n : ℕ) (state : State) (h : Represents m n [] state) → ((i : ℕ) → i < 8 → h.parts.free i ≡ []) → is_full state ≡ true
+pub full : (m : ℕ → ℕ) (n : ℕ) (state : State) (h : Represents m n [] state) → ((i : ℕ) → i < 8 → h.parts.free i ≡ []) →
+    is_full state ≡ true
 full m n state h none = let e = none_left m n state h none in grind (arith, nat_tests)
 
 -- a block is in hand: there is a place
 pub not_full : (m : ℕ → ℕ) (n b : ℕ) (state : State) → Represents m n (b ∷ []) state → is_full state ≡ false
 not_full m n b state h = let e = some_left m n b state h in grind (arith, nat_tests)
 
-pub no_place : (s s1 : View) (kind : Kind) (id num p : ℕ) → LacksItem s kind id → num ≢ 0 → NoneFree s s1 → Ran s s1 (command.Add kind id num (Some p)) (reply.No Full)
-no_place s s1 kind id num p l nz n = ran_reads s s1 (command.Add kind id num (Some p)) (reply.No Full) (record { kept = n.kept; writes = n.writes }) (λ image state i h.
+pub no_place : (s s1 : View) (kind : Kind) (id num p : ℕ) → LacksItem s kind id → num ≢ 0 → NoneFree s s1 →
+    Ran s s1 (command.Add kind id num (Some p)) (reply.No Full)
+no_place s s1 kind id num p l nz n = ran_reads s s1 (command.Add kind id num (Some p)) (reply.No Full)
+    (record { kept = n.kept; writes = n.writes }) (λ image state i h.
     let g = h.represents in
     full_step state kind id num p (item_none s kind id l image state (n.kept.seen image i) h) nz
-    (full (mem s image) (length image) state g (n.none image g.parts.free (used_in g.parts) (count_in g.parts) i (pool_there (mem s image) (length image) [] state g))))
+    (full (mem s image) (length image) state g (n.none image g.parts.free (used_in g.parts) (count_in g.parts) i
+    (pool_there (mem s image) (length image) [] state g))))
 
 -- a block was taken and became an item: it is in hand, and the state and its tables are as they were
 pub record InHand {m : ℕ → ℕ} {n : ℕ} {state : State} (h : Represents m n [] state) (m' : ℕ → ℕ) (b : ℕ) : Type 0 where
@@ -96,13 +111,15 @@ in_hand s s1 s2 id num p start b image state t w i h =
     }
 
 -- the table while the new block is in hand
-new_table : (m m2 : ℕ → ℕ) (n b : ℕ) (state : State) (kind : Kind) (h : IsState m n state) (hand : InHand h.represents m2 b) → Table m2 n (1 + kind_number kind) (h.represents.parts.tables (kind_number kind))
+new_table : (m m2 : ℕ → ℕ) (n b : ℕ) (state : State) (kind : Kind) (h : IsState m n state)
+    (hand : InHand h.represents m2 b) → Table m2 n (1 + kind_number kind) (h.represents.parts.tables (kind_number kind))
 new_table m m2 n b state kind h hand =
     let k = kind_number kind in
     let small = kind_small kind in
     let l : k < 4 = omega arith in
     let same = hand.stays.tables k l in
-    subst (λ (rows : Rows). Table m2 n (1 + k) rows) same (table_there m2 n (b ∷ []) state k hand.stays.after h.small.small l)
+    subst (λ (rows : Rows). Table m2 n (1 + k) rows) same (table_there m2 n
+    (b ∷ []) state k hand.stays.after h.small.small l)
 
 pub table_in_hand : (s s1 s2 : View) (kind : Kind) (id num p start b root : ℕ) → root ≡ 1 + kind_number kind →
     HoldsState s → Drawn s s1 start b → ItemMade s1 s2 b id num p → HasTable s2 root
@@ -139,9 +156,15 @@ fresh_in_hand s s1 s2 kind id num p start b root e held l t w = record {
 
 -- the numbers of the new item
 new_numbers : (m m' : ℕ → ℕ) (b id num p : ℕ) → IsNewItem m m' b id num p → item_in m' b ≡ new_item num p
-new_numbers m m' b id num p w = λ i. record { used = w.used_is i; free = w.free_is i; total = w.total_is i; price = w.price_is i }
+new_numbers m m' b id num p w = λ i. record {
+  used = w.used_is i;
+  free = w.free_is i;
+  total = w.total_is i;
+  price = w.price_is i;
+}
 
-pub new_done : (s s1 s2 s3 : View) (kind : Kind) (id num p start b root : ℕ) → root ≡ 1 + kind_number kind → LacksItem s kind id → is_command (command.Add kind id num (Some p)) ≡ true → num ≢ 0 →
+pub new_done : (s s1 s2 s3 : View) (kind : Kind) (id num p start b root : ℕ) → root ≡ 1 + kind_number kind →
+    LacksItem s kind id → is_command (command.Add kind id num (Some p)) ≡ true → num ≢ 0 →
     Drawn s s1 start b → ItemMade s1 s2 b id num p → Inserted s2 s3 root id b →
     Ran s s3 (command.Add kind id num (Some p)) reply.Done
 new_done s s1 s2 s3 kind id num p start b root e l range nz t w v = record {
@@ -161,14 +184,25 @@ new_done s s1 s2 s3 kind id num p start b root e l range nz t w v = record {
       let rows = h.represents.parts.tables k in
       let same = hand.stays.tables k (omega arith) in
       let g = subst (λ (x : ℕ). Inserted s2 s3 x id b) e v in
-      let table : Table m2 n (1 + k) (after.parts.tables k) = table_there m2 n (b ∷ []) state k after h.small.small (omega arith) in
-      let missing : block_at (after.parts.tables k) id ≡ 0 = ap (λ (z : Rows). block_at z id) same ∙ l.none image state i0 h in
-      let fresh : Fresh m2 n (after.parts.tables k) id b = record { block = hand.block; absent = missing; key_is = (w.made image i2).key_is } in
+      let table : Table m2 n (1 + k) (after.parts.tables k) =
+      table_there m2 n (b ∷ []) state k after h.small.small (omega arith) in
+      let missing : block_at (after.parts.tables k) id ≡ 0 =
+      ap (λ (z : Rows). block_at z id) same ∙ l.none image state i0 h in
+      let fresh : Fresh m2 n (after.parts.tables k) id b = record {
+        block = hand.block;
+        absent = missing;
+        key_is = (w.made image i2).key_is;
+      } in
       let grown = item_inserted m2 m3 n b [] state kind id hand.block after missing
-      (record { table = g.table image (after.parts.tables k) i table fresh; relinks = g.relinks image (after.parts.tables k) i table fresh }) in
+      (record {
+        table = g.table image (after.parts.tables k) i table fresh;
+        relinks = g.relinks image (after.parts.tables k) i table fresh;
+      }) in
       let numbers = new_numbers (mem s1 image) m2 b id num p (w.made image i2) in
       let none = item_none s kind id l image state i0 h in
       let room = not_full m2 n b state after in
-      outcome_of m m3 n state (with_item state kind id (item_in m2 b)) (command.Add kind id num (Some p)) reply.Done h range
-      (new_step state kind id num p none nz room ∙ ap (λ (z : Item). (with_item state kind id z, reply.Done)) (sym numbers)) grown.after;
+      outcome_of m m3 n state (with_item state kind id (item_in m2 b))
+      (command.Add kind id num (Some p)) reply.Done h range
+      (new_step state kind id num p none nz room ∙ ap (λ (z : Item). (with_item state kind id z, reply.Done))
+      (sym numbers)) grown.after;
 }

@@ -1,5 +1,6 @@
 -- A customer comes: a block is taken, made a customer, and hung into the table.
-use Rattle.std.proofs.Common.{◌≡◌, inl, inr, ℕ, ◌<◌, ◌≤◌, List, [], ◌∷◌, length, Some, None, true, false, cond, nat_eq, refl, ap, ◌∙◌, arith}
+use Rattle.std.proofs.Common.{◌≡◌, inl, inr, ℕ, ◌<◌, ◌≤◌, List, [], ◌∷◌, length, Some, None, true, false, cond, nat_eq}
+use Rattle.std.proofs.Common.{refl, ap, ◌∙◌, arith}
 use Rattle.std.proofs.lemmas.Bool.Decides.{nat_tests}
 use Rattle.std.specs.FinMap.{empty}
 use Rattle.tx_memory.specs.View.{View, Sees, RestsOn}
@@ -63,9 +64,11 @@ none_left_over s s' id n = record {
   outcome = λ image state i h lacks.
       let r = h.represents in
       let none = customer_missing (mem s image) (length image) [] state r id lacks in
-      outcome_same (mem s' image) (length image) state (command.NewCustomer id) (reply.No Full) (state_on s s' image state n.writes h)
+      outcome_same (mem s' image) (length image) state (command.NewCustomer id) (reply.No Full)
+      (state_on s s' image state n.writes h)
       (full_step state id none (none_left (mem s image) (length image) state r
-      (n.none image r.parts.free (used_in r.parts) (count_in r.parts) i (pool_there (mem s image) (length image) [] state r))));
+      (n.none image r.parts.free (used_in r.parts) (count_in r.parts) i
+      (pool_there (mem s image) (length image) [] state r))));
 }
 
 -- the block that was taken
@@ -114,7 +117,8 @@ module _ (s s1 s2 : View) (id start b : ℕ) (t : Drawn s s1 start b) (w : Custo
   }
 
   -- the id is missing while the block is in hand
-  missing : (image : List ℕ) (state : State) (h : IsState (mem s image) (length image) state) → customer_block h id ≡ 0 → (g : Stays h.represents (mem s2 image) (b ∷ []) state) →
+  missing : (image : List ℕ) (state : State) (h : IsState (mem s image) (length image) state) →
+      customer_block h id ≡ 0 → (g : Stays h.represents (mem s2 image) (b ∷ []) state) →
       block_at (g.after.parts.tables 3) id ≡ 0
   missing image state h none g = ap (λ (z : Rows). block_at z id) (g.tables 3 (omega arith)) ∙ none
 
@@ -146,7 +150,8 @@ module _ (s s1 s2 : View) (id start b : ℕ) (t : Drawn s s1 start b) (w : Custo
         let table = hand_table image state i2 h g in
         let block = (taking s s1 start b image state t (w.kept.seen image i2) h).block in
         let absent = missing image state h none g in
-        let fresh : Fresh (mem s2 image) (length image) (g.after.parts.tables 3) id b = record { block = block; absent = absent; key_is = (w.made image i2).key_is } in
+        let fresh : Fresh (mem s2 image) (length image) (g.after.parts.tables 3) id b =
+        record { block = block; absent = absent; key_is = (w.made image i2).key_is } in
         customer_inserted (mem s2 image) (mem s3 image) (length image) b [] state id
         block g.after absent (w.made image i2).head_is (record {
           table = v.table image (g.after.parts.tables 3) i table fresh;
@@ -182,7 +187,8 @@ module _ (s s1 s2 : View) (id start b : ℕ) (t : Drawn s s1 start b) (w : Custo
           let k = kind_number kind in
           let l = kind_small kind in
           ap (λ (z : Rows). block_at z id')
-          (one_shape (mem s3 image) (length image) [] [] (with_bookings state id empty) state' j.after h'.represents k (omega arith)
+          (one_shape (mem s3 image) (length image) [] [] (with_bookings state id empty) state' j.after h'.represents k
+          (omega arith)
           ∙ (j.tables k (omega arith) (omega arith) ∙ g.tables k (omega arith)));
     }
 
@@ -204,10 +210,14 @@ module _ (s s1 s2 : View) (id start b : ℕ) (t : Drawn s s1 start b) (w : Custo
               let g = in_hand image state (v.kept.seen image i) h in
               let j = joined image state i h lacks g in
               ap (λ (z : Rows). block_at z id)
-              (one_shape (mem s3 image) (length image) [] [] (with_bookings state id empty) state' j.after h'.represents 3 (omega arith) ∙ j.table)
+              (one_shape (mem s3 image) (length image) [] []
+              (with_bookings state id empty) state' j.after h'.represents 3 (omega arith) ∙ j.table)
               ∙ put_here (g.after.parts.tables 3);
         }
 
 -- what stays under every image
 pub stay_on : (s s' : View) (id c : ℕ) → ItemsStay s s' → ItemsStayOn s s' id c
-stay_on s s' id c stays = record { stay = λ image state state' i h at h' kind item. stays.stay image state state' i h h' kind item }
+stay_on s s' id c stays = record {
+  stay = λ image state state'
+      i h at h' kind item. stays.stay image state state' i h h' kind item;
+}

@@ -1,5 +1,6 @@
 -- Bookings of a customer who goes are given back, always the first one.
-use Rattle.std.proofs.Common.{◌≡◌, ◌≢◌, ℕ, ◌+◌, ◌-◌, ◌<◌, ◌≤◌, ◌^◌, List, [], ◌∷◌, length, Some, None, true, refl, sym, ap, ◌∙◌, subst, arith, add-zero}
+use Rattle.std.proofs.Common.{◌≡◌, ◌≢◌, ℕ, ◌+◌, ◌-◌, ◌<◌, ◌≤◌, ◌^◌, List, [], ◌∷◌, length, Some, None, true, refl, sym}
+use Rattle.std.proofs.Common.{ap, ◌∙◌, subst, arith, add-zero}
 use Rattle.std.specs.Prelude.{IsSome}
 use Rattle.std.proofs.lemmas.Grind.{not_there}
 use Rattle.std.specs.FinMap.{entries, remove, len, len-entries}
@@ -69,7 +70,8 @@ record IsFirst (state : State) (id : ℕ) (place : Place) : Type 0 where
   rest : List (Place × Booking)
   entries_are : entries bookings ≡ (place, booking) ∷ rest
 
-first_at : (m : ℕ → ℕ) (n : ℕ) (state : State) (id b : ℕ) (place : Place) → HasFirst m n state id b → place_in m b ≡ place → IsFirst state id place
+first_at : (m : ℕ → ℕ) (n : ℕ) (state : State) (id b : ℕ) (place : Place) → HasFirst m n state id b →
+    place_in m b ≡ place → IsFirst state id place
 first_at m n state id b place f is = record {
   bookings = f.bookings;
   there = f.there;
@@ -91,7 +93,8 @@ reads_of s s1 s2 b place read r = record {
 }
 
 -- the key of a booking in a list is that of its place
-code_is : (m : ℕ → ℕ) (n b : ℕ) (place : Place) → SomeBooking m n b → place_in m b ≡ place → place_code m b ≡ place_key place
+code_is : (m : ℕ → ℕ) (n b : ℕ) (place : Place) → SomeBooking m n b → place_in m b ≡ place →
+    place_code m b ≡ place_key place
 code_is m n b place t is =
     let k = list_booked m n t.start b t.entries t.list t.has in
     let zero : m (b + 0) ≡ m b = rw add-zero refl in
@@ -101,10 +104,12 @@ code_is m n b place t is =
 abbrev head_spot : ℕ → ℕ → Spot
 head_spot c b = record { link = record { 0 = head_of c }; word = b; entry = Some b }
 
-head_spot_at : (m : ℕ → ℕ) (n : ℕ) (state : State) (h : IsState m n state) (id c b : ℕ) (place : Place) → customer_block h id ≡ c → c ≢ 0 → b ≢ 0 → m (head_of c) ≡ b → SomeBooking m n b → place_in m b ≡ place →
+head_spot_at : (m : ℕ → ℕ) (n : ℕ) (state : State) (h : IsState m n state) (id c b : ℕ) (place : Place) →
+    customer_block h id ≡ c → c ≢ 0 → b ≢ 0 → m (head_of c) ≡ b → SomeBooking m n b → place_in m b ≡ place →
     SpotAt m (head_of c) (place_key place) (head_spot c b) (h.represents.parts.lists c)
 head_spot_at m n state h id c b place seat c_some b_some leads listed is =
-    first_spot m n (head_of c) b (place_key place) (h.represents.parts.lists c) (owner_list m n state h id c seat c_some) leads b_some (code_is m n b place listed is)
+    first_spot m n (head_of c) b (place_key place) (h.represents.parts.lists c)
+    (owner_list m n state h id c seat c_some) leads b_some (code_is m n b place listed is)
 
 module _ (s s1 s2 : View) (id c b : ℕ) (place : Place) (read : PlaceRead s s1 b place) (r : OnlyRead s1 s2) where
   place_is : (image : List ℕ) → Sees s2 image → place_in (mem s image) b ≡ place
@@ -116,7 +121,8 @@ module _ (s s1 s2 : View) (id c b : ℕ) (place : Place) (read : PlaceRead s s1 
         let image = w.0 in
         let i0 = stood read.kept image (stood r.kept image w.1) in
         let t = held.under image i0 in
-        let f = first_at (mem s image) (length image) t.0 id b place (first.under image t.0 i0 t.1) (place_is image w.1.sees) in
+        let f = first_at (mem s image) (length image) t.0 id b place (first.under image t.0 i0 t.1)
+        (place_is image w.1.sees) in
         let h2 = state_on s s2 image t.0 (r.writes ∙ read.writes) t.1 in
         not_some (item_of t.0 place.0 place.1) (item_none s2 place.0 place.1 lacks image t.0 w.1.sees h2)
         (item_there t.0 id place t.1.small.balanced f))
@@ -128,7 +134,8 @@ module _ (s s1 s2 : View) (id c b : ℕ) (place : Place) (read : PlaceRead s s1 
         let there = item_is s2 place.0 place.1 item at image t.0 w.sees h2 in
         (t.1.small.balanced.items place.0 place.1 (item_in (mem s2 image) item) there).id_range
 
-    pub id_fits : (item : ℕ) → HasItemAt s2 place.0 place.1 item → ∥ ((image : List ℕ) × RestsOn s2 image) ∥₁ → place.1 < 2 ^ 32
+    pub id_fits : (item : ℕ) → HasItemAt s2 place.0 place.1 item → ∥ ((image : List ℕ) × RestsOn s2 image) ∥₁ →
+        place.1 < 2 ^ 32
     id_fits item at ws = some_lt place.1 (2 ^ 32) ws (λ w. id_high place.1 (ids item at w.0 w.1))
 
     pub cancel_range : (item : ℕ) → is_command (command.DropCustomer id) ≡ true →
@@ -151,61 +158,75 @@ module _ (s s1 s2 : View) (id c b : ℕ) (place : Place) (read : PlaceRead s s1 
           within = (first.inside.0, omega (arith, first.inside.1, size));
           at = λ image state i. spot_same s s2 image state c place (head_spot c b) e (λ h.
               let i0 = stood read.kept image (stood r.kept image i) in
-              head_spot_at (mem s image) (length image) state h id c b place (customer.at image state i0 h) customer.some b_some (first.leads image i0) (first.under image state i0 h).listed (place_is image i.sees));
+              head_spot_at (mem s image) (length image) state h id c b place
+              (customer.at image state i0 h) customer.some b_some (first.leads image i0)
+              (first.under image state i0 h).listed (place_is image i.sees));
         }
 
-  module _ (s3 : View) (item : ℕ) (reply : Reply) (c_some : c ≢ 0) (b_some : b ≢ 0) (at : HasItemAt s2 place.0 place.1 item) (small : place.1 < 2 ^ 32)
+  module _ (s3 : View) (item : ℕ) (reply : Reply) (c_some : c ≢ 0) (b_some : b ≢ 0)
+      (at : HasItemAt s2 place.0 place.1 item) (small : place.1 < 2 ^ 32)
       (range : is_command (command.Cancel id place.0 place.1) ≡ true)
-      (v : Serves s2 s3 (command.Cancel id place.0 place.1) reply (AtSpot id c place.0 place.1 item (head_spot c b))) where
-    lands : (image : List ℕ) (state : State) → Sees s3 image → (h : IsState (mem s image) (length image) state) → customer_block h id ≡ c → mem s image (head_of c) ≡ b →
-        HasFirst (mem s image) (length image) state id b → Here h id c place.0 place.1 item × Lands h (mem s3 image) (command.Cancel id place.0 place.1) reply
-    lands image state i3 h seat leads first =
-        let e : s2.writes ≡ s.writes = r.writes ∙ read.writes in
-        let i2 = v.kept.seen image i3 in
-        let here : Here h id c place.0 place.1 item = record {
-          owner_is = seat;
-          owner_some = c_some;
-          item_is = item_same s2 s image state place.0 place.1 item (sym e) (at.at image state i2) h;
-          item_some = at.some;
-          small = small;
-        } in
-        let spot = head_spot_at (mem s image) (length image) state h id c b place seat c_some b_some leads first.listed (place_is image i2) in
-        let all = serves_after s s2 s3 (command.Cancel id place.0 place.1) reply (AtSpot id c place.0 place.1 item (head_spot c b)) (reads_of s s1 s2 b place read r) v in
-        (here, all.lands image state i3 h (record { here = here; at = spot }))
+      (v : Serves s2 s3 (command.Cancel id place.0 place.1) reply (AtSpot id c place.0 place.1 item (head_spot c b)))
+    where
+      lands : (image : List ℕ) (state : State) → Sees s3 image → (h : IsState (mem s image) (length image) state) →
+          customer_block h id ≡ c → mem s image (head_of c) ≡ b →
+          HasFirst (mem s image) (length image) state id b → Here h id c place.0 place.1 item × Lands h (mem s3 image)
+          (command.Cancel id place.0 place.1) reply
+      lands image state i3 h seat leads first =
+          let e : s2.writes ≡ s.writes = r.writes ∙ read.writes in
+          let i2 = v.kept.seen image i3 in
+          let here : Here h id c place.0 place.1 item = record {
+            owner_is = seat;
+            owner_some = c_some;
+            item_is = item_same s2 s image state place.0 place.1 item (sym e) (at.at image state i2) h;
+            item_some = at.some;
+            small = small;
+          } in
+          let spot = head_spot_at (mem s image) (length image) state h id c b place seat c_some b_some leads
+          first.listed
+          (place_is image i2) in
+          let all = serves_after s s2 s3 (command.Cancel id place.0 place.1) reply
+          (AtSpot id c place.0 place.1 item (head_spot c b)) (reads_of s s1 s2 b place read r) v in
+          (here, all.lands image state i3 h (record { here = here; at = spot }))
 
-    left : (image : List ℕ) (state : State) (bookings : Bookings) → Sees s3 image →
-        (h : IsState (mem s image) (length image) state) → customer_block h id ≡ c → mem s image (head_of c) ≡ b →
-        HasFirst (mem s image) (length image) state id b → bookings_of state id ≡ Some bookings →
-        IsLeaving (mem s3 image) (length image) state id c (len bookings - 1)
-    left image state bookings i3 h seat leads first there =
-        let l = lands image state i3 h seat leads first in
-        let out = outcome_lands (mem s image) (mem s3 image) (length image) state (command.Cancel id place.0 place.1) reply h range l.1 in
-        let f = first_at (mem s image) (length image) state id b place first (place_is image (v.kept.seen image i3)) in
-        let found = first_found f.bookings place f.booking f.rest f.entries_are in
-        let x = item_in (mem s image) item in
-        let is_there : item_of state place.0 place.1 ≡ Some x = item_found (mem s image) (length image) [] state h.represents place.0 place.1 item (record { at = l.0.item_is; some = l.0.item_some }) in
-        let after = cancelled state id f.bookings place.0 place.1 x f.booking in
-        let e = cancel_is state id f.bookings place.0 place.1 x f.booking f.there is_there found in
-        let now : IsState (mem s3 image) (length image) after =
-        subst (λ (o : Outcome). IsState (mem s3 image) (length image) o.0) e out.state in
-        let same : f.bookings ≡ bookings = some_same f.bookings bookings (sym f.there ∙ there) in
-        let fewer = one_less f.bookings place f.booking f.rest f.entries_are in
-        let long : len f.bookings ≡ len bookings = ap (λ (z : Bookings). len z) same in
-        record {
-          state = after;
-          is = now;
-          seat = customer_lands (mem s image) (mem s3 image) (length image) state after (command.Cancel id place.0 place.1) reply h now l.1 id ∙ seat;
-          bookings = remove f.bookings place;
-          there = still_there state id f.bookings place.0 place.1 x f.booking;
-          few = omega (arith, fewer, long);
-          drops = drop_same state id f.bookings place.0 place.1 x f.booking f.rest f.there is_there f.entries_are;
-        }
+      left : (image : List ℕ) (state : State) (bookings : Bookings) → Sees s3 image →
+          (h : IsState (mem s image) (length image) state) → customer_block h id ≡ c → mem s image (head_of c) ≡ b →
+          HasFirst (mem s image) (length image) state id b → bookings_of state id ≡ Some bookings →
+          IsLeaving (mem s3 image) (length image) state id c (len bookings - 1)
+      left image state bookings i3 h seat leads first there =
+          let l = lands image state i3 h seat leads first in
+          let out = outcome_lands (mem s image) (mem s3 image) (length image) state
+          (command.Cancel id place.0 place.1) reply h range l.1 in
+          let f = first_at (mem s image) (length image) state id b place first
+          (place_is image (v.kept.seen image i3)) in
+          let found = first_found f.bookings place f.booking f.rest f.entries_are in
+          let x = item_in (mem s image) item in
+          let is_there : item_of state place.0 place.1 ≡ Some x =
+          item_found (mem s image) (length image) [] state h.represents place.0 place.1 item
+          (record { at = l.0.item_is; some = l.0.item_some }) in
+          let after = cancelled state id f.bookings place.0 place.1 x f.booking in
+          let e = cancel_is state id f.bookings place.0 place.1 x f.booking f.there is_there found in
+          let now : IsState (mem s3 image) (length image) after =
+          subst (λ (o : Outcome). IsState (mem s3 image) (length image) o.0) e out.state in
+          let same : f.bookings ≡ bookings = some_same f.bookings bookings (sym f.there ∙ there) in
+          let fewer = one_less f.bookings place f.booking f.rest f.entries_are in
+          let long : len f.bookings ≡ len bookings = ap (λ (z : Bookings). len z) same in
+          record {
+            state = after;
+            is = now;
+            seat = customer_lands (mem s image) (mem s3 image) (length image) state after
+                (command.Cancel id place.0 place.1) reply h now l.1 id ∙ seat;
+            bookings = remove f.bookings place;
+            there = still_there state id f.bookings place.0 place.1 x f.booking;
+            few = omega (arith, fewer, long);
+            drops = drop_same state id f.bookings place.0 place.1 x f.booking f.rest f.there is_there f.entries_are;
+          }
 
-    pub one_given : OneGivenBack s s3 id c b
-    one_given = record {
-      kept = kept_both s s2 s3 (kept_both s s1 s2 read.kept r.kept) v.kept;
-      under = left;
-    }
+      pub one_given : OneGivenBack s s3 id c b
+      one_given = record {
+        kept = kept_both s s2 s3 (kept_both s s1 s2 read.kept r.kept) v.kept;
+        under = left;
+      }
 
 -- the word that leads to the bookings
 pub bookings_held : (s : View) (id c head : ℕ) → head ≡ c + 4 → HoldsState s → CustomerIsAt s id c → HasList s head
@@ -230,7 +251,8 @@ no_rows m n p [] h e = refl
 no_rows m n p (r ∷ rs) h e = absurd (omega (arith, e, h.linked.0.block.1.1))
 
 -- the first booking of a customer, and the word that leads to it
-first_has : (m : ℕ → ℕ) (n : ℕ) (state : State) (h : IsState m n state) (id c b : ℕ) → customer_block h id ≡ c → c ≢ 0 → b ≢ 0 → b ≡ first_block (h.represents.parts.lists c) →
+first_has : (m : ℕ → ℕ) (n : ℕ) (state : State) (h : IsState m n state) (id c b : ℕ) → customer_block h id ≡ c → c ≢ 0 →
+    b ≢ 0 → b ≡ first_block (h.represents.parts.lists c) →
     (m (head_of c) ≡ b) × HasFirst m n state id b
 first_has m n state h id c b seat c_some some is =
     let t = seated m n state h id c seat c_some in
@@ -248,11 +270,13 @@ first_has m n state h id c b seat c_some some is =
     )
 
 pub first_found_at : (s s1 : View) (id c head : ℕ) (block : ℕ) → head ≡ c + 4 → c ≢ 0 → First s s1 head (Some block) →
-    (image : List ℕ) (state : State) → Sees s1 image → (h : IsState (mem s1 image) (length image) state) → customer_block h id ≡ c →
+    (image : List ℕ) (state : State) → Sees s1 image → (h : IsState (mem s1 image) (length image) state) →
+    customer_block h id ≡ c →
     (mem s1 image (head_of c) ≡ block) × HasFirst (mem s1 image) (length image) state id block
 first_found_at s s1 id c head block e c_some f image state i =
     subst (λ (ws : Words). (h : IsState (memory image ws) (length image) state) → customer_block h id ≡ c →
-    (memory image ws (head_of c) ≡ block) × HasFirst (memory image ws) (length image) state id block) (sym f.writes) (λ h seat.
+    (memory image ws (head_of c) ≡ block) × HasFirst (memory image ws) (length image) state id block) (sym f.writes)
+    (λ h seat.
     let m = mem s image in
     let n = length image in
     let some : block ≢ 0 = (let w = f.within in let low = w.0 in omega arith) in
@@ -268,7 +292,8 @@ starts_at s s1 id c head block e held at f = record {
   leads = λ image i.
       let t = held.under image i in
       (first_found_at s s1 id c head block e at.some f image t.0 i.sees t.1 (at.at image t.0 i t.1)).0;
-  under = λ image state i h. (first_found_at s s1 id c head block e at.some f image state i.sees h (at.at image state i h)).1;
+  under = λ image state i h. (first_found_at s s1 id c head block e at.some f image state i.sees h
+      (at.at image state i h)).1;
 }
 
 -- at the start all bookings are left
@@ -295,7 +320,8 @@ given_read s0 s s1 id c most r g = record {
 }
 
 pub given_one : (s0 s1 s2 : View) (id c b most less : ℕ) → less ≡ most - 1 → GivenBack s0 s1 id c most →
-    ((image : List ℕ) (state : State) → Sees s1 image → (h : IsState (mem s1 image) (length image) state) → customer_block h id ≡ c → (mem s1 image (head_of c) ≡ b) × HasFirst (mem s1 image) (length image) state id b) →
+    ((image : List ℕ) (state : State) → Sees s1 image → (h : IsState (mem s1 image) (length image) state) →
+    customer_block h id ≡ c → (mem s1 image (head_of c) ≡ b) × HasFirst (mem s1 image) (length image) state id b) →
     OneGivenBack s1 s2 id c b → GivenBack s0 s2 id c less
 given_one s0 s1 s2 id c b most less e g first one = record {
   kept = kept_both s0 s1 s2 g.kept one.kept;

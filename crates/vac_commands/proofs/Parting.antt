@@ -39,7 +39,8 @@ none_removed s s' id bare f = record {
   gone = λ image state i h there.
       let r = h.represents in
       let table = table_there (mem s image) (length image) [] state 3 r h.small.small (omega arith) in
-      let none = customer_missing (mem s image) (length image) [] state r id (sym (f.is image (r.parts.tables 3) i table)) in
+      let none = customer_missing (mem s image) (length image) [] state r id
+      (sym (f.is image (r.parts.tables 3) i table)) in
       absurd (not_both (bookings_of state id) empty none there);
 }
 
@@ -58,7 +59,8 @@ module _ (s s1 : View) (id b : ℕ) (v : Removed s s1 4 id b) where
 
   in_hand : (image : List ℕ) (state : State) → (i : Sees s1 image) →
       (h : IsState (mem s image) (length image) state) → bookings_of state id ≡ Some empty →
-      StaysBut h.represents 3 (cut_row (h.represents.parts.tables 3) id) (mem s1 image) (b ∷ []) (without_customer state id)
+      StaysBut h.represents 3 (cut_row (h.represents.parts.tables 3) id) (mem s1 image) (b ∷ [])
+      (without_customer state id)
   in_hand image state i h there =
       let table = table_there (mem s image) (length image) [] state 3 h.represents h.small.small (omega arith) in
       customer_removed (mem s image) (mem s1 image) (length image) [] state id b h.represents
@@ -89,7 +91,8 @@ module _ (s s1 : View) (id b : ℕ) (v : Removed s s1 4 id b) where
           free = p.free;
           used = used_in (record p { out = [] });
           count = count_in (record p { out = [] });
-          is = hand_there (mem s1 image) (length image) b [] (without_customer h.0 id) (block image h.0 i.sees h.1 there) g.after;
+          is = hand_there (mem s1 image) (length image) b [] (without_customer h.0 id)
+              (block image h.0 i.sees h.1 there) g.after;
         };
   }
 
@@ -111,12 +114,14 @@ bare s s' id c has at given = record {
       let i0 = stood given.kept image i in
       let h = has.under image i0 in
       let l = given.under image h.0 i.sees h.1 (at.at image h.0 i0 h.1) in
-      let same : l.state ≡ state' = one_state (mem s' image) (length image) [] [] l.state state' l.is.represents h'.represents in
+      let same : l.state ≡ state' = one_state (mem s' image)
+      (length image) [] [] l.state state' l.is.represents h'.represents in
       let none : l.bookings ≡ empty = empty_of_len l.bookings (let f = l.few in omega arith) in
       ap (λ (z : State). bookings_of z id) (sym same) ∙ (l.there ∙ ap (λ (z : Bookings). Some z) none);
 }
 
-pub given_holds : (s s' : View) (id c most : ℕ) → HoldsState s → CustomerIsAt s id c → GivenBack s s' id c most → HoldsState s'
+pub given_holds : (s s' : View) (id c most : ℕ) → HoldsState s → CustomerIsAt s id c → GivenBack s s' id c most →
+    HoldsState s'
 given_holds s s' id c most has at given = record {
   inside = omega (arith, has.inside, given.kept.size);
   small = omega (arith, has.small, given.kept.size);
@@ -128,7 +133,8 @@ given_holds s s' id c most has at given = record {
 }
 
 -- and the customer is still in the same block
-pub given_seat : (s s' : View) (id c most : ℕ) → HoldsState s → CustomerIsAt s id c → GivenBack s s' id c most → CustomerIsAt s' id c
+pub given_seat : (s s' : View) (id c most : ℕ) → HoldsState s → CustomerIsAt s id c → GivenBack s s' id c most →
+    CustomerIsAt s' id c
 given_seat s s' id c most has at given = record {
   some = at.some;
   inside = (at.inside.0, omega (arith, at.inside.1, given.kept.size));
@@ -136,7 +142,8 @@ given_seat s s' id c most has at given = record {
       let i0 = stood given.kept image i in
       let h = has.under image i0 in
       let l = given.under image h.0 i.sees h.1 (at.at image h.0 i0 h.1) in
-      ap (λ (rows : Rows). block_at rows id) (one_shape (mem s' image) (length image) [] [] l.state state' l.is.represents h'.represents 3 (omega arith)) ∙ l.seat;
+      ap (λ (rows : Rows). block_at rows id) (one_shape (mem s' image)
+      (length image) [] [] l.state state' l.is.represents h'.represents 3 (omega arith)) ∙ l.seat;
 }
 
 -- given back, and gone

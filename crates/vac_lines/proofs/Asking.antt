@@ -11,24 +11,32 @@ abbrev ask_at : List ℕ × List ℕ → Result (Kind × ℕ) LineFault
 ask_at pair = at_place pair.0 pair.1
 
 -- the next two words are the next pair
-next_pair : (rest part after : List (Bor (List ℕ))) (kind id : List ℕ) → rest ≡ part ++ after → texts part ≡ kind ∷ id ∷ []
+next_pair : (rest part after : List (Bor (List ℕ))) (kind id : List ℕ) → rest ≡ part ++ after →
+    texts part ≡ kind ∷ id ∷ []
     → asks_of (texts rest) ≡ read_each ask_at ((kind, id) ∷ pairs_of (texts after))
 next_pair rest part after kind id e f =
-    ap (λ (ws : List (Bor (List ℕ))). asks_of (texts ws)) e ∙ ap asks_of (map-append (λ (w : Bor (List ℕ)). w.now) part after)
+    ap (λ (ws : List (Bor (List ℕ))). asks_of (texts ws)) e ∙
+    ap asks_of (map-append (λ (w : Bor (List ℕ)). w.now) part after)
     ∙ ap (λ (ws : List (List ℕ)). asks_of (ws ++ texts after)) f
 
 -- one ask more was read
-pub ask_read : (rest part after : List (Bor (List ℕ))) (kind id : List ℕ) (ask : Kind × ℕ) (front : List (Kind × ℕ)) (all : Result (List (Kind × ℕ)) LineFault)
-    → rest ≡ part ++ after → texts part ≡ kind ∷ id ∷ [] → at_place kind id ≡ Ok ask → all ≡ put_behind front (asks_of (texts rest))
+pub ask_read : (rest part after : List (Bor (List ℕ))) (kind id : List ℕ) (ask : Kind × ℕ) (front : List (Kind × ℕ))
+    (all : Result (List (Kind × ℕ)) LineFault)
+    → rest ≡ part ++ after → texts part ≡ kind ∷ id ∷ [] → at_place kind id ≡ Ok ask →
+    all ≡ put_behind front (asks_of (texts rest))
     → all ≡ put_behind (front ++ ask ∷ []) (asks_of (texts after))
 ask_read rest part after kind id ask front all e f g h =
-    one_read ask_at (kind, id) (pairs_of (texts after)) ask front all g (h ∙ ap (put_behind front) (next_pair rest part after kind id e f))
+    one_read ask_at (kind, id) (pairs_of (texts after)) ask front all g
+    (h ∙ ap (put_behind front) (next_pair rest part after kind id e f))
 
 -- the next ask has a fault
-pub ask_fault : (rest part after : List (Bor (List ℕ))) (kind id : List ℕ) (fault : LineFault) (front : List (Kind × ℕ)) (all : Result (List (Kind × ℕ)) LineFault)
-    → rest ≡ part ++ after → texts part ≡ kind ∷ id ∷ [] → at_place kind id ≡ Err fault → all ≡ put_behind front (asks_of (texts rest)) → all ≡ Err fault
+pub ask_fault : (rest part after : List (Bor (List ℕ))) (kind id : List ℕ) (fault : LineFault) (front : List (Kind × ℕ))
+    (all : Result (List (Kind × ℕ)) LineFault)
+    → rest ≡ part ++ after → texts part ≡ kind ∷ id ∷ [] → at_place kind id ≡ Err fault →
+    all ≡ put_behind front (asks_of (texts rest)) → all ≡ Err fault
 ask_fault rest part after kind id fault front all e f g h =
-    fault_read ask_at (kind, id) (pairs_of (texts after)) fault front all g (h ∙ ap (put_behind front) (next_pair rest part after kind id e f))
+    fault_read ask_at (kind, id) (pairs_of (texts after)) fault front all g
+    (h ∙ ap (put_behind front) (next_pair rest part after kind id e f))
 
 -- fewer than two words are no pair
 pub no_pair_left : (rest : List (Bor (List ℕ))) → length rest < 2 → asks_of (texts rest) ≡ Ok []

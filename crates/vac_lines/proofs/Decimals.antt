@@ -1,5 +1,6 @@
 -- A number that is written in decimal is read as itself.
-use Rattle.std.proofs.Common.{◌≡◌, ℕ, ◌+◌, ◌*◌, ◌-◌, ◌/◌, ◌%◌, ◌≤◌, ◌<◌, ◌^◌, ◌&&◌, Bool, true, false, Ok, nat_le, nat_lt, List, [], ◌∷◌, ◌++◌, length, decimal, arith, refl, ◌∙◌}
+use Rattle.std.proofs.Common.{◌≡◌, ℕ, ◌+◌, ◌*◌, ◌-◌, ◌/◌, ◌%◌, ◌≤◌, ◌<◌, ◌^◌, ◌&&◌, Bool, true, false, Ok, nat_le}
+use Rattle.std.proofs.Common.{nat_lt, List, [], ◌∷◌, ◌++◌, length, decimal, arith, refl, ◌∙◌}
 use Rattle.std.specs.List.{list_all}
 use Rattle.std.specs.Char.{is_ascii_digit}
 use Rattle.std.proofs.lemmas.Bool.{le-leb}
@@ -23,7 +24,8 @@ one_digit n h = record { digits_are = rw (digit n h) refl; value = omega arith }
 
 digit_more : (n : ℕ) (digits : List ℕ) → 10 ≤ n → Writes (n / 10) digits → Writes n (digits ++ ((48 + n % 10) ∷ []))
 digit_more n digits h w = record {
-  digits_are = list_all-append is_ascii_digit digits ((48 + n % 10) ∷ []) ∙ rw (w.digits_are, digit (n % 10) (omega arith)) refl;
+  digits_are = list_all-append is_ascii_digit digits ((48 + n % 10) ∷ []) ∙
+      rw (w.digits_are, digit (n % 10) (omega arith)) refl;
   value =
       let last = fold-append (λ (m d : ℕ). 10 * m + (d - 48)) 0 digits ((48 + n % 10) ∷ []) in
       let front = w.value in
@@ -42,7 +44,14 @@ number_read least most n low high small =
     let some = decimal_nonempty n (omega arith) in
     let few = length-decimal-le 10 n (omega arith) (omega arith) (omega arith) in
     let w = written n (omega arith) in
-    rw (le-leb 1 (length (decimal n)) some, le-leb (length (decimal n)) 10 few, w.digits_are, w.value, le-leb least n low, le-leb n most high) refl
+    rw (
+      le-leb 1 (length (decimal n)) some,
+      le-leb (length (decimal n)) 10 few,
+      w.digits_are,
+      w.value,
+      le-leb least n low,
+      le-leb n most high,
+    ) refl
 
 and_left : (a b : Bool) → (a && b) ≡ true → a ≡ true
 and_left true b e = refl
@@ -81,7 +90,11 @@ digit_in_word d h = grind (arith, nat_tests, h)
 digits_in_word : (digits : List ℕ) → list_all is_ascii_digit digits ≡ true → list_all is_word_byte digits ≡ true
 digits_in_word [] e = refl
 digits_in_word (d ∷ ds) e =
-    rw (digit_in_word d (first_is_digit d ds e), digits_in_word ds (and_right (is_ascii_digit d) (list_all is_ascii_digit ds) e)) refl
+    rw (
+      digit_in_word d (first_is_digit d ds e),
+      digits_in_word ds
+          (and_right (is_ascii_digit d) (list_all is_ascii_digit ds) e),
+    ) refl
 
 -- the bytes of a number may stand in a word
 pub number_in_word : (n : ℕ) → n < 2 ^ 64 → list_all is_word_byte (decimal n) ≡ true

@@ -1,5 +1,6 @@
 -- The number that digits write grows with each digit.
-use Rattle.std.proofs.Common.{◌≡◌, ℕ, ◌+◌, ◌*◌, ◌-◌, ◌≤◌, ◌<◌, ◌&&◌, true, Option, Some, None, if◌then◌else◌, nat_lt, List, [], ◌∷◌, length, get_or, take, drop, arith, subst, sym, ap, ◌∙◌, refl, lt-ltb}
+use Rattle.std.proofs.Common.{◌≡◌, ℕ, ◌+◌, ◌*◌, ◌-◌, ◌≤◌, ◌<◌, ◌&&◌, true, Option, Some, None, if◌then◌else◌, nat_lt}
+use Rattle.std.proofs.Common.{List, [], ◌∷◌, length, get_or, take, drop, arith, subst, sym, ap, ◌∙◌, refl, lt-ltb}
 use Rattle.std.specs.List.{fold, list_all}
 use Rattle.std.specs.Char.{is_ascii_digit}
 use Rattle.std.proofs.lemmas.Bool.{le-ltb}
@@ -22,17 +23,20 @@ pub first_digits : (i : ℕ) (digits : List ℕ) → decimal_value (take i digit
 first_digits i digits =
     let more = more_digits (decimal_value (take i digits)) (drop i digits) in
     subst (λ ds. decimal_value (take i digits) ≤ decimal_value ds) (take-append-drop i digits)
-    (subst (λ n. decimal_value (take i digits) ≤ n) (sym (fold-append with_digit 0 (take i digits) (drop i digits))) more)
+    (subst (λ n. decimal_value (take i digits) ≤ n) (sym (fold-append with_digit 0 (take i digits) (drop i digits)))
+    more)
 
 -- the number of decimal digits, where it is below a bound
 abbrev pub value_below : ℕ → List ℕ → Option ℕ
-value_below most digits = if list_all is_ascii_digit digits && nat_lt (decimal_value digits) most then Some (decimal_value digits) else None
+value_below most digits = if list_all is_ascii_digit digits && nat_lt (decimal_value digits) most then Some
+    (decimal_value digits) else None
 
 -- one digit more reaches the bound
 pub value_reaches : (most : ℕ) (digits : List ℕ) (i n : ℕ) → n ≡ decimal_value (take i digits) → i < length digits
     → most ≤ 10 * n + (get_or digits i 0 - 48) → value_below most digits ≡ None
 value_reaches most digits i n e h g =
-    let step : decimal_value (take (i + 1) digits) ≡ 10 * decimal_value (take i digits) + (get_or digits i 0 - 48) = grind (arith, common_steps) in
+    let step : decimal_value (take (i + 1) digits) ≡ 10 * decimal_value (take i digits) + (get_or digits i 0 - 48) =
+    grind (arith, common_steps) in
     let more = first_digits (i + 1) digits in
     let reached : most ≤ decimal_value digits = omega arith in
     rw (le-ltb (decimal_value digits) most reached, and-false) refl

@@ -1,5 +1,6 @@
 -- What was appended to a list before a call failed.
-use Rattle.std.proofs.Common.{◌≡◌, ℕ, List, [], ◌∷◌, ◌++◌, length, take, refl, arith, ap, sym, ◌∙◌, Result, Ok, Err, OnOk, OnErr, append_assoc, min, drop, ◌-◌, length-drop}
+use Rattle.std.proofs.Common.{◌≡◌, ℕ, List, [], ◌∷◌, ◌++◌, length, take, refl, arith, ap, sym, ◌∙◌, Result, Ok, Err}
+use Rattle.std.proofs.Common.{OnOk, OnErr, append_assoc, min, drop, ◌-◌, length-drop}
 use Rattle.std.proofs.Common.{inl, inr}
 use Rattle.std.proofs.lemmas.List.{take_all, take-append-drop}
 use Rattle.std.proofs.lemmas.Bool.{cases_lt}
@@ -26,12 +27,14 @@ pub extends_more : (xs ys zs : List ℕ) → ys ≡ xs ++ zs → Extends xs ys
 extends_more xs ys zs e = rw e (take_front xs zs)
 
 -- three texts, appended one after another
-pub three_appended : {T E : Type 0} (r : Result T E) (old a b new x y z : List ℕ) → a ≡ old ++ x → b ≡ a ++ y → OnOk r (new ≡ b ++ z) → OnOk r (new ≡ old ++ (x ++ y ++ z))
+pub three_appended : {T E : Type 0} (r : Result T E) (old a b new x y z : List ℕ) → a ≡ old ++ x → b ≡ a ++ y →
+    OnOk r (new ≡ b ++ z) → OnOk r (new ≡ old ++ (x ++ y ++ z))
 three_appended (Ok t) old a b new x y z e f g = simp (g, f, e, append_assoc)
 three_appended (Err t) old a b new x y z e f g = tt
 
 -- two texts, appended one after another
-pub two_appended : {T E : Type 0} (r : Result T E) (old a new x y z : List ℕ) → a ≡ old ++ x → y ≡ z → OnOk r (new ≡ a ++ y) → OnOk r (new ≡ old ++ (x ++ z))
+pub two_appended : {T E : Type 0} (r : Result T E) (old a new x y z : List ℕ) → a ≡ old ++ x → y ≡ z →
+    OnOk r (new ≡ a ++ y) → OnOk r (new ≡ old ++ (x ++ z))
 two_appended (Ok t) old a new x y z e f g = simp (g, f, e, append_assoc)
 two_appended (Err t) old a new x y z e f g = tt
 
@@ -54,4 +57,6 @@ taken_end xs i = let len = length-drop i xs in take_all (length xs - i) (drop i 
 
 -- what is extended is extended by more
 pub extends_longer : (xs ys zs : List ℕ) → Extends xs ys → Extends xs (ys ++ zs)
-extends_longer xs ys zs h = extends_front xs ys (drop (length xs) ys) (ys ++ zs) (sym (ap (λ t. t ++ drop (length xs) ys) (sym h) ∙ take-append-drop (length xs) ys)) (extends_more ys (ys ++ zs) zs refl)
+extends_longer xs ys zs h = extends_front xs ys (drop (length xs) ys) (ys ++ zs)
+    (sym (ap (λ t. t ++ drop (length xs) ys) (sym h) ∙ take-append-drop (length xs) ys))
+    (extends_more ys (ys ++ zs) zs refl)

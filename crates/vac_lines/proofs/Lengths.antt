@@ -1,5 +1,6 @@
 -- How long the lines of tasks are.
-use Rattle.std.proofs.Common.{◌≡◌, ◌≤◌, ◌<◌, ◌+◌, ◌*◌, ◌==◌, ◌&&◌, ◌||◌, if◌then◌else◌, Bool, true, false, Option, Some, None, ℕ, List, [], ◌∷◌, ◌++◌, length, decimal, refl, arith, length-append, nat_le}
+use Rattle.std.proofs.Common.{◌≡◌, ◌≤◌, ◌<◌, ◌+◌, ◌*◌, ◌==◌, ◌&&◌, ◌||◌, if◌then◌else◌, Bool, true, false, Option, Some}
+use Rattle.std.proofs.Common.{None, ℕ, List, [], ◌∷◌, ◌++◌, length, decimal, refl, arith, length-append, nat_le}
 use Rattle.std.specs.List.{list_all, flat_map}
 use Rattle.std.proofs.lemmas.Bool.Decides.{nat_tests}
 use Rattle.std.proofs.lemmas.Fmt.{length-decimal-le}
@@ -9,10 +10,14 @@ use Rattle.vac_model.specs.declared.commands.Command.{Command}
 use Rattle.vac_model.specs.declared.commands.Command.TheVariants as command
 use Rattle.vac_model.specs.declared.tasks.Task.{Task}
 use Rattle.vac_model.specs.declared.tasks.Task.TheVariants as task
-use Rattle.vac_model.specs.Amounts.{is_id, is_amount, is_optional_amount, is_unit_count, is_list_length, has_deletable_units}
+use Rattle.vac_model.specs.Amounts.{is_id, is_amount, is_optional_amount, is_unit_count, is_list_length}
+use Rattle.vac_model.specs.Amounts.{has_deletable_units}
 use Rattle.vac_model.specs.Ranges.{is_change, is_command, is_task}
-use Rattle.vac_lines.specs.TaskText.{kind_word, price_word, units_words, command_words, further_words, changes_words, task_words, task_text, spaced, words_text, is_short, is_short_price, is_short_change, is_fitting}
-use Rattle.vac_lines.proofs.TaskReading.{both, small_id, small_amount, small_units, few_parts, ask_words, has_id, is_good_change}
+use Rattle.vac_lines.specs.TaskText.{kind_word, price_word, units_words, command_words, further_words, changes_words}
+use Rattle.vac_lines.specs.TaskText.{task_words, task_text, spaced, words_text, is_short, is_short_price}
+use Rattle.vac_lines.specs.TaskText.{is_short_change, is_fitting}
+use Rattle.vac_lines.proofs.TaskReading.{both, small_id, small_amount, small_units, few_parts, ask_words, has_id}
+use Rattle.vac_lines.proofs.TaskReading.{is_good_change}
 
 -- the bytes of words, each behind a space
 abbrev size : List (List ℕ) → ℕ
@@ -25,11 +30,13 @@ size_both (x ∷ xs) ys = let e = size_both xs ys in omega (arith, e)
 
 length_spaced : (words : List (List ℕ)) → length (spaced words) ≡ size words
 length_spaced [] = refl
-length_spaced (word ∷ words) = let e = length_spaced words in let f = length-append word (spaced words) in omega (arith, e, f)
+length_spaced (word ∷ words) = let e = length_spaced words in let f = length-append word (spaced words) in
+    omega (arith, e, f)
 
 length_text : (words : List (List ℕ)) → length (words_text words) ≤ size words
 length_text [] = omega arith
-length_text (word ∷ words) = let e = length_spaced words in let f = length-append word (spaced words) in omega (arith, e, f)
+length_text (word ∷ words) = let e = length_spaced words in let f = length-append word (spaced words) in
+    omega (arith, e, f)
 
 kind_size : (k : Kind) → length (kind_word k) ≤ 6
 kind_size Car = omega arith
@@ -57,7 +64,8 @@ units_size : (n : ℕ) → is_unit_count n ≡ true → size (units_words n) ≤
 units_size n h = units_case n (n == 1) h
 
 -- an add with numbers of so many digits
-add_size : (i a : ℕ) (kind : Kind) (id num : ℕ) (price : Option ℕ) → length (decimal id) ≤ i → length (decimal num) ≤ a → length (price_word price) ≤ a
+add_size : (i a : ℕ) (kind : Kind) (id num : ℕ) (price : Option ℕ) → length (decimal id) ≤ i →
+    length (decimal num) ≤ a → length (price_word price) ≤ a
     → size (command_words (command.Add kind id num price)) ≤ 14 + i + 2 * a
 add_size i a kind id num price p q r = let k = kind_size kind in omega (arith, k, p, q, r)
 
@@ -132,7 +140,8 @@ long_change (command.Cancel customer kind id) k h = absurd (let e : false ≡ tr
 long_change command.Audit k h = absurd (let e : false ≡ true = k in cc)
 
 short_size : (n : ℕ) → is_short n ≡ true → length (decimal n) ≤ 5
-short_size n h = let s : n < 100000 = grind (arith, nat_tests, h) in length-decimal-le 5 n (omega arith) (omega (arith, s)) (omega (arith, s))
+short_size n h = let s : n < 100000 = grind (arith, nat_tests, h) in
+    length-decimal-le 5 n (omega arith) (omega (arith, s)) (omega (arith, s))
 
 short_price_size : (p : Option ℕ) → is_short_price p ≡ true → length (price_word p) ≤ 5
 short_price_size None h = omega arith
@@ -157,7 +166,8 @@ short_change (command.Cancel customer kind id) h = absurd (let e : false ≡ tru
 short_change command.Audit h = absurd (let e : false ≡ true = h in cc)
 
 -- changes, each behind a separator
-long_changes : (cs : List Command) → list_all is_good_change cs ≡ true → size (flat_map further_words cs) ≤ 40 * length cs
+long_changes : (cs : List Command) → list_all is_good_change cs ≡ true →
+    size (flat_map further_words cs) ≤ 40 * length cs
 long_changes [] h = omega arith
 long_changes (c ∷ cs) h =
     let p = both (is_good_change c) (list_all is_good_change cs) h in
@@ -167,7 +177,8 @@ long_changes (c ∷ cs) h =
     let e = size_both (command_words c) (flat_map further_words cs) in
     omega (arith, s, more, e)
 
-short_changes : (cs : List Command) → list_all is_short_change cs ≡ true → size (flat_map further_words cs) ≤ 31 * length cs
+short_changes : (cs : List Command) → list_all is_short_change cs ≡ true →
+    size (flat_map further_words cs) ≤ 31 * length cs
 short_changes [] h = omega arith
 short_changes (c ∷ cs) h =
     let p = both (is_short_change c) (list_all is_short_change cs) h in
@@ -181,15 +192,18 @@ changes_size : (cs : List Command) → size (changes_words cs) ≤ size (flat_ma
 changes_size [] = omega arith
 changes_size (c ∷ cs) = omega arith
 
-few_changes : (cs : List Command) → list_all is_good_change cs ≡ true → nat_le (length cs) 25 ≡ true → size (changes_words cs) ≤ 1000
+few_changes : (cs : List Command) → list_all is_good_change cs ≡ true → nat_le (length cs) 25 ≡ true →
+    size (changes_words cs) ≤ 1000
 few_changes cs h few =
     let n : length cs ≤ 25 = grind (arith, nat_tests, few) in
     omega (arith, n, long_changes cs h, changes_size cs)
 
-small_changes : (cs : List Command) → length cs ≤ 32 → list_all is_short_change cs ≡ true → size (changes_words cs) ≤ 1000
+small_changes : (cs : List Command) → length cs ≤ 32 → list_all is_short_change cs ≡ true →
+    size (changes_words cs) ≤ 1000
 small_changes cs n h = omega (arith, n, short_changes cs h, changes_size cs)
 
-fitting_changes : (cs : List Command) (b : Bool) → nat_le (length cs) 25 ≡ b → (b || list_all is_short_change cs) ≡ true → list_all is_good_change cs ≡ true → length cs ≤ 32
+fitting_changes : (cs : List Command) (b : Bool) → nat_le (length cs) 25 ≡ b →
+    (b || list_all is_short_change cs) ≡ true → list_all is_good_change cs ≡ true → length cs ≤ 32
     → size (changes_words cs) ≤ 1000
 fitting_changes cs true e f h n = few_changes cs h e
 fitting_changes cs false e f h n = small_changes cs n f

@@ -1,5 +1,6 @@
 -- Words with a space between two are cut into those words.
-use Rattle.std.proofs.Common.{◌≡◌, ℕ, ◌<◌, ◌&&◌, Bool, true, false, List, [], ◌∷◌, ◌++◌, All, length, refl, ap, ◌∙◌, arith, append-nil}
+use Rattle.std.proofs.Common.{◌≡◌, ℕ, ◌<◌, ◌&&◌, Bool, true, false, List, [], ◌∷◌, ◌++◌, All, length, refl, ap, ◌∙◌}
+use Rattle.std.proofs.Common.{arith, append-nil}
 use Rattle.std.specs.List.{list_all, list_any}
 use Rattle.std.proofs.lemmas.Bool.Decides.{nat_tests}
 use Rattle.std.proofs.lemmas.List.Elements.{All-nil, All-cons}
@@ -48,13 +49,16 @@ no_bad_byte b h = grind (arith, nat_tests, h)
 
 no_spaces : (word : List ℕ) → IsPlain word → Each (λ b. is_space b ≡ false) word
 no_spaces [] h = tt
-no_spaces (b ∷ bs) h =
-    (no_space b (and_left (is_word_byte b) (list_all is_word_byte bs) h), no_spaces bs (and_right (is_word_byte b) (list_all is_word_byte bs) h))
+no_spaces (b ∷ bs) h = (
+  no_space b (and_left (is_word_byte b) (list_all is_word_byte bs) h),
+  no_spaces bs (and_right (is_word_byte b) (list_all is_word_byte bs) h),
+)
 
 without_space : (word : List ℕ) → IsPlain word → All (λ b. is_space b ≡ false) word
 without_space word h = each_all (λ b. is_space b ≡ false) word (no_spaces word h)
 
-words_spaced : (word : List ℕ) (words : List (List ℕ)) → IsPlain word → Each IsPlain words → words_of (word ++ spaced words) ≡ word ∷ words
+words_spaced : (word : List ℕ) (words : List (List ℕ)) → IsPlain word → Each IsPlain words →
+    words_of (word ++ spaced words) ≡ word ∷ words
 words_spaced word [] p q = ap words_of (append-nil word) ∙ slice_split_none is_space word (without_space word p)
 words_spaced word (next ∷ words) p q =
     slice_split_at is_space word 32 (next ++ spaced words) (without_space word p) refl
@@ -63,12 +67,19 @@ words_spaced word (next ∷ words) p q =
 no_bad_bytes : (word : List ℕ) → IsPlain word → list_any is_bad_byte word ≡ false
 no_bad_bytes [] h = refl
 no_bad_bytes (b ∷ bs) h =
-    rw (no_bad_byte b (and_left (is_word_byte b) (list_all is_word_byte bs) h), no_bad_bytes bs (and_right (is_word_byte b) (list_all is_word_byte bs) h)) refl
+    rw (
+      no_bad_byte b (and_left (is_word_byte b) (list_all is_word_byte bs) h),
+      no_bad_bytes bs (and_right (is_word_byte b) (list_all is_word_byte bs) h),
+    ) refl
 
-spaced_clean : (word : List ℕ) (words : List (List ℕ)) → IsPlain word → Each IsPlain words → list_any is_bad_byte (word ++ spaced words) ≡ false
+spaced_clean : (word : List ℕ) (words : List (List ℕ)) → IsPlain word → Each IsPlain words →
+    list_any is_bad_byte (word ++ spaced words) ≡ false
 spaced_clean word [] p q = ap (list_any is_bad_byte) (append-nil word) ∙ no_bad_bytes word p
 spaced_clean word (next ∷ words) p q =
-    list_any-append is_bad_byte word (32 ∷ (next ++ spaced words)) ∙ rw (no_bad_bytes word p, spaced_clean next words q.0 q.1) refl
+    list_any-append is_bad_byte word (32 ∷ (next ++ spaced words)) ∙ rw (
+      no_bad_bytes word p,
+      spaced_clean next words q.0 q.1,
+    ) refl
 
 -- the words of a text of plain words are those words
 pub words_cut : (words : List (List ℕ)) → 0 < length words → Each IsPlain words → words_of (words_text words) ≡ words

@@ -1,5 +1,7 @@
 -- The words of a task are read as that task.
-use Rattle.std.proofs.Common.{◌≡◌, ◌≤◌, ◌<◌, ◌*◌, ◌/◌, ◌%◌, ◌^◌, ◌==◌, ◌&&◌, if◌then◌else◌, Bool, true, false, Option, Some, None, Ok, ℕ, List, [], ◌∷◌, ◌++◌, length, map, decimal, codes, refl, ap, ◌∙◌, arith, append-nil, length-append}
+use Rattle.std.proofs.Common.{◌≡◌, ◌≤◌, ◌<◌, ◌*◌, ◌/◌, ◌%◌, ◌^◌, ◌==◌, ◌&&◌, if◌then◌else◌, Bool, true, false, Option}
+use Rattle.std.proofs.Common.{Some, None, Ok, ℕ, List, [], ◌∷◌, ◌++◌, length, map, decimal, codes, refl, ap, ◌∙◌, arith}
+use Rattle.std.proofs.Common.{append-nil, length-append}
 use Rattle.std.specs.List.{list_all, flat_map}
 use Rattle.std.proofs.lemmas.Bool.{le-leb}
 use Rattle.std.proofs.lemmas.Bool.Decides.{nat_tests}
@@ -11,11 +13,14 @@ use Rattle.vac_model.specs.declared.commands.Command.{Command}
 use Rattle.vac_model.specs.declared.commands.Command.TheVariants as command
 use Rattle.vac_model.specs.declared.tasks.Task.{Task}
 use Rattle.vac_model.specs.declared.tasks.Task.TheVariants as task
-use Rattle.vac_model.specs.Amounts.{is_id, is_amount, is_optional_amount, is_unit_count, is_list_length, has_deletable_units}
+use Rattle.vac_model.specs.Amounts.{is_id, is_amount, is_optional_amount, is_unit_count, is_list_length}
+use Rattle.vac_model.specs.Amounts.{has_deletable_units}
 use Rattle.vac_model.specs.Ranges.{is_change, is_command, is_task}
 use Rattle.vac_lines.specs.Words.{is_separator}
-use Rattle.vac_lines.specs.LineTable.{add_line, del_line, at_kind, at_id, at_amount, at_price, at_units, read_each, asks_of, change_line, cut_parts, update_line, words_task, reserve_line, one}
-use Rattle.vac_lines.specs.TaskText.{kind_word, item_words, price_word, units_words, command_words, further_words, changes_words, task_words}
+use Rattle.vac_lines.specs.LineTable.{add_line, del_line, at_kind, at_id, at_amount, at_price, at_units, read_each}
+use Rattle.vac_lines.specs.LineTable.{asks_of, change_line, cut_parts, update_line, words_task, reserve_line, one}
+use Rattle.vac_lines.specs.TaskText.{kind_word, item_words, price_word, units_words, command_words, further_words}
+use Rattle.vac_lines.specs.TaskText.{changes_words, task_words}
 use Rattle.vac_lines.proofs.Decimals.{number_read, number_no_dash, number_no_separator, number_in_word}
 use Rattle.vac_lines.proofs.Spacing.{Each, each_all, each_both, IsPlain}
 
@@ -98,25 +103,60 @@ constant word p q = record { plain = p; apart = q }
 pub command_ordinary : (c : Command) → is_command c ≡ true → Each IsOrdinary (command_words c)
 command_ordinary (command.Add kind id num price) h =
     let p = both (is_id id && is_amount num) (is_optional_amount price) h in
-    let q = both (is_id id) (is_amount num) p.left in
-    (constant (codes "add") refl refl, (kind_ordinary kind, (id_ordinary id q.left, (amount_ordinary num q.right, (price_ordinary price p.right, tt)))))
+    let q = both (is_id id) (is_amount num) p.left in (
+      constant (codes "add") refl refl,
+      (
+        kind_ordinary kind,
+        (
+          id_ordinary id q.left,
+          (amount_ordinary num q.right, (price_ordinary price p.right, tt)),
+        ),
+      ),
+    )
 command_ordinary (command.Delete kind id num) h =
     let p = both (has_deletable_units kind && is_id id) (is_amount num) h in
-    let q = both (has_deletable_units kind) (is_id id) p.left in
-    (constant (codes "del") refl refl, (kind_ordinary kind, (id_ordinary id q.right, (amount_ordinary num p.right, tt))))
-command_ordinary (command.DropFlight id) h = (constant (codes "del") refl refl, (constant (codes "flight") refl refl, (id_ordinary id h, tt)))
+    let q = both (has_deletable_units kind) (is_id id) p.left in (
+      constant (codes "del") refl refl,
+      (
+        kind_ordinary kind,
+        (
+          id_ordinary id q.right,
+          (amount_ordinary num p.right, tt),
+        ),
+      ),
+    )
+command_ordinary (command.DropFlight id) h = (
+  constant (codes "del") refl refl,
+  (constant (codes "flight") refl refl, (id_ordinary id h, tt)),
+)
 command_ordinary (command.NewCustomer id) h = (constant (codes "newcust") refl refl, (id_ordinary id h, tt))
 command_ordinary (command.DropCustomer id) h = (constant (codes "dropcust") refl refl, (id_ordinary id h, tt))
-command_ordinary (command.Free kind id) h = (constant (codes "free") refl refl, (kind_ordinary kind, (id_ordinary id h, tt)))
-command_ordinary (command.Price kind id) h = (constant (codes "price") refl refl, (kind_ordinary kind, (id_ordinary id h, tt)))
+command_ordinary (command.Free kind id) h = (
+  constant (codes "free") refl refl,
+  (kind_ordinary kind, (id_ordinary id h, tt)),
+)
+command_ordinary (command.Price kind id) h = (
+  constant (codes "price") refl refl,
+  (kind_ordinary kind, (id_ordinary id h, tt)),
+)
 command_ordinary (command.Bill id) h = (constant (codes "bill") refl refl, (id_ordinary id h, tt))
 command_ordinary (command.Reserve customer kind id units) h =
     let p = both (is_id customer && is_id id) (is_unit_count units) h in
-    let q = both (is_id customer) (is_id id) p.left in
-    (constant (codes "reserve") refl refl, (id_ordinary customer q.left, (kind_ordinary kind, (id_ordinary id q.right, units_ordinary units p.right))))
+    let q = both (is_id customer) (is_id id) p.left in (
+      constant (codes "reserve") refl refl,
+      (
+        id_ordinary customer q.left,
+        (kind_ordinary kind, (id_ordinary id q.right, units_ordinary units p.right)),
+      ),
+    )
 command_ordinary (command.Cancel customer kind id) h =
-    let q = both (is_id customer) (is_id id) h in
-    (constant (codes "cancel") refl refl, (id_ordinary customer q.left, (kind_ordinary kind, (id_ordinary id q.right, tt))))
+    let q = both (is_id customer) (is_id id) h in (
+      constant (codes "cancel") refl refl,
+      (
+        id_ordinary customer q.left,
+        (kind_ordinary kind, (id_ordinary id q.right, tt)),
+      ),
+    )
 command_ordinary command.Audit h = (constant (codes "audit") refl refl, tt)
 
 pub some_words : (c : Command) → 0 < length (command_words c)
@@ -132,7 +172,8 @@ some_words (command.Reserve customer kind id units) = omega arith
 some_words (command.Cancel customer kind id) = omega arith
 some_words command.Audit = omega arith
 
-add_read : (kind : Kind) (id num : ℕ) (price : Option ℕ) → is_id id ≡ true → is_amount num ≡ true → is_optional_amount price ≡ true
+add_read : (kind : Kind) (id num : ℕ) (price : Option ℕ) → is_id id ≡ true → is_amount num ≡ true →
+    is_optional_amount price ≡ true
     → add_line (kind_word kind ∷ decimal id ∷ decimal num ∷ price_word price ∷ []) ≡ Ok (command.Add kind id num price)
 add_read kind id num price h g f = rw (kind_read kind, id_read id h, amount_read num g, price_read price f) refl
 
@@ -145,11 +186,14 @@ del_read Flight id num k h g = absurd (let e : false ≡ true = k in cc)
 drop_read : (id : ℕ) → is_id id ≡ true → del_line (codes "flight" ∷ decimal id ∷ []) ≡ Ok (command.DropFlight id)
 drop_read id h = rw (id_read id h) refl
 
-units_cases : (customer : ℕ) (kind : Kind) (id units : ℕ) (b : Bool) → (units == 1) ≡ b → is_id customer ≡ true → is_id id ≡ true → is_unit_count units ≡ true
-    → reserve_line (decimal customer ∷ kind_word kind ∷ decimal id ∷ (if b then [] else decimal units ∷ [])) ≡ Ok (command.Reserve customer kind id units)
+units_cases : (customer : ℕ) (kind : Kind) (id units : ℕ) (b : Bool) → (units == 1) ≡ b → is_id customer ≡ true →
+    is_id id ≡ true → is_unit_count units ≡ true
+    → reserve_line (decimal customer ∷ kind_word kind ∷ decimal id ∷ (if b then [] else decimal units ∷ [])) ≡ Ok
+    (command.Reserve customer kind id units)
 units_cases customer kind id units true e h g f =
     let single : 1 ≡ units = grind (arith, nat_tests, e) in
-    rw (id_read customer h, kind_read kind, id_read id g) (ap (λ (n : ℕ). Ok (command.Reserve customer kind id n)) single)
+    rw (id_read customer h, kind_read kind, id_read id g) (ap
+    (λ (n : ℕ). Ok (command.Reserve customer kind id n)) single)
 units_cases customer kind id units false e h g f =
     rw (id_read customer h, kind_read kind, id_read id g, units_read units f) refl
 
@@ -202,7 +246,8 @@ change_read command.Audit k h = absurd (let e : false ≡ true = k in cc)
 abbrev pub is_good_change : Command → Bool
 is_good_change c = is_change c && is_command c
 
-changes_read : (cs : List Command) → list_all is_good_change cs ≡ true → read_each change_line (map command_words cs) ≡ Ok cs
+changes_read : (cs : List Command) → list_all is_good_change cs ≡ true →
+    read_each change_line (map command_words cs) ≡ Ok cs
 changes_read [] h = refl
 changes_read (c ∷ cs) h =
     let p = both (is_good_change c) (list_all is_good_change cs) h in
@@ -224,21 +269,25 @@ parts_cut ws [] h g = ap cut_parts (append-nil ws) ∙ slice_split_none is_separ
 parts_cut ws (c ∷ cs) h g =
     let p = both (is_good_change c) (list_all is_good_change cs) g in
     let q = both (is_change c) (is_command c) p.left in
-    slice_split_at is_separator ws (codes ";") (command_words c ++ flat_map further_words cs) (each_all IsSeparated ws h) refl
-    ∙ ap (λ (ps : List (List (List ℕ))). ws ∷ ps) (parts_cut (command_words c) cs (apart_words (command_words c) (command_ordinary c q.right)) p.right)
+    slice_split_at is_separator ws (codes ";") (command_words c ++ flat_map further_words cs)
+    (each_all IsSeparated ws h) refl
+    ∙ ap (λ (ps : List (List (List ℕ))). ws ∷ ps) (parts_cut (command_words c) cs
+    (apart_words (command_words c) (command_ordinary c q.right)) p.right)
 
 pub few_parts : (n : ℕ) → is_list_length n ≡ true → n ≤ 32
 few_parts n h = grind (arith, nat_tests, h)
 
 -- words that are cut into the parts of these changes are read as their update
-parts_read : (ws : List (List ℕ)) (cs : List Command) → 0 < length ws → cut_parts ws ≡ map command_words cs → length cs ≤ 32
+parts_read : (ws : List (List ℕ)) (cs : List Command) → 0 < length ws → cut_parts ws ≡ map command_words cs →
+    length cs ≤ 32
     → list_all is_good_change cs ≡ true → update_line ws ≡ Ok (task.Update cs)
 parts_read [] cs some e few h = absurd (omega arith)
 parts_read (w ∷ ws) cs some e few h =
     let number : length (map command_words cs) ≤ 32 = rw (length-map cs command_words) few in
     rw (e, le-leb (length (map command_words cs)) 32 number, changes_read cs h) refl
 
-update_read : (cs : List Command) → is_task (task.Update cs) ≡ true → words_task (task_words (task.Update cs)) ≡ Ok (task.Update cs)
+update_read : (cs : List Command) → is_task (task.Update cs) ≡ true →
+    words_task (task_words (task.Update cs)) ≡ Ok (task.Update cs)
 update_read [] h = absurd (let e : false ≡ true = h in cc)
 update_read (c ∷ cs) h =
     let p = both (is_list_length (length (c ∷ cs))) (list_all is_good_change (c ∷ cs)) h in
@@ -273,11 +322,16 @@ pairs_number n m e h =
     let half : m / 2 ≡ n = omega (arith, e) in
     rw (even, half, h) refl
 
-trip_read : (customer : ℕ) (asks : List (Kind × ℕ)) → is_task (task.Trip customer asks) ≡ true → words_task (task_words (task.Trip customer asks)) ≡ Ok (task.Trip customer asks)
+trip_read : (customer : ℕ) (asks : List (Kind × ℕ)) → is_task (task.Trip customer asks) ≡ true →
+    words_task (task_words (task.Trip customer asks)) ≡ Ok (task.Trip customer asks)
 trip_read customer asks h =
     let p = both (is_id customer && is_list_length (length asks)) (list_all has_id asks) h in
     let q = both (is_id customer) (is_list_length (length asks)) p.left in
-    rw (pairs_number (length asks) (length (flat_map ask_words asks)) (asks_number asks) q.right, id_read customer q.left, asks_read asks p.right) refl
+    rw (
+      pairs_number (length asks) (length (flat_map ask_words asks)) (asks_number asks) q.right,
+      id_read customer q.left,
+      asks_read asks p.right,
+    ) refl
 
 -- the words of a task in its ranges are read as that task
 pub words_read : (t : Task) → is_task t ≡ true → words_task (task_words t) ≡ Ok t
@@ -299,8 +353,11 @@ further_plain : (cs : List Command) → list_all is_good_change cs ≡ true → 
 further_plain [] h = tt
 further_plain (c ∷ cs) h =
     let p = both (is_good_change c) (list_all is_good_change cs) h in
-    let q = both (is_change c) (is_command c) p.left in
-    (refl, each_both IsPlain (command_words c) (flat_map further_words cs) (command_plain c q.right) (further_plain cs p.right))
+    let q = both (is_change c) (is_command c) p.left in (
+      refl,
+      each_both IsPlain (command_words c) (flat_map further_words cs) (command_plain c q.right)
+          (further_plain cs p.right),
+    )
 
 changes_plain : (cs : List Command) → list_all is_good_change cs ≡ true → Each IsPlain (changes_words cs)
 changes_plain [] h = tt

@@ -10,5 +10,6 @@ pub whole : (held holds : Option (List ℕ)) (text : List ℕ) → Appends held 
 whole held holds text w = (length text, subst (Appends held holds) (sym (take_all (length text) text (omega arith))) w)
 
 -- the same where the output stayed as it was
-pub whole_kept : (held holds now : Option (List ℕ)) (text : List ℕ) → Appends held holds text → Keeps holds now → AppendsPrefix held now text
+pub whole_kept : (held holds now : Option (List ℕ)) (text : List ℕ) → Appends held holds text → Keeps holds now →
+    AppendsPrefix held now text
 whole_kept held holds now text w k = whole held now text (Appends-kept held holds now text w k)

@@ -26,19 +26,29 @@ table_size s Flight = omega arith
 table_size s Room = omega arith
 
 -- a number of each item that is at most a total
-items_fit : (s : State) (small : IsSmall s) (f : Item → ℕ) → ((i : Item) → i.used + i.free ≡ i.total → f i ≤ i.total) → (kind : Kind)
+items_fit : (s : State) (small : IsSmall s) (f : Item → ℕ) → ((i : Item) → i.used + i.free ≡ i.total → f i ≤ i.total) →
+    (kind : Kind)
     → sum_by f (values (table_of s kind)) < 2 ^ 60
 items_fit s small f below kind =
     let each : (k : ℕ) (x : Item) → get (table_of s kind) k ≡ Some x → f x ≤ 1000000000 =
     λ k x h. let r = small.balanced.items kind k x h in omega (arith, below x r.counts, r.few_units) in
-    omega (arith, sum_le nat_cmp_total nat_cmp-IsAntisymmetric f 1000000000 (table_of s kind) each, table_size s kind, small.balanced.room, small.small)
+    omega (
+      arith,
+      sum_le nat_cmp_total nat_cmp-IsAntisymmetric f 1000000000 (table_of s kind) each,
+      table_size s kind,
+      small.balanced.room,
+      small.small,
+    )
 
 -- a customer's units and bill are bounded by the number of bookings
-units_fit : (s : State) (small : IsSmall s) (c : ℕ) (b : Bookings) → bookings_of s c ≡ Some b → units_booked b ≤ len b * 10000
+units_fit : (s : State) (small : IsSmall s) (c : ℕ) (b : Bookings) → bookings_of s c ≡ Some b →
+    units_booked b ≤ len b * 10000
 units_fit s small c b h =
-    sum_le place_cmp_total place_cmp-IsAntisymmetric (λ (x : Booking). x.units) 10000 b (λ p x e. (small.balanced.bookings c b p.0 p.1 x h e).few_units)
+    sum_le place_cmp_total place_cmp-IsAntisymmetric (λ (x : Booking). x.units) 10000 b
+    (λ p x e. (small.balanced.bookings c b p.0 p.1 x h e).few_units)
 
-bill_fits : (s : State) (small : IsSmall s) (c : ℕ) (b : Bookings) → bookings_of s c ≡ Some b → bill_of b ≤ len b * 10000000000
+bill_fits : (s : State) (small : IsSmall s) (c : ℕ) (b : Bookings) → bookings_of s c ≡ Some b →
+    bill_of b ≤ len b * 10000000000
 bill_fits s small c b h =
     sum_le place_cmp_total place_cmp-IsAntisymmetric (λ (x : Booking). x.sum) 10000000000 b
     (λ p x e. let r = small.balanced.bookings c b p.0 p.1 x h e in omega (arith, r.few_units, r.sum_range))
@@ -54,6 +64,18 @@ small_sums s small = record {
   used = items_fit s small (λ i. i.used) (λ i h. omega arith);
   free = items_fit s small (λ i. i.free) (λ i h. omega arith);
   total = items_fit s small (λ i. i.total) (λ i h. omega arith);
-  units = omega (arith, sum_le_by nat_cmp_total nat_cmp-IsAntisymmetric units_booked len 10000 s.customers (units_fit s small), small.balanced.room, small.small);
-  bills = omega (arith, sum_le_by nat_cmp_total nat_cmp-IsAntisymmetric bill_of len 10000000000 s.customers (bill_fits s small), small.balanced.room, small.small);
+  units = omega (
+    arith,
+    sum_le_by nat_cmp_total nat_cmp-IsAntisymmetric units_booked len 10000 s.customers
+        (units_fit s small),
+    small.balanced.room,
+    small.small,
+  );
+  bills = omega (
+    arith,
+    sum_le_by nat_cmp_total nat_cmp-IsAntisymmetric bill_of len 10000000000 s.customers
+        (bill_fits s small),
+    small.balanced.room,
+    small.small,
+  );
 }

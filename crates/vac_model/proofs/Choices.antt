@@ -13,23 +13,29 @@ use Rattle.vac_model.proofs.Ids.{both_true}
 abbrev pub HasId : Option Choice → Type 0
 HasId o = IfSome o (λ c. is_id c.0 ≡ true)
 
-dearer_id : (best : Option Choice) (id : ℕ) (price : Option ℕ) → HasId best → is_id id ≡ true → HasId (dearer best id price)
+dearer_id : (best : Option Choice) (id : ℕ) (price : Option ℕ) → HasId best → is_id id ≡ true →
+    HasId (dearer best id price)
 dearer_id best id None h e = h
 dearer_id None id (Some price) h e = e
 dearer_id (Some best) id (Some price) h e =
     elim (nat_lt best.1 price) as (λ b. HasId (if b then Some (id, price) else Some best)) [ true ↦ e | false ↦ h ]
 
-ids_of : (s : State) (kind : Kind) (asks : List Place) (best : Option Choice) → HasId best → list_all (λ ask. is_id ask.1) asks ≡ true
-    → HasId (fold (λ best ask. if kind_number ask.0 == kind_number kind then dearer best ask.1 (price_of s ask.0 ask.1) else best) best asks)
+ids_of : (s : State) (kind : Kind) (asks : List Place) (best : Option Choice) → HasId best →
+    list_all (λ ask. is_id ask.1) asks ≡ true
+    → HasId (fold (λ best ask. if kind_number ask.0 == kind_number kind then dearer best ask.1
+    (price_of s ask.0 ask.1) else best) best asks)
 ids_of s kind [] best h e = h
 ids_of s kind (ask ∷ asks) best h e =
     let both = both_true (is_id ask.1) (list_all (λ ask. is_id ask.1) asks) e in
-    let first : HasId (if kind_number ask.0 == kind_number kind then dearer best ask.1 (price_of s ask.0 ask.1) else best) =
-    elim (kind_number ask.0 == kind_number kind) as (λ b. HasId (if b then dearer best ask.1 (price_of s ask.0 ask.1) else best)) [
+    let first : HasId (if kind_number ask.0 == kind_number kind then dearer best ask.1
+    (price_of s ask.0 ask.1) else best) =
+    elim (kind_number ask.0 == kind_number kind) as (λ b. HasId
+    (if b then dearer best ask.1 (price_of s ask.0 ask.1) else best)) [
       | true ↦ dearer_id best ask.1 (price_of s ask.0 ask.1) h both.0
       | false ↦ h
     ] in
     ids_of s kind asks _ first both.1
 
-pub choice_id : (s : State) (kind : Kind) (asks : List Place) → list_all (λ ask. is_id ask.1) asks ≡ true → HasId (choice_of s kind asks)
+pub choice_id : (s : State) (kind : Kind) (asks : List Place) → list_all (λ ask. is_id ask.1) asks ≡ true →
+    HasId (choice_of s kind asks)
 choice_id s kind asks e = ids_of s kind asks None tt e

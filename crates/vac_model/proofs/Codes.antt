@@ -6,7 +6,8 @@ use Rattle.vac_model.specs.declared.items.Kind.{Kind}
 use Rattle.vac_model.specs.declared.commands.Command.{Command}
 use Rattle.vac_model.specs.declared.commands.Command.TheVariants as command
 use Rattle.vac_model.specs.declared.commands.Why.{Why}
-use Rattle.vac_model.specs.declared.commands.Why.TheVariants.{NeedsCountAndPrice, TotalLimit, Full, NoItem, NotFree, InUse, Exists, NoCustomer, SoldOut, NotBooked, UnitLimit}
+use Rattle.vac_model.specs.declared.commands.Why.TheVariants.{NeedsCountAndPrice, TotalLimit, Full, NoItem, NotFree}
+use Rattle.vac_model.specs.declared.commands.Why.TheVariants.{InUse, Exists, NoCustomer, SoldOut, NotBooked, UnitLimit}
 use Rattle.vac_model.specs.declared.replies.Reply.{Reply}
 use Rattle.vac_model.specs.declared.replies.Reply.TheVariants as reply
 use Rattle.vac_model.specs.declared.replies.Report.{Report}
@@ -17,7 +18,8 @@ use Rattle.vac_model.specs.declared.tasks.Task.{Task}
 use Rattle.vac_model.specs.declared.tasks.Task.TheVariants as task
 use Rattle.vac_model.specs.State.{Place}
 use Rattle.vac_model.specs.Coded.{kind_of_number, kind_back}
-use Rattle.vac_model.specs.Code.{option_code, list_code, number_code, ask_code, command_code, task_code, why_code, joined_code, pick_code, reply_code, code}
+use Rattle.vac_model.specs.Code.{option_code, list_code, number_code, ask_code, command_code, task_code, why_code}
+use Rattle.vac_model.specs.Code.{joined_code, pick_code, reply_code, code}
 
 -- a value read from the front of a list, and what is left
 abbrev Read : Type 0 → Type 0
@@ -38,18 +40,21 @@ ReadsBack {X} write read = (x : X) (rest : List ℕ) → read (write x ++ rest) 
 abbrev read_option : {X : Type 0} → (List ℕ → Read X) → List ℕ → Read (Option X)
 read_option read l = if head l == 0 then (None, tail l) else (let r = read (tail l) in (Some r.0, r.1))
 
-option_back : {X : Type 0} (write : X → List ℕ) (read : List ℕ → Read X) → ReadsBack write read → ReadsBack (option_code write) (read_option read)
+option_back : {X : Type 0} (write : X → List ℕ) (read : List ℕ → Read X) → ReadsBack write read →
+    ReadsBack (option_code write) (read_option read)
 option_back write read back None rest = refl
 option_back {X} write read back (Some x) rest = ap (λ (r : Read X). (Some r.0, r.1)) (back x rest)
 
 abbrev read_items : {X : Type 0} → (List ℕ → Read X) → ℕ → List ℕ → Read (List X)
 read_items read zero l = ([], l)
-read_items read (suc n) l = let first = read l in let others = read_items read n first.1 in (first.0 ∷ others.0, others.1)
+read_items read (suc n) l = let first = read l in let others = read_items read n first.1 in
+    (first.0 ∷ others.0, others.1)
 
 abbrev read_list : {X : Type 0} → (List ℕ → Read X) → List ℕ → Read (List X)
 read_list read l = read_items read (head l) (tail l)
 
-items_back : {X : Type 0} (write : X → List ℕ) (read : List ℕ → Read X) → ReadsBack write read → (xs : List X) (rest : List ℕ)
+items_back : {X : Type 0} (write : X → List ℕ) (read : List ℕ → Read X) → ReadsBack write read →
+    (xs : List X) (rest : List ℕ)
     → read_items read (length xs) (flat_map write xs ++ rest) ≡ (xs, rest)
 items_back write read back [] rest = refl
 items_back {X} write read back (x ∷ xs) rest =
@@ -58,7 +63,8 @@ items_back {X} write read back (x ∷ xs) rest =
     ap (λ (r : Read X). let others = read_items read (length xs) r.1 in (r.0 ∷ others.0, others.1)) front
     ∙ ap (λ (r : Read (List X)). (x ∷ r.0, r.1)) (items_back write read back xs rest)
 
-list_back : {X : Type 0} (write : X → List ℕ) (read : List ℕ → Read X) → ReadsBack write read → ReadsBack (list_code write) (read_list read)
+list_back : {X : Type 0} (write : X → List ℕ) (read : List ℕ → Read X) → ReadsBack write read →
+    ReadsBack (list_code write) (read_list read)
 list_back write read back xs rest = items_back write read back xs rest
 
 abbrev read_number : List ℕ → Read ℕ
@@ -97,8 +103,10 @@ read_command l =
 
 command_back : ReadsBack command_code read_command
 command_back (command.Add kind id num price) rest =
-    ap (λ (k : Kind). let p = read_option read_number (option_code number_code price ++ rest) in (command.Add k id num p.0, p.1)) (kind_back kind)
-    ∙ ap (λ (p : Read (Option ℕ)). (command.Add kind id num p.0, p.1)) (option_back number_code read_number number_back price rest)
+    ap (λ (k : Kind). let p = read_option read_number (option_code number_code price ++ rest) in
+    (command.Add k id num p.0, p.1)) (kind_back kind)
+    ∙ ap (λ (p : Read (Option ℕ)). (command.Add kind id num p.0, p.1))
+    (option_back number_code read_number number_back price rest)
 command_back (command.Delete kind id num) rest = ap (λ (k : Kind). (command.Delete k id num, rest)) (kind_back kind)
 command_back (command.DropFlight id) rest = refl
 command_back (command.NewCustomer id) rest = refl
@@ -106,22 +114,27 @@ command_back (command.DropCustomer id) rest = refl
 command_back (command.Free kind id) rest = ap (λ (k : Kind). (command.Free k id, rest)) (kind_back kind)
 command_back (command.Price kind id) rest = ap (λ (k : Kind). (command.Price k id, rest)) (kind_back kind)
 command_back (command.Bill id) rest = refl
-command_back (command.Reserve customer kind id num) rest = ap (λ (k : Kind). (command.Reserve customer k id num, rest)) (kind_back kind)
-command_back (command.Cancel customer kind id) rest = ap (λ (k : Kind). (command.Cancel customer k id, rest)) (kind_back kind)
+command_back (command.Reserve customer kind id num) rest = ap (λ (k : Kind). (command.Reserve customer k id num, rest))
+    (kind_back kind)
+command_back (command.Cancel customer kind id) rest = ap (λ (k : Kind). (command.Cancel customer k id, rest))
+    (kind_back kind)
 command_back command.Audit rest = refl
 
 abbrev read_task : List ℕ → Read Task
 read_task l =
     if head l == 0 then (let c = read_command (tail l) in (task.One c.0, c.1))
-    else if head l == 1 then (let asks = read_list read_ask (tail (tail l)) in (task.Trip (head (tail l)) asks.0, asks.1))
+    else if head l == 1 then (let asks = read_list read_ask (tail (tail l)) in
+    (task.Trip (head (tail l)) asks.0, asks.1))
     else if head l == 2 then (task.Leave (head (tail l)), tail (tail l))
     else (let changes = read_list read_command (tail l) in (task.Update changes.0, changes.1))
 
 pub task_back : ReadsBack task_code read_task
 task_back (task.One c) rest = ap (λ (r : Read Command). (task.One r.0, r.1)) (command_back c rest)
-task_back (task.Trip customer asks) rest = ap (λ (r : Read (List Place)). (task.Trip customer r.0, r.1)) (list_back ask_code read_ask ask_back asks rest)
+task_back (task.Trip customer asks) rest = ap (λ (r : Read (List Place)). (task.Trip customer r.0, r.1))
+    (list_back ask_code read_ask ask_back asks rest)
 task_back (task.Leave customer) rest = refl
-task_back (task.Update changes) rest = ap (λ (r : Read (List Command)). (task.Update r.0, r.1)) (list_back command_code read_command command_back changes rest)
+task_back (task.Update changes) rest = ap (λ (r : Read (List Command)). (task.Update r.0, r.1))
+    (list_back command_code read_command command_back changes rest)
 
 abbrev why_at : ℕ → Why
 why_at n =
@@ -171,15 +184,29 @@ read_pick l =
 
 pick_back : ReadsBack pick_code read_pick
 pick_back p rest =
-    ap (λ (r : Read (Option Why)). let q : Pick = record { id = p.id; price = p.price; refused = r.0 } in (q, r.1)) (option_back why_code read_why why_back p.refused rest)
+    ap (λ (r : Read (Option Why)). let q : Pick = record { id = p.id; price = p.price; refused = r.0 } in
+    (q, r.1)) (option_back why_code read_why why_back p.refused rest)
 
 abbrev read_report : List ℕ → Read Report
 read_report l =
     let l2 = tail (tail l) in
     let l4 = tail (tail l2) in
     let l6 = tail (tail l4) in
-    let l8 = tail (tail l6) in
-    (record { cars = head l; flights = head (tail l); rooms = head l2; customers = head (tail l2); bookings = head l4; used = head (tail l4); free = head l6; total = head (tail l6); billed = head l8 }, tail l8)
+    let l8 = tail (tail l6) in (
+      record {
+        cars = head l;
+        flights = head (tail l);
+        rooms = head l2;
+        customers = head (tail l2);
+        bookings = head l4;
+        used = head (tail l4);
+        free = head l6;
+        total =
+            head (tail l6);
+        billed = head l8;
+      },
+      tail l8,
+    )
 
 abbrev read_reply : List ℕ → Read Reply
 read_reply l =
@@ -191,18 +218,21 @@ read_reply l =
     (let j = read_joined (tail l) in
     let picks = read_list (read_option read_pick) j.1 in
     (reply.Trip (record { joined = j.0; picks = picks.0 }), picks.1))
-    else (let refused = read_list (read_option read_why) (tail (tail l)) in (reply.Update (record { len = head (tail l); refused = refused.0 }), refused.1))
+    else (let refused = read_list (read_option read_why) (tail (tail l)) in
+    (reply.Update (record { len = head (tail l); refused = refused.0 }), refused.1))
 
 pub reply_back : ReadsBack reply_code read_reply
 reply_back reply.Done rest = refl
-reply_back (reply.Number n) rest = ap (λ (r : Read (Option ℕ)). (reply.Number r.0, r.1)) (option_back number_code read_number number_back n rest)
+reply_back (reply.Number n) rest = ap (λ (r : Read (Option ℕ)). (reply.Number r.0, r.1))
+    (option_back number_code read_number number_back n rest)
 reply_back (reply.Report r) rest = refl
 reply_back (reply.No why) rest = ap (λ (r : Read Why). (reply.No r.0, r.1)) (why_back why rest)
 reply_back (reply.Trip t) rest =
     let picks = list_code (option_code pick_code) t.picks in
     let front : read_joined ((joined_code t.joined ++ picks) ++ rest) ≡ (t.joined, picks ++ rest) =
     ap read_joined (append_assoc (joined_code t.joined) picks rest) ∙ joined_back t.joined (picks ++ rest) in
-    ap (λ (j : Read Joined). let ps = read_list (read_option read_pick) j.1 in (reply.Trip (record { joined = j.0; picks = ps.0 }), ps.1)) front
+    ap (λ (j : Read Joined). let ps = read_list (read_option read_pick) j.1 in
+    (reply.Trip (record { joined = j.0; picks = ps.0 }), ps.1)) front
     ∙ ap (λ (ps : Read (List (Option Pick))). (reply.Trip (record { joined = t.joined; picks = ps.0 }), ps.1))
     (list_back (option_code pick_code) (read_option read_pick) (option_back pick_code read_pick pick_back) t.picks rest)
 reply_back (reply.Update u) rest =
@@ -212,7 +242,8 @@ reply_back (reply.Update u) rest =
 -- no two pairs of a task and a reply have one code
 pub code_determines : (t t' : Task) (r r' : Reply) → code t r ≡ code t' r' → (t ≡ t') × (r ≡ r')
 code_determines t t' r r' e =
-    let both : (t, reply_code r) ≡ (t', reply_code r') = sym (task_back t (reply_code r)) ∙ ap read_task e ∙ task_back t' (reply_code r') in
+    let both : (t, reply_code r) ≡ (t', reply_code r') = sym (task_back t (reply_code r)) ∙ ap read_task e ∙
+    task_back t' (reply_code r') in
     let codes : reply_code r ≡ reply_code r' = ap (λ (x : Read Task). x.1) both in
     let replies : (r, []) ≡ (r', []) =
     sym (reply_back r []) ∙ ap (λ l. read_reply (l ++ [])) codes ∙ reply_back r' [] in

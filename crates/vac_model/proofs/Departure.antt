@@ -1,5 +1,6 @@
 -- An item or a customer leaves: a state stays balanced.
-use Rattle.std.proofs.Common.{◌≡◌, ◌≢◌, ℕ, ◌+◌, ◌-◌, true, cond, List, [], ◌∷◌, refl, ap, sym, subst, ◌∙◌, arith, inl, inr}
+use Rattle.std.proofs.Common.{◌≡◌, ◌≢◌, ℕ, ◌+◌, ◌-◌, true, cond, List, [], ◌∷◌, refl, ap, sym, subst, ◌∙◌, arith, inl}
+use Rattle.std.proofs.Common.{inr}
 use Rattle.std.specs.Prelude.{Option, Some, None, IsSome, is_some, sum_by, T}
 use Rattle.std.specs.Option.{option_map, option_map_or}
 use Rattle.std.specs.Cmp.{nat_cmp_total, tied_itself}
@@ -8,31 +9,39 @@ use Rattle.std.specs.FinMap as map
 use Rattle.std.specs.FinMap.{find, is_sorted, get, insert, remove, entries, nat_cmp-IsAntisymmetric}
 use Rattle.vac_model.specs.declared.items.Kind.{Kind}
 use Rattle.vac_model.specs.declared.items.Item.{Item}
-use Rattle.vac_model.specs.State.{State, Booking, Bookings, Place, Table, table_of, item_of, without_item, bookings_of, without_customer, units_of, units_held, size, place_cmp}
+use Rattle.vac_model.specs.State.{State, Booking, Bookings, Place, Table, table_of, item_of, without_item, bookings_of}
+use Rattle.vac_model.specs.State.{without_customer, units_of, units_held, size, place_cmp}
 use Rattle.vac_model.specs.Step.{given_back, give_back, give_back_all}
 use Rattle.vac_model.specs.Fits.{units_in, IsItemInRange, CanGiveBack}
 use Rattle.vac_model.specs.Balanced.{IsBalanced, IsItem, IsBooking}
-use Rattle.vac_model.proofs.Sums.{get_removed, removed_elsewhere, either_key, apart_test, len_removed, remove_missing, find_below, first, second}
+use Rattle.vac_model.proofs.Sums.{get_removed, removed_elsewhere, either_key, apart_test, len_removed, remove_missing}
+use Rattle.vac_model.proofs.Sums.{find_below, first, second}
 use Rattle.vac_model.proofs.Places.{place_cmp_total, place_cmp-IsAntisymmetric}
-use Rattle.vac_model.proofs.States.{item_of-without_customer, customers-with_table, capacity-with_table, table_of-with_table, size-with_table, other_table}
+use Rattle.vac_model.proofs.States.{item_of-without_customer, customers-with_table, capacity-with_table}
+use Rattle.vac_model.proofs.States.{table_of-with_table, size-with_table, other_table}
 use Rattle.vac_model.proofs.Holdings.{units-used, units_of-used}
-use Rattle.vac_model.proofs.Balance.{some_same, item_here, item_elsewhere, size_replaced, size-without_customer, held-without_customer}
+use Rattle.vac_model.proofs.Balance.{some_same, item_here, item_elsewhere, size_replaced, size-without_customer}
+use Rattle.vac_model.proofs.Balance.{held-without_customer}
 
 -- an item after one was taken out, at its place and at another
 gone_here : (s : State) (kind : Kind) (id : ℕ) → item_of (without_item s kind id) kind id ≡ None
 gone_here s kind id =
-    ap (λ (t : Table). get t id) (table_of-with_table s kind (remove (table_of s kind) id)) ∙ get_removed nat_cmp_total nat_cmp-IsAntisymmetric (table_of s kind) id
+    ap (λ (t : Table). get t id) (table_of-with_table s kind (remove (table_of s kind) id)) ∙
+    get_removed nat_cmp_total nat_cmp-IsAntisymmetric (table_of s kind) id
 
-gone_elsewhere : (s : State) (kind : Kind) (id : ℕ) (k : Kind) (i : ℕ) → (◌≢◌ {A = Place} (k, i) (kind, id)) → item_of (without_item s kind id) k i ≡ item_of s k i
+gone_elsewhere : (s : State) (kind : Kind) (id : ℕ) (k : Kind) (i : ℕ) → (◌≢◌ {A = Place} (k, i) (kind, id)) →
+    item_of (without_item s kind id) k i ≡ item_of s k i
 gone_elsewhere s kind id k i apart = elim (other_table s kind (remove (table_of s kind) id) k) [
   | inl same ↦
       let place : i ≢ id = λ e. apart (λ j. (same.0 j, e j)) in
-      ap (λ (t : Table). get t i) same.1 ∙ removed_elsewhere nat_cmp_total nat_cmp-IsAntisymmetric (table_of s kind) id i place
+      ap (λ (t : Table). get t i) same.1 ∙ removed_elsewhere nat_cmp_total nat_cmp-IsAntisymmetric
+      (table_of s kind) id i place
       ∙ ap (λ x. item_of s x i) (sym same.0)
   | inr other ↦ ap (λ (t : Table). get t i) other
 ]
 
-module _ (s : State) (kind : Kind) (id : ℕ) (old : Item) (balanced : IsBalanced s) (there : item_of s kind id ≡ Some old) (unused : old.used ≡ 0) where
+module _ (s : State) (kind : Kind) (id : ℕ) (old : Item) (balanced : IsBalanced s)
+    (there : item_of s kind id ≡ Some old) (unused : old.used ≡ 0) where
   same_customers : (without_item s kind id).customers ≡ s.customers
   same_customers = customers-with_table s kind (remove (table_of s kind) id)
 
@@ -42,10 +51,12 @@ module _ (s : State) (kind : Kind) (id : ℕ) (old : Item) (balanced : IsBalance
   same_held : (place : Place) → units_held (without_item s kind id) place ≡ units_held s place
   same_held place = ap (λ cs. sum_by (λ b. units_of b place) (map.values cs)) same_customers
 
-  still : (k : Kind) (i : ℕ) (x : Item) → item_of (without_item s kind id) k i ≡ Some x → IsItem (without_item s kind id) k i x
+  still : (k : Kind) (i : ℕ) (x : Item) → item_of (without_item s kind id) k i ≡ Some x →
+      IsItem (without_item s kind id) k i x
   still k i x e = elim (either_key place_cmp_total place_cmp-IsAntisymmetric (k, i) (kind, id)) [
     | inl same ↦
-        let gone : None ≡ Some x = sym (gone_here s kind id) ∙ ap (λ (p : Place). item_of (without_item s kind id) p.0 p.1) (sym same) ∙ e in
+        let gone : None ≡ Some x = sym (gone_here s kind id) ∙
+        ap (λ (p : Place). item_of (without_item s kind id) p.0 p.1) (sym same) ∙ e in
         absurd (let never : None ≡ Some x = gone in cc)
     | inr apart ↦
         let f = balanced.items k i x (sym (gone_elsewhere s kind id k i apart) ∙ e) in
@@ -59,7 +70,8 @@ module _ (s : State) (kind : Kind) (id : ℕ) (old : Item) (balanced : IsBalance
         }
   ]
 
-  booked : (c : ℕ) (b : Bookings) (k : Kind) (i : ℕ) (x : Booking) → bookings_of s c ≡ Some b → get b (k, i) ≡ Some x → IsBooking (without_item s kind id) k i x
+  booked : (c : ℕ) (b : Bookings) (k : Kind) (i : ℕ) (x : Booking) → bookings_of s c ≡ Some b → get b (k, i) ≡ Some x →
+      IsBooking (without_item s kind id) k i x
   booked c b k i x e f =
       let r = balanced.bookings c b k i x e f in
       elim (either_key place_cmp_total place_cmp-IsAntisymmetric (k, i) (kind, id)) [
@@ -79,7 +91,8 @@ module _ (s : State) (kind : Kind) (id : ℕ) (old : Item) (balanced : IsBalance
       let sizes = size-with_table s kind (remove (table_of s kind) id) in
       let less = len_removed nat_cmp_total nat_cmp-IsAntisymmetric (table_of s kind) id old there in
       record {
-        room = rw (capacity-with_table s kind (remove (table_of s kind) id)) (omega (arith, sizes, less, balanced.room));
+        room = rw (capacity-with_table s kind (remove (table_of s kind) id))
+            (omega (arith, sizes, less, balanced.room));
         items = still;
         customers = λ c b e. balanced.customers c b (sym (same_bookings c) ∙ e);
         bookings = λ c b k i x e f. booked c b k i x (sym (same_bookings c) ∙ e) f;
@@ -95,20 +108,27 @@ plus_none a b h = omega arith
 none_plus : (a b : ℕ) → a ≡ b → 0 + a ≡ b
 none_plus a b h = omega arith
 
-units_in_sorted : (es : List (Place × Booking)) (q : Place) → T (is_sorted place_cmp es) → units_in es q ≡ found_units (find place_cmp q es)
+units_in_sorted : (es : List (Place × Booking)) (q : Place) → T (is_sorted place_cmp es) →
+    units_in es q ≡ found_units (find place_cmp q es)
 units_in_sorted [] q h = refl
 units_in_sorted (e ∷ es) q h =
     let rest = units_in_sorted es q (second _ _ h) in
     elim (either_key place_cmp_total place_cmp-IsAntisymmetric q e.0) [
       | inl same ↦
-          let test : eq_by_cmp place_cmp q e.0 ≡ true = subst (λ x. eq_by_cmp place_cmp q x ≡ true) same (ap is_eq (tied_itself place_cmp_total q)) in
-          let none : find place_cmp q es ≡ None = ap (λ x. find place_cmp x es) same ∙ find_below place_cmp e.0 es (first _ _ h) in
+          let test : eq_by_cmp place_cmp q e.0 ≡ true = subst (λ x. eq_by_cmp place_cmp q x ≡ true) same
+          (ap is_eq (tied_itself place_cmp_total q)) in
+          let none : find place_cmp q es ≡ None = ap (λ x. find place_cmp x es) same ∙ find_below place_cmp e.0 es
+          (first _ _ h) in
           let nothing : units_in es q ≡ 0 = rest ∙ ap found_units none in
-          let sums : e.1.units + units_in es q ≡ e.1.units = plus_none e.1.units (units_in es q) nothing in ap (λ b. cond b e.1.units 0 + units_in es q) test ∙ sums ∙ sym (ap (λ b. found_units (cond b (Some e.1) (find place_cmp q es))) test)
+          let sums : e.1.units + units_in es q ≡ e.1.units = plus_none e.1.units (units_in es q) nothing in
+          ap (λ b. cond b e.1.units 0 + units_in es q) test ∙ sums ∙
+          sym (ap (λ b. found_units (cond b (Some e.1) (find place_cmp q es))) test)
       | inr apart ↦
           let test = apart_test place_cmp_total place_cmp-IsAntisymmetric q e.0 apart in
-          let sums : 0 + units_in es q ≡ found_units (find place_cmp q es) = none_plus (units_in es q) (found_units (find place_cmp q es)) rest in
-          ap (λ b. cond b e.1.units 0 + units_in es q) test ∙ sums ∙ sym (ap (λ b. found_units (cond b (Some e.1) (find place_cmp q es))) test)
+          let sums : 0 + units_in es q ≡ found_units (find place_cmp q es) =
+          none_plus (units_in es q) (found_units (find place_cmp q es)) rest in
+          ap (λ b. cond b e.1.units 0 + units_in es q) test ∙ sums ∙
+          sym (ap (λ b. found_units (cond b (Some e.1) (find place_cmp q es))) test)
     ]
 
 pub units_in-entries : (b : Bookings) (q : Place) → units_in (entries b) q ≡ units_of b q
@@ -140,21 +160,26 @@ lowered_twice (Some x) a b = ap Some (given_back_twice x a b)
 
 -- an item after one booking was given back
 item_of-give_back : (s : State) (p : Place) (units : ℕ) (k : Kind) (i : ℕ)
-    → item_of (give_back s p units (item_of s p.0 p.1)) k i ≡ lowered (item_of s k i) (cond (eq_by_cmp place_cmp (k, i) p) units 0)
+    → item_of (give_back s p units (item_of s p.0 p.1)) k i ≡ lowered (item_of s k i)
+    (cond (eq_by_cmp place_cmp (k, i) p) units 0)
 item_of-give_back s p units k i =
     elim (either_key place_cmp_total place_cmp-IsAntisymmetric (k, i) p) [
       | inl same ↦
-          let test : eq_by_cmp place_cmp (k, i) p ≡ true = subst (λ x. eq_by_cmp place_cmp (k, i) x ≡ true) same (ap is_eq (tied_itself place_cmp_total (k, i))) in
+          let test : eq_by_cmp place_cmp (k, i) p ≡ true = subst (λ x. eq_by_cmp place_cmp (k, i) x ≡ true) same
+          (ap is_eq (tied_itself place_cmp_total (k, i))) in
           here same ∙ sym (ap (λ b. lowered (item_of s k i) (cond b units 0)) test)
       | inr apart ↦
-          elsewhere apart ∙ sym (ap (λ b. lowered (item_of s k i) (cond b units 0)) (apart_test place_cmp_total place_cmp-IsAntisymmetric (k, i) p apart) ∙ lowered_none (item_of s k i))
+          elsewhere apart ∙ sym (ap (λ b. lowered (item_of s k i) (cond b units 0))
+          (apart_test place_cmp_total place_cmp-IsAntisymmetric (k, i) p apart) ∙ lowered_none (item_of s k i))
     ]
   where
-    at_place : (s : State) (p : Place) (units : ℕ) (o : Option Item) → item_of s p.0 p.1 ≡ o → item_of (give_back s p units o) p.0 p.1 ≡ lowered o units
+    at_place : (s : State) (p : Place) (units : ℕ) (o : Option Item) → item_of s p.0 p.1 ≡ o →
+        item_of (give_back s p units o) p.0 p.1 ≡ lowered o units
     at_place s p units None e = e
     at_place s p units (Some x) e = item_here s p.0 p.1 (given_back x units)
 
-    apart_from : (s : State) (p : Place) (units : ℕ) (o : Option Item) (k : Kind) (i : ℕ) → (k, i) ≢ p → item_of (give_back s p units o) k i ≡ item_of s k i
+    apart_from : (s : State) (p : Place) (units : ℕ) (o : Option Item) (k : Kind) (i : ℕ) → (k, i) ≢ p →
+        item_of (give_back s p units o) k i ≡ item_of s k i
     apart_from s p units None k i apart = refl
     apart_from s p units (Some x) k i apart = item_elsewhere s p.0 p.1 (given_back x units) k i apart
 
@@ -168,7 +193,8 @@ item_of-give_back s p units k i =
     elsewhere apart = apart_from s p units (item_of s p.0 p.1) k i apart
 
 -- an item after all these bookings were given back
-pub item_of-give_back_all : (s : State) (es : List (Place × Booking)) (k : Kind) (i : ℕ) → item_of (give_back_all s es) k i ≡ lowered (item_of s k i) (units_in es (k, i))
+pub item_of-give_back_all : (s : State) (es : List (Place × Booking)) (k : Kind) (i : ℕ) →
+    item_of (give_back_all s es) k i ≡ lowered (item_of s k i) (units_in es (k, i))
 item_of-give_back_all s [] k i = sym (lowered_none (item_of s k i))
 item_of-give_back_all s (e ∷ es) k i =
     item_of-give_back_all (give_back s e.0 e.1.units (item_of s e.0.0 e.0.1)) es k i
@@ -181,7 +207,8 @@ pub record Leaves (s s' : State) : Type 0 where
   pub capacity : s'.capacity ≡ s.capacity
   pub size : size s' ≡ size s
 
-leaves_one : (s : State) (p : Place) (units : ℕ) (o : Option Item) → item_of s p.0 p.1 ≡ o → Leaves s (give_back s p units o)
+leaves_one : (s : State) (p : Place) (units : ℕ) (o : Option Item) → item_of s p.0 p.1 ≡ o →
+    Leaves s (give_back s p units o)
 leaves_one s p units None e = record { customers = refl; capacity = refl; size = refl }
 leaves_one s p units (Some x) e = record {
   customers = customers-with_table s p.0 (insert (table_of s p.0) p.1 (given_back x units));
@@ -194,7 +221,11 @@ leaves s [] = record { customers = refl; capacity = refl; size = refl }
 leaves s (e ∷ es) =
     let one = leaves_one s e.0 e.1.units (item_of s e.0.0 e.0.1) refl in
     let rest = leaves (give_back s e.0 e.1.units (item_of s e.0.0 e.0.1)) es in
-    record { customers = rest.customers ∙ one.customers; capacity = rest.capacity ∙ one.capacity; size = rest.size ∙ one.size }
+    record {
+      customers = rest.customers ∙ one.customers;
+      capacity = rest.capacity ∙ one.capacity;
+      size = rest.size ∙ one.size;
+    }
 
 -- an item of the state after a customer left
 pub item_of-departed : (s : State) (c : ℕ) (b : Bookings) (k : Kind) (i : ℕ)
@@ -205,7 +236,8 @@ item_of-departed s c b k i =
     ∙ ap (lowered (item_of s k i)) (units_in-entries b (k, i))
 
 -- an item that is there after some were lowered was there before
-raised : (o : Option Item) (n : ℕ) (x : Item) → lowered o n ≡ Some x → (y : Item) × ((o ≡ Some y) × (x ≡ given_back y n))
+raised : (o : Option Item) (n : ℕ) (x : Item) → lowered o n ≡ Some x →
+    (y : Item) × ((o ≡ Some y) × (x ≡ given_back y n))
 raised None n x e = absurd (let never : None ≡ Some x = e in cc)
 raised (Some y) n x e = (y, (refl, sym (some_same (given_back y n) x e)))
 
@@ -221,7 +253,8 @@ module _ (s : State) (c : ℕ) (b : Bookings) (balanced : IsBalanced s) (h : boo
       let without : get (remove s.customers c) q ≡ Some x = sym (ap (λ cs. get cs q) left.customers) ∙ e in
       elim (either_key nat_cmp_total nat_cmp-IsAntisymmetric q c) [
         | inl same ↦
-            let gone : None ≡ Some x = sym (get_removed nat_cmp_total nat_cmp-IsAntisymmetric s.customers c) ∙ ap (get (remove s.customers c)) (sym same) ∙ without in
+            let gone : None ≡ Some x = sym (get_removed nat_cmp_total nat_cmp-IsAntisymmetric s.customers c) ∙
+            ap (get (remove s.customers c)) (sym same) ∙ without in
             absurd (let never : None ≡ Some x = gone in cc)
         | inr apart ↦ sym (removed_elsewhere nat_cmp_total nat_cmp-IsAntisymmetric s.customers c q apart) ∙ without
       ]
@@ -232,7 +265,8 @@ module _ (s : State) (c : ℕ) (b : Bookings) (balanced : IsBalanced s) (h : boo
       let f = balanced.items k i was.0 was.1.0 in
       let few = units_of-used s c b k i was.0 balanced h was.1.0 in
       let held = held-without_customer s c b (k, i) h in
-      let same : units_held departed (k, i) ≡ units_held (without_customer s c) (k, i) = ap (λ cs. sum_by (λ z. units_of z (k, i)) (map.values cs)) left.customers in
+      let same : units_held departed (k, i) ≡ units_held (without_customer s c) (k, i) =
+      ap (λ cs. sum_by (λ z. units_of z (k, i)) (map.values cs)) left.customers in
       subst (λ y. IsItem departed k i y) (sym was.1.1) (record {
         id_range = f.id_range;
         some_units = f.some_units;
@@ -243,10 +277,11 @@ module _ (s : State) (c : ℕ) (b : Bookings) (balanced : IsBalanced s) (h : boo
       })
 
   item_still : (k : Kind) (i : ℕ) → IsSome (item_of s k i) → IsSome (item_of departed k i)
-  item_still k i e = subst IsSome (sym (item_of-departed s c b k i)) (elim (item_of s k i) as (λ o. IsSome o → IsSome (lowered o (units_of b (k, i)))) [
-    | None ↦ λ never. never
-    | Some y ↦ λ _. ap is_some {x = Some (given_back y (units_of b (k, i)))} refl
-  ] e)
+  item_still k i e = subst IsSome (sym (item_of-departed s c b k i)) (elim (item_of s k i) as (λ o. IsSome o →
+      IsSome (lowered o (units_of b (k, i)))) [
+        | None ↦ λ never. never
+        | Some y ↦ λ _. ap is_some {x = Some (given_back y (units_of b (k, i)))} refl
+      ] e)
 
   pub balanced-departed : IsBalanced (give_back_all (without_customer s c) (entries b))
   balanced-departed =
@@ -257,7 +292,12 @@ module _ (s : State) (c : ℕ) (b : Bookings) (balanced : IsBalanced s) (h : boo
         customers = λ q x e. balanced.customers q x (found_before q x e);
         bookings = λ q x k i y e f.
             let r = balanced.bookings q x k i y (found_before q x e) f in
-            record { item = item_still k i r.item; some_units = r.some_units; few_units = r.few_units; sum_range = r.sum_range };
+            record {
+              item = item_still k i r.item;
+              some_units = r.some_units;
+              few_units = r.few_units;
+              sum_range = r.sum_range;
+            };
       }
 
 -- after one booking was given back, the others can be
@@ -268,7 +308,11 @@ can_give_more s b bs can = record {
       let was = raised (item_of s k i) (amount k i) x (sym (item_of-give_back s b.0 b.1.units k i) ∙ e) in
       let r = can.in_range k i was.0 was.1.0 in
       let few = can.used k i was.0 was.1.0 in
-      subst IsItemInRange (sym was.1.1) (record { few_units = r.few_units; price_range = r.price_range; counts = omega (arith, r.counts, few) });
+      subst IsItemInRange (sym was.1.1) (record {
+        few_units = r.few_units;
+        price_range = r.price_range;
+        counts = omega (arith, r.counts, few);
+      });
   used = λ k i x e.
       let was = raised (item_of s k i) (amount k i) x (sym (item_of-give_back s b.0 b.1.units k i) ∙ e) in
       let few = can.used k i was.0 was.1.0 in
@@ -280,14 +324,17 @@ can_give_more s b bs can = record {
     amount k i = cond (eq_by_cmp place_cmp (k, i) b.0) b.1.units 0
 
 -- a customer's bookings can be given back once the customer is removed
-pub can_depart : (s : State) (c : ℕ) (b : Bookings) → IsBalanced s → bookings_of s c ≡ Some b → CanGiveBack (without_customer s c) (entries b)
+pub can_depart : (s : State) (c : ℕ) (b : Bookings) → IsBalanced s → bookings_of s c ≡ Some b →
+    CanGiveBack (without_customer s c) (entries b)
 can_depart s c b balanced h = record {
   in_range = λ k i x e.
       let f = balanced.items k i x (sym (item_of-without_customer s c k i) ∙ e) in
       record { few_units = f.few_units; price_range = f.price_range; counts = f.counts };
-  used = λ k i x e. rw (units_in-entries b (k, i)) (units_of-used s c b k i x balanced h (sym (item_of-without_customer s c k i) ∙ e));
+  used = λ k i x e. rw (units_in-entries b (k, i)) (units_of-used s c b k i x balanced h
+      (sym (item_of-without_customer s c k i) ∙ e));
 }
 
 -- nothing changes where a customer is removed that is not there
 pub without_missing : (s : State) (c : ℕ) → bookings_of s c ≡ None → without_customer s c ≡ s
-without_missing s c none = ap (λ cs. record s { customers = cs }) (remove_missing nat_cmp_total nat_cmp-IsAntisymmetric s.customers c none)
+without_missing s c none = ap (λ cs. record s { customers = cs })
+    (remove_missing nat_cmp_total nat_cmp-IsAntisymmetric s.customers c none)

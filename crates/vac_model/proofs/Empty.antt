@@ -22,7 +22,8 @@ no_size : (n : ℕ) → size (empty_state n) ≡ 0
 no_size n =
     let items : len (empty {X = Item} {R = nat_cmp}) ≡ 0 = map.len-empty nat_cmp Item in
     let customers : len (empty {X = Bookings} {R = nat_cmp}) ≡ 0 = map.len-empty nat_cmp Bookings in
-    let bookings : sum_by len (values (empty {X = Bookings} {R = nat_cmp})) ≡ 0 = ap (λ es. sum_by {X = Bookings} len (values_of es)) (entries-empty nat_cmp) in
+    let bookings : sum_by len (values (empty {X = Bookings} {R = nat_cmp})) ≡ 0 =
+    ap (λ es. sum_by {X = Bookings} len (values_of es)) (entries-empty nat_cmp) in
     omega (arith, items, customers, bookings)
 
 missing : {X : Type 0} (o : Option X) (x : X) → o ≡ None → o ≡ Some x → ⊥

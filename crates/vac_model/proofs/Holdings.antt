@@ -11,10 +11,15 @@ use Rattle.vac_model.specs.Balanced.{IsBalanced}
 use Rattle.vac_model.proofs.Sums.{sum-remove}
 
 -- a customer holds no more of an item than all customers do
-pub units_of-held : (s : State) (customer : ℕ) (bookings : Bookings) (place : Place) → bookings_of s customer ≡ Some bookings
+pub units_of-held : (s : State) (customer : ℕ) (bookings : Bookings) (place : Place) →
+    bookings_of s customer ≡ Some bookings
     → units_of bookings place ≤ units_held s place
 units_of-held s customer bookings place h =
-    omega (arith, sum-remove nat_cmp_total nat_cmp-IsAntisymmetric (λ b. units_of b place) s.customers customer bookings h)
+    omega (
+      arith,
+      sum-remove nat_cmp_total nat_cmp-IsAntisymmetric
+          (λ b. units_of b place) s.customers customer bookings h,
+    )
 
 -- so no more than is used of it
 pub units_of-used : (s : State) (customer : ℕ) (bookings : Bookings) (kind : Kind) (id : ℕ) (item : Item) → IsBalanced s
@@ -23,8 +28,10 @@ units_of-used s customer bookings kind id item balanced h there =
     omega (arith, units_of-held s customer bookings (kind, id) h, (balanced.items kind id item there).held)
 
 -- the same of one booking
-pub units-used : (s : State) (customer : ℕ) (bookings : Bookings) (kind : Kind) (id : ℕ) (item : Item) (b : Booking) → IsBalanced s
-    → bookings_of s customer ≡ Some bookings → item_of s kind id ≡ Some item → get bookings (kind, id) ≡ Some b → b.units ≤ item.used
+pub units-used : (s : State) (customer : ℕ) (bookings : Bookings) (kind : Kind) (id : ℕ) (item : Item) (b : Booking) →
+    IsBalanced s
+    → bookings_of s customer ≡ Some bookings → item_of s kind id ≡ Some item → get bookings (kind, id) ≡ Some b →
+    b.units ≤ item.used
 units-used s customer bookings kind id item b balanced h there e =
     let same : units_of bookings (kind, id) ≡ b.units = ap (λ o. option_map_or (λ (x : Booking). x.units) o 0) e in
     omega (arith, same, units_of-used s customer bookings kind id item balanced h there)

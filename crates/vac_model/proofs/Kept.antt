@@ -1,5 +1,6 @@
 -- Each command keeps a state balanced, and its capacity.
-use Rattle.std.proofs.Common.{◌≡◌, ℕ, ◌+◌, ◌-◌, ◌*◌, ◌≤◌, ◌<◌, Bool, true, false, cond, refl, ap, sym, subst, ◌∙◌, arith}
+use Rattle.std.proofs.Common.{◌≡◌, ℕ, ◌+◌, ◌-◌, ◌*◌, ◌≤◌, ◌<◌, Bool, true, false, cond, refl, ap, sym, subst, ◌∙◌}
+use Rattle.std.proofs.Common.{arith}
 use Rattle.std.specs.Prelude.{Option, Some, None, ◌&&◌, ◌==◌, nat_lt, nat_le, unwrap_or}
 use Rattle.std.specs.Option.{option_map_or}
 use Rattle.std.proofs.lemmas.Bool.Decides.{nat_tests}
@@ -10,19 +11,24 @@ use Rattle.vac_model.specs.declared.items.Kind.TheVariants.{Flight}
 use Rattle.vac_model.specs.declared.items.Item.{Item}
 use Rattle.vac_model.specs.declared.commands.Command.{Command}
 use Rattle.vac_model.specs.declared.commands.Command.TheVariants as command
-use Rattle.vac_model.specs.State.{State, Booking, Bookings, Place, table_of, item_of, with_item, bookings_of, with_bookings, without_customer, units_of, size, is_full}
-use Rattle.vac_model.specs.Step.{Outcome, done, when_found, added, deleted, taken, given_back, new_booking, extended, new_item, add_new, add_more, book_new, book_more, total_limit, unit_limit, delete, drop_flight, new_customer, drop_customer, reserve, cancel, step}
+use Rattle.vac_model.specs.State.{State, Booking, Bookings, Place, table_of, item_of, with_item, bookings_of}
+use Rattle.vac_model.specs.State.{with_bookings, without_customer, units_of, size, is_full}
+use Rattle.vac_model.specs.Step.{Outcome, done, when_found, added, deleted, taken, given_back, new_booking, extended}
+use Rattle.vac_model.specs.Step.{new_item, add_new, add_more, book_new, book_more, total_limit, unit_limit, delete}
+use Rattle.vac_model.specs.Step.{drop_flight, new_customer, drop_customer, reserve, cancel, step}
 use Rattle.vac_model.specs.Amounts.{is_id, is_amount, is_optional_amount, is_unit_count}
 use Rattle.vac_model.specs.Ranges.{is_command}
 use Rattle.vac_model.specs.Fits.{IsSmall}
 use Rattle.vac_model.specs.declared.replies.Reply.{Reply}
 use Rattle.vac_model.specs.Balanced.{IsBalanced}
 use Rattle.vac_model.proofs.Ids.{both_true}
-use Rattle.vac_model.proofs.Sums.{get_here, get_elsewhere, get_removed, removed_elsewhere, len_pushed, len_inserted, len_removed}
+use Rattle.vac_model.proofs.Sums.{get_here, get_elsewhere, get_removed, removed_elsewhere, len_pushed, len_inserted}
+use Rattle.vac_model.proofs.Sums.{len_removed}
 use Rattle.vac_model.proofs.Places.{place_cmp_total, place_cmp-IsAntisymmetric}
 use Rattle.vac_model.proofs.States.{capacity-with_table}
 use Rattle.vac_model.proofs.Holdings.{units-used}
-use Rattle.vac_model.proofs.Balance.{HasRange, balanced-moves, balanced-new_item, balanced-replaced, balanced-new_customer}
+use Rattle.vac_model.proofs.Balance.{HasRange, balanced-moves, balanced-new_item, balanced-replaced}
+use Rattle.vac_model.proofs.Balance.{balanced-new_customer}
 use Rattle.vac_model.proofs.Departure.{balanced-without_item, balanced-departed, leaves}
 
 -- a state that follows another: balanced, with the same capacity
@@ -57,12 +63,16 @@ eq_false a b e = grind (arith, nat_tests)
 
 -- an outcome that leaves the state
 stays : (s : State) (o : Outcome) → IsBalanced s → o.0 ≡ s → Follows s o
-stays s o balanced e = record { balanced = subst IsBalanced (sym e) balanced; capacity = ap (λ (t : State). t.capacity) e }
+stays s o balanced e = record {
+  balanced = subst IsBalanced (sym e) balanced;
+  capacity = ap (λ (t : State). t.capacity) e;
+}
 
 put_capacity : (s : State) (kind : Kind) (id : ℕ) (item : Item) → (with_item s kind id item).capacity ≡ s.capacity
 put_capacity s kind id item = capacity-with_table s kind (insert (table_of s kind) id item)
 
-add_new_follows : (s : State) (kind : Kind) (id num : ℕ) (price : Option ℕ) → IsBalanced s → is_id id ≡ true → is_amount num ≡ true → is_optional_amount price ≡ true
+add_new_follows : (s : State) (kind : Kind) (id num : ℕ) (price : Option ℕ) → IsBalanced s → is_id id ≡ true →
+    is_amount num ≡ true → is_optional_amount price ≡ true
     → item_of s kind id ≡ None → Follows s (add_new s kind id num price)
 add_new_follows s kind id num None balanced ids few cheap none = stays s _ balanced refl
 add_new_follows s kind id num (Some price) balanced ids few cheap none =
@@ -72,18 +82,21 @@ add_new_follows s kind id num (Some price) balanced ids few cheap none =
     let count = le_true num 1000000 few in
     let place = le_false s.capacity (size s) room in
     record {
-      balanced = balanced-new_item s kind id num price balanced ids some (omega (arith, count)) (le_true price 1000000 cheap) none (omega (arith, place));
+      balanced = balanced-new_item s kind id num price balanced ids some (omega (arith, count))
+          (le_true price 1000000 cheap) none (omega (arith, place));
       capacity = put_capacity s kind id (new_item num price);
     }))
 
-add_more_follows : (s : State) (kind : Kind) (id num : ℕ) (price : Option ℕ) (item : Item) → IsBalanced s → is_optional_amount price ≡ true
+add_more_follows : (s : State) (kind : Kind) (id num : ℕ) (price : Option ℕ) (item : Item) → IsBalanced s →
+    is_optional_amount price ≡ true
     → item_of s kind id ≡ Some item → Follows s (add_more s kind id num price item)
 add_more_follows s kind id num price item balanced cheap there =
     if_both (Follows s) (nat_lt total_limit (item.total + num)) _ _ (λ over. stays s _ balanced refl) (λ under.
     let f = balanced.items kind id item there in
     let few = lt_false total_limit (item.total + num) under in
     record {
-      balanced = balanced-replaced s kind id (added item num price) item balanced there refl (omega (arith, f.some_units)) few (priced price f.price_range cheap) (omega (arith, f.counts));
+      balanced = balanced-replaced s kind id (added item num price) item balanced there refl
+          (omega (arith, f.some_units)) few (priced price f.price_range cheap) (omega (arith, f.counts));
       capacity = put_capacity s kind id (added item num price);
     })
   where
@@ -103,7 +116,8 @@ delete_follows s kind id num balanced =
       capacity = capacity-with_table s kind (remove (table_of s kind) id);
     })
     (λ part. let some_left = eq_false (item.total - num) 0 part in record {
-      balanced = balanced-replaced s kind id (deleted item num) item balanced there refl (omega (arith, some_left)) (omega (arith, f.few_units)) f.price_range (omega (arith, f.counts, free));
+      balanced = balanced-replaced s kind id (deleted item num) item balanced there refl (omega (arith, some_left))
+          (omega (arith, f.few_units)) f.price_range (omega (arith, f.counts, free));
       capacity = put_capacity s kind id (deleted item num);
     })))
 
@@ -139,8 +153,10 @@ no_units_found b place e = ap (λ o. option_map_or {T = Booking} (λ y. y.units)
 
 -- more units of an item are booked
 module _ (s : State) (c : ℕ) (kind : Kind) (id num : ℕ) (b : Bookings) (item : Item) (balanced : IsBalanced s)
-    (h : bookings_of s c ≡ Some b) (there : item_of s kind id ≡ Some item) (enough : num ≤ item.free) (some : 1 ≤ num) (few : num ≤ 100) where
-  taken_follows : (x : Booking) → HasRange x → x.units ≡ units_of b (kind, id) + num → size s + len (insert b (kind, id) x) ≤ s.capacity + len b
+    (h : bookings_of s c ≡ Some b) (there : item_of s kind id ≡ Some item) (enough : num ≤ item.free) (some : 1 ≤ num)
+    (few : num ≤ 100) where
+  taken_follows : (x : Booking) → HasRange x → x.units ≡ units_of b (kind, id) + num →
+      size s + len (insert b (kind, id) x) ≤ s.capacity + len b
       → Follows s (done (with_item (with_bookings s c (insert b (kind, id) x)) kind id (taken item num)))
   taken_follows x range units room =
       let f = balanced.items kind id item there in
@@ -159,7 +175,8 @@ module _ (s : State) (c : ℕ) (kind : Kind) (id num : ℕ) (b : Bookings) (item
         capacity = put_capacity (with_bookings s c (insert b (kind, id) x)) kind id (taken item num);
       }
     where
-      found_same : (y : Booking) → get (insert b (kind, id) x) (kind, id) ≡ Some y → get (insert b (kind, id) x) (kind, id) ≡ Some x → x ≡ y
+      found_same : (y : Booking) → get (insert b (kind, id) x) (kind, id) ≡ Some y →
+          get (insert b (kind, id) x) (kind, id) ≡ Some x → x ≡ y
       found_same y e here = ap (λ o. unwrap_or o y) (sym here ∙ e)
 
   book_new_follows : get b (kind, id) ≡ None → Follows s (book_new s c kind id num b item)
@@ -167,9 +184,14 @@ module _ (s : State) (c : ℕ) (kind : Kind) (id num : ℕ) (b : Bookings) (item
       let f = balanced.items kind id item there in
       if_both (Follows s) (is_full s) _ _ (λ full. stays s _ balanced refl) (λ room.
       let place = le_false s.capacity (size s) room in
-      let longer = len_pushed place_cmp_total place_cmp-IsAntisymmetric b (kind, id) (new_booking num item.price) none in
+      let longer = len_pushed place_cmp_total place_cmp-IsAntisymmetric b (kind, id)
+      (new_booking num item.price) none in
       let product : num * item.price ≤ num * 1000000 = mul-le-mul_left num f.price_range in
-      taken_follows (new_booking num item.price) (record { some_units = some; few_units = omega (arith, few); sum_range = product })
+      taken_follows (new_booking num item.price) (record {
+        some_units = some;
+        few_units = omega (arith, few);
+        sum_range = product;
+      })
       (omega (arith, no_units_found b (kind, id) none)) (omega (arith, longer, place)))
 
   book_more_follows : (x : Booking) → get b (kind, id) ≡ Some x → Follows s (book_more s c kind id num b item x)
@@ -178,13 +200,19 @@ module _ (s : State) (c : ℕ) (kind : Kind) (id num : ℕ) (b : Bookings) (item
       let r = balanced.bookings c b kind id x h found in
       if_both (Follows s) (nat_lt unit_limit (x.units + num)) _ _ (λ over. stays s _ balanced refl) (λ under.
       let few_units = lt_false unit_limit (x.units + num) under in
-      let same = len_inserted place_cmp_total place_cmp-IsAntisymmetric b (kind, id) (extended x num item.price) x found in
+      let same = len_inserted place_cmp_total place_cmp-IsAntisymmetric b (kind, id)
+      (extended x num item.price) x found in
       let product : num * item.price ≤ num * 1000000 = mul-le-mul_left num f.price_range in
       let sums : (x.units + num) * 1000000 ≡ x.units * 1000000 + num * 1000000 = omega arith in
-      taken_follows (extended x num item.price) (record { some_units = omega (arith, some); few_units = few_units; sum_range = omega (arith, product, sums, r.sum_range) })
+      taken_follows (extended x num item.price) (record {
+        some_units = omega (arith, some);
+        few_units = few_units;
+        sum_range = omega (arith, product, sums, r.sum_range);
+      })
       (omega (arith, units_found b (kind, id) x found)) (omega (arith, same, balanced.room)))
 
-reserve_follows : (s : State) (c : ℕ) (kind : Kind) (id num : ℕ) → IsBalanced s → 1 ≤ num → num ≤ 100 → Follows s (reserve s c kind id num)
+reserve_follows : (s : State) (c : ℕ) (kind : Kind) (id num : ℕ) → IsBalanced s → 1 ≤ num → num ≤ 100 →
+    Follows s (reserve s c kind id num)
 reserve_follows s c kind id num balanced some few =
     found_both (Follows s) (bookings_of s c) _ _ (λ none. stays s _ balanced refl) (λ b h.
     found_both (Follows s) (item_of s kind id) _ _ (λ none. stays s _ balanced refl) (λ item there.
@@ -204,15 +232,21 @@ cancel_follows s c kind id balanced =
     let gone = get_removed place_cmp_total place_cmp-IsAntisymmetric b (kind, id) in
     let less = len_removed place_cmp_total place_cmp-IsAntisymmetric b (kind, id) x found in
     record {
-      balanced = balanced-moves s c kind id b (remove b (kind, id)) item (given_back item x.units) balanced h there (record {
-        total = refl;
-        price = refl;
-        counts = omega (arith, f.counts, used);
-        units = omega (arith, units_found b (kind, id) x found, no_units_found (remove b (kind, id)) (kind, id) gone, used);
-        others = λ q apart. removed_elsewhere place_cmp_total place_cmp-IsAntisymmetric b (kind, id) q apart;
-        range = λ y e. absurd (let never : None ≡ Some y = sym gone ∙ e in cc);
-        size = omega (arith, less, balanced.room);
-      });
+      balanced = balanced-moves s c kind id b (remove b (kind, id)) item (given_back item x.units) balanced h there
+          (record {
+            total = refl;
+            price = refl;
+            counts = omega (arith, f.counts, used);
+            units = omega (
+              arith,
+              units_found b (kind, id) x found,
+              no_units_found (remove b (kind, id)) (kind, id) gone,
+              used,
+            );
+            others = λ q apart. removed_elsewhere place_cmp_total place_cmp-IsAntisymmetric b (kind, id) q apart;
+            range = λ y e. absurd (let never : None ≡ Some y = sym gone ∙ e in cc);
+            size = omega (arith, less, balanced.room);
+          });
       capacity = put_capacity (with_bookings s c (remove b (kind, id))) kind id (given_back item x.units);
     })))
 
@@ -239,7 +273,8 @@ step_follows s (command.Cancel customer kind id) balanced e = cancel_follows s c
 step_follows s command.Audit balanced e = stays s _ balanced refl
 
 -- the state after a command of a small state is small
-pub small_after : (s t : State) (c : Command) (r : Reply) → IsSmall s → is_command c ≡ true → step s c ≡ (t, r) → IsSmall t
+pub small_after : (s t : State) (c : Command) (r : Reply) → IsSmall s → is_command c ≡ true → step s c ≡ (t, r) →
+    IsSmall t
 small_after s t c r small e is =
     let f = step_follows s c small.balanced e in
     let same : (step s c).0 ≡ t = ap (λ (o : Outcome). o.0) is in

@@ -1,5 +1,6 @@
 -- The refusals that an update notes.
-use Rattle.std.proofs.Common.{◌≡◌, ℕ, ◌+◌, ◌-◌, ◌<◌, List, [], ◌∷◌, ◌++◌, length, refl, ap, sym, ◌∙◌, arith, slice_set, append_assoc}
+use Rattle.std.proofs.Common.{◌≡◌, ℕ, ◌+◌, ◌-◌, ◌<◌, List, [], ◌∷◌, ◌++◌, length, refl, ap, sym, ◌∙◌, arith, slice_set}
+use Rattle.std.proofs.Common.{append_assoc}
 use Rattle.std.specs.Prelude.{Option, None, replicate, suc, zero}
 use Rattle.vac_model.specs.declared.commands.Command.{Command}
 use Rattle.vac_model.specs.declared.commands.Why.{Why}
@@ -47,7 +48,8 @@ noted whys i w e h =
     ∙ sym (append_assoc whys (w ∷ []) (replicate (32 - (i + 1)) no_why))
 
 -- the changes so far and one more
-pub steps_more : (s t t' : State) (cs ds : List Command) (c : Command) (r : Reply) → (steps s cs).0 ≡ t → ds ≡ cs ++ c ∷ [] → step t c ≡ (t', r)
+pub steps_more : (s t t' : State) (cs ds : List Command) (c : Command) (r : Reply) → (steps s cs).0 ≡ t →
+    ds ≡ cs ++ c ∷ [] → step t c ≡ (t', r)
     → steps s ds ≡ (t', (steps s cs).1 ++ refusal_of r ∷ [])
 steps_more s t t' cs ds c r before one is =
     let now : step (steps s cs).0 c ≡ (t', r) = ap (λ u. step u c) before ∙ is in

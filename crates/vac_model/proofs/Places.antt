@@ -19,7 +19,8 @@ on_total f o = record {
 }
 
 pub place_cmp_total : IsTotalOrder place_cmp
-place_cmp_total = then_total (on_total (λ (p : Place). kind_number p.0) nat_cmp_total) (on_total (λ (p : Place). p.1) nat_cmp_total)
+place_cmp_total = then_total (on_total (λ (p : Place). kind_number p.0) nat_cmp_total)
+    (on_total (λ (p : Place). p.1) nat_cmp_total)
 
 -- the derived order of kinds is that of their numbers
 kind_cmp : (a b : Kind) → ghosts.cmp a b ≡ nat_cmp (kind_number a) (kind_number b)
@@ -34,7 +35,8 @@ kind_cmp Room Flight = refl
 kind_cmp Room Room = refl
 
 -- so the order of pairs in the code is the order of bookings
-pub pair_cmp : ◌≡◌ {A = Place → Place → Ordering} (λ p q. ordering_then (ghosts.cmp p.0 q.0) (nat_cmp p.1 q.1)) place_cmp
+pub pair_cmp : ◌≡◌ {A = Place → Place → Ordering} (λ p q. ordering_then (ghosts.cmp p.0 q.0) (nat_cmp p.1 q.1))
+    place_cmp
 pair_cmp = λ i p q. ordering_then (kind_cmp p.0 q.0 i) (nat_cmp p.1 q.1)
 
 same_kind : (a b : Kind) → kind_number a ≡ kind_number b → a ≡ b

@@ -8,7 +8,8 @@ use Rattle.vac_model.specs.declared.items.Kind.TheVariants.{Car, Flight, Room}
 use Rattle.vac_model.specs.declared.commands.Command.{Command}
 use Rattle.vac_model.specs.declared.commands.Command.TheVariants as command
 use Rattle.vac_model.specs.declared.commands.Why.{Why}
-use Rattle.vac_model.specs.declared.commands.Why.TheVariants.{NeedsCountAndPrice, TotalLimit, Full, NoItem, NotFree, InUse, Exists, NoCustomer, SoldOut, NotBooked, UnitLimit}
+use Rattle.vac_model.specs.declared.commands.Why.TheVariants.{NeedsCountAndPrice, TotalLimit, Full, NoItem, NotFree}
+use Rattle.vac_model.specs.declared.commands.Why.TheVariants.{InUse, Exists, NoCustomer, SoldOut, NotBooked, UnitLimit}
 use Rattle.vac_model.specs.declared.replies.Reply.{Reply}
 use Rattle.vac_model.specs.declared.replies.Reply.TheVariants as reply
 use Rattle.vac_model.specs.declared.replies.Joined.TheVariants as joined
@@ -28,7 +29,8 @@ Untouched s o = (why : Why) → o.1 ≡ reply.No why → o.0 ≡ s
 never_done : {A : Type 0} (why : Why) → ◌≡◌ {A = Reply} reply.Done (reply.No why) → A
 never_done why e = absurd (let never : ◌≡◌ {A = Reply} reply.Done (reply.No why) = e in cc)
 
-add_new_untouched : (s : State) (kind : Kind) (id num : ℕ) (price : Option ℕ) → Untouched s (add_new s kind id num price)
+add_new_untouched : (s : State) (kind : Kind) (id num : ℕ) (price : Option ℕ) →
+    Untouched s (add_new s kind id num price)
 add_new_untouched s kind id num None = λ why e. refl
 add_new_untouched s kind id num (Some price) =
     if_both (Untouched s) (num == 0) _ _ (λ _ why e. refl) (λ _.
@@ -46,8 +48,10 @@ step_untouched s (command.DropFlight id) =
     found_both (Untouched s) (item_of s Flight id) _ _ (λ _ why e. refl) (λ item _.
     if_both (Untouched s) (nat_lt 0 item.used) _ _ (λ _ why e. refl) (λ _ why e. never_done why e))
 step_untouched s (command.NewCustomer id) =
-    found_both (Untouched s) (bookings_of s id) _ _ (λ _. if_both (Untouched s) (is_full s) _ _ (λ _ why e. refl) (λ _ why e. never_done why e)) (λ b _ why e. refl)
-step_untouched s (command.DropCustomer id) = found_both (Untouched s) (bookings_of s id) _ _ (λ _ why e. refl) (λ b _ why e. never_done why e)
+    found_both (Untouched s) (bookings_of s id) _ _ (λ _. if_both (Untouched s) (is_full s) _ _ (λ _ why e. refl)
+    (λ _ why e. never_done why e)) (λ b _ why e. refl)
+step_untouched s (command.DropCustomer id) = found_both (Untouched s) (bookings_of s id) _ _ (λ _ why e. refl)
+    (λ b _ why e. never_done why e)
 step_untouched s (command.Free kind id) = λ why e. refl
 step_untouched s (command.Price kind id) = λ why e. refl
 step_untouched s (command.Bill id) = λ why e. refl
@@ -57,7 +61,8 @@ step_untouched s (command.Reserve customer kind id num) =
     if_both (Untouched s) (nat_lt item.free num) _ _ (λ _ why e. refl) (λ _.
     found_both (Untouched s) (get b (kind, id)) _ _
     (λ _. if_both (Untouched s) (is_full s) _ _ (λ _ why e. refl) (λ _ why e. never_done why e))
-    (λ x _. if_both (Untouched s) (nat_lt unit_limit (x.units + num)) _ _ (λ _ why e. refl) (λ _ why e. never_done why e)))))
+    (λ x _. if_both (Untouched s) (nat_lt unit_limit (x.units + num)) _ _ (λ _ why e. refl)
+    (λ _ why e. never_done why e)))))
 step_untouched s (command.Cancel customer kind id) =
     found_both (Untouched s) (bookings_of s customer) _ _ (λ _ why e. refl) (λ b _.
     found_both (Untouched s) (item_of s kind id) _ _ (λ _ why e. refl) (λ item _.
@@ -76,7 +81,8 @@ one_unit num e = omega (arith, eq_false num 0 e)
 
 add_full : (s : State) (kind : Kind) (id num : ℕ) (price : Option ℕ) → IsBalanced s → item_of s kind id ≡ None
     → FullNeeds s (command.Add kind id num price) (add_new s kind id num price)
-add_full s kind id num None balanced none = λ e. absurd (let never : ◌≡◌ {A = Reply} (reply.No NeedsCountAndPrice) (reply.No Full) = e in cc)
+add_full s kind id num None balanced none = λ e. absurd (let never : ◌≡◌ {A = Reply} (reply.No NeedsCountAndPrice)
+    (reply.No Full) = e in cc)
 add_full s kind id num (Some price) balanced none =
     if_both (FullNeeds s (command.Add kind id num (Some price))) (num == 0) _ _
     (λ _ e. absurd (let never : ◌≡◌ {A = Reply} (reply.No NeedsCountAndPrice) (reply.No Full) = e in cc)) (λ some.
@@ -86,15 +92,18 @@ add_full s kind id num (Some price) balanced none =
 
 pub step_full : (s : State) (c : Command) → IsBalanced s → FullNeeds s c (step s c)
 step_full s (command.Add kind id num price) balanced =
-    found_both (FullNeeds s (command.Add kind id num price)) (item_of s kind id) _ _ (λ none. add_full s kind id num price balanced none) (λ item _.
+    found_both (FullNeeds s (command.Add kind id num price)) (item_of s kind id) _ _
+    (λ none. add_full s kind id num price balanced none) (λ item _.
     if_both (FullNeeds s (command.Add kind id num price)) (nat_lt total_limit (item.total + num)) _ _
-    (λ _ e. absurd (let never : ◌≡◌ {A = Reply} (reply.No TotalLimit) (reply.No Full) = e in cc)) (λ _ e. never_done Full e))
+    (λ _ e. absurd (let never : ◌≡◌ {A = Reply} (reply.No TotalLimit) (reply.No Full) = e in cc))
+    (λ _ e. never_done Full e))
 step_full s (command.Delete kind id num) balanced =
     found_both (FullNeeds s (command.Delete kind id num)) (item_of s kind id) _ _
     (λ _ e. absurd (let never : ◌≡◌ {A = Reply} (reply.No NoItem) (reply.No Full) = e in cc)) (λ item _.
     if_both (FullNeeds s (command.Delete kind id num)) (nat_lt item.free num) _ _
     (λ _ e. absurd (let never : ◌≡◌ {A = Reply} (reply.No NotFree) (reply.No Full) = e in cc)) (λ _.
-    if_both (FullNeeds s (command.Delete kind id num)) (item.total - num == 0) _ _ (λ _ e. never_done Full e) (λ _ e. never_done Full e)))
+    if_both (FullNeeds s (command.Delete kind id num)) (item.total - num ==
+    0) _ _ (λ _ e. never_done Full e) (λ _ e. never_done Full e)))
 step_full s (command.DropFlight id) balanced =
     found_both (FullNeeds s (command.DropFlight id)) (item_of s Flight id) _ _
     (λ _ e. absurd (let never : ◌≡◌ {A = Reply} (reply.No NoItem) (reply.No Full) = e in cc)) (λ item _.
@@ -102,14 +111,19 @@ step_full s (command.DropFlight id) balanced =
     (λ _ e. absurd (let never : ◌≡◌ {A = Reply} (reply.No InUse) (reply.No Full) = e in cc)) (λ _ e. never_done Full e))
 step_full s (command.NewCustomer id) balanced =
     found_both (FullNeeds s (command.NewCustomer id)) (bookings_of s id) _ _
-    (λ none. if_both (FullNeeds s (command.NewCustomer id)) (is_full s) _ _ (λ full e. (none, no_room s balanced full)) (λ _ e. never_done Full e))
+    (λ none. if_both (FullNeeds s (command.NewCustomer id)) (is_full s) _ _ (λ full e. (none, no_room s balanced full))
+    (λ _ e. never_done Full e))
     (λ b _ e. absurd (let never : ◌≡◌ {A = Reply} (reply.No Exists) (reply.No Full) = e in cc))
 step_full s (command.DropCustomer id) balanced =
     found_both (FullNeeds s (command.DropCustomer id)) (bookings_of s id) _ _
-    (λ _ e. absurd (let never : ◌≡◌ {A = Reply} (reply.No NoCustomer) (reply.No Full) = e in cc)) (λ b _ e. never_done Full e)
-step_full s (command.Free kind id) balanced = λ e. absurd (let never : ◌≡◌ {A = Reply} (step s (command.Free kind id)).1 (reply.No Full) = e in cc)
-step_full s (command.Price kind id) balanced = λ e. absurd (let never : ◌≡◌ {A = Reply} (step s (command.Price kind id)).1 (reply.No Full) = e in cc)
-step_full s (command.Bill id) balanced = λ e. absurd (let never : ◌≡◌ {A = Reply} (step s (command.Bill id)).1 (reply.No Full) = e in cc)
+    (λ _ e. absurd (let never : ◌≡◌ {A = Reply} (reply.No NoCustomer) (reply.No Full) = e in cc))
+    (λ b _ e. never_done Full e)
+step_full s (command.Free kind id) balanced = λ e. absurd (let never : ◌≡◌ {A = Reply} (step s (command.Free kind id)).1
+    (reply.No Full) = e in cc)
+step_full s (command.Price kind id) balanced = λ e. absurd (let never : ◌≡◌ {A = Reply}
+    (step s (command.Price kind id)).1 (reply.No Full) = e in cc)
+step_full s (command.Bill id) balanced = λ e. absurd (let never : ◌≡◌ {A = Reply} (step s (command.Bill id)).1
+    (reply.No Full) = e in cc)
 step_full s (command.Reserve customer kind id num) balanced =
     let c = command.Reserve customer kind id num in
     found_both (FullNeeds s c) (bookings_of s customer) _ _
@@ -120,10 +134,21 @@ step_full s (command.Reserve customer kind id num) balanced =
     (λ _ e. absurd (let never : ◌≡◌ {A = Reply} (reply.No SoldOut) (reply.No Full) = e in cc)) (λ enough.
     found_both (FullNeeds s c) (get b (kind, id)) _ _
     (λ none. if_both (FullNeeds s c) (is_full s) _ _
-    (λ full e. (record { bookings = b; item = item; customer = h; found = there; free = lt_false item.free num enough; missing = none }, no_room s balanced full))
+    (λ full e. (
+      record {
+        bookings = b;
+        item = item;
+        customer = h;
+        found = there;
+        free = lt_false item.free num enough;
+        missing = none;
+      },
+      no_room s balanced full,
+    ))
     (λ _ e. never_done Full e))
     (λ x _. if_both (FullNeeds s c) (nat_lt unit_limit (x.units + num)) _ _
-    (λ _ e. absurd (let never : ◌≡◌ {A = Reply} (reply.No UnitLimit) (reply.No Full) = e in cc)) (λ _ e. never_done Full e)))))
+    (λ _ e. absurd (let never : ◌≡◌ {A = Reply} (reply.No UnitLimit) (reply.No Full) = e in cc))
+    (λ _ e. never_done Full e)))))
 step_full s (command.Cancel customer kind id) balanced =
     let c = command.Cancel customer kind id in
     found_both (FullNeeds s c) (bookings_of s customer) _ _
@@ -131,8 +156,10 @@ step_full s (command.Cancel customer kind id) balanced =
     found_both (FullNeeds s c) (item_of s kind id) _ _
     (λ _ e. absurd (let never : ◌≡◌ {A = Reply} (reply.No NoItem) (reply.No Full) = e in cc)) (λ item _.
     found_both (FullNeeds s c) (get b (kind, id)) _ _
-    (λ _ e. absurd (let never : ◌≡◌ {A = Reply} (reply.No NotBooked) (reply.No Full) = e in cc)) (λ x _ e. never_done Full e)))
-step_full s command.Audit balanced = λ e. absurd (let never : ◌≡◌ {A = Reply} (step s command.Audit).1 (reply.No Full) = e in cc)
+    (λ _ e. absurd (let never : ◌≡◌ {A = Reply} (reply.No NotBooked) (reply.No Full) = e in cc))
+    (λ x _ e. never_done Full e)))
+step_full s command.Audit balanced = λ e. absurd (let never : ◌≡◌ {A = Reply} (step s command.Audit).1 (reply.No Full) =
+    e in cc)
 
 -- and where an entry is needed and none is left, Full is answered
 no_space : (s : State) → size s ≡ s.capacity → is_full s ≡ true
@@ -159,7 +186,8 @@ full_step s (command.Cancel customer kind id) n e = absurd n
 full_step s command.Audit n e = absurd n
 
 -- no task but a command is refused as a whole
-trip_answers : (any : Bool) (a b : Outcome) (why : Why) → ¬ (a.1 ≡ reply.No why) → ¬ (b.1 ≡ reply.No why) → (cond any a b).1 ≡ reply.No why → ⊥
+trip_answers : (any : Bool) (a b : Outcome) (why : Why) → ¬ (a.1 ≡ reply.No why) → ¬ (b.1 ≡ reply.No why) →
+    (cond any a b).1 ≡ reply.No why → ⊥
 trip_answers true a b why f g e = f e
 trip_answers false a b why f g e = g e
 
@@ -172,8 +200,12 @@ run_answers s (task.Trip customer asks) why = λ e.
     trip_answers (is_some car || is_some flight || is_some room) (book_choices s customer car flight room)
     (s, reply.Trip (record { joined = joined.NotAsked; picks = None ∷ None ∷ None ∷ [] })) why
     (λ f. let never : ◌≡◌ {A = Reply} (book_choices s customer car flight room).1 (reply.No why) = f in cc)
-    (λ f. let never : ◌≡◌ {A = Reply} (reply.Trip (record { joined = joined.NotAsked; picks = None ∷ None ∷ None ∷ [] })) (reply.No why) = f in cc) e
+    (λ f. let never : ◌≡◌ {A = Reply} (reply.Trip (record {
+      joined = joined.NotAsked;
+      picks = None ∷ None ∷ None ∷ [];
+    })) (reply.No why) = f in cc) e
 run_answers s (task.Leave customer) why = found_both (λ o. o.1 ≡ reply.No why → ⊥) (bookings_of s customer) _ _
     (λ _ e. let never : ◌≡◌ {A = Reply} (reply.Number None) (reply.No why) = e in cc)
     (λ b _ e. let never : ◌≡◌ {A = Reply} (reply.Number (Some (bill_of b))) (reply.No why) = e in cc)
-run_answers s (task.Update changes) why = λ e. let never : ◌≡◌ {A = Reply} (run s (task.Update changes)).1 (reply.No why) = e in cc
+run_answers s (task.Update changes) why = λ e. let never : ◌≡◌ {A = Reply} (run s (task.Update changes)).1
+    (reply.No why) = e in cc

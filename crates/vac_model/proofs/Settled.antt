@@ -10,8 +10,11 @@ use Rattle.vac_model.specs.declared.commands.Command.TheVariants as command
 use Rattle.vac_model.specs.declared.commands.Why.TheVariants.{SoldOut, Full, UnitLimit}
 use Rattle.vac_model.specs.declared.replies.Reply.{Reply}
 use Rattle.vac_model.specs.declared.replies.Reply.TheVariants as reply
-use Rattle.vac_model.specs.State.{State, Booking, Bookings, item_of, with_item, bookings_of, with_bookings, without_customer, units_of, is_full}
-use Rattle.vac_model.specs.Step.{Outcome, done, step, taken, given_back, give_back_all, new_booking, extended, unit_limit, book_new, book_more, refused, when_found, added, add_new, new_item, total_limit}
+use Rattle.vac_model.specs.State.{State, Booking, Bookings, item_of, with_item, bookings_of, with_bookings}
+use Rattle.vac_model.specs.State.{without_customer, units_of, is_full}
+use Rattle.vac_model.specs.Step.{Outcome, done, step, taken, given_back, give_back_all, new_booking, extended}
+use Rattle.vac_model.specs.Step.{unit_limit, book_new, book_more, refused, when_found, added, add_new, new_item}
+use Rattle.vac_model.specs.Step.{total_limit}
 use Rattle.vac_model.specs.Laws.{IsBilled}
 use Rattle.vac_model.proofs.Sums.{get_here, sum-insert}
 use Rattle.vac_model.proofs.Places.{place_cmp_total, place_cmp-IsAntisymmetric}
@@ -23,14 +26,18 @@ pub cancelled : (s : State) (c : ℕ) (kind : Kind) (id : ℕ) (bookings : Booki
     → bookings_of s c ≡ Some bookings → item_of s kind id ≡ Some item → get bookings (kind, id) ≡ Some b
     → item_of (step s (command.Cancel c kind id)).0 kind id ≡ Some (given_back item b.units)
 cancelled s c kind id bookings b item h there found =
-    let is : step s (command.Cancel c kind id) ≡ done (with_item (with_bookings s c (remove bookings (kind, id))) kind id (given_back item b.units)) =
+    let is : step s (command.Cancel c kind id) ≡ done (with_item
+    (with_bookings s c (remove bookings (kind, id))) kind id (given_back item b.units)) =
     rw (h, there, found) refl in
-    ap (λ (o : Outcome). item_of o.0 kind id) is ∙ item_here (with_bookings s c (remove bookings (kind, id))) kind id (given_back item b.units)
+    ap (λ (o : Outcome). item_of o.0 kind id) is ∙ item_here (with_bookings s c (remove bookings (kind, id))) kind id
+    (given_back item b.units)
 
 pub dropped : (s : State) (c : ℕ) (bookings : Bookings) (kind : Kind) (id : ℕ) → bookings_of s c ≡ Some bookings
-    → item_of (step s (command.DropCustomer c)).0 kind id ≡ option_map (λ item. given_back item (units_of bookings (kind, id))) (item_of s kind id)
+    → item_of (step s (command.DropCustomer c)).0 kind id ≡ option_map
+    (λ item. given_back item (units_of bookings (kind, id))) (item_of s kind id)
 dropped s c bookings kind id h =
-    let is : step s (command.DropCustomer c) ≡ done (give_back_all (without_customer s c) (entries bookings)) = rw h refl in
+    let is : step s (command.DropCustomer c) ≡ done (give_back_all (without_customer s c) (entries bookings)) =
+    rw h refl in
     ap (λ (o : Outcome). item_of o.0 kind id) is ∙ item_of-departed s c bookings kind id
 
 module _ (s : State) (c : ℕ) (kind : Kind) (id num : ℕ) (bookings : Bookings) (item : Item) where
@@ -39,13 +46,15 @@ module _ (s : State) (c : ℕ) (kind : Kind) (id num : ℕ) (bookings : Bookings
   Bills o = o.1 ≡ reply.Done → IsBilled bookings o.0 c num item.price
 
   put_bill : (x : Booking) → x.sum ≡ option_map_or (λ b. b.sum) (get bookings (kind, id)) 0 + num * item.price
-      → IsBilled bookings (with_item (with_bookings s c (insert bookings (kind, id) x)) kind id (taken item num)) c num item.price
+      → IsBilled bookings (with_item (with_bookings s c (insert bookings (kind, id) x)) kind id (taken item num)) c num
+      item.price
   put_bill x sum =
       let after = with_bookings s c (insert bookings (kind, id) x) in
       let sums = sum-insert place_cmp_total place_cmp-IsAntisymmetric (λ (b : Booking). b.sum) bookings (kind, id) x in
       record {
         bookings = insert bookings (kind, id) x;
-        there = bookings-with_item after kind id (taken item num) c ∙ get_here nat_cmp_total nat_cmp-IsAntisymmetric s.customers c (insert bookings (kind, id) x);
+        there = bookings-with_item after kind id (taken item num) c ∙
+            get_here nat_cmp_total nat_cmp-IsAntisymmetric s.customers c (insert bookings (kind, id) x);
         bill = omega (arith, sums, sum);
       }
 
@@ -53,28 +62,32 @@ module _ (s : State) (c : ℕ) (kind : Kind) (id num : ℕ) (bookings : Bookings
   new_bill none = if_both Bills (is_full s) _ _
       (λ _ e. absurd (let never : ◌≡◌ {A = Reply} (reply.No Full) reply.Done = e in cc))
       (λ _ e.
-      let nothing : option_map_or (λ (b : Booking). b.sum) (get bookings (kind, id)) 0 ≡ 0 = ap (λ o. option_map_or {T = Booking} (λ b. b.sum) o 0) none in
+      let nothing : option_map_or (λ (b : Booking). b.sum) (get bookings (kind, id)) 0 ≡ 0 =
+      ap (λ o. option_map_or {T = Booking} (λ b. b.sum) o 0) none in
       put_bill (new_booking num item.price) (omega (arith, nothing)))
 
   more_bill : (b : Booking) → get bookings (kind, id) ≡ Some b → Bills (book_more s c kind id num bookings item b)
   more_bill b found = if_both Bills (nat_lt unit_limit (b.units + num)) _ _
       (λ _ e. absurd (let never : ◌≡◌ {A = Reply} (reply.No UnitLimit) reply.Done = e in cc))
       (λ _ e.
-      let old : option_map_or (λ (x : Booking). x.sum) (get bookings (kind, id)) 0 ≡ b.sum = ap (λ o. option_map_or {T = Booking} (λ x. x.sum) o 0) found in
+      let old : option_map_or (λ (x : Booking). x.sum) (get bookings (kind, id)) 0 ≡ b.sum =
+      ap (λ o. option_map_or {T = Booking} (λ x. x.sum) o 0) found in
       put_bill (extended b num item.price) (omega (arith, old)))
 
   -- the outcome once the customer and the item were found
   abbrev found_outcome : Outcome
   found_outcome =
       if nat_lt item.free num then refused s SoldOut
-      else when_found (get bookings (kind, id)) (book_new s c kind id num bookings item) (book_more s c kind id num bookings item)
+      else when_found (get bookings (kind, id)) (book_new s c kind id num bookings item)
+      (book_more s c kind id num bookings item)
 
   found_bills : Bills found_outcome
   found_bills = if_both Bills (nat_lt item.free num) _ _
       (λ _ e. absurd (let never : ◌≡◌ {A = Reply} (reply.No SoldOut) reply.Done = e in cc))
       (λ _. found_both Bills (get bookings (kind, id)) _ _ new_bill more_bill)
 
-  pub billed : bookings_of s c ≡ Some bookings → item_of s kind id ≡ Some item → (step s (command.Reserve c kind id num)).1 ≡ reply.Done
+  pub billed : bookings_of s c ≡ Some bookings → item_of s kind id ≡ Some item →
+      (step s (command.Reserve c kind id num)).1 ≡ reply.Done
       → IsBilled bookings (step s (command.Reserve c kind id num)).0 c num item.price
   billed h there =
       let whole : step s (command.Reserve c kind id num) ≡ found_outcome = rw (h, there) refl in
@@ -91,7 +104,9 @@ added_new s kind id num (Some price) =
     if_both (SameBookings s) (is_full s) _ _ (λ _ c. refl) (λ _ c. bookings-with_item s kind id (new_item num price) c))
 
 -- a price that is replaced changes no bill
-pub bookings-add : (s : State) (kind : Kind) (id num : ℕ) (price : Option ℕ) → SameBookings s (step s (command.Add kind id num price))
+pub bookings-add : (s : State) (kind : Kind) (id num : ℕ) (price : Option ℕ) →
+    SameBookings s (step s (command.Add kind id num price))
 bookings-add s kind id num price =
     found_both (SameBookings s) (item_of s kind id) _ _ (λ _. added_new s kind id num price) (λ item _.
-    if_both (SameBookings s) (nat_lt total_limit (item.total + num)) _ _ (λ _ c. refl) (λ _ c. bookings-with_item s kind id (added item num price) c))
+    if_both (SameBookings s) (nat_lt total_limit (item.total + num)) _ _ (λ _ c. refl)
+    (λ _ c. bookings-with_item s kind id (added item num price) c))

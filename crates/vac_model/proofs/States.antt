@@ -3,15 +3,18 @@ use Rattle.std.proofs.Common.{◌≡◌, ◌⊎◌, inl, inr, ℕ, ◌+◌, refl
 use Rattle.std.specs.FinMap.{len}
 use Rattle.vac_model.specs.declared.items.Kind.{Kind}
 use Rattle.vac_model.specs.declared.items.Kind.TheVariants.{Car, Flight, Room}
-use Rattle.vac_model.specs.State.{State, Bookings, Table, table_of, with_table, item_of, with_bookings, without_customer, size}
+use Rattle.vac_model.specs.State.{State, Bookings, Table, table_of, with_table, item_of, with_bookings}
+use Rattle.vac_model.specs.State.{without_customer, size}
 
 -- bookings and customers leave the items
-pub item_of-with_bookings : (s : State) (c : ℕ) (b : Bookings) (kind : Kind) (id : ℕ) → item_of (with_bookings s c b) kind id ≡ item_of s kind id
+pub item_of-with_bookings : (s : State) (c : ℕ) (b : Bookings) (kind : Kind) (id : ℕ) →
+    item_of (with_bookings s c b) kind id ≡ item_of s kind id
 item_of-with_bookings s c b Car id = refl
 item_of-with_bookings s c b Flight id = refl
 item_of-with_bookings s c b Room id = refl
 
-pub item_of-without_customer : (s : State) (c : ℕ) (kind : Kind) (id : ℕ) → item_of (without_customer s c) kind id ≡ item_of s kind id
+pub item_of-without_customer : (s : State) (c : ℕ) (kind : Kind) (id : ℕ) →
+    item_of (without_customer s c) kind id ≡ item_of s kind id
 item_of-without_customer s c Car id = refl
 item_of-without_customer s c Flight id = refl
 item_of-without_customer s c Room id = refl
@@ -34,13 +37,15 @@ table_of-with_table s Flight t = refl
 table_of-with_table s Room t = refl
 
 -- the size after a table changed
-pub size-with_table : (s : State) (kind : Kind) (t : Table) → size (with_table s kind t) + len (table_of s kind) ≡ size s + len t
+pub size-with_table : (s : State) (kind : Kind) (t : Table) →
+    size (with_table s kind t) + len (table_of s kind) ≡ size s + len t
 size-with_table s Car t = omega arith
 size-with_table s Flight t = omega arith
 size-with_table s Room t = omega arith
 
 -- the table of a kind after the table of another changed
-pub other_table : (s : State) (kind : Kind) (t : Table) (k : Kind) → ((k ≡ kind) × (table_of (with_table s kind t) k ≡ t)) ⊎ (table_of (with_table s kind t) k ≡ table_of s k)
+pub other_table : (s : State) (kind : Kind) (t : Table) (k : Kind) →
+    ((k ≡ kind) × (table_of (with_table s kind t) k ≡ t)) ⊎ (table_of (with_table s kind t) k ≡ table_of s k)
 other_table s Car t Car = inl (refl, refl)
 other_table s Car t Flight = inr refl
 other_table s Car t Room = inr refl

@@ -1,5 +1,6 @@
 -- Sums over the values of a finite map, and induction over finite maps.
-use Rattle.std.proofs.Common.{◌≡◌, ◌≢◌, ◌⊎◌, inl, inr, ℕ, ◌+◌, ◌*◌, ◌≤◌, Bool, true, false, cond, List, [], ◌∷◌, refl, ap, sym, subst, ◌∙◌, arith}
+use Rattle.std.proofs.Common.{◌≡◌, ◌≢◌, ◌⊎◌, inl, inr, ℕ, ◌+◌, ◌*◌, ◌≤◌, Bool, true, false, cond, List, [], ◌∷◌, refl}
+use Rattle.std.proofs.Common.{ap, sym, subst, ◌∙◌, arith}
 use Rattle.std.specs.Prelude.{T, ◌&&◌, Option, Some, None, sum_by, unwrap_or, is_some}
 use Rattle.std.specs.Option.{option_map, option_map_or}
 use Rattle.std.specs.declared.cmp.Ordering.{Ordering}
@@ -11,7 +12,8 @@ use Rattle.std.specs.List.Sorted.{IsStrictlySortedBy}
 use Rattle.std.specs.Map.{lookup, keys_of, values_of}
 use Rattle.std.specs.BTreeMap.{insert_entry, is_at}
 use Rattle.std.specs.FinMap as map
-use Rattle.std.specs.FinMap.{FinMap, IsAntisymmetric, find, is_sorted, from_entries, entries, get, insert, remove, len, values, empty}
+use Rattle.std.specs.FinMap.{FinMap, IsAntisymmetric, find, is_sorted, from_entries, entries, get, insert, remove, len}
+use Rattle.std.specs.FinMap.{values, empty}
 use Rattle.std.proofs.lemmas.Map.Entries.{sum_by-insert_entry}
 use Rattle.vac_model.proofs.Views.{find-lookup, put-insert_entry, entries-empty}
 
@@ -54,14 +56,16 @@ module _ {K X : Type 0} (R : K → K → Ordering) where
 
   pub find_below : (k : K) (es : List (K × X)) → T (below_all k es) → find R k es ≡ None
   find_below k [] h = refl
-  find_below k (e ∷ es) h = ap (λ o. cond (is_eq o) (Some e.1) (find R k es)) (less _ (first _ _ h)) ∙ find_below k es (second _ _ h)
+  find_below k (e ∷ es) h = ap (λ o. cond (is_eq o) (Some e.1) (find R k es)) (less _ (first _ _ h)) ∙
+      find_below k es (second _ _ h)
 
 module _ {K : Type 0} {R : K → K → Ordering} (o : IsTotalOrder R) (same : IsAntisymmetric R) where
   -- two keys are one or not
   pub either_key : (q k : K) → (q ≡ k) ⊎ (q ≢ k)
   either_key q k = elim (eq_by_cmp R q k) as (λ b. eq_by_cmp R q k ≡ b → (q ≡ k) ⊎ (q ≢ k)) [
     | true ↦ λ e. inl (same q k (equal _ e))
-    | false ↦ λ e. inr (λ is. let tied : eq_by_cmp R q k ≡ true = subst (λ x. eq_by_cmp R q x ≡ true) is (ap is_eq (tied_itself o q)) in
+    | false ↦ λ e. inr (λ is. let tied : eq_by_cmp R q k ≡ true =
+        subst (λ x. eq_by_cmp R q x ≡ true) is (ap is_eq (tied_itself o q)) in
         let never : true ≡ false = sym tied ∙ e in cc)
   ] refl
 
@@ -86,7 +90,8 @@ module _ {K X : Type 0} {R : K → K → Ordering} (o : IsTotalOrder R) (same : 
       → (es : List (K × X)) → T (is_sorted R es) → P (from_entries es)
   made_up P none more [] h = none
   made_up P none more (e ∷ es) h =
-      more (from_entries es) e.0 e.1 (map.get-from_entries o es e.0 ∙ find_below R e.0 es (first _ _ h)) (made_up P none more es (second _ _ h))
+      more (from_entries es) e.0 e.1 (map.get-from_entries o es e.0 ∙ find_below R e.0 es (first _ _ h))
+      (made_up P none more es (second _ _ h))
 
   -- what holds of the empty map, and of each map with one more entry, holds of all maps
   pub by_entries : (P : FinMap R X → Type 0) → P empty
@@ -97,10 +102,12 @@ module _ {K X : Type 0} {R : K → K → Ordering} (o : IsTotalOrder R) (same : 
   pub sum-insert : (f : X → ℕ) (m : FinMap R X) (k : K) (v : X)
       → sum_by f (values (insert m k v)) + option_map_or f (get m k) 0 ≡ sum_by f (values m) + f v
   sum-insert f m k v =
-      let there : entries (insert m k v) ≡ insert_entry R (entries m) k v = map.entries-insert o m k v ∙ put-insert_entry R k v (entries m) in
+      let there : entries (insert m k v) ≡ insert_entry R (entries m) k v =
+      map.entries-insert o m k v ∙ put-insert_entry R k v (entries m) in
       let looked : get m k ≡ lookup (is_at (R k)) (entries m) = map.get-entries m k ∙ find-lookup R k (entries m) in
       let laws = sum_by-insert_entry f o (entries m) k v (sorted R (entries m) (map.entries_sorted m)) in
-      let left : sum_by f (values (insert m k v)) ≡ sum_by f (values_of (insert_entry R (entries m) k v)) = ap (λ es. sum_by f (values_of es)) there in
+      let left : sum_by f (values (insert m k v)) ≡ sum_by f (values_of (insert_entry R (entries m) k v)) =
+      ap (λ es. sum_by f (values_of es)) there in
       let old : option_map_or f (get m k) 0 ≡ unwrap_or (option_map f (lookup (is_at (R k)) (entries m))) 0 =
       ap (λ e. option_map_or f e 0) looked ∙ sym (or_zero f (lookup (is_at (R k)) (entries m))) in
       rw (left, old) laws
@@ -132,7 +139,8 @@ module _ {K X : Type 0} {R : K → K → Ordering} (o : IsTotalOrder R) (same : 
   sum-remove f m k v h =
       let put_back = sum-insert f (remove m k) k v in
       let nothing : option_map_or f (get (remove m k) k) 0 ≡ 0 = ap (λ e. option_map_or f e 0) (get_removed m k) in
-      let again : sum_by f (values (insert (remove m k) k v)) ≡ sum_by f (values m) = ap (λ n. sum_by f (values n)) (insert-remove m k v h) in
+      let again : sum_by f (values (insert (remove m k) k v)) ≡ sum_by f (values m) =
+      ap (λ n. sum_by f (values n)) (insert-remove m k v h) in
       omega (arith, put_back, nothing, again)
 
   -- putting what is there changes nothing
@@ -156,17 +164,21 @@ module _ {K X : Type 0} {R : K → K → Ordering} (o : IsTotalOrder R) (same : 
       sym put_back ∙ ap len (insert-remove m k v h)
 
   pub get_elsewhere : (m : FinMap R X) (k : K) (v : X) (q : K) → q ≢ k → get (insert m k v) q ≡ get m q
-  get_elsewhere m k v q apart = map.get-insert o m k v q ∙ ap (λ b. cond b (Some v) (get m q)) (apart_test o same q k apart)
+  get_elsewhere m k v q apart = map.get-insert o m k v q ∙ ap (λ b. cond b (Some v) (get m q))
+      (apart_test o same q k apart)
 
   pub removed_elsewhere : (m : FinMap R X) (k q : K) → q ≢ k → get (remove m k) q ≡ get m q
   removed_elsewhere m k q apart = map.get-remove o m k q ∙ ap (λ b. cond b None (get m q)) (apart_test o same q k apart)
 
   -- a sum of small numbers
-  pub sum_le : (f : X → ℕ) (b : ℕ) (m : FinMap R X) → ((k : K) (v : X) → get m k ≡ Some v → f v ≤ b) → sum_by f (values m) ≤ len m * b
+  pub sum_le : (f : X → ℕ) (b : ℕ) (m : FinMap R X) → ((k : K) (v : X) → get m k ≡ Some v → f v ≤ b) →
+      sum_by f (values m) ≤ len m * b
   sum_le f b = by_entries (λ m. ((k : K) (v : X) → get m k ≡ Some v → f v ≤ b) → sum_by f (values m) ≤ len m * b)
-      (λ h. let none : sum_by f (values (empty {X = X} {R = R})) ≡ 0 = ap (λ es. sum_by f (values_of es)) (entries-empty R) in omega (arith, none))
+      (λ h. let none : sum_by f (values (empty {X = X} {R = R})) ≡ 0 =
+      ap (λ es. sum_by f (values_of es)) (entries-empty R) in omega (arith, none))
       (λ m k v new more h.
-      let rest = more (λ q w there. h q w (get_elsewhere m k v q (λ is. let gone : None ≡ Some w = sym new ∙ ap (get m) (sym is) ∙ there in cc) ∙ there)) in
+      let rest = more (λ q w there. h q w (get_elsewhere m k v q (λ is. let gone : None ≡ Some w =
+      sym new ∙ ap (get m) (sym is) ∙ there in cc) ∙ there)) in
       let one = h k v (get_here m k v) in
       let sums = sum-insert f m k v in
       let nothing : option_map_or f (get m k) 0 ≡ 0 = ap (λ e. option_map_or f e 0) new in
@@ -175,11 +187,15 @@ module _ {K X : Type 0} {R : K → K → Ordering} (o : IsTotalOrder R) (same : 
       rw longer (omega (arith, rest, one, sums, nothing, product)))
 
   -- a sum of numbers, each at most so many times another
-  pub sum_le_by : (f g : X → ℕ) (b : ℕ) (m : FinMap R X) → ((k : K) (v : X) → get m k ≡ Some v → f v ≤ g v * b) → sum_by f (values m) ≤ sum_by g (values m) * b
-  sum_le_by f g b = by_entries (λ m. ((k : K) (v : X) → get m k ≡ Some v → f v ≤ g v * b) → sum_by f (values m) ≤ sum_by g (values m) * b)
-      (λ h. let none : sum_by f (values (empty {X = X} {R = R})) ≡ 0 = ap (λ es. sum_by f (values_of es)) (entries-empty R) in omega (arith, none))
+  pub sum_le_by : (f g : X → ℕ) (b : ℕ) (m : FinMap R X) → ((k : K) (v : X) → get m k ≡ Some v → f v ≤ g v * b) →
+      sum_by f (values m) ≤ sum_by g (values m) * b
+  sum_le_by f g b = by_entries (λ m. ((k : K) (v : X) → get m k ≡ Some v → f v ≤ g v * b) →
+      sum_by f (values m) ≤ sum_by g (values m) * b)
+      (λ h. let none : sum_by f (values (empty {X = X} {R = R})) ≡ 0 =
+      ap (λ es. sum_by f (values_of es)) (entries-empty R) in omega (arith, none))
       (λ m k v new more h.
-      let rest = more (λ q w there. h q w (get_elsewhere m k v q (λ is. let gone : None ≡ Some w = sym new ∙ ap (get m) (sym is) ∙ there in cc) ∙ there)) in
+      let rest = more (λ q w there. h q w (get_elsewhere m k v q (λ is. let gone : None ≡ Some w =
+      sym new ∙ ap (get m) (sym is) ∙ there in cc) ∙ there)) in
       let one = h k v (get_here m k v) in
       let sums = sum-insert f m k v in
       let others = sum-insert g m k v in

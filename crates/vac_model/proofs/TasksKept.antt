@@ -28,18 +28,22 @@ both_hold true b e f = f
 both_hold false b e f = e
 
 step_keeps : (s : State) (c : Command) → IsBalanced s → is_command c ≡ true → Keeps s (step s c).0
-step_keeps s c balanced e = let f = step_follows s c balanced e in record { balanced = f.balanced; capacity = f.capacity }
+step_keeps s c balanced e = let f = step_follows s c balanced e in
+    record { balanced = f.balanced; capacity = f.capacity }
 
 then_keeps : (s t u : State) → Keeps s t → Keeps t u → Keeps s u
 then_keeps s t u first next = record { balanced = next.balanced; capacity = next.capacity ∙ first.capacity }
 
-choice_keeps : (s : State) (customer : ℕ) (kind : Kind) (choice : Option Choice) → IsBalanced s → is_id customer ≡ true → HasId choice
+choice_keeps : (s : State) (customer : ℕ) (kind : Kind) (choice : Option Choice) → IsBalanced s →
+    is_id customer ≡ true → HasId choice
     → Keeps s (reserve_choice s customer kind choice).0
 choice_keeps s customer kind None balanced e h = record { balanced = balanced; capacity = refl }
 choice_keeps s customer kind (Some choice) balanced e h =
-    step_keeps s (command.Reserve customer kind choice.0 1) balanced (both_hold (is_id customer && is_id choice.0) true (both_hold (is_id customer) (is_id choice.0) e h) refl)
+    step_keeps s (command.Reserve customer kind choice.0 1) balanced
+    (both_hold (is_id customer && is_id choice.0) true (both_hold (is_id customer) (is_id choice.0) e h) refl)
 
-book_keeps : (s : State) (customer : ℕ) (car flight room : Option Choice) → IsBalanced s → is_id customer ≡ true → HasId car → HasId flight → HasId room
+book_keeps : (s : State) (customer : ℕ) (car flight room : Option Choice) → IsBalanced s → is_id customer ≡ true →
+    HasId car → HasId flight → HasId room
     → Keeps s (book_choices s customer car flight room).0
 book_keeps s customer car flight room balanced e hc hf hr =
     let asked = step s (command.NewCustomer customer) in
@@ -51,19 +55,23 @@ book_keeps s customer car flight room balanced e hc hf hr =
     let fourth = choice_keeps b.0 customer Room room third.balanced e hr in
     then_keeps s asked.0 _ first (then_keeps asked.0 a.0 _ second (then_keeps a.0 b.0 _ third fourth))
 
-trip_keeps : (s : State) (customer : ℕ) (car flight room : Option Choice) (any : Bool) → IsBalanced s → is_id customer ≡ true → HasId car → HasId flight → HasId room
+trip_keeps : (s : State) (customer : ℕ) (car flight room : Option Choice) (any : Bool) → IsBalanced s →
+    is_id customer ≡ true → HasId car → HasId flight → HasId room
     → (o : Outcome) → o.0 ≡ s → Keeps s (cond any (book_choices s customer car flight room) o).0
-trip_keeps s customer car flight room true balanced e hc hf hr o same = book_keeps s customer car flight room balanced e hc hf hr
+trip_keeps s customer car flight room true balanced e hc hf hr o same =
+    book_keeps s customer car flight room balanced e hc hf hr
 trip_keeps s customer car flight room false balanced e hc hf hr o same =
     record { balanced = subst IsBalanced (sym same) balanced; capacity = ap (λ (t : State). t.capacity) same }
 
-leave_follows : (s : State) (customer : ℕ) → IsBalanced s → is_id customer ≡ true → Follows s (run s (task.Leave customer))
+leave_follows : (s : State) (customer : ℕ) → IsBalanced s → is_id customer ≡ true →
+    Follows s (run s (task.Leave customer))
 leave_follows s customer balanced e =
     let dropped = step_follows s (command.DropCustomer customer) balanced e in
     found_both (Follows s) (bookings_of s customer) _ _ (λ none. record { balanced = balanced; capacity = refl })
     (λ b there. record { balanced = dropped.balanced; capacity = dropped.capacity })
 
-steps_keep : (s : State) (cs : List Command) → IsBalanced s → list_all (λ c. is_change c && is_command c) cs ≡ true → Keeps s (steps s cs).0
+steps_keep : (s : State) (cs : List Command) → IsBalanced s → list_all (λ c. is_change c && is_command c) cs ≡ true →
+    Keeps s (steps s cs).0
 steps_keep s [] balanced e = record { balanced = balanced; capacity = refl }
 steps_keep s (c ∷ cs) balanced e =
     let both = both_true (is_change c && is_command c) (list_all (λ c. is_change c && is_command c) cs) e in
@@ -79,8 +87,10 @@ run_keeps s (task.Trip customer asks) balanced e =
     let inner = both_true (is_id customer) (is_list_length (length asks)) outer.0 in
     trip_keeps s customer (choice_of s Car asks) (choice_of s Flight asks) (choice_of s Room asks)
     (is_some (choice_of s Car asks) || is_some (choice_of s Flight asks) || is_some (choice_of s Room asks))
-    balanced inner.0 (choice_id s Car asks outer.1) (choice_id s Flight asks outer.1) (choice_id s Room asks outer.1) _ refl
-run_keeps s (task.Leave customer) balanced e = let f = leave_follows s customer balanced e in record { balanced = f.balanced; capacity = f.capacity }
+    balanced inner.0 (choice_id s Car asks outer.1) (choice_id s Flight asks outer.1)
+    (choice_id s Room asks outer.1) _ refl
+run_keeps s (task.Leave customer) balanced e = let f = leave_follows s customer balanced e in
+    record { balanced = f.balanced; capacity = f.capacity }
 run_keeps s (task.Update changes) balanced e =
     let outer = both_true (is_list_length (length changes)) (list_all (λ c. is_change c && is_command c) changes) e in
     steps_keep s changes balanced outer.1

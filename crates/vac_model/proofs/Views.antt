@@ -11,7 +11,8 @@ use Rattle.std.specs.Map.{lookup, keys_of}
 use Rattle.std.specs.BTreeMap as tree
 use Rattle.std.specs.BTreeMap.{BTreeMap, insert_entry, is_at}
 use Rattle.std.specs.FinMap as map
-use Rattle.std.specs.FinMap.{FinMap, IsAntisymmetric, find, put, from_entries, entries, get, insert, remove, len, values}
+use Rattle.std.specs.FinMap.{FinMap, IsAntisymmetric, find, put, from_entries, entries, get, insert, remove, len}
+use Rattle.std.specs.FinMap.{values}
 use Rattle.std.proofs.lemmas.Map.Keys.{sorted_head, sorted_tail}
 
 -- an entry is not there and missing at once
@@ -33,14 +34,16 @@ module _ {K X : Type 0} (R : K → K → Ordering) where
   pub put-insert_entry : (k : K) (v : X) (es : List (K × X)) → put R k v es ≡ insert_entry R es k v
   put-insert_entry k v [] = refl
   put-insert_entry k v (e ∷ es) =
-      elim (R k e.0) as (λ o. match_ordering o ((k, v) ∷ e ∷ es) ((e.0, v) ∷ es) (e ∷ put R k v es) ≡ match_ordering o ((k, v) ∷ e ∷ es) ((e.0, v) ∷ es) (e ∷ insert_entry R es k v)) [
+      elim (R k e.0) as (λ o. match_ordering o ((k, v) ∷ e ∷ es) ((e.0, v) ∷ es) (e ∷ put R k v es) ≡ match_ordering o
+      ((k, v) ∷ e ∷ es) ((e.0, v) ∷ es) (e ∷ insert_entry R es k v)) [
         | Less ↦ refl
         | Equal ↦ refl
         | Greater ↦ ap (λ r. e ∷ r) (put-insert_entry k v es)
       ]
 
   -- an entry below all others goes to the front
-  put_first : (k : K) (v : X) (es : List (K × X)) → AllByRecursion (λ y. R k y ≡ Less) (keys_of es) → put R k v es ≡ (k, v) ∷ es
+  put_first : (k : K) (v : X) (es : List (K × X)) → AllByRecursion (λ y. R k y ≡ Less) (keys_of es) →
+      put R k v es ≡ (k, v) ∷ es
   put_first k v [] h = refl
   put_first k v (e ∷ es) h = ap (λ o. match_ordering o ((k, v) ∷ e ∷ es) ((e.0, v) ∷ es) (e ∷ put R k v es)) h.0
 
@@ -53,7 +56,8 @@ entries-empty {K} {X} R = no_length _ (sym (map.len-entries (map.empty {X = X} {
 
 module _ {K X : Type 0} {R : K → K → Ordering} (o : IsTotalOrder R) where
   -- a list in order is the entries of its map
-  pub entries_of_sorted : (es : List (K × X)) → IsStrictlySortedBy R (keys_of es) → entries (from_entries {R = R} es) ≡ es
+  pub entries_of_sorted : (es : List (K × X)) → IsStrictlySortedBy R (keys_of es) →
+      entries (from_entries {R = R} es) ≡ es
   entries_of_sorted [] h = entries-empty R
   entries_of_sorted (e ∷ es) h =
       map.entries-insert o (from_entries es) e.0 e.1
@@ -70,7 +74,8 @@ module _ {K X : Type 0} {R : K → K → Ordering} (o : IsTotalOrder R) where
   values-tree m h = ap (map (λ e. e.1)) (entries_of_sorted m.entries h)
 
   -- the values of a map that is seen as v
-  pub values_seen : (m : BTreeMap K X) (v : FinMap R X) → tree.IsOrdered R m → from_entries m.entries ≡ v → values v ≡ tree.values m
+  pub values_seen : (m : BTreeMap K X) (v : FinMap R X) → tree.IsOrdered R m → from_entries m.entries ≡ v →
+      values v ≡ tree.values m
   values_seen m v h e = sym (ap values e) ∙ values-tree m h
 
   -- the look-up in a map that is seen as v
@@ -95,15 +100,18 @@ module _ {K X : Type 0} {R : K → K → Ordering} (o : IsTotalOrder R) where
         ∙ sym (map.get-remove o (from_entries m.entries) k q))
 
     -- n is m after w was written at a key that m has
-    pub write-tree : (m n : BTreeMap K X) (k : K) (w old : X) → tree.WritesThrough R (R k) m w n → tree.get R m k ≡ Some old
+    pub write-tree : (m n : BTreeMap K X) (k : K) (w old : X) → tree.WritesThrough R (R k) m w n →
+        tree.get R m k ≡ Some old
         → from_entries {R = R} n.entries ≡ insert (from_entries m.entries) k w
     write-tree m n k w old h there = insert-tree m n k w (h.3 (ap is_some there))
 
     -- the same of a map that is seen as v
-    pub write_seen : (m n : BTreeMap K X) (v : FinMap R X) (k : K) (w old : X) → from_entries m.entries ≡ v → tree.WritesThrough R (R k) m w n
+    pub write_seen : (m n : BTreeMap K X) (v : FinMap R X) (k : K) (w old : X) → from_entries m.entries ≡ v →
+        tree.WritesThrough R (R k) m w n
         → tree.get R m k ≡ Some old → from_entries {R = R} n.entries ≡ insert v k w
     write_seen m n v k w old e h there = write-tree m n k w old h there ∙ ap (λ u. insert u k w) e
 
   -- what both look-ups found
-  pub same_found : (m : BTreeMap K X) (v : FinMap R X) (k : K) (x old : X) → from_entries m.entries ≡ v → get v k ≡ Some x → tree.get R m k ≡ Some old → old ≡ x
+  pub same_found : (m : BTreeMap K X) (v : FinMap R X) (k : K) (x old : X) → from_entries m.entries ≡ v →
+      get v k ≡ Some x → tree.get R m k ≡ Some old → old ≡ x
   same_found m v k x old e h there = ap (λ f. unwrap_or f x) (sym there ∙ sym (get_seen m v k e) ∙ h)

@@ -1,5 +1,6 @@
 -- What judging an attempt says of the verdict on it and those behind it.
-use Rattle.std.proofs.Common.{◌≡◌, ℕ, ◌+◌, cond, List, ◌∷◌, length, map, Option, Some, None, Result, Ok, Err, refl, sym, ap, ◌∙◌}
+use Rattle.std.proofs.Common.{◌≡◌, ℕ, ◌+◌, cond, List, ◌∷◌, length, map, Option, Some, None, Result, Ok, Err, refl, sym}
+use Rattle.std.proofs.Common.{ap, ◌∙◌}
 use Rattle.std.proofs.lemmas.List.{length-map}
 use Rattle.vac_lines.specs.declared.fault.LineFault.{LineFault}
 use Rattle.vac_spans.specs.declared.span.Misplaced.{Misplaced}
@@ -19,27 +20,34 @@ use Rattle.vac_opaque.specs.Judging.{Follows, Judges, Takes, Ends}
 some_none : (b : Breach) → Some b ≡ None → ⊥
 some_none b e = cc
 
-by_place : (earlier : List Attempt) (attempt : Attempt) (place : Option Misplaced) → misplaced itself (map span_of earlier) attempt.span ≡ place
+by_place : (earlier : List Attempt) (attempt : Attempt) (place : Option Misplaced) →
+    misplaced itself (map span_of earlier) attempt.span ≡ place
     → breach_of earlier attempt ≡ place_first place (wrong_read (left_by earlier) attempt.accesses)
 by_place earlier attempt place h =
-    ap (λ p. place_first p (wrong_read (left_by earlier) attempt.accesses)) (sym (misplaced_mapped span_of earlier attempt) ∙ h)
+    ap (λ p. place_first p (wrong_read (left_by earlier) attempt.accesses))
+    (sym (misplaced_mapped span_of earlier attempt) ∙ h)
 
 -- it does not stand in its place
-pub judges_place : (words : ℕ) (after : Judge) (earlier : List Attempt) (attempt : Attempt) (wrong : Misplaced) → misplaced itself (map span_of earlier) attempt.span ≡ Some wrong
+pub judges_place : (words : ℕ) (after : Judge) (earlier : List Attempt) (attempt : Attempt) (wrong : Misplaced) →
+    misplaced itself (map span_of earlier) attempt.span ≡ Some wrong
     → Judges words after earlier attempt (Some (breach.Place wrong))
 judges_place words after earlier attempt wrong h = record {
   found_is = by_place earlier attempt (Some wrong) h;
   taken = λ e. absurd (some_none (breach.Place wrong) e);
 }
 
-by_reads : (words : ℕ) (judge : Judge) (earlier : List Attempt) (attempt : Attempt) (found : Option Breach) → Follows words judge earlier
-    → misplaced itself (map span_of earlier) attempt.span ≡ None → wrong_read (image_of judge.memory.words.items) attempt.accesses ≡ found → breach_of earlier attempt ≡ found
+by_reads : (words : ℕ) (judge : Judge) (earlier : List Attempt) (attempt : Attempt) (found : Option Breach) →
+    Follows words judge earlier
+    → misplaced itself (map span_of earlier) attempt.span ≡ None →
+    wrong_read (image_of judge.memory.words.items) attempt.accesses ≡ found → breach_of earlier attempt ≡ found
 by_reads words judge earlier attempt found f p h =
     by_place earlier attempt None p ∙ ap (λ m. wrong_read m attempt.accesses) (sym f.left) ∙ h
 
 -- a read of it is wrong
-pub judges_read : (words : ℕ) (judge after : Judge) (earlier : List Attempt) (attempt : Attempt) (found : Breach) → Follows words judge earlier
-    → misplaced itself (map span_of earlier) attempt.span ≡ None → wrong_read (image_of judge.memory.words.items) attempt.accesses ≡ Some found
+pub judges_read : (words : ℕ) (judge after : Judge) (earlier : List Attempt) (attempt : Attempt) (found : Breach) →
+    Follows words judge earlier
+    → misplaced itself (map span_of earlier) attempt.span ≡ None →
+    wrong_read (image_of judge.memory.words.items) attempt.accesses ≡ Some found
     → Judges words after earlier attempt (Some found)
 judges_read words judge after earlier attempt found f p h = record {
   found_is = by_reads words judge earlier attempt (Some found) f p h;
@@ -47,11 +55,15 @@ judges_read words judge after earlier attempt found f p h = record {
 }
 
 -- it is right and was taken
-pub judges_taken : (words : ℕ) (judge next : Judge) (earlier : List Attempt) (attempt : Attempt) → Follows words judge earlier
-    → misplaced itself (map span_of earlier) attempt.span ≡ None → wrong_read (image_of judge.memory.words.items) attempt.accesses ≡ None
+pub judges_taken : (words : ℕ) (judge next : Judge) (earlier : List Attempt) (attempt : Attempt) →
+    Follows words judge earlier
+    → misplaced itself (map span_of earlier) attempt.span ≡ None →
+    wrong_read (image_of judge.memory.words.items) attempt.accesses ≡ None
     → length next.memory.words.items ≡ length judge.memory.words.items
-    → image_of next.memory.words.items ≡ cond attempt.commits (after (image_of judge.memory.words.items) attempt.accesses) (image_of judge.memory.words.items)
-    → Keeps next.spans (attempt.span ∷ map span_of earlier) → next.committed ≡ cond attempt.commits (judge.committed + 1) judge.committed
+    → image_of next.memory.words.items ≡ cond attempt.commits
+    (after (image_of judge.memory.words.items) attempt.accesses) (image_of judge.memory.words.items)
+    → Keeps next.spans (attempt.span ∷ map span_of earlier) →
+    next.committed ≡ cond attempt.commits (judge.committed + 1) judge.committed
     → Judges words next earlier attempt None
 judges_taken words judge next earlier attempt f p h l m k c = record {
   found_is = by_reads words judge earlier attempt None f p h;
@@ -64,16 +76,19 @@ judges_taken words judge next earlier attempt f p h l m k c = record {
 }
 
 -- the number of the next line
-number_is : (words : ℕ) (judge : Judge) (line : ℕ) (earlier : List Attempt) → line ≡ judge.spans.count + 1 → Follows words judge earlier → length earlier + 1 ≡ line
+number_is : (words : ℕ) (judge : Judge) (line : ℕ) (earlier : List Attempt) → line ≡ judge.spans.count + 1 →
+    Follows words judge earlier → length earlier + 1 ≡ line
 number_is words judge line earlier n f =
     sym (n ∙ ap (λ k. k + 1) (f.spans.count_is ∙ length-map earlier span_of))
 
 -- a line is no attempt
 pub ends_fault : (judge : Judge) (read : ℕ → Result Attempt LineFault) (line : ℕ) (fault : LineFault)
-    → ((words : ℕ) (earlier : List Attempt) → Follows words judge earlier → read words ≡ Err fault) → line ≡ judge.spans.count + 1 → Ends judge read (Fault line fault)
+    → ((words : ℕ) (earlier : List Attempt) → Follows words judge earlier → read words ≡ Err fault) →
+    line ≡ judge.spans.count + 1 → Ends judge read (Fault line fault)
 ends_fault judge read line fault e n = record {
   on = λ words earlier f more.
-      ap (λ l. judged earlier (l ∷ more)) (e words earlier f) ∙ ap (λ k. Fault k fault) (number_is words judge line earlier n f);
+      ap (λ l. judged earlier (l ∷ more)) (e words earlier f) ∙ ap (λ k. Fault k fault)
+      (number_is words judge line earlier n f);
 }
 
 -- an attempt was judged
@@ -81,7 +96,8 @@ abbrev pub JudgesLine : Judge → Judge → (ℕ → Result Attempt LineFault) �
 JudgesLine judge next read found = (words : ℕ) (earlier : List Attempt) → Follows words judge earlier →
     (attempt : Attempt) × (read words ≡ Ok attempt) × Judges words next earlier attempt found
 
-pub ends_wrong : (judge next : Judge) (read : ℕ → Result Attempt LineFault) (line : ℕ) (found : Breach) → JudgesLine judge next read (Some found)
+pub ends_wrong : (judge next : Judge) (read : ℕ → Result Attempt LineFault) (line : ℕ) (found : Breach) →
+    JudgesLine judge next read (Some found)
     → line ≡ judge.spans.count + 1 → Ends judge read (Illegal line found)
 ends_wrong judge next read line found h n = record {
   on = λ words earlier f more.
@@ -91,7 +107,8 @@ ends_wrong judge next read line found h n = record {
       ∙ ap (λ k. Illegal k found) (number_is words judge line earlier n f);
 }
 
-pub takes_attempt : (judge next : Judge) (read : ℕ → Result Attempt LineFault) → JudgesLine judge next read None → Takes judge next read
+pub takes_attempt : (judge next : Judge) (read : ℕ → Result Attempt LineFault) → JudgesLine judge next read None →
+    Takes judge next read
 takes_attempt judge next read h = record {
   on = λ words earlier f.
       let j = h words earlier f in (

@@ -1,5 +1,6 @@
 -- What a word has behind accesses, and which of their reads are legal.
-use Rattle.std.proofs.Common.{◌≡◌, ◌≢◌, ◌⊎◌, ℕ, cond, List, [], ◌∷◌, ◌++◌, Option, Some, None, refl, sym, ap, ◌∙◌, subst, inl, inr}
+use Rattle.std.proofs.Common.{◌≡◌, ◌≢◌, ◌⊎◌, ℕ, cond, List, [], ◌∷◌, ◌++◌, Option, Some, None, refl, sym, ap, ◌∙◌}
+use Rattle.std.proofs.Common.{subst, inl, inr}
 use Rattle.vac_spans.proofs.Tests.{test}
 use Rattle.vac_opaque.specs.declared.attempt.Access.{Access}
 use Rattle.vac_opaque.specs.declared.attempt.Access.TheVariants.{Read, Write}
@@ -32,11 +33,18 @@ changed_other m at word value n =
 after_left : (m : Image) (xs : List Access) (word : ℕ) → AllLeave word xs → after m xs word ≡ m word
 after_left m [] word h = refl
 after_left m (Read at value ∷ xs) word h = after_left m xs word h.1
-after_left m (Write at value ∷ xs) word h = after_left (changed m at value) xs word h.1 ∙ changed_other m at word value h.0
+after_left m (Write at value ∷ xs) word h = after_left (changed m at value) xs word h.1 ∙
+    changed_other m at word value h.0
 
 -- an access more in front
-last_later : (x : Access) (xs : List Access) (word value : ℕ) → IsLastWritten xs word value → IsLastWritten (x ∷ xs) word value
-last_later x xs word value h = record { before = x ∷ h.before; after = h.after; split = ap (λ t. x ∷ t) h.split; last = h.last }
+last_later : (x : Access) (xs : List Access) (word value : ℕ) → IsLastWritten xs word value →
+    IsLastWritten (x ∷ xs) word value
+last_later x xs word value h = record {
+  before = x ∷ h.before;
+  after = h.after;
+  split = ap (λ t. x ∷ t) h.split;
+  last = h.last;
+}
 
 -- a word has what was last written, or what it had
 abbrev HasOn : Image → List Access → ℕ → ℕ → Type 0
@@ -70,19 +78,23 @@ has_word xs word = has_after zeros xs word
 
 pub word_is : (xs : List Access) (word value : ℕ) → HasWord xs word value → after zeros xs word ≡ value
 word_is xs word value (inl h) =
-    ap (λ t. after zeros t word) h.split ∙ ap (λ (f : Image). f word) (after_both zeros h.before (Write word value ∷ h.after))
-    ∙ after_left (changed (after zeros h.before) word value) h.after word h.last ∙ changed_here (after zeros h.before) word word value refl
+    ap (λ t. after zeros t word) h.split ∙ ap (λ (f : Image). f word)
+    (after_both zeros h.before (Write word value ∷ h.after))
+    ∙ after_left (changed (after zeros h.before) word value) h.after word h.last ∙
+    changed_here (after zeros h.before) word word value refl
 word_is xs word value (inr h) = after_left zeros xs word h.0 ∙ sym h.1
 
 some_none : (b : Breach) → Some b ≡ None → ⊥
 some_none b e = cc
 
 -- a read that is right, and one that is not
-unless_none : (word value is : ℕ) (rest : Option Breach) → unless_same word value is rest ≡ None → (value ≡ is) × (rest ≡ None)
+unless_none : (word value is : ℕ) (rest : Option Breach) → unless_same word value is rest ≡ None →
+    (value ≡ is) × (rest ≡ None)
 unless_none word value is rest h =
     elim (test value is) [
       | inl t ↦ (t.1, sym (ap (λ b. cond b rest (Some (breach.Read word is))) t.0) ∙ h)
-      | inr t ↦ absurd (some_none (breach.Read word is) (sym (ap (λ b. cond b rest (Some (breach.Read word is))) t.0) ∙ h))
+      | inr t ↦ absurd (some_none (breach.Read word is) (sym (ap (λ b. cond b rest (Some (breach.Read word is))) t.0) ∙
+          h))
     ]
 
 pub unless_right : (word value is : ℕ) (rest : Option Breach) → value ≡ is → unless_same word value is rest ≡ rest
@@ -92,7 +104,8 @@ unless_right word value is rest e =
       | inr t ↦ absurd (t.1 e)
     ]
 
-pub unless_wrong : (word value is : ℕ) (rest : Option Breach) → value ≢ is → unless_same word value is rest ≡ Some (breach.Read word is)
+pub unless_wrong : (word value is : ℕ) (rest : Option Breach) → value ≢ is →
+    unless_same word value is rest ≡ Some (breach.Read word is)
 unless_wrong word value is rest n =
     elim (test value is) [
       | inl t ↦ absurd (n t.1)
@@ -100,18 +113,22 @@ unless_wrong word value is rest n =
     ]
 
 -- where no read is wrong, each gives what its word has there
-right_there : (m : Image) (before later : List Access) (word value : ℕ) → wrong_read m (before ++ Read word value ∷ later) ≡ None → after m before word ≡ value
+right_there : (m : Image) (before later : List Access) (word value : ℕ) →
+    wrong_read m (before ++ Read word value ∷ later) ≡ None → after m before word ≡ value
 right_there m [] later word value h = sym (unless_none word value (m word) (wrong_read m later) h).0
 right_there m (Read at v ∷ before) later word value h =
-    right_there m before later word value (unless_none at v (m at) (wrong_read m (before ++ Read word value ∷ later)) h).1
+    right_there m before later word value (unless_none at v (m at)
+    (wrong_read m (before ++ Read word value ∷ later)) h).1
 right_there m (Write at v ∷ before) later word value h = right_there (changed m at v) before later word value h
 
-all_right : (m : Image) (xs : List Access) → ((before later : List Access) (word value : ℕ) → xs ≡ before ++ Read word value ∷ later → after m before word ≡ value) → wrong_read m xs ≡ None
+all_right : (m : Image) (xs : List Access) → ((before later : List Access) (word value : ℕ) →
+    xs ≡ before ++ Read word value ∷ later → after m before word ≡ value) → wrong_read m xs ≡ None
 all_right m [] h = refl
 all_right m (Read at v ∷ xs) h =
     unless_right at v (m at) (wrong_read m xs) (sym (h [] xs at v refl))
     ∙ all_right m xs (λ before later word value e. h (Read at v ∷ before) later word value (ap (λ t. Read at v ∷ t) e))
-all_right m (Write at v ∷ xs) h = all_right (changed m at v) xs (λ before later word value e. h (Write at v ∷ before) later word value (ap (λ t. Write at v ∷ t) e))
+all_right m (Write at v ∷ xs) h = all_right (changed m at v) xs
+    (λ before later word value e. h (Write at v ∷ before) later word value (ap (λ t. Write at v ∷ t) e))
 
 pub legal_of : (xs : List Access) → wrong_read zeros xs ≡ None → AreLegal xs
 legal_of xs h before later word value e =
@@ -119,10 +136,12 @@ legal_of xs h before later word value e =
     subst (HasWord before word) is (has_word before word)
 
 pub of_legal : (xs : List Access) → AreLegal xs → wrong_read zeros xs ≡ None
-of_legal xs l = all_right zeros xs (λ before later word value e. word_is before word value (l before later word value e))
+of_legal xs l = all_right zeros xs (λ before later word value e. word_is before word value
+    (l before later word value e))
 
 -- of accesses one behind the other
-pub wrong_both : (m : Image) (xs ys : List Access) → wrong_read m xs ≡ None → wrong_read m (xs ++ ys) ≡ wrong_read (after m xs) ys
+pub wrong_both : (m : Image) (xs ys : List Access) → wrong_read m xs ≡ None →
+    wrong_read m (xs ++ ys) ≡ wrong_read (after m xs) ys
 wrong_both m [] ys h = refl
 wrong_both m (Read at v ∷ xs) ys h =
     let both = unless_none at v (m at) (wrong_read m xs) h in
@@ -193,7 +212,9 @@ wrong_at m (Write at v ∷ xs) found h =
       other = next.other;
     }
 
-pub at_wrong : (m : Image) (own later : List Access) (word value : ℕ) → wrong_read m own ≡ None → value ≢ after m own word
+pub at_wrong : (m : Image) (own later : List Access) (word value : ℕ) → wrong_read m own ≡ None →
+    value ≢ after m own word
     → wrong_read m (own ++ Read word value ∷ later) ≡ Some (breach.Read word (after m own word))
 at_wrong m own later word value h n =
-    wrong_both m own (Read word value ∷ later) h ∙ unless_wrong word value (after m own word) (wrong_read (after m own) later) n
+    wrong_both m own (Read word value ∷ later) h ∙ unless_wrong word value (after m own word)
+    (wrong_read (after m own) later) n

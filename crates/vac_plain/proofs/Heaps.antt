@@ -1,5 +1,6 @@
 -- Plain memory that holds a state.
-use Rattle.std.proofs.Common.{List, [], ◌+◌, ◌*◌, Option, Some, ap, arith, inl, inr, length, slice_index, subst, sym, unwrap_or, ℕ, ◌∙◌, ◌≡◌, ◌≤◌}
+use Rattle.std.proofs.Common.{List, [], ◌+◌, ◌*◌, Option, Some, ap, arith, inl, inr, length, slice_index, subst, sym}
+use Rattle.std.proofs.Common.{unwrap_or, ℕ, ◌∙◌, ◌≡◌, ◌≤◌}
 use Rattle.std.proofs.lemmas.List.{get_or_past, ext_get_or}
 use Rattle.std.proofs.lemmas.Bool.{cases_lt}
 use Rattle.std.specs.FinMap.{get}
@@ -28,18 +29,23 @@ use Rattle.vac_records.specs.Steps.{stood}
 flat_at : (xs image : List ℕ) (a : ℕ) → length image ≡ length xs → memory image (numbered 0 xs) a ≡ slice_index xs a
 flat_at xs image a e = elim (cases_lt a (length xs)) [
   | inl inside ↦ ap (λ (o : Option ℕ). unwrap_or o (slice_index image a)) (get_at xs a inside)
-  | inr behind ↦ ap (λ (o : Option ℕ). unwrap_or o (slice_index image a)) (get_behind xs 0 a (omega arith)) ∙ (get_or_past image a 0 (omega arith) ∙ sym (get_or_past xs a 0 behind))
+  | inr behind ↦ ap (λ (o : Option ℕ). unwrap_or o (slice_index image a)) (get_behind xs 0 a (omega arith)) ∙
+      (get_or_past image a 0 (omega arith) ∙ sym (get_or_past xs a 0 behind))
 ]
 
 flat_mem : (xs image : List ℕ) → length image ≡ length xs → mem (flat_view xs) image ≡ slice_index xs
 flat_mem xs image e = λ i a. flat_at xs image a e i
 
 -- the words under an image of their size
-under : (xs image : List ℕ) (s : State) → length image ≡ length xs → IsStateOf xs s → IsState (mem (flat_view xs) image) (length image) s
-under xs image s e h = subst (λ m. IsState m (length image) s) (sym (flat_mem xs image e)) (subst (λ n. IsState (slice_index xs) n s) (sym e) h)
+under : (xs image : List ℕ) (s : State) → length image ≡ length xs → IsStateOf xs s →
+    IsState (mem (flat_view xs) image) (length image) s
+under xs image s e h = subst (λ m. IsState m (length image) s) (sym (flat_mem xs image e))
+    (subst (λ n. IsState (slice_index xs) n s) (sym e) h)
 
-over : (xs image : List ℕ) (s : State) → length image ≡ length xs → IsState (mem (flat_view xs) image) (length image) s → IsStateOf xs s
-over xs image s e h = subst (λ n. IsState (slice_index xs) n s) e (subst (λ m. IsState m (length image) s) (flat_mem xs image e) h)
+over : (xs image : List ℕ) (s : State) → length image ≡ length xs →
+    IsState (mem (flat_view xs) image) (length image) s → IsStateOf xs s
+over xs image s e h = subst (λ n. IsState (slice_index xs) n s) e
+    (subst (λ m. IsState m (length image) s) (flat_mem xs image e) h)
 
 pub holds_empty : (words heap : List ℕ) (blocks : ℕ) → blocks ≤ 262144 → IsSpreadHeap words blocks
     → IsPool (λ (a : ℕ). slice_index words a) (length words) (spread_lists blocks) (λ (x : ℕ). 0) 0 → heap ≡ words →
@@ -50,20 +56,25 @@ holds_empty words heap blocks few empty pool e = subst (λ w. IsStateOf w (empty
 })
 
 -- what a task did
-outcome : (xs ys : List ℕ) (t : Task) (r : Reply) (s : State) (ran : RanTask (flat_view xs) (flat_view ys) t r) → IsStateOf xs s
+outcome : (xs ys : List ℕ) (t : Task) (r : Reply) (s : State) (ran : RanTask (flat_view xs) (flat_view ys) t r) →
+    IsStateOf xs s
     → IsOutcome (mem (flat_view ys) (flat_seen ys).0) (length (flat_seen ys).0) (run s t) r
 outcome xs ys t r s ran h =
     let image = (flat_seen ys).0 in
     let stands = (flat_seen ys).1 in
     ran.outcome image s stands.sees (under xs image s (stands.size ∙ ran.kept.size) h)
 
-pub holds_run : (xs ys : List ℕ) (t : Task) (r : Reply) → RanTask (flat_view xs) (flat_view ys) t r → (s : State) → IsStateOf xs s → IsStateOf ys (run s t).0
-holds_run xs ys t r ran s h = over ys (flat_seen ys).0 (run s t).0 (flat_seen ys).1.size (outcome xs ys t r s ran h).state
+pub holds_run : (xs ys : List ℕ) (t : Task) (r : Reply) → RanTask (flat_view xs) (flat_view ys) t r → (s : State) →
+    IsStateOf xs s → IsStateOf ys (run s t).0
+holds_run xs ys t r ran s h = over ys (flat_seen ys).0 (run s t).0 (flat_seen ys).1.size
+    (outcome xs ys t r s ran h).state
 
-pub reply_run : (xs ys : List ℕ) (t : Task) (r : Reply) → RanTask (flat_view xs) (flat_view ys) t r → (s : State) → IsStateOf xs s → (run s t).1 ≡ r
+pub reply_run : (xs ys : List ℕ) (t : Task) (r : Reply) → RanTask (flat_view xs) (flat_view ys) t r → (s : State) →
+    IsStateOf xs s → (run s t).1 ≡ r
 reply_run xs ys t r ran s h = (outcome xs ys t r s ran h).reply_is
 
-pub report_is : (xs ys : List ℕ) (r : Report) → Reported (flat_view xs) (flat_view ys) r → (s : State) → IsStateOf xs s → report s ≡ r
+pub report_is : (xs ys : List ℕ) (r : Report) → Reported (flat_view xs) (flat_view ys) r → (s : State) →
+    IsStateOf xs s → report s ≡ r
 report_is xs ys r said s h =
     let image = (flat_seen ys).0 in
     let stands = (flat_seen ys).1 in
@@ -95,7 +106,8 @@ pub held_task : (s s' : View) (t : Task) (r : Reply) → RanTask s s' t r → Ho
 held_task s s' t r ran h = record {
   inside = omega (arith, h.inside, ran.kept.size);
   small = omega (arith, h.small, ran.kept.size);
-  under = λ image i. (let t0 = h.under image (stood ran.kept image i) in ((run t0.0 t).0, (ran.outcome image t0.0 i.sees t0.1).state));
+  under = λ image i. (let t0 = h.under image (stood ran.kept image i) in
+      ((run t0.0 t).0, (ran.outcome image t0.0 i.sees t0.1).state));
 }
 
 some_same : {x y : ℕ} → Some x ≡ Some y → x ≡ y

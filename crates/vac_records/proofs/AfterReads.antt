@@ -18,10 +18,12 @@ read_both s s' s'' h k = record {
 }
 
 -- the state of a memory after reads is the one before
-pub state_on : (s s' : View) (image : List ℕ) (state : State) → s'.writes ≡ s.writes → IsState (mem s image) (length image) state → IsState (mem s' image) (length image) state
+pub state_on : (s s' : View) (image : List ℕ) (state : State) → s'.writes ≡ s.writes →
+    IsState (mem s image) (length image) state → IsState (mem s' image) (length image) state
 state_on s s' image state w h = rw w h
 
-pub state_back : (s s' : View) (image : List ℕ) (state : State) → s'.writes ≡ s.writes → IsState (mem s' image) (length image) state → IsState (mem s image) (length image) state
+pub state_back : (s s' : View) (image : List ℕ) (state : State) → s'.writes ≡ s.writes →
+    IsState (mem s' image) (length image) state → IsState (mem s image) (length image) state
 state_back s s' image state w h = rw (sym w) h
 
 pub held_on : (s s' : View) → OnlyRead s s' → HoldsState s → HoldsState s'

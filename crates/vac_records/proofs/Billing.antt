@@ -1,5 +1,6 @@
 -- A bill is added up along the list.
-use Rattle.std.proofs.Common.{◌≡◌, ◌≢◌, ℕ, ◌+◌, ◌<◌, ◌≤◌, ◌^◌, List, [], ◌∷◌, length, Option, Some, None, nat_eq, true, refl, sym, ap, ◌∙◌, subst, arith}
+use Rattle.std.proofs.Common.{◌≡◌, ◌≢◌, ℕ, ◌+◌, ◌<◌, ◌≤◌, ◌^◌, List, [], ◌∷◌, length, Option, Some, None, nat_eq, true}
+use Rattle.std.proofs.Common.{refl, sym, ap, ◌∙◌, subst, arith}
 use Rattle.std.proofs.lemmas.Bool.Decides.{nat_tests}
 use Rattle.tx_memory.specs.View.{View, Sees, RestsOn, Kept, Loaded}
 use Rattle.tx_alloc.specs.Pointer.{pointer, IsWithin}
@@ -24,7 +25,8 @@ pub record Billing (s0 s : View) (customer : ℕ) (next : Option ℕ) (i total :
   pub kept : Kept s0 s
   pub writes : s.writes ≡ s0.writes
   pub within : IsWithin s next
-  pub trail : (image : List ℕ) (rows : Rows) → Sees s image → HasBill (mem s0 image) (length image) customer rows → Trail (mem s0 image) (length image) (pointer next) i total rows
+  pub trail : (image : List ℕ) (rows : Rows) → Sees s image → HasBill (mem s0 image) (length image) customer rows →
+      Trail (mem s0 image) (length image) (pointer next) i total rows
 
 -- the pointer to a list is its first block
 list_pointer : (m : ℕ → ℕ) (n p : ℕ) (rs : Rows) → IsList m n p rs → p ≡ first_block rs
@@ -41,7 +43,8 @@ has_list s customer head e h = subst (λ (z : ℕ). HasList s z) (sym e) (record
   under = λ image i. let b = h.under image i in record { entries = b.entries; is = b.is.list };
 })
 
-pub billing_start : (s s1 : View) (customer head : ℕ) (next : Option ℕ) → head ≡ head_of customer → First s s1 head next → Billing s s1 customer next 0 0
+pub billing_start : (s s1 : View) (customer head : ℕ) (next : Option ℕ) → head ≡ head_of customer →
+    First s s1 head next → Billing s s1 customer next 0 0
 billing_start s s1 customer head next e f =
     let g : First s s1 (head_of customer) next = subst (λ (z : ℕ). First s s1 z next) e f in
     record {
@@ -54,7 +57,8 @@ billing_start s s1 customer head next e f =
           let at = bill.list.list in
           record {
             rest = rows;
-            list = list_at m n (pointer next) (m (head_of customer)) rows (g.is image rows i bill.list ∙ sym (list_pointer m n (m (head_of customer)) rows at)) at;
+            list = list_at m n (pointer next) (m (head_of customer)) rows
+                (g.is image rows i bill.list ∙ sym (list_pointer m n (m (head_of customer)) rows at)) at;
             long = omega arith;
             sum = omega arith;
           };
@@ -69,7 +73,8 @@ record Opened (m : ℕ → ℕ) (n b i total : ℕ) (rows : Rows) : Type 0 where
   long : i + (1 + length rest) ≡ length rows
   sum : total + (m (b + 2) + sum_in m rest) ≡ sum_in m rows
 
-open_trail : (m : ℕ → ℕ) (n b i total : ℕ) (rows rest : Rows) → b ≢ 0 → IsList m n b rest → i + length rest ≡ length rows → total + sum_in m rest ≡ sum_in m rows → Opened m n b i total rows
+open_trail : (m : ℕ → ℕ) (n b i total : ℕ) (rows rest : Rows) → b ≢ 0 → IsList m n b rest →
+    i + length rest ≡ length rows → total + sum_in m rest ≡ sum_in m rows → Opened m n b i total rows
 open_trail m n b i total rows [] ne h l e = absurd (ne h.linked)
 open_trail m n b i total rows (r ∷ rs) ne h l e = record {
   row = r;
@@ -83,30 +88,38 @@ open_trail m n b i total rows (r ∷ rs) ne h l e = record {
 opened : (m : ℕ → ℕ) (n b i total : ℕ) (rows : Rows) → b ≢ 0 → Trail m n b i total rows → Opened m n b i total rows
 opened m n b i total rows ne t = open_trail m n b i total rows t.rest ne t.list t.long t.sum
 
-pub some_block : (s0 s : View) (customer i total : ℕ) (block : ℕ) → Billing s0 s customer (Some block) i total → block ≢ 0
+pub some_block : (s0 s : View) (customer i total : ℕ) (block : ℕ) → Billing s0 s customer (Some block) i total →
+    block ≢ 0
 some_block s0 s customer i total block h z = (let w = h.within in absurd (omega (arith, z, w.0)))
 
-pub block_node : (s0 s : View) (customer i total : ℕ) (block : ℕ) → CanBill s0 customer → Billing s0 s customer (Some block) i total → IsNode s block
-block_node s0 s customer i total block c h = let w = h.within in record { inside = w.1; small = omega (arith, c.small, h.kept.size) }
+pub block_node : (s0 s : View) (customer i total : ℕ) (block : ℕ) → CanBill s0 customer →
+    Billing s0 s customer (Some block) i total → IsNode s block
+block_node s0 s customer i total block c h = let w = h.within in
+    record { inside = w.1; small = omega (arith, c.small, h.kept.size) }
 
 -- the sum stays a word
-pub sum_fits : (s0 s s1 : View) (customer i total v : ℕ) (block : ℕ) → CanBill s0 customer → Billing s0 s customer (Some block) i total → Loaded s s1 (block + 2) v → ∥ ((image : List ℕ) × RestsOn s1 image) ∥₁ → total + v < 2 ^ 64
+pub sum_fits : (s0 s s1 : View) (customer i total v : ℕ) (block : ℕ) → CanBill s0 customer →
+    Billing s0 s customer (Some block) i total → Loaded s s1 (block + 2) v →
+    ∥ ((image : List ℕ) × RestsOn s1 image) ∥₁ → total + v < 2 ^ 64
 sum_fits s0 s s1 customer i total v block c h l ws = some_lt (total + v) (2 ^ 64) ws (λ w.
     let image = w.0 in
     let j = stood l.kept image w.1 in
     let b = c.under image (stood h.kept image j) in
-    let t = opened (mem s0 image) (length image) block i total b.entries (some_block s0 s customer i total block h) (h.trail image b.entries j.sees b.is) in
+    let t = opened (mem s0 image) (length image) block i total b.entries (some_block s0 s customer i total block h)
+    (h.trail image b.entries j.sees b.is) in
     let e : mem s0 image (block + 2) ≡ v = rw h.writes at (l.answer image w.1.sees) in
     omega (arith, b.is.fits, t.sum, e))
 
 -- the block is one of a list, so that the next one can be asked for
-pub in_a_list : (s0 s s1 : View) (customer i total v : ℕ) (block : ℕ) → CanBill s0 customer → Billing s0 s customer (Some block) i total → Loaded s s1 (block + 2) v → HasBooking s1 block
+pub in_a_list : (s0 s s1 : View) (customer i total v : ℕ) (block : ℕ) → CanBill s0 customer →
+    Billing s0 s customer (Some block) i total → Loaded s s1 (block + 2) v → HasBooking s1 block
 in_a_list s0 s s1 customer i total v block c h l = record {
   small = omega (arith, c.small, h.kept.size, l.kept.size);
   under = λ image i1.
       let j = stood l.kept image i1 in
       let b = c.under image (stood h.kept image j) in
-      let t = opened (mem s0 image) (length image) block i total b.entries (some_block s0 s customer i total block h) (h.trail image b.entries j.sees b.is) in
+      let t = opened (mem s0 image) (length image) block i total b.entries (some_block s0 s customer i total block h)
+      (h.trail image b.entries j.sees b.is) in
       let same : s1.writes ≡ s0.writes = l.writes ∙ h.writes in
       let here : nat_eq t.row.1 block ≡ true = (let q = t.is in grind (arith, nat_tests)) in
       rw same (record { start = block; entries = t.row ∷ t.rest; list = t.list; has = rw here (omega arith) });
@@ -115,7 +128,9 @@ in_a_list s0 s s1 customer i total v block c h l = record {
 behind_first : (r : ℕ × ℕ) (rs : Rows) (b : ℕ) → r.1 ≡ b → block_behind (r ∷ rs) b ≡ first_block rs
 behind_first r rs b e = let t : nat_eq r.1 b ≡ true = grind (arith, nat_tests) in rw t refl
 
-pub billing_step : (s0 s s1 s2 : View) (customer i total v : ℕ) (block : ℕ) (next : Option ℕ) → CanBill s0 customer → Billing s0 s customer (Some block) i total → Loaded s s1 (block + 2) v → Next s1 s2 block next → Billing s0 s2 customer next (i + 1) (total + v)
+pub billing_step : (s0 s s1 s2 : View) (customer i total v : ℕ) (block : ℕ) (next : Option ℕ) → CanBill s0 customer →
+    Billing s0 s customer (Some block) i total → Loaded s s1 (block + 2) v → Next s1 s2 block next →
+    Billing s0 s2 customer next (i + 1) (total + v)
 billing_step s0 s s1 s2 customer i total v block next c h l x = record {
   kept = kept_both s0 s1 s2 (kept_both s0 s s1 h.kept l.kept) x.kept;
   writes = x.writes ∙ (l.writes ∙ h.writes);
@@ -131,10 +146,13 @@ billing_step s0 s s1 s2 customer i total v block next c h l x = record {
       let rest_list : IsList m n (m (t.row.1 + 3)) t.rest = list_rest m n block t.row t.rest t.list in
       let here : nat_eq t.row.1 block ≡ true = (let q = t.is in grind (arith, nat_tests)) in
       let whole : IsList (mem s1 image) n block (t.row ∷ t.rest) = rw same t.list in
-      let found : pointer next ≡ block_behind (t.row ∷ t.rest) block = x.is image block (t.row ∷ t.rest) i2 whole (rw here (omega arith)) in
+      let found : pointer next ≡ block_behind (t.row ∷ t.rest) block =
+      x.is image block (t.row ∷ t.rest) i2 whole (rw here (omega arith)) in
       record {
         rest = t.rest;
-        list = list_at m n (pointer next) (m (t.row.1 + 3)) t.rest (found ∙ (behind_first t.row t.rest block t.is ∙ sym (list_pointer m n (m (t.row.1 + 3)) t.rest rest_list))) rest_list;
+        list = list_at m n (pointer next) (m (t.row.1 + 3)) t.rest
+            (found ∙ (behind_first t.row t.rest block t.is ∙ sym (list_pointer m n (m (t.row.1 + 3)) t.rest rest_list)))
+            rest_list;
         long = omega (arith, t.long);
         sum = omega (arith, t.sum, e);
       };
@@ -159,7 +177,8 @@ empty_rest : (rest : Rows) → length rest ≡ 0 → rest ≡ []
 empty_rest [] e = refl
 empty_rest (r ∷ rs) e = absurd (omega arith)
 
-pub billed_all : (s0 s : View) (customer i total : ℕ) (next : Option ℕ) → 262144 ≤ i → Billing s0 s customer next i total → Billed s0 s customer total
+pub billed_all : (s0 s : View) (customer i total : ℕ) (next : Option ℕ) → 262144 ≤ i →
+    Billing s0 s customer next i total → Billed s0 s customer total
 billed_all s0 s customer i total next l h = record {
   kept = h.kept;
   writes = h.writes;
@@ -171,5 +190,6 @@ billed_all s0 s customer i total next l h = record {
 }
 
 -- the next block, as it was found
-pub at_next : (s0 s : View) (customer i total : ℕ) (next : Option ℕ) (found : Option ℕ) → next ≡ found → Billing s0 s customer next i total → Billing s0 s customer found i total
+pub at_next : (s0 s : View) (customer i total : ℕ) (next : Option ℕ) (found : Option ℕ) → next ≡ found →
+    Billing s0 s customer next i total → Billing s0 s customer found i total
 at_next s0 s customer i total next found e h = subst (λ (z : Option ℕ). Billing s0 s customer z i total) e h

@@ -36,13 +36,24 @@ list_there m n out s id c bookings h at =
       outside = λ a oa.
           let ba = in_list m n h.parts h.heap c a o oa in
           let ne : a ≢ c = list_not_table m n h.parts h.heap c a 3 c o oa (omega arith) o in
-          elim (cases_lt c a) [ inl below ↦ inl (omega (arith, ba.1.1, bc.1.1)) | inr above ↦ inr (omega (arith, ba.1.1, bc.1.1)) ];
+          elim (cases_lt c a) [
+            | inl below ↦ inl (omega (arith, ba.1.1, bc.1.1))
+            | inr above ↦
+                inr (omega (arith, ba.1.1, bc.1.1))
+          ];
     }
 
-sums : (m : ℕ → ℕ) (rows : Rows) → sum_by (λ (b : Booking). b.sum) (map (λ (e : Entry). e.1) (bookings_in m rows)) ≡ sum_in m rows
+sums : (m : ℕ → ℕ) (rows : Rows) → sum_by (λ (b : Booking). b.sum)
+    (map (λ (e : Entry). e.1) (bookings_in m rows)) ≡ sum_in m rows
 sums m [] = refl
-sums m (r ∷ rs) = omega (arith, sum_by-cons (λ (b : Booking). b.sum) (booking_in m r.1) (map (λ (e : Entry). e.1) (bookings_in m rs)), sums m rs)
+sums m (r ∷ rs) = omega (
+  arith,
+  sum_by-cons (λ (b : Booking). b.sum) (booking_in m r.1)
+      (map (λ (e : Entry). e.1) (bookings_in m rs)),
+  sums m rs,
+)
 
 pub bill_there : BillThere
 bill_there m n out s id c bookings h at =
-    sym (sums m (h.parts.lists c)) ∙ ap (λ (es : List Entry). sum_by (λ (b : Booking). b.sum) (map (λ (e : Entry). e.1) es)) (sym (entries_at m n out s h id c bookings at))
+    sym (sums m (h.parts.lists c)) ∙ ap (λ (es : List Entry). sum_by (λ (b : Booking). b.sum)
+    (map (λ (e : Entry). e.1) es)) (sym (entries_at m n out s h id c bookings at))

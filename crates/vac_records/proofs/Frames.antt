@@ -1,6 +1,7 @@
 -- Entries that are read off words that are as before, and the customers of a state with their
 -- bookings opened.
-use Rattle.std.proofs.Common.{◌≡◌, ◌≢◌, ℕ, ◌+◌, ◌<◌, ◌≤◌, Bool, cond, List, [], ◌∷◌, map, length, sum_by, Some, true, false, refl, ap, arith, add-zero}
+use Rattle.std.proofs.Common.{◌≡◌, ◌≢◌, ℕ, ◌+◌, ◌<◌, ◌≤◌, Bool, cond, List, [], ◌∷◌, map, length, sum_by, Some, true}
+use Rattle.std.proofs.Common.{false, refl, ap, arith, add-zero}
 use Rattle.std.specs.Option.{option_map}
 use Rattle.std.specs.declared.cmp.Ordering.TheVariants.{Less, Equal, Greater}
 use Rattle.std.specs.Ordering.{nat_cmp, eq_by_cmp}
@@ -27,24 +28,29 @@ item_same m m' a same =
     let t = same 6 (omega arith) (omega arith) in let p = same 7 (omega arith) (omega arith) in
     λ i. record { used = u i; free = f i; total = t i; price = p i }
 
-pub booking_same : (m m' : ℕ → ℕ) (a : ℕ) → ((k : ℕ) → k ≢ 3 → k < 8 → m' (a + k) ≡ m (a + k)) → ◌≡◌ {A = Entry} (place_in m' a, booking_in m' a) (place_in m a, booking_in m a)
+pub booking_same : (m m' : ℕ → ℕ) (a : ℕ) → ((k : ℕ) → k ≢ 3 → k < 8 → m' (a + k) ≡ m (a + k)) →
+    ◌≡◌ {A = Entry} (place_in m' a, booking_in m' a) (place_in m a, booking_in m a)
 booking_same m m' a same =
     let kind_is : m' a ≡ m a = rw add-zero at (same 0 (omega arith) (omega arith)) in
     let id_is = same 1 (omega arith) (omega arith) in let sum_is = same 2 (omega arith) (omega arith) in
     let units_is = same 4 (omega arith) (omega arith) in
     λ i. ((kind_of_number (kind_is i), id_is i), record { units = units_is i; sum = sum_is i })
 
-pub items_frame : (m m' : ℕ → ℕ) (rs : Rows) → ((a k : ℕ) → 0 < times a rs → 4 ≤ k → k < 8 → m' (a + k) ≡ m (a + k)) → items_in m' rs ≡ items_in m rs
+pub items_frame : (m m' : ℕ → ℕ) (rs : Rows) → ((a k : ℕ) → 0 < times a rs → 4 ≤ k → k < 8 → m' (a + k) ≡ m (a + k)) →
+    items_in m' rs ≡ items_in m rs
 items_frame m m' rs same =
     map_same (λ r. (r.0, item_in m r.1)) (λ r. (r.0, item_in m' r.1)) rs
     (λ k a i. let e = item_same m m' a (λ j l g. same a j (row_times k a rs i) l g) in ap (λ (x : Item). (k, x)) e)
 
-pub bookings_frame : (m m' : ℕ → ℕ) (rs : Rows) → ((a k : ℕ) → 0 < times a rs → k ≢ 3 → k < 8 → m' (a + k) ≡ m (a + k)) → bookings_in m' rs ≡ bookings_in m rs
+pub bookings_frame : (m m' : ℕ → ℕ) (rs : Rows) → ((a k : ℕ) → 0 < times a rs → k ≢ 3 → k < 8 →
+    m' (a + k) ≡ m (a + k)) → bookings_in m' rs ≡ bookings_in m rs
 bookings_frame m m' rs same =
     map_same (λ r. (place_in m r.1, booking_in m r.1)) (λ r. (place_in m' r.1, booking_in m' r.1)) rs
     (λ k a i. booking_same m m' a (λ j ne g. same a j (row_times k a rs i) ne g))
 
-pub customers_frame : (m m' : ℕ → ℕ) (lists lists' : ℕ → Rows) (rs : Rows) → ((c : ℕ) → 0 < times c rs → bookings_in m' (lists' c) ≡ bookings_in m (lists c)) → customers_in m' lists' rs ≡ customers_in m lists rs
+pub customers_frame : (m m' : ℕ → ℕ) (lists lists' : ℕ → Rows) (rs : Rows) →
+    ((c : ℕ) → 0 < times c rs → bookings_in m' (lists' c) ≡ bookings_in m (lists c)) →
+    customers_in m' lists' rs ≡ customers_in m lists rs
 customers_frame m m' lists lists' rs same =
     map_same (λ r. (r.0, bookings_in m (lists r.1))) (λ r. (r.0, bookings_in m' (lists' r.1))) rs
     (λ k a i. ap (λ (x : List Entry). (k, x)) (same a (row_times k a rs i)))
@@ -52,27 +58,34 @@ customers_frame m m' lists lists' rs same =
 abbrev Opened : Type 0
 Opened = ℕ × List Entry
 
-pub opened_put : (id : ℕ) (v : Bookings) (cs : List (ℕ × Bookings)) → opened (put nat_cmp id v cs) ≡ put nat_cmp id (entries v) (opened cs)
+pub opened_put : (id : ℕ) (v : Bookings) (cs : List (ℕ × Bookings)) →
+    opened (put nat_cmp id v cs) ≡ put nat_cmp id (entries v) (opened cs)
 opened_put id v [] = refl
 opened_put id v (c ∷ cs) =
-    elim (nat_cmp id c.0) as (λ o. opened (by_order o ((id, v) ∷ c ∷ cs) ((c.0, v) ∷ cs) (c ∷ put nat_cmp id v cs)) ≡ by_order o ((id, entries v) ∷ (c.0, entries c.1) ∷ opened cs) ((c.0, entries v) ∷ opened cs) ((c.0, entries c.1) ∷ put nat_cmp id (entries v) (opened cs))) [
+    elim (nat_cmp id c.0) as (λ o. opened (by_order o ((id, v) ∷ c ∷ cs) ((c.0, v) ∷ cs) (c ∷ put nat_cmp id v cs)) ≡
+    by_order o ((id, entries v) ∷ (c.0, entries c.1) ∷ opened cs) ((c.0, entries v) ∷ opened cs)
+    ((c.0, entries c.1) ∷ put nat_cmp id (entries v) (opened cs))) [
       | Less ↦ refl
       | Equal ↦ refl
       | Greater ↦ ap (λ (z : List Opened). (c.0, entries c.1) ∷ z) (opened_put id v cs)
     ]
 
-pub opened_where : (p : ℕ → Bool) (cs : List (ℕ × Bookings)) → opened (where_key nat_cmp p cs) ≡ where_key nat_cmp p (opened cs)
+pub opened_where : (p : ℕ → Bool) (cs : List (ℕ × Bookings)) →
+    opened (where_key nat_cmp p cs) ≡ where_key nat_cmp p (opened cs)
 opened_where p [] = refl
 opened_where p (c ∷ cs) =
-    elim (p c.0) as (λ b. opened (cond b (c ∷ where_key nat_cmp p cs) (where_key nat_cmp p cs)) ≡ cond b ((c.0, entries c.1) ∷ where_key nat_cmp p (opened cs)) (where_key nat_cmp p (opened cs))) [
+    elim (p c.0) as (λ b. opened (cond b (c ∷ where_key nat_cmp p cs) (where_key nat_cmp p cs)) ≡ cond b
+    ((c.0, entries c.1) ∷ where_key nat_cmp p (opened cs)) (where_key nat_cmp p (opened cs))) [
       | true ↦ ap (λ (z : List Opened). (c.0, entries c.1) ∷ z) (opened_where p cs)
       | false ↦ opened_where p cs
     ]
 
-pub opened_find : (id : ℕ) (cs : List (ℕ × Bookings)) → find nat_cmp id (opened cs) ≡ option_map (λ (b : Bookings). entries b) (find nat_cmp id cs)
+pub opened_find : (id : ℕ) (cs : List (ℕ × Bookings)) → find nat_cmp id (opened cs) ≡ option_map
+    (λ (b : Bookings). entries b) (find nat_cmp id cs)
 opened_find id [] = refl
 opened_find id (c ∷ cs) =
-    elim (eq_by_cmp nat_cmp id c.0) as (λ b. cond b (Some (entries c.1)) (find nat_cmp id (opened cs)) ≡ option_map (λ (b : Bookings). entries b) (cond b (Some c.1) (find nat_cmp id cs))) [
+    elim (eq_by_cmp nat_cmp id c.0) as (λ b. cond b (Some (entries c.1)) (find nat_cmp id (opened cs)) ≡ option_map
+    (λ (b : Bookings). entries b) (cond b (Some c.1) (find nat_cmp id cs))) [
       | true ↦ refl
       | false ↦ opened_find id cs
     ]
@@ -86,13 +99,24 @@ pub length_same : {A B : Type 0} (g : A → B) (xs : List A) → length (map g x
 length_same g [] = refl
 length_same g (x ∷ xs) = omega (arith, length_same g xs)
 
-pub lengths_opened : (cs : List (ℕ × Bookings)) → lengths (opened cs) ≡ sum_by (λ (b : Bookings). len b) (map (λ (c : ℕ × Bookings). c.1) cs)
+pub lengths_opened : (cs : List (ℕ × Bookings)) → lengths (opened cs) ≡ sum_by (λ (b : Bookings). len b)
+    (map (λ (c : ℕ × Bookings). c.1) cs)
 lengths_opened [] = refl
-lengths_opened (c ∷ cs) = omega (arith, lengths_opened cs, len-entries c.1, sum_by-cons (λ (b : Bookings). len b) c.1 (map (λ (c : ℕ × Bookings). c.1) cs))
+lengths_opened (c ∷ cs) = omega (
+  arith,
+  lengths_opened cs,
+  len-entries c.1,
+  sum_by-cons (λ (b : Bookings). len b) c.1 (map (λ (c : ℕ × Bookings). c.1) cs),
+)
 
-pub lengths_customers : (m : ℕ → ℕ) (lists : ℕ → Rows) (rs : Rows) → lengths (customers_in m lists rs) ≡ over (λ (z : Rows). length z) rs lists
+pub lengths_customers : (m : ℕ → ℕ) (lists : ℕ → Rows) (rs : Rows) →
+    lengths (customers_in m lists rs) ≡ over (λ (z : Rows). length z) rs lists
 lengths_customers m lists [] = refl
-lengths_customers m lists (r ∷ rs) = omega (arith, lengths_customers m lists rs, length_same {B = Entry} (λ (x : ℕ × ℕ). (place_in m x.1, booking_in m x.1)) (lists r.1))
+lengths_customers m lists (r ∷ rs) = omega (
+  arith,
+  lengths_customers m lists rs,
+  length_same {B = Entry} (λ (x : ℕ × ℕ). (place_in m x.1, booking_in m x.1)) (lists r.1),
+)
 
 opened_first : (c d : ℕ × Bookings) → c.0 ≡ d.0 → entries c.1 ≡ entries d.1 → c ≡ d
 opened_first c d e f = let g = same_entries_map c.1 d.1 f in λ i. (e i, g i)

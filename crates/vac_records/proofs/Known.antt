@@ -7,7 +7,8 @@ use Rattle.vac_records.specs.Steps.{kept_both, stood}
 use Rattle.vac_records.proofs.Counting.{enough_fits}
 
 -- the free units were read just now
-pub made_known : (s s1 : View) (node num v : ℕ) → CanMake s node num → Loaded s s1 (node + 5) v → ∥ ((image : List ℕ) × RestsOn s1 image) ∥₁ → CanMakeOf s1 node num v
+pub made_known : (s s1 : View) (node num v : ℕ) → CanMake s node num → Loaded s s1 (node + 5) v →
+    ∥ ((image : List ℕ) × RestsOn s1 image) ∥₁ → CanMakeOf s1 node num v
 made_known s s1 node num v can l ws = record {
   free_is = λ image i. rw l.writes (l.answer image i.sees);
   enough = enough_fits s s1 (node + 5) num v can.free l ws;
@@ -15,7 +16,8 @@ made_known s s1 node num v can l ws = record {
 }
 
 -- an item that changed after its free units were read
-pub changed_after : (s s1 s2 : View) (node v : ℕ) (f : Item → Item) → Loaded s s1 (node + 5) v → ItemChangedOf s1 s2 node v f → ItemChanged s s2 node f
+pub changed_after : (s s1 s2 : View) (node v : ℕ) (f : Item → Item) → Loaded s s1 (node + 5) v →
+    ItemChangedOf s1 s2 node v f → ItemChanged s s2 node f
 changed_after s s1 s2 node v f l w = record {
   kept = kept_both s s1 s2 l.kept w.kept;
   changed = λ image i.

@@ -7,7 +7,8 @@ use Rattle.tx_list.proofs.Frame.{SameBooking, linked_frame}
 pub use Rattle.tx_list.proofs.Frame.{list_one}
 use Rattle.vac_records.proofs.Keyed.{HasRow}
 
-pub list_kept : (m m' : ℕ → ℕ) (n p : ℕ) (rs : Rows) → IsList m n p rs → ((a : ℕ) → 0 < times a rs → SameBooking m m' a) → IsList m' n p rs
+pub list_kept : (m m' : ℕ → ℕ) (n p : ℕ) (rs : Rows) → IsList m n p rs →
+    ((a : ℕ) → 0 < times a rs → SameBooking m m' a) → IsList m' n p rs
 list_kept m m' n p rs h same = record { linked = linked_frame m m' n p 0 rs same h.linked }
 
 -- kind and id of a row
@@ -22,7 +23,12 @@ linked_row m n p lo k a [] h i = absurd i
 linked_row m n p lo k a (r ∷ rs) h i = elim i [
   | inl e ↦ (
       let at : m (r.1 + 0) ≡ m r.1 = rw add-zero refl in
-      let is : IsListed m n r.0 r.1 = record { block = h.0.block; kind = omega (arith, h.0.kind, at); id = h.0.id; key = omega (arith, h.0.key, at) } in
+      let is : IsListed m n r.0 r.1 = record {
+        block = h.0.block;
+        kind = omega (arith, h.0.kind, at);
+        id = h.0.id;
+        key = omega (arith, h.0.key, at);
+      } in
       subst (λ (z : ℕ × ℕ). IsListed m n z.0 z.1) (λ j. (e.0 j, e.1 j)) is)
   | inr later ↦ linked_row m n (m (r.1 + 3)) (r.0 + 1) k a rs h.1 later
 ]
@@ -31,7 +37,8 @@ pub list_row : (m : ℕ → ℕ) (n p k a : ℕ) (rs : Rows) → IsList m n p rs
 list_row m n p k a rs h i = linked_row m n p 0 k a rs h.linked i
 
 -- nothing but the sum and the units of a booking was written
-pub booked_links : (m m' : ℕ → ℕ) (n b x : ℕ) → IsBlock n b → IsBlock n x → ((y : ℕ) → y ≢ b + 2 → y ≢ b + 4 → m' y ≡ m y) → SameBooking m m' x
+pub booked_links : (m m' : ℕ → ℕ) (n b x : ℕ) → IsBlock n b → IsBlock n x →
+    ((y : ℕ) → y ≢ b + 2 → y ≢ b + 4 → m' y ≡ m y) → SameBooking m m' x
 booked_links m m' n b x bb bx w = record {
   kind = w (x + 0) (omega (arith, bx.1.1, bb.1.1)) (omega (arith, bx.1.1, bb.1.1));
   id = w (x + 1) (omega (arith, bx.1.1, bb.1.1)) (omega (arith, bx.1.1, bb.1.1));

@@ -1,5 +1,6 @@
 -- A memory that represents a state, and what has to be shown of another one.
-use Rattle.std.proofs.Common.{◌≡◌, ◌≢◌, ◌⊎◌, inl, inr, ℕ, ◌+◌, ◌<◌, ◌≤◌, List, [], ◌∷◌, length, refl, sym, ap, ◌∙◌, arith}
+use Rattle.std.proofs.Common.{◌≡◌, ◌≢◌, ◌⊎◌, inl, inr, ℕ, ◌+◌, ◌<◌, ◌≤◌, List, [], ◌∷◌, length, refl, sym, ap, ◌∙◌}
+use Rattle.std.proofs.Common.{arith}
 use Rattle.std.specs.FinMap.{entries}
 use Rattle.tx_memory.specs.Seen.{same_or}
 use Rattle.vac_model.specs.declared.items.Kind.{Kind}
@@ -63,16 +64,46 @@ module _ (m : ℕ → ℕ) (n : ℕ) (p : Parts) (h : IsHeap m n p) where
   in_list c x o o' = list_block m n (m (c + 4)) x (p.lists c) (h.lists c o) o'
 
   pub table_not_out : (j x b : ℕ) → j < 4 → 0 < times x (p.tables j) → 0 < held b p.out → x ≢ b
-  table_not_out j x b l o o' q = absurd (omega (arith, h.pool.once x (in_table j x l o), o, sum_has 4 j (λ z. times x (p.tables z)) l, o', ap (λ (z : ℕ). held z p.out) q))
+  table_not_out j x b l o o' q = absurd (omega (
+    arith,
+    h.pool.once x (in_table j x l o),
+    o,
+    sum_has 4 j (λ z. times x (p.tables z)) l,
+    o',
+    ap (λ (z : ℕ). held z p.out) q,
+  ))
 
   pub list_not_out : (c x b : ℕ) → 0 < times c (p.tables 3) → 0 < times x (p.lists c) → 0 < held b p.out → x ≢ b
-  list_not_out c x b o o' g q = absurd (omega (arith, h.pool.once x (in_list c x o o'), o', over_has (times x) c (p.tables 3) p.lists o, g, ap (λ (z : ℕ). held z p.out) q))
+  list_not_out c x b o o' g q = absurd (omega (
+    arith,
+    h.pool.once x (in_list c x o o'),
+    o',
+    over_has (times x) c (p.tables 3) p.lists o,
+    g,
+    ap (λ (z : ℕ). held z p.out) q,
+  ))
 
   pub tables_apart : (j k x b : ℕ) → j < 4 → k < 4 → j ≢ k → 0 < times x (p.tables j) → 0 < times b (p.tables k) → x ≢ b
-  tables_apart j k x b l l' ne o o' q = absurd (omega (arith, h.pool.once x (in_table j x l o), o, o', sum_two 4 j k (λ z. times x (p.tables z)) l l' ne, ap (λ (z : ℕ). times z (p.tables k)) q))
+  tables_apart j k x b l l' ne o o' q = absurd (omega (
+    arith,
+    h.pool.once x (in_table j x l o),
+    o,
+    o',
+    sum_two 4 j k (λ z. times x (p.tables z)) l l' ne,
+    ap (λ (z : ℕ). times z (p.tables k)) q,
+  ))
 
-  pub list_not_table : (c x j b : ℕ) → 0 < times c (p.tables 3) → 0 < times x (p.lists c) → j < 4 → 0 < times b (p.tables j) → x ≢ b
-  list_not_table c x j b o o' l g q = absurd (omega (arith, h.pool.once x (in_list c x o o'), o', over_has (times x) c (p.tables 3) p.lists o, g, sum_has 4 j (λ z. times x (p.tables z)) l, ap (λ (z : ℕ). times z (p.tables j)) q))
+  pub list_not_table : (c x j b : ℕ) → 0 < times c (p.tables 3) → 0 < times x (p.lists c) → j < 4 →
+      0 < times b (p.tables j) → x ≢ b
+  list_not_table c x j b o o' l g q = absurd (omega (
+    arith,
+    h.pool.once x (in_list c x o o'),
+    o',
+    over_has (times x) c (p.tables 3) p.lists o,
+    g,
+    sum_has 4 j (λ z. times x (p.tables z)) l,
+    ap (λ (z : ℕ). times z (p.tables j)) q,
+  ))
 
   pub table_once : (j x : ℕ) → j < 4 → times x (p.tables j) ≤ 1
   table_once j x l = elim (same_or (times x (p.tables j)) 0) [
@@ -88,7 +119,8 @@ module _ (m : ℕ → ℕ) (n : ℕ) (p : Parts) (h : IsHeap m n p) where
         let ne : c ≢ b = λ q. absurd (omega (arith, o, none, ap (λ (z : ℕ). times z (p.tables 3)) q)) in
         let e = with_else p.lists b c [] ne in
         rw e (h.lists c o);
-    pool = pool_as m m n p.free (used_in p) (used_in (record p { lists = with_at p.lists b [] })) (count_in p) (count_in (record p { lists = with_at p.lists b [] }))
+    pool = pool_as m m n p.free (used_in p) (used_in (record p { lists = with_at p.lists b [] })) (count_in p)
+        (count_in (record p { lists = with_at p.lists b [] }))
         (λ i l. refl) (λ i x l o. refl)
         (λ x bx. omega (arith, over_else (times x) b [] (p.tables 3) p.lists none))
         (omega (arith, over_else (λ (z : Rows). length z) b [] (p.tables 3) p.lists none)) h.pool;
@@ -98,7 +130,8 @@ pub out_first : (p : Parts) (b : ℕ) (os : List ℕ) → p.out ≡ b ∷ os →
 out_first p b os is = omega (arith, held_first b os, ap (held b) is)
 
 -- the same state
-unfoldable pub keeps : (m m' : ℕ → ℕ) (n : ℕ) (out out' : List ℕ) (s : State) (h : Represents m n out s) (p : Parts) → IsHeap m' n p → p.out ≡ out' →
+unfoldable pub keeps : (m m' : ℕ → ℕ) (n : ℕ) (out out' : List ℕ) (s : State) (h : Represents m n out s) (p : Parts) →
+    IsHeap m' n p → p.out ≡ out' →
     ((j : ℕ) → j < 3 → items_in m' (p.tables j) ≡ items_in m (h.parts.tables j)) →
     customers_in m' p.lists (p.tables 3) ≡ customers_in m h.parts.lists (h.parts.tables 3) → Represents m' n out' s
 keeps m m' n out out' s h p heap is items customers = record {
@@ -111,10 +144,12 @@ keeps m m' n out out' s h p heap is items customers = record {
 }
 
 -- another table of one kind
-unfoldable pub shifts_table : (m m' : ℕ → ℕ) (n : ℕ) (out out' : List ℕ) (s : State) (h : Represents m n out s) (kind : Kind) (t : Table) (p : Parts) → IsHeap m' n p → p.out ≡ out' →
+unfoldable pub shifts_table : (m m' : ℕ → ℕ) (n : ℕ) (out out' : List ℕ) (s : State) (h : Represents m n out s)
+    (kind : Kind) (t : Table) (p : Parts) → IsHeap m' n p → p.out ≡ out' →
     entries t ≡ items_in m' (p.tables (kind_number kind)) →
     ((j : ℕ) → j < 3 → j ≢ kind_number kind → items_in m' (p.tables j) ≡ items_in m (h.parts.tables j)) →
-    customers_in m' p.lists (p.tables 3) ≡ customers_in m h.parts.lists (h.parts.tables 3) → Represents m' n out' (with_table s kind t)
+    customers_in m' p.lists (p.tables 3) ≡ customers_in m h.parts.lists (h.parts.tables 3) →
+    Represents m' n out' (with_table s kind t)
 shifts_table m m' n out out' s h kind t p heap is new items customers = record {
   size = let e = same_capacity s kind t in rw e h.size;
   parts = p;
@@ -128,7 +163,8 @@ shifts_table m m' n out out' s h kind t p heap is new items customers = record {
 }
 
 -- other customers
-unfoldable pub shifts_customers : (m m' : ℕ → ℕ) (n : ℕ) (out out' : List ℕ) (s : State) (h : Represents m n out s) (cs : Customers) (p : Parts) → IsHeap m' n p → p.out ≡ out' →
+unfoldable pub shifts_customers : (m m' : ℕ → ℕ) (n : ℕ) (out out' : List ℕ) (s : State) (h : Represents m n out s)
+    (cs : Customers) (p : Parts) → IsHeap m' n p → p.out ≡ out' →
     ((j : ℕ) → j < 3 → items_in m' (p.tables j) ≡ items_in m (h.parts.tables j)) →
     opened (entries cs) ≡ customers_in m' p.lists (p.tables 3) → Represents m' n out' (record s { customers = cs })
 shifts_customers m m' n out out' s h cs p heap is items new = record {
@@ -136,14 +172,16 @@ shifts_customers m m' n out out' s h cs p heap is items new = record {
   parts = p;
   heap = heap;
   held = is;
-  items = λ k. ap (λ (z : Table). entries z) (same_tables s cs k) ∙ (h.items k ∙ sym (items (kind_number k) (kind_small k)));
+  items = λ k. ap (λ (z : Table). entries z) (same_tables s cs k) ∙
+      (h.items k ∙ sym (items (kind_number k) (kind_small k)));
   customers = new;
 }
 
 -- the words of items and bookings are as before
 pub all_same : (m m' : ℕ → ℕ) (n : ℕ) (p : Parts) → IsHeap m n p →
     ((x k : ℕ) → IsBlock n x → 0 < used_in p x → held x p.out ≡ 0 → k < 8 → m' (x + k) ≡ m (x + k)) →
-    ((j : ℕ) → j < 3 → items_in m' (p.tables j) ≡ items_in m (p.tables j)) × (customers_in m' p.lists (p.tables 3) ≡ customers_in m p.lists (p.tables 3))
+    ((j : ℕ) → j < 3 → items_in m' (p.tables j) ≡ items_in m (p.tables j)) ×
+    (customers_in m' p.lists (p.tables 3) ≡ customers_in m p.lists (p.tables 3))
 all_same m m' n p h same = (
   λ j l. items_frame m m' (p.tables j) (λ a k o g less.
       let ba = in_table m n p h j a (omega arith) o in

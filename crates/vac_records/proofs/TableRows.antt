@@ -19,7 +19,8 @@ hangs_one m n p (node c l r t) (node c' l' r' t') h g =
     let block : r.1 ≡ r'.1 = sym h.0.at ∙ g.0.at in
     let key : r.0 ≡ r'.0 = sym h.0.key ∙ (ap m block ∙ g.0.key) in
     let left = hangs_one m n (m (r.1 + 1)) l l' h.1.0 (subst (λ (a : ℕ). Hangs m n (m (a + 1)) l') (sym block) g.1.0) in
-    let right = hangs_one m n (m (r.1 + 2)) t t' h.1.1 (subst (λ (a : ℕ). Hangs m n (m (a + 2)) t') (sym block) g.1.1) in
+    let right = hangs_one m n (m (r.1 + 2)) t t' h.1.1 (subst (λ (a : ℕ). Hangs m n (m (a + 2)) t') (sym block) g.1.1)
+    in
     λ i. left i ++ ((key i, block i) ∷ right i)
 
 -- words hold one table

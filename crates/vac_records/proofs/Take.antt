@@ -1,5 +1,6 @@
 -- A block is taken, and words of a block that is out are written.
-use Rattle.std.proofs.Common.{◌≡◌, ◌≢◌, ◌⊎◌, inl, inr, ℕ, ◌+◌, ◌<◌, ◌≤◌, List, [], ◌∷◌, ◌++◌, refl, sym, ap, subst, arith, add-zero}
+use Rattle.std.proofs.Common.{◌≡◌, ◌≢◌, ◌⊎◌, inl, inr, ℕ, ◌+◌, ◌<◌, ◌≤◌, List, [], ◌∷◌, ◌++◌, refl, sym, ap, subst}
+use Rattle.std.proofs.Common.{arith, add-zero}
 use Rattle.std.proofs.lemmas.Bool.{cases_lt}
 use Rattle.tx_alloc.specs.Pool.{IsBlock, held, with_at, with_block, IsTaking, IsGiving}
 use Rattle.tx_alloc.specs.Drawing.{IsDrawing}
@@ -15,26 +16,36 @@ use Rattle.vac_records.proofs.Overs.{over_has}
 use Rattle.vac_records.proofs.Insert.{pool_as}
 
 -- the structures depend on the roots, on their blocks' first four words, and on the heads of the lists
-pub structures : (m m' : ℕ → ℕ) (n : ℕ) (p : Parts) → IsHeap m n p → ((i : ℕ) → i < 4 → m' (1 + i) ≡ m (1 + i)) → ((x : ℕ) → IsBlock n x → 0 < used_in p x → held x p.out ≡ 0 → (k : ℕ) → k < 5 → m' (x + k) ≡ m (x + k)) →
-    ((i : ℕ) → i < 4 → IsTable m' n (m' (1 + i)) (p.tables i)) × ((c : ℕ) → 0 < times c (p.tables 3) → IsList m' n (m' (c + 4)) (p.lists c))
+pub structures : (m m' : ℕ → ℕ) (n : ℕ) (p : Parts) → IsHeap m n p → ((i : ℕ) → i < 4 → m' (1 + i) ≡ m (1 + i)) →
+    ((x : ℕ) → IsBlock n x → 0 < used_in p x → held x p.out ≡ 0 → (k : ℕ) → k < 5 → m' (x + k) ≡ m (x + k)) →
+    ((i : ℕ) → i < 4 → IsTable m' n (m' (1 + i)) (p.tables i)) × ((c : ℕ) → 0 < times c (p.tables 3) →
+    IsList m' n (m' (c + 4)) (p.lists c))
 structures m m' n p h roots same =
     let table_at : (i x : ℕ) → i < 4 → 0 < times x (p.tables i) → (k : ℕ) → k < 5 → m' (x + k) ≡ m (x + k) = λ i x l o.
     let bx = table_block m n (m (1 + i)) x (p.tables i) (h.tables i l) o in
-    same x bx (omega (arith, o, sum_has 4 i (λ z. times x (p.tables z)) l)) (omega (arith, h.pool.once x bx, o, sum_has 4 i (λ z. times x (p.tables z)) l)) in (
-      λ i l. rw (roots i l) (table_frame m m' n (m (1 + i)) (p.tables i) (h.tables i l) (λ x o k less. table_at i x l o k (omega arith))),
-      λ c o. rw (table_at 3 c (omega arith) o 4 (omega arith)) (list_frame m m' n (m (c + 4)) (p.lists c) (h.lists c o) (λ x o' k less.
+    same x bx (omega (arith, o, sum_has 4 i (λ z. times x (p.tables z)) l))
+    (omega (arith, h.pool.once x bx, o, sum_has 4 i (λ z. times x (p.tables z)) l)) in (
+      λ i l. rw (roots i l) (table_frame m m' n (m (1 + i)) (p.tables i) (h.tables i l)
+          (λ x o k less. table_at i x l o k (omega arith))),
+      λ c o. rw (table_at 3 c (omega arith) o 4 (omega arith))
+          (list_frame m m' n (m (c + 4)) (p.lists c) (h.lists c o) (λ x o' k less.
           let bx = list_block m n (m (c + 4)) x (p.lists c) (h.lists c o) o' in
-          same x bx (omega (arith, o', over_has (times x) c (p.tables 3) p.lists o)) (omega (arith, h.pool.once x bx, o', over_has (times x) c (p.tables 3) p.lists o)) k (omega arith))),
+          same x bx (omega (arith, o', over_has (times x) c (p.tables 3) p.lists o))
+          (omega (arith, h.pool.once x bx, o', over_has (times x) c (p.tables 3) p.lists o)) k (omega arith))),
     )
 
-pub take_law : (m m' : ℕ → ℕ) (n start b : ℕ) (p : Parts) → IsHeap m n p → (t : IsTaking m m' n p.free (used_in p) (count_in p) start b) →
+pub take_law : (m m' : ℕ → ℕ) (n start b : ℕ) (p : Parts) → IsHeap m n p →
+    (t : IsTaking m m' n p.free (used_in p) (count_in p) start b) →
     IsHeap m' n (record p { free = with_at p.free t.list t.rest; out = b ∷ p.out })
 take_law m m' n start b p h t =
-    let parts = structures m m' n p h (λ i l. t.write.others (1 + i) (omega arith)) (λ x bx _ _ k less. t.write.others (x + k) (omega (arith, bx.1.1, t.is_list))) in
+    let parts = structures m m' n p h (λ i l. t.write.others (1 + i) (omega arith))
+    (λ x bx _ _ k less. t.write.others (x + k) (omega (arith, bx.1.1, t.is_list))) in
     record {
       tables = parts.0;
       lists = parts.1;
-      pool = pool_as m' m' n (with_at p.free t.list t.rest) (with_block (used_in p) b) (used_in (record p { free = with_at p.free t.list t.rest; out = b ∷ p.out })) (count_in p + 1) (count_in (record p { free = with_at p.free t.list t.rest; out = b ∷ p.out }))
+      pool = pool_as m' m' n (with_at p.free t.list t.rest) (with_block (used_in p) b)
+          (used_in (record p { free = with_at p.free t.list t.rest; out = b ∷ p.out })) (count_in p + 1)
+          (count_in (record p { free = with_at p.free t.list t.rest; out = b ∷ p.out }))
           (λ i l. refl) (λ i x l o. refl) (λ x bx. omega arith) (omega arith) t.pool;
     }
 
@@ -82,13 +93,20 @@ draw_law m m' n start b p h t =
           (λ i l. refl) (λ i x l o. refl) (λ x bx. omega arith) (omega arith) t.pool;
     }
 
-pub write_law : (m m' : ℕ → ℕ) (n b : ℕ) (os : List ℕ) (p : Parts) → IsHeap m n p → IsBlock n b → p.out ≡ b ∷ os → ((x : ℕ) → (x < b) ⊎ (b + 8 ≤ x) → m' x ≡ m x) → IsHeap m' n p
+pub write_law : (m m' : ℕ → ℕ) (n b : ℕ) (os : List ℕ) (p : Parts) → IsHeap m n p → IsBlock n b → p.out ≡ b ∷ os →
+    ((x : ℕ) → (x < b) ⊎ (b + 8 ≤ x) → m' x ≡ m x) → IsHeap m' n p
 write_law m m' n b os p h bb is w =
     let o : 0 < held b p.out = omega (arith, held_first b os, ap (held b) is) in
     let same : (x k : ℕ) → IsBlock n x → x ≢ b → k < 8 → m' (x + k) ≡ m (x + k) = λ x k bx ne l.
-    w (x + k) (elim (cases_lt x b) [ inl below ↦ inl (omega (arith, bx.1.1, bb.1.1)) | inr above ↦ inr (omega (arith, bx.1.1, bb.1.1)) ]) in
+    w (x + k) (elim (cases_lt x b) [
+      | inl below ↦ inl (omega (arith, bx.1.1, bb.1.1))
+      | inr above ↦
+          inr (omega (arith, bx.1.1, bb.1.1))
+    ]) in
     let low : (x : ℕ) → x < 16 → m' x ≡ m x = λ x l. w x (inl (omega (arith, bb.1.1))) in
-    let parts = structures m m' n p h (λ i l. low (1 + i) (omega arith)) (λ x bx _ none k less. same x k bx (λ q. absurd (omega (arith, o, none, ap (λ (z : ℕ). held z p.out) q))) (omega arith)) in
+    let parts = structures m m' n p h (λ i l. low (1 + i) (omega arith))
+    (λ x bx _ none k less. same x k bx (λ q. absurd (omega (arith, o, none, ap (λ (z : ℕ). held z p.out) q)))
+    (omega arith)) in
     record {
       tables = parts.0;
       lists = parts.1;
@@ -96,16 +114,27 @@ write_law m m' n b os p h bb is w =
           (λ i l. low (8 + i) (omega arith))
           (λ j x k i.
           let bx = free_block m n (m (8 + j)) x (p.free j) (h.pool.lists j k) i in
-          let ne : x ≢ b = λ q. absurd (omega (arith, h.pool.once b bb, o, i, ap (λ (z : ℕ). held z (p.free j)) q, sum_has 8 j (λ z. held b (p.free z)) k)) in
+          let ne : x ≢ b = λ q. absurd (omega (
+            arith,
+            h.pool.once b bb,
+            o,
+            i,
+            ap (λ (z : ℕ). held z (p.free j)) q,
+            sum_has 8 j (λ z. held b (p.free z)) k,
+          )) in
           rw add-zero at (same x 0 bx ne (omega arith)))
           (λ x bx. refl) refl h.pool;
     }
 
-pub give_law : (m m' : ℕ → ℕ) (n start b : ℕ) (os : List ℕ) (p : Parts) → IsHeap m n p → start < 8 → IsBlock n b → p.out ≡ b ∷ os →
+pub give_law : (m m' : ℕ → ℕ) (n start b : ℕ) (os : List ℕ) (p : Parts) → IsHeap m n p → start < 8 → IsBlock n b →
+    p.out ≡ b ∷ os →
     IsGiving m m' n p.free (used_in (record p { out = os })) (count_in (record p { out = os })) start b →
     IsHeap m' n (record p { free = with_at p.free start (b ∷ p.free start); out = os })
 give_law m m' n start b os p h l bb is g =
     let o : 0 < held b p.out = omega (arith, held_first b os, ap (held b) is) in
-    let same : (x k : ℕ) → IsBlock n x → x ≢ b → k < 8 → m' (x + k) ≡ m (x + k) = λ x k bx ne less. g.others (x + k) (omega (arith, bx.1.1, bb.1.1)) (omega (arith, bx.1.1)) in
-    let parts = structures m m' n p h (λ i k. g.others (1 + i) (omega (arith, bb.1.1)) (omega arith)) (λ x bx _ none k less. same x k bx (λ q. absurd (omega (arith, o, none, ap (λ (z : ℕ). held z p.out) q))) (omega arith)) in
+    let same : (x k : ℕ) → IsBlock n x → x ≢ b → k < 8 → m' (x + k) ≡ m (x + k) =
+    λ x k bx ne less. g.others (x + k) (omega (arith, bx.1.1, bb.1.1)) (omega (arith, bx.1.1)) in
+    let parts = structures m m' n p h (λ i k. g.others (1 + i) (omega (arith, bb.1.1)) (omega arith))
+    (λ x bx _ none k less. same x k bx (λ q. absurd (omega (arith, o, none, ap (λ (z : ℕ). held z p.out) q)))
+    (omega arith)) in
     record { tables = parts.0; lists = parts.1; pool = g.pool }

@@ -1,5 +1,6 @@
 -- The rows of a table above a key.
-use Rattle.std.proofs.Common.{◌≡◌, ◌≢◌, inl, inr, ℕ, ◌+◌, ◌<◌, ◌≤◌, cond, [], ◌∷◌, Option, Some, None, nat_eq, nat_lt, true, false, refl, sym, ap, ◌∙◌, arith}
+use Rattle.std.proofs.Common.{◌≡◌, ◌≢◌, inl, inr, ℕ, ◌+◌, ◌<◌, ◌≤◌, cond, [], ◌∷◌, Option, Some, None, nat_eq, nat_lt}
+use Rattle.std.proofs.Common.{true, false, refl, sym, ap, ◌∙◌, arith}
 use Rattle.std.proofs.lemmas.Bool.Decides.{nat_tests}
 use Rattle.std.proofs.lemmas.Bool.{cases_lt}
 use Rattle.tx_alloc.specs.Rows.{Rows, times, block_at, IsFrom}
@@ -25,7 +26,8 @@ above_all (r ∷ rs) lo key h l =
     rw t refl
 
 -- and where no key is 0, above 0
-pub above_start : (rs : Rows) → ((x : ℕ) → 0 < times x rs → x ≢ 0) → ((id : ℕ) → block_at rs id ≢ 0 → 1 ≤ id) → rows_above rs 0 ≡ rs
+pub above_start : (rs : Rows) → ((x : ℕ) → 0 < times x rs → x ≢ 0) → ((id : ℕ) → block_at rs id ≢ 0 → 1 ≤ id) →
+    rows_above rs 0 ≡ rs
 above_start [] some low = refl
 above_start (r ∷ rs) some low =
     let key : nat_eq r.0 r.0 ≡ true = grind (arith, nat_tests) in
@@ -61,7 +63,8 @@ row_key (x ∷ rs) key r e = elim (cases_lt key x.0) [
 ]
 
 -- the rows above a key are the first of them and the rows above that
-pub above_some : (rs : Rows) (lo key : ℕ) (r : ℕ × ℕ) → IsFrom lo rs → row_above rs key ≡ Some r → rows_above rs key ≡ r ∷ rows_above rs r.0
+pub above_some : (rs : Rows) (lo key : ℕ) (r : ℕ × ℕ) → IsFrom lo rs → row_above rs key ≡ Some r →
+    rows_above rs key ≡ r ∷ rows_above rs r.0
 above_some [] lo key r h e = absurd (let z : ◌≡◌ {A = Option (ℕ × ℕ)} None (Some r) = e in cc)
 above_some (x ∷ rs) lo key r h e = elim (cases_lt key x.0) [
   | inl above ↦ (

@@ -1,5 +1,6 @@
 -- A walk over the customers adds up their bookings.
-use Rattle.std.proofs.Common.{◌≡◌, ◌≢◌, ℕ, ◌+◌, ◌<◌, ◌≤◌, ◌^◌, List, [], length, Some, None, refl, ap, ◌∙◌, subst, arith}
+use Rattle.std.proofs.Common.{◌≡◌, ◌≢◌, ℕ, ◌+◌, ◌<◌, ◌≤◌, ◌^◌, List, [], length, Some, None, refl, ap, ◌∙◌, subst}
+use Rattle.std.proofs.Common.{arith}
 use Rattle.std.specs.FinMap.{entries, len-entries}
 use Rattle.tx_memory.specs.View.{View, Sees, RestsOn}
 use Rattle.vac_model.proofs.Ids.{id_low}
@@ -19,7 +20,8 @@ use Rattle.vac_records.proofs.Customers.{customer_found}
 use Rattle.vac_records.proofs.Keyed.{row_at, row_times}
 use Rattle.vac_records.proofs.Overs.{over_has}
 use Rattle.vac_report.specs.declared.customers.CustomerSums.{CustomerSums}
-use Rattle.vac_report.specs.Sums.{customers_together, CustomersFit, HasSums, CanCount, customer_alone, CustomerCounted, CustomersSummed, sums_of_customers, words_at}
+use Rattle.vac_report.specs.Sums.{customers_together, CustomersFit, HasSums, CanCount, customer_alone, CustomerCounted}
+use Rattle.vac_report.specs.Sums.{CustomersSummed, sums_of_customers, words_at}
 use Rattle.vac_report.proofs.Above.{rows_above, above_start, above_none, above_some, above_at}
 use Rattle.vac_report.proofs.Held.{read_none, read_both, rows_of, few_rows, no_rows, next_row}
 use Rattle.vac_report.proofs.Totals.{list_words, customers_words, customers_len}
@@ -42,15 +44,19 @@ pub record CustomerTrail (m : ℕ → ℕ) (rows : Rows) (lists : ℕ → Rows) 
 -- so far in the walk, of the memory at the start: i customers, the last one under this key
 pub record CustomerWalk (s0 s : View) (key i : ℕ) (sums : CustomerSums) : Type 0 where
   pub reads : OnlyRead s0 s
-  pub trail : (image : List ℕ) (state : State) → Sees s image → (h : IsState (mem s0 image) (length image) state) → CustomerTrail (mem s0 image) (rows_of (mem s0 image) (length image) state h 3) (lists_of (mem s0 image) (length image) state h) key i sums
+  pub trail : (image : List ℕ) (state : State) → Sees s image → (h : IsState (mem s0 image) (length image) state) →
+      CustomerTrail (mem s0 image) (rows_of (mem s0 image) (length image) state h 3)
+      (lists_of (mem s0 image) (length image) state h) key i sums
 
 -- no customer has the key 0
-start_rows : (m : ℕ → ℕ) (n : ℕ) (state : State) (h : IsState m n state) → rows_above (rows_of m n state h 3) 0 ≡ rows_of m n state h 3
+start_rows : (m : ℕ → ℕ) (n : ℕ) (state : State) (h : IsState m n state) →
+    rows_above (rows_of m n state h 3) 0 ≡ rows_of m n state h 3
 start_rows m n state h =
     let rows = rows_of m n state h 3 in
     let table = h.represents.heap.tables 3 (omega arith) in
     above_start rows (λ x o z. absurd (omega (arith, z, (table_block m n (m 4) x rows table o).1.1)))
-    (λ id ne. (let f = customer_found m n [] state h.represents id (block_at rows id) refl ne in id_low id (h.small.balanced.customers id f.bookings f.there)))
+    (λ id ne. (let f = customer_found m n [] state h.represents id (block_at rows id) refl ne in
+    id_low id (h.small.balanced.customers id f.bookings f.there)))
 
 pub customer_start : (s : View) → CustomerWalk s s 0 0 (record { count = 0; units = 0; billed = 0 })
 customer_start s = record {
@@ -67,7 +73,9 @@ customer_start s = record {
       };
 }
 
-trail_step : (m : ℕ → ℕ) (rows : Rows) (lists : ℕ → Rows) (key i k b : ℕ) (sums : CustomerSums) → IsFrom 0 rows → row_above rows key ≡ Some (k, b) → CustomerTrail m rows lists key i sums → CustomerTrail m rows lists k (i + 1) (customers_together sums (customer_alone m (lists b)))
+trail_step : (m : ℕ → ℕ) (rows : Rows) (lists : ℕ → Rows) (key i k b : ℕ) (sums : CustomerSums) → IsFrom 0 rows →
+    row_above rows key ≡ Some (k, b) → CustomerTrail m rows lists key i sums →
+    CustomerTrail m rows lists k (i + 1) (customers_together sums (customer_alone m (lists b)))
 trail_step m rows lists key i k b sums rises next t =
     let e = above_some rows 0 key (k, b) rises next in
     record {
@@ -79,20 +87,30 @@ trail_step m rows lists key i k b sums rises next t =
 
 -- the sums over all rows are those of the state
 all_rows : (m : ℕ → ℕ) (rows : Rows) (lists : ℕ → Rows) → CustomerSums
-all_rows m rows lists = record { count = length rows; units = booked_at m 4 rows lists; billed = booked_at m 2 rows lists }
+all_rows m rows lists = record {
+  count = length rows;
+  units = booked_at m 4 rows lists;
+  billed = booked_at m 2 rows lists;
+}
 
-units_total : (m : ℕ → ℕ) (n : ℕ) (state : State) (h : IsState m n state) → (sums_of_customers state.customers).units ≡ booked_at m 4 (rows_of m n state h 3) (lists_of m n state h)
+units_total : (m : ℕ → ℕ) (n : ℕ) (state : State) (h : IsState m n state) →
+    (sums_of_customers state.customers).units ≡ booked_at m 4 (rows_of m n state h 3) (lists_of m n state h)
 units_total m n state h =
-    customers_words units_booked (words_at m 4) m (lists_of m n state h) (list_words (λ b. b.units) m 4 (λ a. refl)) (entries state.customers) (rows_of m n state h 3) h.represents.customers
+    customers_words units_booked (words_at m 4) m (lists_of m n state h) (list_words (λ b. b.units) m 4 (λ a. refl))
+    (entries state.customers) (rows_of m n state h 3) h.represents.customers
 
-bills_total : (m : ℕ → ℕ) (n : ℕ) (state : State) (h : IsState m n state) → (sums_of_customers state.customers).billed ≡ booked_at m 2 (rows_of m n state h 3) (lists_of m n state h)
+bills_total : (m : ℕ → ℕ) (n : ℕ) (state : State) (h : IsState m n state) →
+    (sums_of_customers state.customers).billed ≡ booked_at m 2 (rows_of m n state h 3) (lists_of m n state h)
 bills_total m n state h =
-    customers_words bill_of (words_at m 2) m (lists_of m n state h) (list_words (λ b. b.sum) m 2 (λ a. refl)) (entries state.customers) (rows_of m n state h 3) h.represents.customers
+    customers_words bill_of (words_at m 2) m (lists_of m n state h) (list_words (λ b. b.sum) m 2 (λ a. refl))
+    (entries state.customers) (rows_of m n state h 3) h.represents.customers
 
-table_sums : (m : ℕ → ℕ) (n : ℕ) (state : State) (h : IsState m n state) → sums_of_customers state.customers ≡ all_rows m (rows_of m n state h 3) (lists_of m n state h)
+table_sums : (m : ℕ → ℕ) (n : ℕ) (state : State) (h : IsState m n state) →
+    sums_of_customers state.customers ≡ all_rows m (rows_of m n state h 3) (lists_of m n state h)
 unfolding all_rows
 table_sums m n state h =
-    let count = len-entries state.customers ∙ customers_len m (lists_of m n state h) (entries state.customers) (rows_of m n state h 3) h.represents.customers in
+    let count = len-entries state.customers ∙ customers_len m (lists_of m n state h) (entries state.customers)
+    (rows_of m n state h 3) h.represents.customers in
     let units = units_total m n state h in
     let billed = bills_total m n state h in
     λ j. record { count = count j; units = units j; billed = billed j }
@@ -103,7 +121,8 @@ pub record AreFew (sums : CustomerSums) : Type 0 where
   pub units : sums.units < 2 ^ 60
   pub billed : sums.billed < 2 ^ 60
 
-few_total : (m : ℕ → ℕ) (n : ℕ) (state : State) (h : IsState m n state) → AreFew (all_rows m (rows_of m n state h 3) (lists_of m n state h))
+few_total : (m : ℕ → ℕ) (n : ℕ) (state : State) (h : IsState m n state) →
+    AreFew (all_rows m (rows_of m n state h 3) (lists_of m n state h))
 unfolding all_rows
 few_total m n state h =
     let b = small_sums state h.small in
@@ -114,7 +133,8 @@ few_total m n state h =
     }
 
 -- a row's customer has bookings whose sums fit
-row_sums : (m : ℕ → ℕ) (n : ℕ) (state : State) (h : IsState m n state) (key k b : ℕ) → row_above (rows_of m n state h 3) key ≡ Some (k, b) → b ≢ 0 → HasSums m n b (lists_of m n state h b)
+row_sums : (m : ℕ → ℕ) (n : ℕ) (state : State) (h : IsState m n state) (key k b : ℕ) →
+    row_above (rows_of m n state h 3) key ≡ Some (k, b) → b ≢ 0 → HasSums m n b (lists_of m n state h b)
 unfolding all_rows
 row_sums m n state h key k b next ne =
     let rows = rows_of m n state h 3 in
@@ -125,13 +145,20 @@ row_sums m n state h key k b next ne =
     let total = few_total m n state h in
     record {
       list = list_there m n [] state k b f.bookings h.represents (record { at = at; some = ne; there = f.there });
-      few = omega (arith, h.small.small, h.represents.size, h.represents.heap.pool.all, over_has (λ rs. length rs) b rows lists o);
+      few = omega (
+        arith,
+        h.small.small,
+        h.represents.size,
+        h.represents.heap.pool.all,
+        over_has (λ rs. length rs) b rows lists o,
+      );
       units = omega (arith, total.units, over_has (words_at m 4) b rows lists o);
       sums = omega (arith, total.billed, over_has (words_at m 2) b rows lists o);
     }
 
 -- so it can be counted
-pub can_count : (s0 s s1 : View) (key i k b : ℕ) (sums : CustomerSums) → HoldsState s0 → CustomerWalk s0 s key i sums → NextFound s s1 4 key (Some (k, b)) → CanCount s1 b
+pub can_count : (s0 s s1 : View) (key i k b : ℕ) (sums : CustomerSums) → HoldsState s0 → CustomerWalk s0 s key i sums →
+    NextFound s s1 4 key (Some (k, b)) → CanCount s1 b
 can_count s0 s s1 key i k b sums holds w f = record {
   small = omega (arith, holds.small, w.reads.kept.size, f.kept.size);
   room = (let at = f.inside.1 in omega arith);
@@ -141,12 +168,17 @@ can_count s0 s s1 key i k b sums holds w f = record {
       let ne : b ≢ 0 = λ z. absurd (omega (arith, z, f.inside.0)) in
       rw same (record {
         entries = lists_of (mem s0 image) (length image) state.0 state.1 b;
-        is = row_sums (mem s0 image) (length image) state.0 state.1 key k b (next_row s0 s s1 3 4 key (Some (k, b)) refl (omega arith) w.reads f image state.0 j.sees state.1) ne;
+        is = row_sums (mem s0 image) (length image) state.0 state.1 key k b
+            (next_row s0 s s1 3 4 key (Some (k, b)) refl (omega arith) w.reads f image state.0 j.sees state.1) ne;
       });
 }
 
 -- one customer further, of the memory at the start
-step_trail : (s0 s s1 s2 : View) (key i k b : ℕ) (sums one : CustomerSums) → CustomerWalk s0 s key i sums → NextFound s s1 4 key (Some (k, b)) → CustomerCounted s1 s2 b one → (image : List ℕ) (state : State) → Sees s2 image → (h : IsState (mem s0 image) (length image) state) → CustomerTrail (mem s0 image) (rows_of (mem s0 image) (length image) state h 3) (lists_of (mem s0 image) (length image) state h) k (i + 1) (customers_together sums one)
+step_trail : (s0 s s1 s2 : View) (key i k b : ℕ) (sums one : CustomerSums) → CustomerWalk s0 s key i sums →
+    NextFound s s1 4 key (Some (k, b)) → CustomerCounted s1 s2 b one → (image : List ℕ) (state : State) →
+    Sees s2 image → (h : IsState (mem s0 image) (length image) state) →
+    CustomerTrail (mem s0 image) (rows_of (mem s0 image) (length image) state h 3)
+    (lists_of (mem s0 image) (length image) state h) k (i + 1) (customers_together sums one)
 step_trail s0 s s1 s2 key i k b sums one w f c image state j h =
     let m = mem s0 image in
     let n = length image in
@@ -163,7 +195,9 @@ step_trail s0 s s1 s2 key i k b sums one w f c image state j h =
     subst (λ (x : CustomerSums). CustomerTrail m rows lists k (i + 1) (customers_together sums x)) is
     (trail_step m rows lists key i k b sums rises next (w.trail image state j0 h))
 
-pub customer_step : (s0 s s1 s2 : View) (key i k b : ℕ) (sums one after : CustomerSums) → after ≡ customers_together sums one → CustomerWalk s0 s key i sums → NextFound s s1 4 key (Some (k, b)) → CustomerCounted s1 s2 b one → CustomerWalk s0 s2 k (i + 1) after
+pub customer_step : (s0 s s1 s2 : View) (key i k b : ℕ) (sums one after : CustomerSums) →
+    after ≡ customers_together sums one → CustomerWalk s0 s key i sums → NextFound s s1 4 key (Some (k, b)) →
+    CustomerCounted s1 s2 b one → CustomerWalk s0 s2 k (i + 1) after
 customer_step s0 s s1 s2 key i k b sums one after is w f c = rw is (record {
   reads = read_both s0 s s2 w.reads (read_both s s1 s2 (record { kept = f.kept; writes = f.writes }) c.reads);
   trail = step_trail s0 s s1 s2 key i k b sums one w f c;
@@ -177,7 +211,9 @@ few_seen sums ws f = record {
 }
 
 -- the sums with one customer more stay words
-pub customers_fit : (s0 s s1 s2 : View) (key i k b : ℕ) (sums one : CustomerSums) → HoldsState s0 → CustomerWalk s0 s key i sums → NextFound s s1 4 key (Some (k, b)) → CustomerCounted s1 s2 b one → ∥ ((image : List ℕ) × RestsOn s2 image) ∥₁ → CustomersFit sums one
+pub customers_fit : (s0 s s1 s2 : View) (key i k b : ℕ) (sums one : CustomerSums) → HoldsState s0 →
+    CustomerWalk s0 s key i sums → NextFound s s1 4 key (Some (k, b)) → CustomerCounted s1 s2 b one →
+    ∥ ((image : List ℕ) × RestsOn s2 image) ∥₁ → CustomersFit sums one
 unfolding all_rows
 customers_fit s0 s s1 s2 key i k b sums one holds w f c ws =
     let few : AreFew (customers_together sums one) = few_seen (customers_together sums one) ws (λ v.
@@ -198,7 +234,9 @@ customers_fit s0 s s1 s2 key i k b sums one holds w f c ws =
     }
 
 -- where no row is above the key, all were added up
-customer_end : (s0 s : View) (key i : ℕ) (sums : CustomerSums) → CustomerWalk s0 s key i sums → ((image : List ℕ) (state : State) → Sees s image → (h : IsState (mem s0 image) (length image) state) → rows_above (rows_of (mem s0 image) (length image) state h 3) key ≡ []) → CustomersSummed s0 s sums
+customer_end : (s0 s : View) (key i : ℕ) (sums : CustomerSums) → CustomerWalk s0 s key i sums →
+    ((image : List ℕ) (state : State) → Sees s image → (h : IsState (mem s0 image) (length image) state) →
+    rows_above (rows_of (mem s0 image) (length image) state h 3) key ≡ []) → CustomersSummed s0 s sums
 unfolding all_rows
 customer_end s0 s key i sums w none = record {
   reads = w.reads;
@@ -209,21 +247,38 @@ customer_end s0 s key i sums w none = record {
       let t = w.trail image state j h in
       let e = none image state j h in
       let count : length rows ≡ sums.count = omega (arith, t.count, ap (λ (rs : Rows). length rs) e) in
-      let units : booked_at m 4 rows lists ≡ sums.units = omega (arith, t.units, ap (λ (rs : Rows). booked_at m 4 rs lists) e) in
-      let billed : booked_at m 2 rows lists ≡ sums.billed = omega (arith, t.billed, ap (λ (rs : Rows). booked_at m 2 rs lists) e) in
+      let units : booked_at m 4 rows lists ≡ sums.units = omega (
+        arith,
+        t.units,
+        ap (λ (rs : Rows). booked_at m 4 rs lists) e,
+      ) in
+      let billed : booked_at m 2 rows lists ≡ sums.billed = omega (
+        arith,
+        t.billed,
+        ap (λ (rs : Rows). booked_at m 2 rs lists) e,
+      ) in
       table_sums m (length image) state h ∙ (λ q. record { count = count q; units = units q; billed = billed q });
 }
 
-pub customer_none : (s0 s s1 : View) (key i : ℕ) (sums : CustomerSums) → CustomerWalk s0 s key i sums → NextFound s s1 4 key None → CustomersSummed s0 s1 sums
+pub customer_none : (s0 s s1 : View) (key i : ℕ) (sums : CustomerSums) → CustomerWalk s0 s key i sums →
+    NextFound s s1 4 key None → CustomersSummed s0 s1 sums
 customer_none s0 s s1 key i sums w f =
     customer_end s0 s1 key i sums
     (record {
       reads = read_both s0 s s1 w.reads (record { kept = f.kept; writes = f.writes });
       trail = λ image state j h. w.trail image state (f.kept.seen image j) h;
     })
-    (λ image state j h. above_none (rows_of (mem s0 image) (length image) state h 3) key (next_row s0 s s1 3 4 key None refl (omega arith) w.reads f image state j h))
+    (λ image state j h. above_none (rows_of (mem s0 image) (length image) state h 3) key
+    (next_row s0 s s1 3 4 key None refl (omega arith) w.reads f image state j h))
 
-pub customer_all : (s0 s : View) (key i : ℕ) (sums : CustomerSums) → 262144 ≤ i → CustomerWalk s0 s key i sums → CustomersSummed s0 s sums
+pub customer_all : (s0 s : View) (key i : ℕ) (sums : CustomerSums) → 262144 ≤ i → CustomerWalk s0 s key i sums →
+    CustomersSummed s0 s sums
 customer_all s0 s key i sums l w = customer_end s0 s key i sums w
     (λ image state j h. no_rows (rows_above (rows_of (mem s0 image) (length image) state h 3) key)
-    (omega (arith, l, (w.trail image state j h).steps, (w.trail image state j h).count, few_rows (mem s0 image) (length image) state h 3 (omega arith))))
+    (omega (
+      arith,
+      l,
+      (w.trail image state j h).steps,
+      (w.trail image state j h).count,
+      few_rows (mem s0 image) (length image) state h 3 (omega arith),
+    )))

@@ -19,7 +19,8 @@ use lib.Pointwise.{pointwise}
 pub both_alike : {A B C : Type 0} (make : A → B → C) (first : C → A) (second : C → B) (x y : C) (p q : A) (r s : B)
     → x ≡ make p r → y ≡ make q s → first x ≡ p → first y ≡ q → second x ≡ r → second y ≡ s
     → (a b : Bool) → TellsSame p q a → TellsSame r s b → TellsSame x y (a && b)
-both_alike make first second x y p q r s mx my fx fy sx sy true true e f = mx ∙ ap (λ w. make w r) e ∙ ap (make q) f ∙ sym my
+both_alike make first second x y p q r s mx my fx fy sx sy true true e f =
+    mx ∙ ap (λ w. make w r) e ∙ ap (make q) f ∙ sym my
 both_alike make first second x y p q r s mx my fx fy sx sy true false e f = λ i. f (sym sx ∙ ap second i ∙ sy)
 both_alike make first second x y p q r s mx my fx fy sx sy false b e f = λ i. e (sym fx ∙ ap first i ∙ fy)
 
@@ -43,17 +44,22 @@ kind_alike Room Room = refl
 
 booking_alike : (a b : Booking) → TellsSame a b (bookings.eq a b)
 booking_alike a b =
-    both_alike (λ u s. record { units = u; sum = s }) (λ (x : Booking). x.units) (λ (x : Booking). x.sum) a b a.units b.units a.sum b.sum
-    refl refl refl refl refl refl (a.units == b.units) (a.sum == b.sum) (nat_alike a.units b.units) (nat_alike a.sum b.sum)
+    both_alike (λ u s. record { units = u; sum = s }) (λ (x : Booking). x.units)
+    (λ (x : Booking). x.sum) a b a.units b.units a.sum b.sum
+    refl refl refl refl refl refl (a.units == b.units) (a.sum ==
+    b.sum) (nat_alike a.units b.units) (nat_alike a.sum b.sum)
 
 place_alike : (a b : Place) → TellsSame a b (kinds.eq a.0 b.0 && (a.1 == b.1))
 place_alike a b =
-    both_alike (λ k i. (k, i)) (λ (x : Place). x.0) (λ (x : Place). x.1) a b a.0 b.0 a.1 b.1 refl refl refl refl refl refl
+    both_alike (λ k i. (k, i)) (λ (x : Place). x.0) (λ (x : Place). x.1) a b a.0 b.0 a.1 b.1 refl refl refl refl refl
+    refl
     (kinds.eq a.0 b.0) (a.1 == b.1) (kind_alike a.0 b.0) (nat_alike a.1 b.1)
 
-entry_alike : (a b : Place × Booking) → TellsSame a b ((kinds.eq a.0.0 b.0.0 && (a.0.1 == b.0.1)) && bookings.eq a.1 b.1)
+entry_alike : (a b : Place × Booking) → TellsSame a b ((kinds.eq a.0.0 b.0.0 && (a.0.1 ==
+    b.0.1)) && bookings.eq a.1 b.1)
 entry_alike a b =
-    both_alike (λ p v. (p, v)) (λ (x : Place × Booking). x.0) (λ (x : Place × Booking). x.1) a b a.0 b.0 a.1 b.1 refl refl refl refl refl refl
+    both_alike (λ p v. (p, v)) (λ (x : Place × Booking). x.0)
+    (λ (x : Place × Booking). x.1) a b a.0 b.0 a.1 b.1 refl refl refl refl refl refl
     (kinds.eq a.0.0 b.0.0 && (a.0.1 == b.0.1)) (bookings.eq a.1 b.1) (place_alike a.0 b.0) (booking_alike a.1 b.1)
 
 head_of : {A : Type 0} → A → List A → A
@@ -69,18 +75,22 @@ is_nil [] = true
 is_nil (x ∷ xs) = false
 
 -- lists whose elements are tested
-lists_alike : {A : Type 0} (E : A → A → Bool) → ((a b : A) → TellsSame a b (E a b)) → (xs ys : List A) → TellsSame xs ys (pointwise E xs ys)
+lists_alike : {A : Type 0} (E : A → A → Bool) → ((a b : A) → TellsSame a b (E a b)) → (xs ys : List A) →
+    TellsSame xs ys (pointwise E xs ys)
 unfolding head_of tail_of is_nil
 lists_alike E d [] [] = refl
 lists_alike E d [] (y ∷ ys) = λ e. let no : true ≡ false = ap is_nil e in cc
 lists_alike E d (x ∷ xs) [] = λ e. let no : false ≡ true = ap is_nil e in cc
 lists_alike E d (x ∷ xs) (y ∷ ys) =
-    both_alike ◌∷◌ (head_of x) tail_of (x ∷ xs) (y ∷ ys) x y xs ys refl refl refl refl refl refl (E x y) (pointwise E xs ys) (d x y) (lists_alike E d xs ys)
+    both_alike ◌∷◌ (head_of x) tail_of (x ∷ xs) (y ∷ ys) x y xs ys refl refl refl refl refl refl (E x y)
+    (pointwise E xs ys) (d x y) (lists_alike E d xs ys)
 
 -- maps whose entries are tested
-pub maps_alike : (m n : BTreeMap Place Booking) (v w : Bookings) (b : Bool) → tree.IsOrdered place_cmp m → tree.IsOrdered place_cmp n
+pub maps_alike : (m n : BTreeMap Place Booking) (v w : Bookings) (b : Bool) → tree.IsOrdered place_cmp m →
+    tree.IsOrdered place_cmp n
     → fin.from_entries m.entries ≡ v → fin.from_entries n.entries ≡ w
-    → b ≡ pointwise (λ p q. (kinds.eq p.0.0 q.0.0 && (p.0.1 == q.0.1)) && bookings.eq p.1 q.1) m.entries n.entries → TellsSame v w b
+    → b ≡ pointwise (λ p q. (kinds.eq p.0.0 q.0.0 && (p.0.1 == q.0.1)) && bookings.eq p.1 q.1) m.entries n.entries →
+    TellsSame v w b
 maps_alike m n v w b om on sm sn is =
     rw is (go (pointwise E m.entries n.entries) (lists_alike E entry_alike m.entries n.entries))
   where
@@ -89,4 +99,5 @@ maps_alike m n v w b om on sm sn is =
 
     go : (t : Bool) → TellsSame m.entries n.entries t → TellsSame v w t
     go true e = sym sm ∙ ap (λ es. fin.from_entries {R = place_cmp} es) e ∙ sn
-    go false e = λ i. e (sym (entries_of_sorted place_cmp_total m.entries om) ∙ ap fin.entries (sm ∙ i ∙ sym sn) ∙ entries_of_sorted place_cmp_total n.entries on)
+    go false e = λ i. e (sym (entries_of_sorted place_cmp_total m.entries om) ∙ ap fin.entries (sm ∙ i ∙ sym sn) ∙
+        entries_of_sorted place_cmp_total n.entries on)

@@ -1,5 +1,7 @@
 -- A map by its parts.
-use Rattle.std.proofs.Common.{◌≡◌, ◌≢◌, ◌⊎◌, inl, inr, ℕ, zero, suc, ◌+◌, ◌-◌, ◌*◌, ◌/◌, ◌%◌, ◌==◌, ◌<◌, ◌≤◌, Bool, true, false, cond, List, [], ◌∷◌, ◌++◌, Option, Some, None, Result, Ok, Err, IfOk, is_some, refl, ap, sym, subst, ◌∙◌, arith}
+use Rattle.std.proofs.Common.{◌≡◌, ◌≢◌, ◌⊎◌, inl, inr, ℕ, zero, suc, ◌+◌, ◌-◌, ◌*◌, ◌/◌, ◌%◌, ◌==◌, ◌<◌, ◌≤◌, Bool}
+use Rattle.std.proofs.Common.{true, false, cond, List, [], ◌∷◌, ◌++◌, Option, Some, None, Result, Ok, Err, IfOk}
+use Rattle.std.proofs.Common.{is_some, refl, ap, sym, subst, ◌∙◌, arith}
 use Rattle.std.proofs.lemmas.Bool.Decides.{nat_tests}
 use Rattle.std.specs.Prelude.{T, sum_by, map}
 use Rattle.std.specs.Option.{option_map_or}
@@ -11,10 +13,12 @@ use Rattle.std.specs.declared.rc.Rc.{Rc}
 use Rattle.std.specs.declared.alloc.Global.{Global}
 use Rattle.std.proofs.lemmas.List.Sums.{sum_by-cons, sum_by-append}
 use Rattle.vac_model.proofs.Views.{entries-empty}
-use Rattle.vac_model.proofs.Sums.{first, second, find_below, sum-insert, sum-remove, remove_missing, len_pushed, len_inserted, len_removed}
+use Rattle.vac_model.proofs.Sums.{first, second, find_below, sum-insert, sum-remove, remove_missing, len_pushed}
+use Rattle.vac_model.proofs.Sums.{len_inserted, len_removed}
 use Rattle.vac_sequential.specs.declared.tries.Kids.{Kids}
 use Rattle.vac_sequential.specs.declared.tries.Parts.{Parts}
-use Rattle.vac_sequential.specs.Tries.{Link, value_in, map_in, spread, first_entry, woven, weave, map_of, TellsEmpty, TellsSame, IsCounted, Holds, child_of, with_child, parts_of, depth_of, depth_in}
+use Rattle.vac_sequential.specs.Tries.{Link, value_in, map_in, spread, first_entry, woven, weave, map_of, TellsEmpty}
+use Rattle.vac_sequential.specs.Tries.{TellsSame, IsCounted, Holds, child_of, with_child, parts_of, depth_of, depth_in}
 
 -- the test of two ids of one digit, and of two digits
 same_ids : (q r d : ℕ) → (4 * q + 1 + d == 4 * r + 1 + d) ≡ (q == r)
@@ -83,7 +87,8 @@ module _ {V : Type 0} where
   find_same q d [] = refl
   find_same q d (e ∷ es) = rw (same_tie q e.0 d) (ap (cond (eq_by_cmp nat_cmp q e.0) (Some e.1)) (find_same q d es))
 
-  find_other : (q d e : ℕ) (es : List (ℕ × V)) → d < 4 → e < 4 → d ≢ e → find nat_cmp (4 * q + 1 + d) (spread e es) ≡ None
+  find_other : (q d e : ℕ) (es : List (ℕ × V)) → d < 4 → e < 4 → d ≢ e →
+      find nat_cmp (4 * q + 1 + d) (spread e es) ≡ None
   find_other q d e [] l m n = refl
   find_other q d e (x ∷ es) l m n = rw (other_tie q x.0 d e l m n) (find_other q d e es l m n)
 
@@ -94,7 +99,8 @@ module _ {V : Type 0} where
   skip : (q : ℕ) (es fs : List (ℕ × V)) → find nat_cmp q es ≡ None → find nat_cmp q (es ++ fs) ≡ find nat_cmp q fs
   skip q [] fs h = refl
   skip q (e ∷ es) fs h =
-      elim (eq_by_cmp nat_cmp q e.0) as (λ b. cond b (Some e.1) (find nat_cmp q es) ≡ None → cond b (Some e.1) (find nat_cmp q (es ++ fs)) ≡ find nat_cmp q fs) [
+      elim (eq_by_cmp nat_cmp q e.0) as (λ b. cond b (Some e.1) (find nat_cmp q es) ≡ None →
+      cond b (Some e.1) (find nat_cmp q (es ++ fs)) ≡ find nat_cmp q fs) [
         | true ↦ λ i. absurd (some_none e.1 i)
         | false ↦ λ i. skip q es fs i
       ] h
@@ -114,11 +120,15 @@ module _ {V : Type 0} where
   find_value None = refl
   find_value (Some rc) = refl
 
-  none_at_0 : (a b c e : FinMap nat_cmp V) → find nat_cmp 0 (spread 0 (fin.entries a) ++ (spread 1 (fin.entries b) ++ (spread 2 (fin.entries c) ++ spread 3 (fin.entries e)))) ≡ None
+  none_at_0 : (a b c e : FinMap nat_cmp V) → find nat_cmp 0 (spread 0 (fin.entries a) ++
+      (spread 1 (fin.entries b) ++ (spread 2 (fin.entries c) ++ spread 3 (fin.entries e)))) ≡ None
   none_at_0 a b c e =
-      skip 0 (spread 0 (fin.entries a)) (spread 1 (fin.entries b) ++ (spread 2 (fin.entries c) ++ spread 3 (fin.entries e))) (find_none 0 (fin.entries a))
-      ∙ skip 0 (spread 1 (fin.entries b)) (spread 2 (fin.entries c) ++ spread 3 (fin.entries e)) (find_none 1 (fin.entries b))
-      ∙ skip 0 (spread 2 (fin.entries c)) (spread 3 (fin.entries e)) (find_none 2 (fin.entries c)) ∙ find_none 3 (fin.entries e)
+      skip 0 (spread 0 (fin.entries a)) (spread 1 (fin.entries b) ++
+      (spread 2 (fin.entries c) ++ spread 3 (fin.entries e))) (find_none 0 (fin.entries a))
+      ∙ skip 0 (spread 1 (fin.entries b)) (spread 2 (fin.entries c) ++ spread 3 (fin.entries e))
+      (find_none 1 (fin.entries b))
+      ∙ skip 0 (spread 2 (fin.entries c)) (spread 3 (fin.entries e)) (find_none 2 (fin.entries c)) ∙
+      find_none 3 (fin.entries e)
 
   module _ (v : Option (Rc V Global)) (a b c e : FinMap nat_cmp V) where
     seen : (k : ℕ) → fin.get (weave v a b c e) k ≡ find nat_cmp k (woven v a b c e)
@@ -127,7 +137,8 @@ module _ {V : Type 0} where
     pub at_none : fin.get (weave v a b c e) 0 ≡ value_in v
     at_none =
         seen 0
-        ∙ stop 0 (first_entry v) (spread 0 (fin.entries a) ++ (spread 1 (fin.entries b) ++ (spread 2 (fin.entries c) ++ spread 3 (fin.entries e))))
+        ∙ stop 0 (first_entry v) (spread 0 (fin.entries a) ++
+        (spread 1 (fin.entries b) ++ (spread 2 (fin.entries c) ++ spread 3 (fin.entries e))))
         (none_at_0 a b c e)
         ∙ find_value v
 
@@ -135,7 +146,9 @@ module _ {V : Type 0} where
     at_zero q =
         let k = 4 * q + 1 + 0 in
         seen k ∙ skip k _ _ (find_first q 0 v)
-        ∙ stop k (spread 0 (fin.entries a)) _ (skip k _ _ (find_other q 0 1 (fin.entries b) (omega arith) (omega arith) (omega arith)) ∙ skip k _ _ (find_other q 0 2 (fin.entries c) (omega arith) (omega arith) (omega arith)) ∙ find_other q 0 3 (fin.entries e) (omega arith) (omega arith) (omega arith))
+        ∙ stop k (spread 0 (fin.entries a)) _ (skip k _ _ (find_other q 0 1 (fin.entries b) (omega arith) (omega arith)
+        (omega arith)) ∙ skip k _ _ (find_other q 0 2 (fin.entries c) (omega arith) (omega arith) (omega arith)) ∙
+        find_other q 0 3 (fin.entries e) (omega arith) (omega arith) (omega arith))
         ∙ find_same q 0 (fin.entries a) ∙ sym (fin.get-entries a q)
 
     pub at_one : (q : ℕ) → fin.get (weave v a b c e) (4 * q + 1 + 1) ≡ fin.get b q
@@ -143,7 +156,8 @@ module _ {V : Type 0} where
         let k = 4 * q + 1 + 1 in
         seen k ∙ skip k _ _ (find_first q 1 v)
         ∙ skip k _ _ (find_other q 1 0 (fin.entries a) (omega arith) (omega arith) (omega arith))
-        ∙ stop k (spread 1 (fin.entries b)) _ (skip k _ _ (find_other q 1 2 (fin.entries c) (omega arith) (omega arith) (omega arith)) ∙ find_other q 1 3 (fin.entries e) (omega arith) (omega arith) (omega arith))
+        ∙ stop k (spread 1 (fin.entries b)) _ (skip k _ _ (find_other q 1 2 (fin.entries c) (omega arith) (omega arith)
+        (omega arith)) ∙ find_other q 1 3 (fin.entries e) (omega arith) (omega arith) (omega arith))
         ∙ find_same q 1 (fin.entries b) ∙ sym (fin.get-entries b q)
 
     pub at_two : (q : ℕ) → fin.get (weave v a b c e) (4 * q + 1 + 2) ≡ fin.get c q
@@ -152,7 +166,8 @@ module _ {V : Type 0} where
         seen k ∙ skip k _ _ (find_first q 2 v)
         ∙ skip k _ _ (find_other q 2 0 (fin.entries a) (omega arith) (omega arith) (omega arith))
         ∙ skip k _ _ (find_other q 2 1 (fin.entries b) (omega arith) (omega arith) (omega arith))
-        ∙ stop k (spread 2 (fin.entries c)) _ (find_other q 2 3 (fin.entries e) (omega arith) (omega arith) (omega arith))
+        ∙ stop k (spread 2 (fin.entries c)) _ (find_other q 2 3 (fin.entries e) (omega arith) (omega arith)
+        (omega arith))
         ∙ find_same q 2 (fin.entries c) ∙ sym (fin.get-entries c q)
 
     pub at_three : (q : ℕ) → fin.get (weave v a b c e) (4 * q + 1 + 3) ≡ fin.get e q
@@ -164,7 +179,8 @@ module _ {V : Type 0} where
         ∙ skip k _ _ (find_other q 3 2 (fin.entries c) (omega arith) (omega arith) (omega arith))
         ∙ find_same q 3 (fin.entries e) ∙ sym (fin.get-entries e q)
 
-  pub at_digit : (p : Parts V) (d q : ℕ) → d < 4 → fin.get (map_of p) (4 * q + 1 + d) ≡ fin.get (map_in (child_of p d)) q
+  pub at_digit : (p : Parts V) (d q : ℕ) → d < 4 → fin.get (map_of p) (4 * q + 1 + d) ≡ fin.get
+      (map_in (child_of p d)) q
   at_digit p d q l =
       by_digit (λ d. fin.get (map_of p) (4 * q + 1 + d) ≡ fin.get (map_in (child_of p d)) q)
       (at_zero p.value (map_in p.zero) (map_in p.one) (map_in p.two) (map_in p.three) q)
@@ -174,7 +190,8 @@ module _ {V : Type 0} where
       d l
 
   -- what a digit has after another map was put there
-  child_after : (p : Parts V) (t : Link V) (d e : ℕ) → d < 4 → e < 4 → child_of (with_child p d t) e ≡ cond (d == e) t (child_of p e)
+  child_after : (p : Parts V) (t : Link V) (d e : ℕ) → d < 4 → e < 4 → child_of (with_child p d t) e ≡ cond (d ==
+      e) t (child_of p e)
   child_after p t d e l m =
       by_digit (λ d. child_of (with_child p d t) e ≡ cond (d == e) t (child_of p e))
       (by_digit (λ e. child_of (with_child p 0 t) e ≡ cond (0 == e) t (child_of p e)) refl refl refl refl e m)
@@ -191,10 +208,12 @@ module _ {V : Type 0} where
   Writes m n k o = (q : ℕ) → fin.get n q ≡ cond (eq_by_cmp nat_cmp q k) o (fin.get m q)
 
   pub writes_insert : (m n : FinMap nat_cmp V) (k : ℕ) (x : V) → Writes m n k (Some x) → n ≡ fin.insert m k x
-  writes_insert m n k x h = fin.same_map nat_cmp_total nat_cmp-IsAntisymmetric n (fin.insert m k x) (λ q. h q ∙ sym (fin.get-insert nat_cmp_total m k x q))
+  writes_insert m n k x h = fin.same_map nat_cmp_total nat_cmp-IsAntisymmetric n (fin.insert m k x)
+      (λ q. h q ∙ sym (fin.get-insert nat_cmp_total m k x q))
 
   pub writes_remove : (m n : FinMap nat_cmp V) (k : ℕ) → Writes m n k None → n ≡ fin.remove m k
-  writes_remove m n k h = fin.same_map nat_cmp_total nat_cmp-IsAntisymmetric n (fin.remove m k) (λ q. h q ∙ sym (fin.get-remove nat_cmp_total m k q))
+  writes_remove m n k h = fin.same_map nat_cmp_total nat_cmp-IsAntisymmetric n (fin.remove m k)
+      (λ q. h q ∙ sym (fin.get-remove nat_cmp_total m k q))
 
   pub insert_writes : (m : FinMap nat_cmp V) (k : ℕ) (x : V) → Writes m (fin.insert m k x) k (Some x)
   insert_writes m k x q = fin.get-insert nat_cmp_total m k x q
@@ -203,22 +222,32 @@ module _ {V : Type 0} where
   remove_writes m k q = fin.get-remove nat_cmp_total m k q
 
   -- at the first id
-  pub write_first : (p : Parts V) (o : Option (Rc V Global)) → Writes (map_of p) (map_of (record p { value = o })) 0 (value_in o)
+  pub write_first : (p : Parts V) (o : Option (Rc V Global)) →
+      Writes (map_of p) (map_of (record p { value = o })) 0 (value_in o)
   write_first p o =
-      by_id (λ k. fin.get (map_of (record p { value = o })) k ≡ cond (eq_by_cmp nat_cmp k 0) (value_in o) (fin.get (map_of p) k))
-      (at_none o (map_in p.zero) (map_in p.one) (map_in p.two) (map_in p.three) ∙ ap (λ b. cond b (value_in o) (fin.get (map_of p) 0)) (sym (unsigned_tied 0 0)))
-      (λ q d l. at_digit (record p { value = o }) d q l ∙ same_child p o d l q ∙ sym (at_digit p d q l) ∙ ap (λ b. cond b (value_in o) (fin.get (map_of p) (4 * q + 1 + d))) (sym (first_tie' q d)))
+      by_id (λ k. fin.get (map_of (record p { value = o })) k ≡ cond (eq_by_cmp nat_cmp k 0) (value_in o)
+      (fin.get (map_of p) k))
+      (at_none o (map_in p.zero) (map_in p.one) (map_in p.two) (map_in p.three) ∙
+      ap (λ b. cond b (value_in o) (fin.get (map_of p) 0)) (sym (unsigned_tied 0 0)))
+      (λ q d l. at_digit (record p { value = o }) d q l ∙ same_child p o d l q ∙ sym (at_digit p d q l) ∙
+      ap (λ b. cond b (value_in o) (fin.get (map_of p) (4 * q + 1 + d))) (sym (first_tie' q d)))
     where
-      same_child : (p : Parts V) (o : Option (Rc V Global)) (d : ℕ) → d < 4 → (q : ℕ) → fin.get (map_in (child_of (record p { value = o }) d)) q ≡ fin.get (map_in (child_of p d)) q
-      same_child p o d l q = by_digit (λ d. fin.get (map_in (child_of (record p { value = o }) d)) q ≡ fin.get (map_in (child_of p d)) q) refl refl refl refl d l
+      same_child : (p : Parts V) (o : Option (Rc V Global)) (d : ℕ) → d < 4 → (q : ℕ) →
+          fin.get (map_in (child_of (record p { value = o }) d)) q ≡ fin.get (map_in (child_of p d)) q
+      same_child p o d l q = by_digit (λ d. fin.get (map_in (child_of (record p { value = o }) d)) q ≡ fin.get
+          (map_in (child_of p d)) q) refl refl refl refl d l
 
   -- at an id of a digit
-  pub write_child : (p : Parts V) (t : Link V) (q d : ℕ) (o : Option V) → d < 4 → Writes (map_in (child_of p d)) (map_in t) q o
+  pub write_child : (p : Parts V) (t : Link V) (q d : ℕ) (o : Option V) → d < 4 →
+      Writes (map_in (child_of p d)) (map_in t) q o
       → Writes (map_of p) (map_of (with_child p d t)) (4 * q + 1 + d) o
   write_child p t q d o l h =
-      by_id (λ k. fin.get (map_of (with_child p d t)) k ≡ cond (eq_by_cmp nat_cmp k (4 * q + 1 + d)) o (fin.get (map_of p) k))
-      (at_none (with_child p d t).value (map_in (with_child p d t).zero) (map_in (with_child p d t).one) (map_in (with_child p d t).two) (map_in (with_child p d t).three)
-      ∙ ap value_in (value_after p t d l) ∙ sym (at_none p.value (map_in p.zero) (map_in p.one) (map_in p.two) (map_in p.three))
+      by_id (λ k. fin.get (map_of (with_child p d t)) k ≡ cond (eq_by_cmp nat_cmp k (4 * q + 1 + d)) o
+      (fin.get (map_of p) k))
+      (at_none (with_child p d t).value (map_in (with_child p d t).zero) (map_in (with_child p d t).one)
+      (map_in (with_child p d t).two) (map_in (with_child p d t).three)
+      ∙ ap value_in (value_after p t d l) ∙ sym (at_none p.value (map_in p.zero) (map_in p.one) (map_in p.two)
+      (map_in p.three))
       ∙ ap (λ b. cond b o (fin.get (map_of p) 0)) (sym (first_tie q d)))
       (λ r e m.
       at_digit (with_child p d t) e r m ∙ ap (λ (c : Link V). fin.get (map_in c) r) (child_after p t d e l m)
@@ -227,7 +256,8 @@ module _ {V : Type 0} where
             ap (λ b. fin.get (map_in (cond b t (child_of p e))) r) s.0 ∙ h r
             ∙ ap (λ b. cond b o (fin.get (map_in (child_of p d)) r)) (sym (same_tie r q d))
             ∙ ap (cond (eq_by_cmp nat_cmp (4 * r + 1 + d) (4 * q + 1 + d)) o) (sym (at_digit p d r l))
-            ∙ ap (λ x. cond (eq_by_cmp nat_cmp (4 * r + 1 + x) (4 * q + 1 + d)) o (fin.get (map_of p) (4 * r + 1 + x))) s.1
+            ∙ ap (λ x. cond (eq_by_cmp nat_cmp (4 * r + 1 + x) (4 * q + 1 + d)) o (fin.get (map_of p) (4 * r + 1 + x)))
+            s.1
         | inr s ↦
             ap (λ b. fin.get (map_in (cond b t (child_of p e))) r) s.0
             ∙ sym (at_digit p e r m)
@@ -236,59 +266,77 @@ module _ {V : Type 0} where
 
   -- a map of no parts
   pub no_parts : weave {V = V} None fin.empty fin.empty fin.empty fin.empty ≡ fin.empty
-  no_parts = fin.same_map nat_cmp_total nat_cmp-IsAntisymmetric _ fin.empty (by_id (λ k. fin.get (weave {V = V} None fin.empty fin.empty fin.empty fin.empty) k ≡ fin.get (fin.empty {R = nat_cmp}) k)
+  no_parts = fin.same_map nat_cmp_total nat_cmp-IsAntisymmetric _ fin.empty
+      (by_id (λ k. fin.get (weave {V = V} None fin.empty fin.empty fin.empty fin.empty) k ≡ fin.get
+      (fin.empty {R = nat_cmp}) k)
       (at_none None fin.empty fin.empty fin.empty fin.empty ∙ sym (fin.get-empty nat_cmp 0))
-      (λ q d l. by_digit (λ d. fin.get (weave {V = V} None fin.empty fin.empty fin.empty fin.empty) (4 * q + 1 + d) ≡ fin.get (fin.empty {R = nat_cmp}) q)
+      (λ q d l. by_digit (λ d. fin.get (weave {V = V} None fin.empty fin.empty fin.empty fin.empty)
+      (4 * q + 1 + d) ≡ fin.get (fin.empty {R = nat_cmp}) q)
       (at_zero None fin.empty fin.empty fin.empty fin.empty q) (at_one None fin.empty fin.empty fin.empty fin.empty q)
-      (at_two None fin.empty fin.empty fin.empty fin.empty q) (at_three None fin.empty fin.empty fin.empty fin.empty q) d l
+      (at_two None fin.empty fin.empty fin.empty fin.empty q)
+      (at_three None fin.empty fin.empty fin.empty fin.empty q) d l
       ∙ fin.get-empty nat_cmp q ∙ sym (fin.get-empty nat_cmp (4 * q + 1 + d))))
 
-  pub put_first : (m : FinMap nat_cmp V) (p : Parts V) (x : Rc V Global) (k : ℕ) → k ≡ 0 → map_of p ≡ m → map_of (record p { value = Some x }) ≡ fin.insert m k x.value
-  put_first m p x k z e = writes_insert (map_of p) (map_of (record p { value = Some x })) 0 x.value (write_first p (Some x)) ∙ ap (λ n. fin.insert n 0 x.value) e ∙ ap (λ n. fin.insert m n x.value) (sym z)
+  pub put_first : (m : FinMap nat_cmp V) (p : Parts V) (x : Rc V Global) (k : ℕ) → k ≡ 0 → map_of p ≡ m →
+      map_of (record p { value = Some x }) ≡ fin.insert m k x.value
+  put_first m p x k z e = writes_insert (map_of p) (map_of (record p { value = Some x })) 0 x.value
+      (write_first p (Some x)) ∙ ap (λ n. fin.insert n 0 x.value) e ∙ ap (λ n. fin.insert m n x.value) (sym z)
 
-  pub cut_first : (m : FinMap nat_cmp V) (p : Parts V) (k : ℕ) → k ≡ 0 → map_of p ≡ m → map_of (record p { value = None }) ≡ fin.remove m k
-  cut_first m p k z e = writes_remove (map_of p) (map_of (record p { value = None })) 0 (write_first p None) ∙ ap (λ n. fin.remove n 0) e ∙ ap (λ n. fin.remove m n) (sym z)
+  pub cut_first : (m : FinMap nat_cmp V) (p : Parts V) (k : ℕ) → k ≡ 0 → map_of p ≡ m →
+      map_of (record p { value = None }) ≡ fin.remove m k
+  cut_first m p k z e = writes_remove (map_of p) (map_of (record p { value = None })) 0 (write_first p None) ∙
+      ap (λ n. fin.remove n 0) e ∙ ap (λ n. fin.remove m n) (sym z)
 
   pub put_child : (m : FinMap nat_cmp V) (p : Parts V) (t : Link V) (x : V) (k : ℕ) → k ≢ 0 → map_of p ≡ m
-      → map_in t ≡ fin.insert (map_in (child_of p ((k - 1) % 4))) ((k - 1) / 4) x → map_of (with_child p ((k - 1) % 4) t) ≡ fin.insert m k x
+      → map_in t ≡ fin.insert (map_in (child_of p ((k - 1) % 4))) ((k - 1) / 4) x →
+      map_of (with_child p ((k - 1) % 4) t) ≡ fin.insert m k x
   put_child m p t x k n e h =
       let d = (k - 1) % 4 in
       let q = (k - 1) / 4 in
       writes_insert (map_of p) (map_of (with_child p d t)) (4 * q + 1 + d) x
-      (write_child p t q d (Some x) (digit_less (k - 1)) (subst (λ n. Writes (map_in (child_of p d)) n q (Some x)) (sym h) (insert_writes (map_in (child_of p d)) q x)))
+      (write_child p t q d (Some x) (digit_less (k - 1)) (subst (λ n. Writes (map_in (child_of p d)) n q (Some x))
+      (sym h) (insert_writes (map_in (child_of p d)) q x)))
       ∙ ap (λ i. fin.insert (map_of p) i x) (id_parts k n) ∙ ap (λ i. fin.insert i k x) e
 
   pub cut_child : (m : FinMap nat_cmp V) (p : Parts V) (t : Link V) (k : ℕ) → k ≢ 0 → map_of p ≡ m
-      → map_in t ≡ fin.remove (map_in (child_of p ((k - 1) % 4))) ((k - 1) / 4) → map_of (with_child p ((k - 1) % 4) t) ≡ fin.remove m k
+      → map_in t ≡ fin.remove (map_in (child_of p ((k - 1) % 4))) ((k - 1) / 4) →
+      map_of (with_child p ((k - 1) % 4) t) ≡ fin.remove m k
   cut_child m p t k n e h =
       let d = (k - 1) % 4 in
       let q = (k - 1) / 4 in
       writes_remove (map_of p) (map_of (with_child p d t)) (4 * q + 1 + d)
-      (write_child p t q d None (digit_less (k - 1)) (subst (λ n. Writes (map_in (child_of p d)) n q None) (sym h) (remove_writes (map_in (child_of p d)) q)))
+      (write_child p t q d None (digit_less (k - 1)) (subst (λ n. Writes (map_in (child_of p d)) n q None) (sym h)
+      (remove_writes (map_in (child_of p d)) q)))
       ∙ ap (λ i. fin.remove (map_of p) i) (id_parts k n) ∙ ap (λ i. fin.remove i k) e
 
   -- a child of a map that is empty is empty
   pub empty_child : (p : Parts V) → map_of p ≡ fin.empty → (d : ℕ) → d < 4 → map_in (child_of p d) ≡ fin.empty
-  empty_child p e d l = fin.same_map nat_cmp_total nat_cmp-IsAntisymmetric (map_in (child_of p d)) fin.empty (λ q. sym (at_digit p d q l) ∙ ap (λ n. fin.get n (4 * q + 1 + d)) e ∙ fin.get-empty nat_cmp (4 * q + 1 + d) ∙ sym (fin.get-empty nat_cmp q))
+  empty_child p e d l = fin.same_map nat_cmp_total nat_cmp-IsAntisymmetric (map_in (child_of p d)) fin.empty
+      (λ q. sym (at_digit p d q l) ∙ ap (λ n. fin.get n (4 * q + 1 + d)) e ∙ fin.get-empty nat_cmp (4 * q + 1 + d) ∙
+      sym (fin.get-empty nat_cmp q))
 
   none_some : (x : V) → None ≡ Some x → ⊥
   none_some x e = cc
 
   -- a map with a value is not empty
   pub full_value : (p : Parts V) → is_some p.value ≡ true → TellsEmpty (map_of p) false
-  full_value p h e = go p.value h (sym (at_none p.value (map_in p.zero) (map_in p.one) (map_in p.two) (map_in p.three)) ∙ ap (λ n. fin.get n 0) e ∙ fin.get-empty nat_cmp 0)
+  full_value p h e = go p.value h (sym (at_none p.value (map_in p.zero) (map_in p.one) (map_in p.two) (map_in p.three))
+      ∙ ap (λ n. fin.get n 0) e ∙ fin.get-empty nat_cmp 0)
     where
       go : (v : Option (Rc V Global)) → is_some v ≡ true → value_in v ≡ None → ⊥
       go None h e = let no : false ≡ true = h in cc
       go (Some rc) h e = none_some rc.value (sym e)
 
   -- a map with a child that is not empty is not empty
-  pub full_child : (p : Parts V) (d : ℕ) → d < 4 → TellsEmpty (map_in (child_of p d)) false → TellsEmpty (map_of p) false
+  pub full_child : (p : Parts V) (d : ℕ) → d < 4 → TellsEmpty (map_in (child_of p d)) false →
+      TellsEmpty (map_of p) false
   full_child p d l h e = h (empty_child p e d l)
 
   -- a map with no value, whose children are empty
-  pub empty_parts : (p : Parts V) → is_some p.value ≡ false → map_in p.zero ≡ fin.empty → map_in p.one ≡ fin.empty → map_in p.two ≡ fin.empty → map_in p.three ≡ fin.empty → map_of p ≡ fin.empty
-  empty_parts p h a b c e = ap (λ v. weave v (map_in p.zero) (map_in p.one) (map_in p.two) (map_in p.three)) (go p.value h) ∙ rw (a, b, c, e) no_parts
+  pub empty_parts : (p : Parts V) → is_some p.value ≡ false → map_in p.zero ≡ fin.empty → map_in p.one ≡ fin.empty →
+      map_in p.two ≡ fin.empty → map_in p.three ≡ fin.empty → map_of p ≡ fin.empty
+  empty_parts p h a b c e = ap (λ v. weave v (map_in p.zero) (map_in p.one) (map_in p.two) (map_in p.three))
+      (go p.value h) ∙ rw (a, b, c, e) no_parts
     where
       go : (v : Option (Rc V Global)) → is_some v ≡ false → v ≡ None
       go None h = refl
@@ -300,7 +348,8 @@ module _ {V : Type 0} where
       sym (at_none p.value (map_in p.zero) (map_in p.one) (map_in p.two) (map_in p.three)) ∙ ap (λ n. fin.get n 0) e
       ∙ at_none q.value (map_in q.zero) (map_in q.one) (map_in q.two) (map_in q.three)
 
-  pub same_children : (p q : Parts V) → map_of p ≡ map_of q → (d : ℕ) → d < 4 → map_in (child_of p d) ≡ map_in (child_of q d)
+  pub same_children : (p q : Parts V) → map_of p ≡ map_of q → (d : ℕ) → d < 4 →
+      map_in (child_of p d) ≡ map_in (child_of q d)
   same_children p q e d l =
       fin.same_map nat_cmp_total nat_cmp-IsAntisymmetric (map_in (child_of p d)) (map_in (child_of q d))
       (λ i. sym (at_digit p d i l) ∙ ap (λ n. fin.get n (4 * i + 1 + d)) e ∙ at_digit q d i l)
@@ -312,10 +361,14 @@ module _ {V : Type 0} where
   first_by_value (Some v) (Some w) e = ap (λ o. option_map_or (λ x. (0, x) ∷ []) o []) e
 
   -- maps of the same parts
-  pub same_parts : (p q : Parts V) → value_in p.value ≡ value_in q.value → map_in p.zero ≡ map_in q.zero → map_in p.one ≡ map_in q.one
+  pub same_parts : (p q : Parts V) → value_in p.value ≡ value_in q.value → map_in p.zero ≡ map_in q.zero →
+      map_in p.one ≡ map_in q.one
       → map_in p.two ≡ map_in q.two → map_in p.three ≡ map_in q.three → map_of p ≡ map_of q
   same_parts p q v a b c e =
-      ap (λ (f : List (ℕ × V)). fin.from_entries {R = nat_cmp} (f ++ (spread 0 (fin.entries (map_in p.zero)) ++ (spread 1 (fin.entries (map_in p.one)) ++ (spread 2 (fin.entries (map_in p.two)) ++ spread 3 (fin.entries (map_in p.three))))))) (first_by_value p.value q.value v)
+      ap (λ (f : List (ℕ × V)). fin.from_entries {R = nat_cmp}
+      (f ++ (spread 0 (fin.entries (map_in p.zero)) ++ (spread 1 (fin.entries (map_in p.one)) ++
+      (spread 2 (fin.entries (map_in p.two)) ++ spread 3 (fin.entries (map_in p.three)))))))
+      (first_by_value p.value q.value v)
       ∙ ap (λ m. weave q.value m (map_in p.one) (map_in p.two) (map_in p.three)) a
       ∙ ap (λ m. weave q.value (map_in q.zero) m (map_in p.two) (map_in p.three)) b
       ∙ ap (λ m. weave q.value (map_in q.zero) (map_in q.one) m (map_in p.three)) c
@@ -326,7 +379,8 @@ module _ {V : Type 0} where
   Distinct [] = Unit {0}
   Distinct (e ∷ es) = (find nat_cmp e.0 es ≡ None) × Distinct es
 
-  distinct_spread : (d : ℕ) (es fs : List (ℕ × V)) → T (is_sorted nat_cmp es) → ((q : ℕ) → find nat_cmp (4 * q + 1 + d) fs ≡ None) → Distinct fs → Distinct (spread d es ++ fs)
+  distinct_spread : (d : ℕ) (es fs : List (ℕ × V)) → T (is_sorted nat_cmp es) →
+      ((q : ℕ) → find nat_cmp (4 * q + 1 + d) fs ≡ None) → Distinct fs → Distinct (spread d es ++ fs)
   distinct_spread d [] fs s none h = h
   distinct_spread d (e ∷ es) fs s none h = (
     skip (4 * e.0 + 1 + d) (spread d es) fs (find_same e.0 d es ∙ find_below nat_cmp e.0 es (first _ _ s)) ∙ none e.0,
@@ -334,7 +388,8 @@ module _ {V : Type 0} where
   )
 
   distinct_sorted : (d : ℕ) (m : FinMap nat_cmp V) → Distinct (spread d (fin.entries m))
-  distinct_sorted d m = subst Distinct (append_nil (spread d (fin.entries m))) (distinct_spread d (fin.entries m) [] (fin.entries_sorted m) (λ q. refl) tt)
+  distinct_sorted d m = subst Distinct (append_nil (spread d (fin.entries m)))
+      (distinct_spread d (fin.entries m) [] (fin.entries_sorted m) (λ q. refl) tt)
     where
       append_nil : (xs : List (ℕ × V)) → xs ++ [] ≡ xs
       append_nil [] = refl
@@ -345,36 +400,47 @@ module _ {V : Type 0} where
       go v
     where
       three : Distinct (spread 2 (fin.entries c) ++ spread 3 (fin.entries e))
-      three = distinct_spread 2 (fin.entries c) (spread 3 (fin.entries e)) (fin.entries_sorted c) (λ q. find_other q 2 3 (fin.entries e) (omega arith) (omega arith) (omega arith)) (distinct_sorted 3 e)
+      three = distinct_spread 2 (fin.entries c) (spread 3 (fin.entries e)) (fin.entries_sorted c)
+          (λ q. find_other q 2 3 (fin.entries e) (omega arith) (omega arith) (omega arith)) (distinct_sorted 3 e)
 
       two : Distinct (spread 1 (fin.entries b) ++ (spread 2 (fin.entries c) ++ spread 3 (fin.entries e)))
       two = distinct_spread 1 (fin.entries b) _ (fin.entries_sorted b)
-          (λ q. skip (4 * q + 1 + 1) (spread 2 (fin.entries c)) (spread 3 (fin.entries e)) (find_other q 1 2 (fin.entries c) (omega arith) (omega arith) (omega arith)) ∙ find_other q 1 3 (fin.entries e) (omega arith) (omega arith) (omega arith)) three
+          (λ q. skip (4 * q + 1 + 1) (spread 2 (fin.entries c)) (spread 3 (fin.entries e))
+          (find_other q 1 2 (fin.entries c) (omega arith) (omega arith) (omega arith)) ∙
+          find_other q 1 3 (fin.entries e) (omega arith) (omega arith) (omega arith)) three
 
-      one : Distinct (spread 0 (fin.entries a) ++ (spread 1 (fin.entries b) ++ (spread 2 (fin.entries c) ++ spread 3 (fin.entries e))))
+      one : Distinct (spread 0 (fin.entries a) ++ (spread 1 (fin.entries b) ++
+          (spread 2 (fin.entries c) ++ spread 3 (fin.entries e))))
       one = distinct_spread 0 (fin.entries a) _ (fin.entries_sorted a)
-          (λ q. skip (4 * q + 1 + 0) (spread 1 (fin.entries b)) (spread 2 (fin.entries c) ++ spread 3 (fin.entries e)) (find_other q 0 1 (fin.entries b) (omega arith) (omega arith) (omega arith))
-          ∙ skip (4 * q + 1 + 0) (spread 2 (fin.entries c)) (spread 3 (fin.entries e)) (find_other q 0 2 (fin.entries c) (omega arith) (omega arith) (omega arith)) ∙ find_other q 0 3 (fin.entries e) (omega arith) (omega arith) (omega arith)) two
+          (λ q. skip (4 * q + 1 + 0) (spread 1 (fin.entries b)) (spread 2 (fin.entries c) ++ spread 3 (fin.entries e))
+          (find_other q 0 1 (fin.entries b) (omega arith) (omega arith) (omega arith))
+          ∙ skip (4 * q + 1 + 0) (spread 2 (fin.entries c)) (spread 3 (fin.entries e))
+          (find_other q 0 2 (fin.entries c) (omega arith) (omega arith) (omega arith)) ∙
+          find_other q 0 3 (fin.entries e) (omega arith) (omega arith) (omega arith)) two
 
       go : (v : Option (Rc V Global)) → Distinct (woven v a b c e)
       go None = one
       go (Some rc) = (none_at_0 a b c e, one)
 
   module _ (f : V → ℕ) where
-    sum_entries : (es : List (ℕ × V)) → Distinct es → sum_by f (fin.values (fin.from_entries {R = nat_cmp} es)) ≡ sum_by (λ e. f e.1) es
+    sum_entries : (es : List (ℕ × V)) → Distinct es → sum_by f (fin.values (fin.from_entries {R = nat_cmp} es)) ≡ sum_by
+        (λ e. f e.1) es
     sum_entries [] h = ap (λ es. sum_by f (map (λ e. e.1) es)) (entries-empty nat_cmp)
     sum_entries (e ∷ es) h =
         let law = sum-insert nat_cmp_total nat_cmp-IsAntisymmetric f (fin.from_entries es) e.0 e.1 in
-        let none : option_map_or f (fin.get (fin.from_entries {R = nat_cmp} es) e.0) 0 ≡ 0 = ap (λ o. option_map_or f o 0) (fin.get-from_entries nat_cmp_total es e.0 ∙ h.0) in
+        let none : option_map_or f (fin.get (fin.from_entries {R = nat_cmp} es) e.0) 0 ≡ 0 =
+        ap (λ o. option_map_or f o 0) (fin.get-from_entries nat_cmp_total es e.0 ∙ h.0) in
         let rest = sum_entries es h.1 in
         omega (arith, law, none, rest, sum_by-cons (λ (x : ℕ × V). f x.1) e es)
 
     sum_spread : (d : ℕ) (es : List (ℕ × V)) → sum_by (λ e. f e.1) (spread d es) ≡ sum_by f (map (λ e. e.1) es)
     sum_spread d [] = refl
     sum_spread d (e ∷ es) =
-        sum_by-cons (λ (x : ℕ × V). f x.1) (4 * e.0 + 1 + d, e.1) (spread d es) ∙ ap (λ n. f e.1 + n) (sum_spread d es) ∙ sym (sum_by-cons f e.1 (map (λ e. e.1) es))
+        sum_by-cons (λ (x : ℕ × V). f x.1) (4 * e.0 + 1 + d, e.1) (spread d es) ∙ ap (λ n. f e.1 + n) (sum_spread d es)
+        ∙ sym (sum_by-cons f e.1 (map (λ e. e.1) es))
 
-    sum_append : (xs ys : List (ℕ × V)) → sum_by (λ e. f e.1) (xs ++ ys) ≡ sum_by (λ e. f e.1) xs + sum_by (λ e. f e.1) ys
+    sum_append : (xs ys : List (ℕ × V)) → sum_by (λ e. f e.1) (xs ++ ys) ≡ sum_by (λ e. f e.1) xs + sum_by
+        (λ e. f e.1) ys
     sum_append xs ys = sum_by-append (λ (x : ℕ × V). f x.1) xs ys
 
     sum_first : (v : Option (Rc V Global)) → sum_by (λ e. f e.1) (first_entry v) ≡ option_map_or f (value_in v) 0
@@ -383,36 +449,59 @@ module _ {V : Type 0} where
 
     -- the sum over a map, by its parts
     pub sum_woven : (v : Option (Rc V Global)) (a b c e : FinMap nat_cmp V) → sum_by f (fin.values (weave v a b c e))
-        ≡ option_map_or f (value_in v) 0 + (sum_by f (fin.values a) + (sum_by f (fin.values b) + (sum_by f (fin.values c) + sum_by f (fin.values e))))
+        ≡ option_map_or f (value_in v) 0 + (sum_by f (fin.values a) +
+        (sum_by f (fin.values b) + (sum_by f (fin.values c) + sum_by f (fin.values e))))
     sum_woven v a b c e =
         let all = sum_entries (woven v a b c e) (distinct_woven v a b c e) in
-        let p = sum_append (first_entry v) (spread 0 (fin.entries a) ++ (spread 1 (fin.entries b) ++ (spread 2 (fin.entries c) ++ spread 3 (fin.entries e)))) in
-        let q = sum_append (spread 0 (fin.entries a)) (spread 1 (fin.entries b) ++ (spread 2 (fin.entries c) ++ spread 3 (fin.entries e))) in
+        let p = sum_append (first_entry v) (spread 0 (fin.entries a) ++
+        (spread 1 (fin.entries b) ++ (spread 2 (fin.entries c) ++ spread 3 (fin.entries e)))) in
+        let q = sum_append (spread 0 (fin.entries a)) (spread 1 (fin.entries b) ++
+        (spread 2 (fin.entries c) ++ spread 3 (fin.entries e))) in
         let r = sum_append (spread 1 (fin.entries b)) (spread 2 (fin.entries c) ++ spread 3 (fin.entries e)) in
         let s = sum_append (spread 2 (fin.entries c)) (spread 3 (fin.entries e)) in
-        omega (arith, all, p, q, r, s, sum_first v, sum_spread 0 (fin.entries a), sum_spread 1 (fin.entries b), sum_spread 2 (fin.entries c), sum_spread 3 (fin.entries e))
+        omega (
+          arith,
+          all,
+          p,
+          q,
+          r,
+          s,
+          sum_first v,
+          sum_spread 0 (fin.entries a),
+          sum_spread 1 (fin.entries b),
+          sum_spread 2 (fin.entries c),
+          sum_spread 3 (fin.entries e),
+        )
 
   -- whether there is an entry, where the last child tells it
-  pub last_empty : (p : Parts V) → is_some p.value ≡ false → map_in p.zero ≡ fin.empty → map_in p.one ≡ fin.empty → map_in p.two ≡ fin.empty
+  pub last_empty : (p : Parts V) → is_some p.value ≡ false → map_in p.zero ≡ fin.empty → map_in p.one ≡ fin.empty →
+      map_in p.two ≡ fin.empty
       → (b : Bool) → TellsEmpty (map_in p.three) b → TellsEmpty (map_of p) b
   last_empty p v a b c true h = empty_parts p v a b c h
   last_empty p v a b c false h = full_child p 3 (omega arith) h
 
   -- whether two are the same, where the last children tell it
-  pub last_same : (m n : FinMap nat_cmp V) (p q : Parts V) → m ≡ map_of p → n ≡ map_of q → value_in p.value ≡ value_in q.value → map_in p.zero ≡ map_in q.zero
-      → map_in p.one ≡ map_in q.one → map_in p.two ≡ map_in q.two → (b : Bool) → TellsSame (map_in p.three) (map_in q.three) b → TellsSame m n b
+  pub last_same : (m n : FinMap nat_cmp V) (p q : Parts V) → m ≡ map_of p → n ≡ map_of q →
+      value_in p.value ≡ value_in q.value → map_in p.zero ≡ map_in q.zero
+      → map_in p.one ≡ map_in q.one → map_in p.two ≡ map_in q.two → (b : Bool) →
+      TellsSame (map_in p.three) (map_in q.three) b → TellsSame m n b
   last_same m n p q l r v a b c true h = l ∙ same_parts p q v a b c h ∙ sym r
   last_same m n p q l r v a b c false h = λ e. h (same_children p q (sym l ∙ e ∙ r) 3 (omega arith))
 
   -- a value of a sum that is small is small
-  pub part_small : (f : V → ℕ) (v : Option (Rc V Global)) (x : V) (rest bound : ℕ) → value_in v ≡ Some x → option_map_or f (value_in v) 0 + rest < bound → f x < bound
-  part_small f v x rest bound e h = let here : option_map_or f (value_in v) 0 ≡ f x = ap (λ o. option_map_or f o 0) e in omega (arith, here, h)
+  pub part_small : (f : V → ℕ) (v : Option (Rc V Global)) (x : V) (rest bound : ℕ) → value_in v ≡ Some x →
+      option_map_or f (value_in v) 0 + rest < bound → f x < bound
+  part_small f v x rest bound e h = let here : option_map_or f (value_in v) 0 ≡ f x = ap (λ o. option_map_or f o 0) e in
+      omega (arith, here, h)
 
   -- the numbers of a map after a value was put
-  pub counted_put : (f : V → ℕ) (m : FinMap nat_cmp V) (k : ℕ) (x : V) (len weight one old : ℕ) → IsCounted f m len weight → Holds f (fin.get m k) one old
+  pub counted_put : (f : V → ℕ) (m : FinMap nat_cmp V) (k : ℕ) (x : V) (len weight one old : ℕ) →
+      IsCounted f m len weight → Holds f (fin.get m k) one old
       → (one ≤ len + 1) × (old ≤ weight + f x) × IsCounted f (fin.insert m k x) (len + 1 - one) (weight + f x - old)
   counted_put f m k x len weight one old c h =
-      elim (fin.get m k) as (λ o. fin.get m k ≡ o → Holds f o one old → (one ≤ len + 1) × (old ≤ weight + f x) × IsCounted f (fin.insert m k x) (len + 1 - one) (weight + f x - old)) [
+      elim (fin.get m k) as (λ o. fin.get m k ≡ o → Holds f o one old →
+      (one ≤ len + 1) × (old ≤ weight + f x) × IsCounted f (fin.insert m k x) (len + 1 - one)
+      (weight + f x - old)) [
         | None ↦ λ e h.
             let longer = len_pushed nat_cmp_total nat_cmp-IsAntisymmetric m k x e in
             let sums = sum-insert nat_cmp_total nat_cmp-IsAntisymmetric f m k x in
@@ -421,28 +510,38 @@ module _ {V : Type 0} where
         | Some y ↦ λ e h.
             let as_long = len_inserted nat_cmp_total nat_cmp-IsAntisymmetric m k x y e in
             let sums = sum-insert nat_cmp_total nat_cmp-IsAntisymmetric f m k x in
-            let there : option_map_or f (fin.get m k) 0 ≡ f y = ap (λ o. option_map_or f o 0) e in
-            (omega (arith, h), omega (arith, c, h, sums, there), (omega (arith, c, h, as_long), omega (arith, c, h, sums, there)))
+            let there : option_map_or f (fin.get m k) 0 ≡ f y = ap (λ o. option_map_or f o 0) e in (
+              omega (arith, h),
+              omega (arith, c, h, sums, there),
+              (omega (arith, c, h, as_long), omega (arith, c, h, sums, there)),
+            )
       ] refl h
 
   -- the same after a value was removed
-  pub counted_cut : (f : V → ℕ) (m : FinMap nat_cmp V) (k : ℕ) (len weight one old : ℕ) → IsCounted f m len weight → Holds f (fin.get m k) one old
+  pub counted_cut : (f : V → ℕ) (m : FinMap nat_cmp V) (k : ℕ) (len weight one old : ℕ) → IsCounted f m len weight →
+      Holds f (fin.get m k) one old
       → (one ≤ len) × (old ≤ weight) × IsCounted f (fin.remove m k) (len - one) (weight - old)
   counted_cut f m k len weight one old c h =
-      elim (fin.get m k) as (λ o. fin.get m k ≡ o → Holds f o one old → (one ≤ len) × (old ≤ weight) × IsCounted f (fin.remove m k) (len - one) (weight - old)) [
+      elim (fin.get m k) as (λ o. fin.get m k ≡ o → Holds f o one old →
+      (one ≤ len) × (old ≤ weight) × IsCounted f (fin.remove m k) (len - one) (weight - old)) [
         | None ↦ λ e h.
             let same : fin.remove m k ≡ m = remove_missing nat_cmp_total nat_cmp-IsAntisymmetric m k e in
             let as_long : fin.len (fin.remove m k) ≡ fin.len m = ap fin.len same in
-            let as_much : sum_by f (fin.values (fin.remove m k)) ≡ sum_by f (fin.values m) = ap (λ n. sum_by f (fin.values n)) same in
+            let as_much : sum_by f (fin.values (fin.remove m k)) ≡ sum_by f (fin.values m) =
+            ap (λ n. sum_by f (fin.values n)) same in
             (omega (arith, h), omega (arith, h), (omega (arith, c, h, as_long), omega (arith, c, h, as_much)))
         | Some y ↦ λ e h.
             let shorter = len_removed nat_cmp_total nat_cmp-IsAntisymmetric m k y e in
-            let sums = sum-remove nat_cmp_total nat_cmp-IsAntisymmetric f m k y e in
-            (omega (arith, c, h, shorter), omega (arith, c, h, sums), (omega (arith, c, h, shorter), omega (arith, c, h, sums)))
+            let sums = sum-remove nat_cmp_total nat_cmp-IsAntisymmetric f m k y e in (
+              omega (arith, c, h, shorter),
+              omega (arith, c, h, sums),
+              (omega (arith, c, h, shorter), omega (arith, c, h, sums)),
+            )
       ] refl h
 
   -- the value of an id above 0, by the digit's map
-  pub get_kid : (m : FinMap nat_cmp V) (v : Option (Rc V Global)) (k : Kids V) (id : ℕ) → id ≢ 0 → m ≡ map_of (parts_of v k)
+  pub get_kid : (m : FinMap nat_cmp V) (v : Option (Rc V Global)) (k : Kids V) (id : ℕ) → id ≢ 0 →
+      m ≡ map_of (parts_of v k)
       → fin.get (map_in (child_of (parts_of None k) ((id - 1) % 4))) ((id - 1) / 4) ≡ fin.get m id
   get_kid m v k id n e =
       sym (at_digit (parts_of None k) ((id - 1) % 4) ((id - 1) / 4) (digit_less (id - 1)))
@@ -452,20 +551,26 @@ module _ {V : Type 0} where
       other_value id n =
           ap (fin.get (map_of (parts_of None k))) (sym (id_parts id n))
           ∙ at_digit (parts_of None k) ((id - 1) % 4) ((id - 1) / 4) (digit_less (id - 1))
-          ∙ by_digit (λ d. fin.get (map_in (child_of (parts_of None k) d)) ((id - 1) / 4) ≡ fin.get (map_in (child_of (parts_of v k) d)) ((id - 1) / 4)) refl refl refl refl ((id - 1) % 4) (digit_less (id - 1))
+          ∙ by_digit (λ d. fin.get (map_in (child_of (parts_of None k) d)) ((id - 1) / 4) ≡ fin.get
+          (map_in (child_of (parts_of v k) d)) ((id - 1) / 4)) refl refl refl refl ((id - 1) % 4)
+          (digit_less (id - 1))
           ∙ sym (at_digit (parts_of v k) ((id - 1) % 4) ((id - 1) / 4) (digit_less (id - 1)))
           ∙ ap (fin.get (map_of (parts_of v k))) (id_parts id n)
 
   -- the value at 0
-  pub get_first : (m : FinMap nat_cmp V) (v : Option (Rc V Global)) (k : Kids V) → m ≡ map_of (parts_of v k) → value_in v ≡ fin.get m 0
-  get_first m v k e = sym (at_none v (map_in k.zero) (map_in k.one) (map_in k.two) (map_in k.three)) ∙ ap (λ w. fin.get w 0) (sym e)
+  pub get_first : (m : FinMap nat_cmp V) (v : Option (Rc V Global)) (k : Kids V) → m ≡ map_of (parts_of v k) →
+      value_in v ≡ fin.get m 0
+  get_first m v k e = sym (at_none v (map_in k.zero) (map_in k.one) (map_in k.two) (map_in k.three)) ∙
+      ap (λ w. fin.get w 0) (sym e)
 
   -- no value, and four maps with no entry
-  pub four_empty : (a b c e : FinMap nat_cmp V) → a ≡ fin.empty → b ≡ fin.empty → c ≡ fin.empty → e ≡ fin.empty → weave None a b c e ≡ fin.empty
+  pub four_empty : (a b c e : FinMap nat_cmp V) → a ≡ fin.empty → b ≡ fin.empty → c ≡ fin.empty → e ≡ fin.empty →
+      weave None a b c e ≡ fin.empty
   four_empty a b c e p q r s = rw (p, q, r, s) no_parts
 
   -- each digit's map is less deep
-  pub kid_depths : (k : Kids V) → (depth_in k.zero < depth_of k) × (depth_in k.one < depth_of k) × (depth_in k.two < depth_of k) × (depth_in k.three < depth_of k)
+  pub kid_depths : (k : Kids V) → (depth_in k.zero < depth_of k) × (depth_in k.one < depth_of k) ×
+      (depth_in k.two < depth_of k) × (depth_in k.three < depth_of k)
   kid_depths k = (grind arith, grind arith, grind arith, grind arith)
 
   -- what is not there is not removed

@@ -1,11 +1,13 @@
 -- What the tests on one thing more say of an order, and how an order goes on.
-use Rattle.std.proofs.Common.{◌≡◌, ◌⊎◌, ℕ, ◌+◌, ◌<◌, ◌≤◌, ◌||◌, suc, zero, Bool, true, false, cond, List, [], ◌∷◌, ◌++◌, length, map, Option, Some, None, refl, sym, ap, ◌∙◌, subst, inl, inr, arith, nat_lt}
+use Rattle.std.proofs.Common.{◌≡◌, ◌⊎◌, ℕ, ◌+◌, ◌<◌, ◌≤◌, ◌||◌, suc, zero, Bool, true, false, cond, List, [], ◌∷◌, ◌++◌}
+use Rattle.std.proofs.Common.{length, map, Option, Some, None, refl, sym, ap, ◌∙◌, subst, inl, inr, arith, nat_lt}
 use Rattle.std.specs.List.{list_any}
 use mathlib.Core.List.{reverse_aux}
 use Rattle.vac_spans.specs.declared.span.Span.{Span}
 use Rattle.vac_spans.specs.declared.span.Misplaced.{Misplaced}
 use Rattle.vac_spans.specs.declared.span.Misplaced.TheVariants.{Client, Time}
-use Rattle.vac_spans.specs.Order.{itself, same_client, overlaps, ended_before, breaks_client, breaks_time, misplaced, clients_of}
+use Rattle.vac_spans.specs.Order.{itself, same_client, overlaps, ended_before, breaks_client, breaks_time, misplaced}
+use Rattle.vac_spans.specs.Order.{clients_of}
 use Rattle.vac_spans.specs.Laws.{IsAt, KeepPrecedence, TakeTurns, IsCause}
 use Rattle.vac_spans.proofs.Tests.{both_false, false_both, turn_from, turn_test, time_from, time_test, before_of}
 
@@ -43,7 +45,8 @@ module _ {C : Type 0} where
   at_inside (c ∷ cs) (suc i) a e = let h = at_inside cs i a e in omega (arith, h)
 
   -- it is one of them, or the last
-  pub at_either : (cs : List C) (c : C) (i : ℕ) (a : C) → IsAt (cs ++ c ∷ []) i a → IsAt cs i a ⊎ ((i ≡ length cs) × (c ≡ a))
+  pub at_either : (cs : List C) (c : C) (i : ℕ) (a : C) → IsAt (cs ++ c ∷ []) i a →
+      IsAt cs i a ⊎ ((i ≡ length cs) × (c ≡ a))
   at_either [] c zero a e = inr (refl, some_same c a e)
   at_either [] c (suc i) a e = absurd (none_some a e)
   at_either (d ∷ cs) c zero a e = inl e
@@ -53,13 +56,15 @@ module _ {C : Type 0} where
         | inr h ↦ inr (ap suc h.0, h.1)
       ]
 
-  none_back : (p : C → Bool) (xs ys : List C) → list_any p xs ≡ false → list_any p ys ≡ false → list_any p (reverse_aux xs ys) ≡ false
+  none_back : (p : C → Bool) (xs ys : List C) → list_any p xs ≡ false → list_any p ys ≡ false →
+      list_any p (reverse_aux xs ys) ≡ false
   none_back p [] ys h g = g
   none_back p (x ∷ xs) ys h g =
       let both = both_false (p x) (list_any p xs) h in
       none_back p xs (x ∷ ys) both.1 (false_both (p x) (list_any p ys) both.0 g)
 
-  none_front : (p : C → Bool) (xs ys : List C) → list_any p (reverse_aux xs ys) ≡ false → (list_any p xs ≡ false) × (list_any p ys ≡ false)
+  none_front : (p : C → Bool) (xs ys : List C) → list_any p (reverse_aux xs ys) ≡ false →
+      (list_any p xs ≡ false) × (list_any p ys ≡ false)
   none_front p [] ys h = (refl, h)
   none_front p (x ∷ xs) ys h =
       let both = none_front p xs (x ∷ ys) h in
@@ -76,7 +81,8 @@ module _ {C : Type 0} where
   none_from p (c ∷ cs) h = false_both (p c) (list_any p cs) (h 0 c refl) (none_from p cs (λ i a e. h (suc i) a e))
 
 module _ {C : Type 0} (span : C → Span) where
-  pub turns_of : (cs : List C) (c : C) → TakeTurns span cs → breaks_client span (reverse_aux cs []) c ≡ false → TakeTurns span (cs ++ c ∷ [])
+  pub turns_of : (cs : List C) (c : C) → TakeTurns span cs → breaks_client span (reverse_aux cs []) c ≡ false →
+      TakeTurns span (cs ++ c ∷ [])
   turns_of cs c t h =
       let both = both_false (nat_lt (span c).end (span c).begin) (list_any (overlaps span c) (reverse_aux cs [])) h in
       let own = time_from (span c).end (span c).begin both.0 in
@@ -94,22 +100,26 @@ module _ {C : Type 0} (span : C → Span) where
           | inr g ↦ elim (at_either cs c i a e) [
             | inl h ↦
                 let test : overlaps span c a ≡ false = none_at (overlaps span c) cs i a none h in
-                let turn : (span a).end ≤ (span c).begin = turn_from (span a).client (span c).client (span c).begin (span a).end test (same ∙ ap (λ (d : C). (span d).client) (sym g.1)) in
+                let turn : (span a).end ≤ (span c).begin = turn_from (span a).client (span c).client (span c).begin
+                (span a).end test (same ∙ ap (λ (d : C). (span d).client) (sym g.1)) in
                 subst (λ (d : C). (span a).end ≤ (span d).begin) g.1 turn
             | inr h ↦ absurd (omega (arith, l, h.0, g.0))
           ]
         ];
       }
 
-  pub of_turns : (cs : List C) (c : C) → TakeTurns span (cs ++ c ∷ []) → breaks_client span (reverse_aux cs []) c ≡ false
+  pub of_turns : (cs : List C) (c : C) → TakeTurns span (cs ++ c ∷ []) →
+      breaks_client span (reverse_aux cs []) c ≡ false
   of_turns cs c t =
       let own : (span c).begin ≤ (span c).end = t.times (length cs) c (at_last cs c) in
       let none : list_any (overlaps span c) cs ≡ false =
       none_from (overlaps span c) cs (λ i a e. turn_test (span a).client (span c).client (span c).begin (span a).end
       (λ same. t.clients i (length cs) a c (at_front cs (c ∷ []) i a e) (at_last cs c) (at_inside cs i a e) same)) in
-      false_both (nat_lt (span c).end (span c).begin) (list_any (overlaps span c) (reverse_aux cs [])) (time_test (span c).end (span c).begin own) (none_back (overlaps span c) cs [] none refl)
+      false_both (nat_lt (span c).end (span c).begin) (list_any (overlaps span c) (reverse_aux cs []))
+      (time_test (span c).end (span c).begin own) (none_back (overlaps span c) cs [] none refl)
 
-  pub precedence_of : (cs : List C) (c : C) → TakeTurns span (cs ++ c ∷ []) → KeepPrecedence span cs → breaks_time span (reverse_aux cs []) c ≡ false → KeepPrecedence span (cs ++ c ∷ [])
+  pub precedence_of : (cs : List C) (c : C) → TakeTurns span (cs ++ c ∷ []) → KeepPrecedence span cs →
+      breaks_time span (reverse_aux cs []) c ≡ false → KeepPrecedence span (cs ++ c ∷ [])
   precedence_of cs c t k h i j a b e f less =
       let own : (span c).begin ≤ (span c).end = t.times (length cs) c (at_last cs c) in
       let none = (none_front (ended_before span c) cs [] h).0 in
@@ -120,7 +130,8 @@ module _ {C : Type 0} (span : C → Span) where
         ]
         | inr g ↦ elim (at_either cs c j b f) [
           | inl x ↦
-              let after : (span b).begin ≤ (span c).end = time_from (span c).end (span b).begin (none_at (ended_before span c) cs j b none x) in
+              let after : (span b).begin ≤ (span c).end = time_from (span c).end (span b).begin
+              (none_at (ended_before span c) cs j b none x) in
               let same : (span c).end ≡ (span a).end = ap (λ (d : C). (span d).end) g.1 in
               absurd (omega (arith, after, same, less))
           | inr x ↦
@@ -130,7 +141,8 @@ module _ {C : Type 0} (span : C → Span) where
         ]
       ]
 
-  pub of_precedence : (cs : List C) (c : C) → KeepPrecedence span (cs ++ c ∷ []) → breaks_time span (reverse_aux cs []) c ≡ false
+  pub of_precedence : (cs : List C) (c : C) → KeepPrecedence span (cs ++ c ∷ []) →
+      breaks_time span (reverse_aux cs []) c ≡ false
   of_precedence cs c k =
       none_back (ended_before span c) cs []
       (none_from (ended_before span c) cs (λ i a e. fails (ended_before span c a) (λ ended.
@@ -193,7 +205,8 @@ module _ {C : Type 0} (span : C → Span) where
   precedence_none i j a b e f l = absurd (none_some a e)
 
   -- one more that is well placed is in order too
-  pub goes_on : (xs : List C) (x : C) → TakeTurns span xs → KeepPrecedence span xs → misplaced span (reverse_aux xs []) x ≡ None
+  pub goes_on : (xs : List C) (x : C) → TakeTurns span xs → KeepPrecedence span xs →
+      misplaced span (reverse_aux xs []) x ≡ None
       → TakeTurns span (xs ++ x ∷ []) × KeepPrecedence span (xs ++ x ∷ [])
   goes_on xs x t k h =
       let tests = none_found (breaks_client span (reverse_aux xs []) x) (breaks_time span (reverse_aux xs []) x) h in
@@ -201,21 +214,29 @@ module _ {C : Type 0} (span : C → Span) where
       (turns, precedence_of xs x turns k tests.1)
 
   -- the last of an order is well placed
-  pub last_placed : (xs : List C) (x : C) → TakeTurns span (xs ++ x ∷ []) → KeepPrecedence span (xs ++ x ∷ []) → misplaced span (reverse_aux xs []) x ≡ None
-  last_placed xs x t k = ap (λ b. found b (breaks_time span (reverse_aux xs []) x)) (of_turns xs x t) ∙ ap (λ b. found false b) (of_precedence xs x k)
+  pub last_placed : (xs : List C) (x : C) → TakeTurns span (xs ++ x ∷ []) → KeepPrecedence span (xs ++ x ∷ []) →
+      misplaced span (reverse_aux xs []) x ≡ None
+  last_placed xs x t k = ap (λ b. found b (breaks_time span (reverse_aux xs []) x)) (of_turns xs x t) ∙
+      ap (λ b. found false b) (of_precedence xs x k)
 
   -- what is found is why the order does not go on
-  pub cause_of : (xs : List C) (x : C) (m : Misplaced) → TakeTurns span xs → misplaced span (reverse_aux xs []) x ≡ Some m → IsCause span xs x m
-  cause_of xs x m t h = of m (tests_of (breaks_client span (reverse_aux xs []) x) (breaks_time span (reverse_aux xs []) x) m h)
+  pub cause_of : (xs : List C) (x : C) (m : Misplaced) → TakeTurns span xs →
+      misplaced span (reverse_aux xs []) x ≡ Some m → IsCause span xs x m
+  cause_of xs x m t h = of m (tests_of (breaks_client span (reverse_aux xs []) x)
+      (breaks_time span (reverse_aux xs []) x) m h)
     where
-      of : (m : Misplaced) → Tests (breaks_client span (reverse_aux xs []) x) (breaks_time span (reverse_aux xs []) x) m → IsCause span xs x m
+      of : (m : Misplaced) → Tests (breaks_client span (reverse_aux xs []) x) (breaks_time span (reverse_aux xs []) x) m
+          → IsCause span xs x m
       of Client h = λ more. false_true (sym (of_turns xs x more) ∙ h)
       of Time h = (turns_of xs x t h.0, λ more. false_true (sym (of_precedence xs x more) ∙ h.1))
 
-  pub of_cause : (xs : List C) (x : C) (m : Misplaced) → TakeTurns span xs → KeepPrecedence span xs → IsCause span xs x m → misplaced span (reverse_aux xs []) x ≡ Some m
-  of_cause xs x Client t k h = of_tests (breaks_client span (reverse_aux xs []) x) (breaks_time span (reverse_aux xs []) x) Client
+  pub of_cause : (xs : List C) (x : C) (m : Misplaced) → TakeTurns span xs → KeepPrecedence span xs →
+      IsCause span xs x m → misplaced span (reverse_aux xs []) x ≡ Some m
+  of_cause xs x Client t k h = of_tests (breaks_client span (reverse_aux xs []) x)
+      (breaks_time span (reverse_aux xs []) x) Client
       (passes (breaks_client span (reverse_aux xs []) x) (λ e. h (turns_of xs x t e)))
-  of_cause xs x Time t k h = of_tests (breaks_client span (reverse_aux xs []) x) (breaks_time span (reverse_aux xs []) x) Time
+  of_cause xs x Time t k h = of_tests (breaks_client span (reverse_aux xs []) x)
+      (breaks_time span (reverse_aux xs []) x) Time
       (of_turns xs x h.0, passes (breaks_time span (reverse_aux xs []) x) (λ e. h.1 (precedence_of xs x h.0 k e)))
 
   -- tests on things are tests on their spans
@@ -223,13 +244,16 @@ module _ {C : Type 0} (span : C → Span) where
   any_mapped p [] = refl
   any_mapped p (x ∷ xs) = ap (λ b. p (span x) || b) (any_mapped p xs)
 
-  pub misplaced_mapped : (earlier : List C) (x : C) → misplaced itself (map span earlier) (span x) ≡ misplaced span earlier x
+  pub misplaced_mapped : (earlier : List C) (x : C) → misplaced itself (map span earlier)
+      (span x) ≡ misplaced span earlier x
   misplaced_mapped earlier x =
-      ap (λ b. found (nat_lt (span x).end (span x).begin || b) (breaks_time itself (map span earlier) (span x))) (any_mapped (overlaps itself (span x)) earlier)
+      ap (λ b. found (nat_lt (span x).end (span x).begin || b) (breaks_time itself (map span earlier) (span x)))
+      (any_mapped (overlaps itself (span x)) earlier)
       ∙ ap (λ b. found (breaks_client span earlier x) b) (any_mapped (ended_before itself (span x)) earlier)
 
   pub clients_mapped : (xs : List C) → clients_of itself (map span xs) ≡ clients_of span xs
   clients_mapped [] = refl
   clients_mapped (x ∷ xs) =
-      ap (λ b. cond b (clients_of itself (map span xs)) (clients_of itself (map span xs) + 1)) (any_mapped (same_client itself (span x)) xs)
+      ap (λ b. cond b (clients_of itself (map span xs)) (clients_of itself (map span xs) + 1))
+      (any_mapped (same_client itself (span x)) xs)
       ∙ ap (λ n. cond (list_any (same_client span x) xs) n (n + 1)) (clients_mapped xs)

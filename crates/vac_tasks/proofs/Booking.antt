@@ -1,5 +1,6 @@
 -- The customer of a trip, and the bookings.
-use Rattle.std.proofs.Common.{◌≡◌, ◌≢◌, ℕ, ◌<◌, ◌^◌, List, [], ◌∷◌, length, Option, Some, None, Bool, true, false, refl, sym, ap, ◌∙◌, subst, inl, inr, arith}
+use Rattle.std.proofs.Common.{◌≡◌, ◌≢◌, ℕ, ◌<◌, ◌^◌, List, [], ◌∷◌, length, Option, Some, None, Bool, true, false, refl}
+use Rattle.std.proofs.Common.{sym, ap, ◌∙◌, subst, inl, inr, arith}
 use Rattle.std.specs.Prelude.{◌≡◌, IfSome, MatchOption, is_some, ◌||◌, if◌then◌else◌, true}
 use Rattle.std.proofs.lemmas.Bool.{cases_lt}
 use Rattle.std.specs.FinMap.{empty}
@@ -36,27 +37,34 @@ use Rattle.vac_tasks.specs.declared.trip.Choices.{Choices}
 use Rattle.vac_tasks.specs.declared.trip.Owner.{Owner}
 use Rattle.vac_tasks.specs.RanTask.{RanTask}
 use Rattle.vac_tasks.specs.Runs.{Runs, RunsWhere, BlocksStay}
-use Rattle.vac_tasks.specs.Trips.{priced, choice_in, any_chosen, IsKnown, AreKnown, ChoiceIsAt, ChoicesAreAt, IsChoiceAt, AtChoices, Chosen, IsOwner, IsOwnerAt, AtPick, joined, HasJoined}
-use Rattle.vac_commands.proofs.Held.{read_none, state_on, customer_is, customer_none, items_stay_reads, customers_stay_reads, item_found_at, item_at_stays, customer_at_stays}
+use Rattle.vac_tasks.specs.Trips.{priced, choice_in, any_chosen, IsKnown, AreKnown, ChoiceIsAt, ChoicesAreAt}
+use Rattle.vac_tasks.specs.Trips.{IsChoiceAt, AtChoices, Chosen, IsOwner, IsOwnerAt, AtPick, joined, HasJoined}
+use Rattle.vac_commands.proofs.Held.{read_none, state_on, customer_is, customer_none, items_stay_reads}
+use Rattle.vac_commands.proofs.Held.{customers_stay_reads, item_found_at, item_at_stays, customer_at_stays}
 use Rattle.vac_commands.proofs.Serving.{outcome_lands, item_lands, customer_lands}
 use Rattle.vac_commands.proofs.Billing.{ran_missing}
 use Rattle.vac_tasks.proofs.Parts.{outcome_is, held_runs}
 
 -- what a step without an effect and with this answer is
 pub runs_same : {A : Type 0} (s s' : View) (f : State → State × A) (a : A) → OnlyRead s s' →
-    ((image : List ℕ) (state : State) → Sees s' image → IsState (mem s image) (length image) state → f state ≡ (state, a)) → Runs s s' f a
+    ((image : List ℕ) (state : State) → Sees s' image → IsState (mem s image) (length image) state →
+    f state ≡ (state, a)) → Runs s s' f a
 runs_same {A} s s' f a reads e = record {
   kept = reads.kept;
   state = λ image state i h.
-      subst (λ (o : State × A). IsState (mem s' image) (length image) o.0) (sym (e image state i h)) (state_on s s' image state reads.writes h);
+      subst (λ (o : State × A). IsState (mem s' image) (length image) o.0) (sym (e image state i h))
+      (state_on s s' image state reads.writes h);
   answer = λ image state i h. ap (λ (o : State × A). o.1) (e image state i h);
 }
 
-exists_step : (state : State) (id : ℕ) (b : Bookings) → bookings_of state id ≡ Some b → step state (command.NewCustomer id) ≡ (state, reply.No Exists)
+exists_step : (state : State) (id : ℕ) (b : Bookings) → bookings_of state id ≡ Some b →
+    step state (command.NewCustomer id) ≡ (state, reply.No Exists)
 exists_step state id b e =
-    ap (λ (o : Option Bookings). when_found o (if is_full state then refused state Full else done (with_bookings state id empty)) (λ _. refused state Exists)) e
+    ap (λ (o : Option Bookings). when_found o (if is_full state then refused state Full else done
+    (with_bookings state id empty)) (λ _. refused state Exists)) e
 
-joined_step : (state : State) (id : ℕ) (r : Reply) → step state (command.NewCustomer id) ≡ (state, r) → joined id state ≡ (state, joined_of r)
+joined_step : (state : State) (id : ℕ) (r : Reply) → step state (command.NewCustomer id) ≡ (state, r) →
+    joined id state ≡ (state, joined_of r)
 joined_step state id r e = ap (λ (o : Outcome). (o.0, joined_of o.1)) e
 
 -- the customer is there
@@ -72,32 +80,38 @@ joined_there s s' id c reads at = record {
 }
 
 -- what a command did after reads
-runs_joined : (s s1 s2 : View) (id : ℕ) (added : Option ℕ) → OnlyRead s s1 → Ran s1 s2 (command.NewCustomer id) (joining added) →
+runs_joined : (s s1 s2 : View) (id : ℕ) (added : Option ℕ) → OnlyRead s s1 →
+    Ran s1 s2 (command.NewCustomer id) (joining added) →
     Runs s s2 (joined id) (joined_of (joining added))
 runs_joined s s1 s2 id added reads ran = record {
   kept = kept_both s s1 s2 reads.kept ran.kept;
   state = λ image state i h. (ran.outcome image state i (state_on s s1 image state reads.writes h)).state;
-  answer = λ image state i h. ap joined_of (ran.outcome image state i (state_on s s1 image state reads.writes h)).reply_is;
+  answer = λ image state i h. ap joined_of (ran.outcome image state i
+      (state_on s s1 image state reads.writes h)).reply_is;
 }
 
 items_after : (s s1 s2 : View) → OnlyRead s s1 → Kept s1 s2 → ItemsStay s1 s2 → ItemsStay s s2
 items_after s s1 s2 reads kept stays = record {
   stay = λ image state state' i h h' kind id.
       let h1 = state_on s s1 image state reads.writes h in
-      stays.stay image state state' i h1 h' kind id ∙ (items_stay_reads s s1 reads).stay image state state (kept.seen image i) h h1 kind id;
+      stays.stay image state state' i h1 h' kind id ∙ (items_stay_reads s s1 reads).stay image state state
+      (kept.seen image i) h h1 kind id;
 }
 
 -- the customer was missing, so items stay under all images
 items_missing : (s s' : View) (id : ℕ) → LacksCustomer s id → Kept s s' → ItemsStayOn s s' id 0 → ItemsStay s s'
 items_missing s s' id lacks kept stays = record {
-  stay = λ image state state' i h h' kind item. stays.stay image state state' i h (lacks.none image state (kept.seen image i) h) h' kind item;
+  stay = λ image state state' i h h' kind item. stays.stay image state state' i h
+      (lacks.none image state (kept.seen image i) h) h' kind item;
 }
 
 -- the customer is new
-pub joined_new : (s s1 s2 : View) (id : ℕ) (c : ℕ) → OnlyRead s s1 → LacksCustomer s1 id → RanOn s1 s2 id 0 (command.NewCustomer id) (joining (Some c)) → HasSeat s1 s2 id c →
+pub joined_new : (s s1 s2 : View) (id : ℕ) (c : ℕ) → OnlyRead s s1 → LacksCustomer s1 id →
+    RanOn s1 s2 id 0 (command.NewCustomer id) (joining (Some c)) → HasSeat s1 s2 id c →
     ItemsStayOn s1 s2 id 0 → HasJoined s s2 id (record { joined = Added; block = Some c })
 joined_new s s1 s2 id c reads lacks ran at stays = record {
-  runs = runs_joined s s1 s2 id (Some c) reads (ran_missing s1 s2 id (command.NewCustomer id) (joining (Some c)) lacks ran);
+  runs = runs_joined s s1 s2 id (Some c) reads (ran_missing s1 s2 id (command.NewCustomer id)
+      (joining (Some c)) lacks ran);
   room = at.inside;
   seat = λ image state state' i h h'.
       let h1 = state_on s s1 image state reads.writes h in
@@ -106,7 +120,8 @@ joined_new s s1 s2 id c reads lacks ran at stays = record {
 }
 
 -- a customer without bookings in the state has no block
-no_block : (m : ℕ → ℕ) (n id : ℕ) (state : State) (h : IsState m n state) → bookings_of state id ≡ None → customer_block h id ≡ 0
+no_block : (m : ℕ → ℕ) (n id : ℕ) (state : State) (h : IsState m n state) → bookings_of state id ≡ None →
+    customer_block h id ≡ 0
 no_block m n id state h none =
     elim (cases_lt 0 (customer_block h id)) [
       | inl above ↦
@@ -118,7 +133,8 @@ no_block m n id state h none =
 
 -- no block was left, and the customer is missing as before
 lacks_full : (s s' : View) (id : ℕ) → LacksCustomer s id → Ran s s' (command.NewCustomer id) (reply.No Full) →
-    (image : List ℕ) (state state' : State) → Sees s' image → IsState (mem s image) (length image) state → (h' : IsState (mem s' image) (length image) state') → customer_block h' id ≡ 0
+    (image : List ℕ) (state state' : State) → Sees s' image → IsState (mem s image) (length image) state →
+    (h' : IsState (mem s' image) (length image) state') → customer_block h' id ≡ 0
 lacks_full s s' id l ran image state state' i h h' =
     let o = ran.outcome image state i h in
     let same = step_untouched state (command.NewCustomer id) Full o.reply_is in
@@ -127,19 +143,22 @@ lacks_full s s' id l ran image state state' i h h' =
     let none = customer_none s id l image state (ran.kept.seen image i) h in
     no_block (mem s' image) (length image) id state' h' (subst (λ (x : State). bookings_of x id ≡ None) one none)
 
-pub joined_full : (s s1 s2 : View) (id : ℕ) → OnlyRead s s1 → LacksCustomer s1 id → RanOn s1 s2 id 0 (command.NewCustomer id) (joining None) →
+pub joined_full : (s s1 s2 : View) (id : ℕ) → OnlyRead s s1 → LacksCustomer s1 id →
+    RanOn s1 s2 id 0 (command.NewCustomer id) (joining None) →
     ItemsStayOn s1 s2 id 0 → HasJoined s s2 id (record { joined = Refused Full; block = None })
 joined_full s s1 s2 id reads l v stays =
     let ran = ran_missing s1 s2 id (command.NewCustomer id) (joining None) l v in
     record {
       runs = runs_joined s s1 s2 id None reads ran;
       room = tt;
-      seat = λ image state state' i h h'. lacks_full s1 s2 id l ran image state state' i (state_on s s1 image state reads.writes h) h';
+      seat = λ image state state' i h h'. lacks_full s1 s2 id l ran image state state' i
+          (state_on s s1 image state reads.writes h) h';
       items = items_after s s1 s2 reads ran.kept (items_missing s1 s2 id l ran.kept stays);
     }
 
 -- a booking for a customer who is missing
-no_customer : (state : State) (id : ℕ) (kind : Kind) (item : ℕ) → bookings_of state id ≡ None → step state (command.Reserve id kind item 1) ≡ (state, reply.No NoCustomer)
+no_customer : (state : State) (id : ℕ) (kind : Kind) (item : ℕ) → bookings_of state id ≡ None →
+    step state (command.Reserve id kind item 1) ≡ (state, reply.No NoCustomer)
 no_customer state id kind item none = rw none refl
 
 -- what an effect of a pick is, where the item is priced so
@@ -147,30 +166,43 @@ abbrev picks : ℕ → Kind → Option Choice → State → State × Option Pick
 picks id kind o state = reserve_choice state id kind (priced o)
 
 -- nothing was chosen
-pub reserved_none : (s : View) (id : ℕ) (block : Option ℕ) (kind : Kind) (o : Option Choice) → o ≡ None → RunsWhere s s (picks id kind o) None (AtPick id block kind o)
-reserved_none s id block kind o e = rw e (record { kept = kept_none s; state = λ image state i h p. h; answer = λ image state i h p. refl })
+pub reserved_none : (s : View) (id : ℕ) (block : Option ℕ) (kind : Kind) (o : Option Choice) → o ≡ None →
+    RunsWhere s s (picks id kind o) None (AtPick id block kind o)
+reserved_none s id block kind o e = rw e (record {
+  kept = kept_none s;
+  state = λ image state i h p. h;
+  answer = λ image state i h p. refl;
+})
 
-pub reserved_missing : (s : View) (id : ℕ) (kind : Kind) (block : Option ℕ) (o : Option Choice) (c : Choice) → o ≡ Some c → block ≡ None →
-    RunsWhere s s (picks id kind o) (Some (record { id = c.id; price = c.price; refused = Some NoCustomer })) (AtPick id block kind o)
+pub reserved_missing : (s : View) (id : ℕ) (kind : Kind) (block : Option ℕ) (o : Option Choice) (c : Choice) →
+    o ≡ Some c → block ≡ None →
+    RunsWhere s s (picks id kind o) (Some (record { id = c.id; price = c.price; refused = Some NoCustomer }))
+    (AtPick id block kind o)
 reserved_missing s id kind block o c e none =
     let pick : Option Pick = Some (record { id = c.id; price = c.price; refused = Some NoCustomer }) in
-    let step : (image : List ℕ) (state : State) (h : IsState (mem s image) (length image) state) → customer_block h id ≡ 0 → picks id kind (Some c) state ≡ (state, pick) = λ image state h at.
+    let step : (image : List ℕ) (state : State) (h : IsState (mem s image) (length image) state) →
+    customer_block h id ≡ 0 → picks id kind (Some c) state ≡ (state, pick) = λ image state h at.
     let gone = customer_missing (mem s image) (length image) [] state h.represents id at in
-    ap (λ (o : Outcome). (o.0, Some (record { id = c.id; price = c.price; refused = refusal_of o.1 }))) (no_customer state id kind c.id gone) in
+    ap (λ (o : Outcome). (o.0, Some (record { id = c.id; price = c.price; refused = refusal_of o.1 })))
+    (no_customer state id kind c.id gone) in
     rw (e, none) (record {
       kept = kept_none s;
-      state = λ image state i h p. subst (λ (o : State × Option Pick). IsState (mem s image) (length image) o.0) (sym (step image state h p.owner)) h;
+      state = λ image state i h p. subst (λ (o : State × Option Pick). IsState (mem s image) (length image) o.0)
+          (sym (step image state h p.owner)) h;
       answer = λ image state i h p. ap (λ (o : State × Option Pick). o.1) (step image state h p.owner);
     })
 
 pub blocks_same : (s : View) (P : (m : ℕ → ℕ) (n : ℕ) (state : State) → IsState m n state → Type 0) → BlocksStay s s P
 blocks_same s P = record {
-  items = λ image state state' i h p h' kind id. (items_stay_reads s s (read_none s)).stay image state state' i h h' kind id;
-  customers = λ image state state' i h p h' id. (customers_stay_reads s s (read_none s)).stay image state state' i h h' id;
+  items = λ image state state' i h p h' kind id. (items_stay_reads s s (read_none s)).stay image state state' i h h'
+      kind id;
+  customers = λ image state state' i h p h' id. (customers_stay_reads s s (read_none s)).stay image state state' i h h'
+      id;
 }
 
 -- where the pick's customer and item stand in the blocks, the command was run
-pick_here : (m : ℕ → ℕ) (n : ℕ) (state : State) (h : IsState m n state) (id : ℕ) (kind : Kind) (block : Option ℕ) (o : Option Choice) (b : ℕ) (c : Choice) → block ≡ Some b → o ≡ Some c → b ≢ 0 → c.item ≢ 0 → c.id < 2 ^ 32 →
+pick_here : (m : ℕ → ℕ) (n : ℕ) (state : State) (h : IsState m n state) (id : ℕ) (kind : Kind) (block : Option ℕ)
+    (o : Option Choice) (b : ℕ) (c : Choice) → block ≡ Some b → o ≡ Some c → b ≢ 0 → c.item ≢ 0 → c.id < 2 ^ 32 →
     AtPick id block kind o m n state h → Here h id b kind c.id c.item
 pick_here m n state h id kind block o b c is_b is_c b_some c_some small p = record {
   owner_is = subst (λ (x : Option ℕ). IsOwnerAt h id x) is_b p.owner;
@@ -180,38 +212,57 @@ pick_here m n state h id kind block o b c is_b is_c b_some c_some small p = reco
   small = small;
 }
 
-pub reserve_range : (id : ℕ) (kind : Kind) (item : ℕ) → is_id id ≡ true → is_id item ≡ true → is_command (command.Reserve id kind item 1) ≡ true
+pub reserve_range : (id : ℕ) (kind : Kind) (item : ℕ) → is_id id ≡ true → is_id item ≡ true →
+    is_command (command.Reserve id kind item 1) ≡ true
 reserve_range id kind item a b = rw (a, b) refl
 
-pub reserved : (s s' : View) (id : ℕ) (kind : Kind) (block : Option ℕ) (o : Option Choice) (b : ℕ) (c : Choice) (r : Reply) (why : Option Why) → block ≡ Some b → o ≡ Some c → b ≢ 0 → c.item ≢ 0 → c.id < 2 ^ 32 →
-    is_command (command.Reserve id kind c.id 1) ≡ true → Serves s s' (command.Reserve id kind c.id 1) r (AtBlocks id b kind c.id c.item) → why ≡ refusal_of r →
-    RunsWhere s s' (picks id kind o) (Some (record { id = c.id; price = c.price; refused = why })) (AtPick id block kind o)
+pub reserved : (s s' : View) (id : ℕ) (kind : Kind) (block : Option ℕ) (o : Option Choice) (b : ℕ) (c : Choice)
+    (r : Reply) (why : Option Why) → block ≡ Some b → o ≡ Some c → b ≢ 0 → c.item ≢ 0 → c.id < 2 ^ 32 →
+    is_command (command.Reserve id kind c.id 1) ≡ true → Serves s s' (command.Reserve id kind c.id 1) r
+    (AtBlocks id b kind c.id c.item) → why ≡ refusal_of r →
+    RunsWhere s s' (picks id kind o) (Some (record { id = c.id; price = c.price; refused = why }))
+    (AtPick id block kind o)
 reserved s s' id kind block o b c r why is_b is_c b_some c_some small range v w =
-    let out : (image : List ℕ) (state : State) → Sees s' image → (h : IsState (mem s image) (length image) state) → AtPick id block kind o (mem s image) (length image) state h → IsOutcome (mem s' image) (length image) (step state (command.Reserve id kind c.id 1)) r = λ image state i h p.
+    let out : (image : List ℕ) (state : State) → Sees s' image → (h : IsState (mem s image) (length image) state) →
+    AtPick id block kind o (mem s image) (length image) state h →
+    IsOutcome (mem s' image) (length image) (step state (command.Reserve id kind c.id 1)) r = λ image state i h p.
     let e = pick_here (mem s image) (length image) state h id kind block o b c is_b is_c b_some c_some small p in
-    outcome_lands (mem s image) (mem s' image) (length image) state (command.Reserve id kind c.id 1) r h range (v.lands image state i h e) in
+    outcome_lands (mem s image) (mem s' image) (length image) state (command.Reserve id kind c.id 1) r h range
+    (v.lands image state i h e) in
     record {
       kept = v.kept;
       state = λ image state i h p. rw is_c (out image state i h p).state;
-      answer = λ image state i h p. rw (is_c, w) (ap (λ (x : Reply). Some (record { id = c.id; price = c.price; refused = refusal_of x })) (out image state i h p).reply_is);
+      answer = λ image state i h p. rw (is_c, w) (ap (λ (x : Reply). Some
+          (record { id = c.id; price = c.price; refused = refusal_of x })) (out image state i h p).reply_is);
     }
 
-pub reserved_stays : (s s' : View) (id : ℕ) (kind : Kind) (block : Option ℕ) (o : Option Choice) (b : ℕ) (c : Choice) (r : Reply) → block ≡ Some b → o ≡ Some c → b ≢ 0 → c.item ≢ 0 → c.id < 2 ^ 32 →
-    Serves s s' (command.Reserve id kind c.id 1) r (AtBlocks id b kind c.id c.item) → BlocksStay s s' (AtPick id block kind o)
+pub reserved_stays : (s s' : View) (id : ℕ) (kind : Kind) (block : Option ℕ) (o : Option Choice) (b : ℕ) (c : Choice)
+    (r : Reply) → block ≡ Some b → o ≡ Some c → b ≢ 0 → c.item ≢ 0 → c.id < 2 ^ 32 →
+    Serves s s' (command.Reserve id kind c.id 1) r (AtBlocks id b kind c.id c.item) →
+    BlocksStay s s' (AtPick id block kind o)
 reserved_stays s s' id kind block o b c r is_b is_c b_some c_some small v =
-    let lands : (image : List ℕ) (state : State) → Sees s' image → (h : IsState (mem s image) (length image) state) → AtPick id block kind o (mem s image) (length image) state h → Lands h (mem s' image) (command.Reserve id kind c.id 1) r = λ image state i h p.
-    v.lands image state i h (pick_here (mem s image) (length image) state h id kind block o b c is_b is_c b_some c_some small p) in
+    let lands : (image : List ℕ) (state : State) → Sees s' image → (h : IsState (mem s image) (length image) state) →
+    AtPick id block kind o (mem s image) (length image) state h →
+    Lands h (mem s' image) (command.Reserve id kind c.id 1) r = λ image state i h p.
+    v.lands image state i h (pick_here (mem s image) (length image) state h id kind block o b c is_b is_c b_some c_some
+    small p) in
     record {
-      items = λ image state state' i h p h' kind' id'. item_lands (mem s image) (mem s' image) (length image) state state' (command.Reserve id kind c.id 1) r h h' (lands image state i h p) kind' id';
-      customers = λ image state state' i h p h' id'. customer_lands (mem s image) (mem s' image) (length image) state state' (command.Reserve id kind c.id 1) r h h' (lands image state i h p) id';
+      items = λ image state state' i h p h' kind' id'. item_lands (mem s image) (mem s' image)
+          (length image) state state' (command.Reserve id kind c.id 1) r h h' (lands image state i h p) kind' id';
+      customers = λ image state state' i h p h' id'. customer_lands (mem s image) (mem s' image)
+          (length image) state state' (command.Reserve id kind c.id 1) r h h' (lands image state i h p) id';
     }
 
 -- what is known of a state's blocks is known of another one's that has them
-choice_moves : {m m' : ℕ → ℕ} {n n' : ℕ} {s s' : State} → (h : IsState m n s) (h' : IsState m' n' s') (kind : Kind) (o : Option Choice) → ((kind : Kind) (id : ℕ) → item_block h' kind id ≡ item_block h kind id) → IsChoiceAt h kind o → IsChoiceAt h' kind o
+choice_moves : {m m' : ℕ → ℕ} {n n' : ℕ} {s s' : State} → (h : IsState m n s) (h' : IsState m' n' s') (kind : Kind)
+    (o : Option Choice) → ((kind : Kind) (id : ℕ) → item_block h' kind id ≡ item_block h kind id) →
+    IsChoiceAt h kind o → IsChoiceAt h' kind o
 choice_moves h h' kind None same at = tt
 choice_moves h h' kind (Some c) same at = same kind c.id ∙ at
 
-owner_moves : {m m' : ℕ → ℕ} {n n' : ℕ} {s s' : State} → (h : IsState m n s) (h' : IsState m' n' s') (id : ℕ) (block : Option ℕ) → ((id : ℕ) → customer_block h' id ≡ customer_block h id) → IsOwnerAt h id block → IsOwnerAt h' id block
+owner_moves : {m m' : ℕ → ℕ} {n n' : ℕ} {s s' : State} → (h : IsState m n s) (h' : IsState m' n' s') (id : ℕ)
+    (block : Option ℕ) → ((id : ℕ) → customer_block h' id ≡ customer_block h id) → IsOwnerAt h id block →
+    IsOwnerAt h' id block
 owner_moves h h' id None same at = same id ∙ at
 owner_moves h h' id (Some c) same at = same id ∙ at
 
@@ -222,25 +273,36 @@ pub record Ready (s : View) (id : ℕ) (block : Option ℕ) (cs : Choices) : Typ
   pub known : ChoicesAreAt s cs
 
 -- what is so at the size is so of each state there
-owner_at : (s : View) (id : ℕ) (block : Option ℕ) → IsOwner s id block → (image : List ℕ) (state : State) → RestsOn s image → (h : IsState (mem s image) (length image) state) → IsOwnerAt h id block
+owner_at : (s : View) (id : ℕ) (block : Option ℕ) → IsOwner s id block → (image : List ℕ) (state : State) →
+    RestsOn s image → (h : IsState (mem s image) (length image) state) → IsOwnerAt h id block
 owner_at s id None l image state i h = l.none image state i h
 owner_at s id (Some c) at image state i h = at.at image state i h
 
-choice_at : (s : View) (kind : Kind) (o : Option Choice) → IfSome o (λ c. ChoiceIsAt s kind c) → (image : List ℕ) (state : State) → RestsOn s image → (h : IsState (mem s image) (length image) state) → IsChoiceAt h kind o
+choice_at : (s : View) (kind : Kind) (o : Option Choice) → IfSome o (λ c. ChoiceIsAt s kind c) →
+    (image : List ℕ) (state : State) → RestsOn s image → (h : IsState (mem s image) (length image) state) →
+    IsChoiceAt h kind o
 choice_at s kind None k image state i h = tt
 choice_at s kind (Some c) k image state i h = k.at.at image state i h
 
 -- and where blocks stay at the size, it stays so
 choice_stays : (s s' : View) (kind : Kind) (o : Option Choice) → HoldsState s → Kept s s' →
-    ((image : List ℕ) (state state' : State) → RestsOn s' image → (h : IsState (mem s image) (length image) state) → (h' : IsState (mem s' image) (length image) state') → (kind : Kind) (id : ℕ) → item_block h' kind id ≡ item_block h kind id) →
+    ((image : List ℕ) (state state' : State) → RestsOn s' image → (h : IsState (mem s image) (length image) state) →
+    (h' : IsState (mem s' image) (length image) state') → (kind : Kind) (id : ℕ) →
+    item_block h' kind id ≡ item_block h kind id) →
     IfSome o (λ c. ChoiceIsAt s kind c) → IfSome o (λ c. ChoiceIsAt s' kind c)
 choice_stays s s' kind None held kept stay k = tt
-choice_stays s s' kind (Some c) held kept stay k = record { id = k.id; at = item_at_stays s s' kind c.id c.item held kept (λ image state state' i h h'. stay image state state' i h h' kind c.id) k.at }
+choice_stays s s' kind (Some c) held kept stay k = record {
+  id = k.id;
+  at = item_at_stays s s' kind c.id c.item held kept (λ image state state' i h h'. stay image state state' i h h' kind
+      c.id) k.at;
+}
 
 owner_stays : (s s' : View) (id : ℕ) (block : Option ℕ) → HoldsState s → Kept s s' →
-    ((image : List ℕ) (state state' : State) → RestsOn s' image → (h : IsState (mem s image) (length image) state) → (h' : IsState (mem s' image) (length image) state') → (id : ℕ) → customer_block h' id ≡ customer_block h id) →
+    ((image : List ℕ) (state state' : State) → RestsOn s' image → (h : IsState (mem s image) (length image) state) →
+    (h' : IsState (mem s' image) (length image) state') → (id : ℕ) → customer_block h' id ≡ customer_block h id) →
     IsOwner s id block → IsOwner s' id block
-owner_stays s s' id (Some c) held kept stay at = customer_at_stays s s' id c held kept (λ image state state' i h h'. stay image state state' i h h' id) at
+owner_stays s s' id (Some c) held kept stay at = customer_at_stays s s' id c held kept
+    (λ image state state' i h h'. stay image state state' i h h' id) at
 owner_stays s s' id None held kept stay l = record {
   none = λ image state' i h'.
       let i0 = stood kept image i in
@@ -250,7 +312,8 @@ owner_stays s s' id None held kept stay l = record {
 
 -- the customer who was seen to
 owner_seated : (s s' : View) (id : ℕ) (block : Option ℕ) → HoldsState s → Kept s s' → IsWithin s' block →
-    ((image : List ℕ) (state state' : State) → Sees s' image → IsState (mem s image) (length image) state → (h' : IsState (mem s' image) (length image) state') → IsOwnerAt h' id block) → IsOwner s' id block
+    ((image : List ℕ) (state state' : State) → Sees s' image → IsState (mem s image) (length image) state →
+    (h' : IsState (mem s' image) (length image) state') → IsOwnerAt h' id block) → IsOwner s' id block
 owner_seated s s' id None held kept room seat = record {
   none = λ image state' i h'. (let t = held.under image (stood kept image i) in seat image t.0 state' i.sees t.1 h');
 }
@@ -260,24 +323,30 @@ owner_seated s s' id (Some c) held kept room seat = record {
   at = λ image state' i h'. (let t = held.under image (stood kept image i) in seat image t.0 state' i.sees t.1 h');
 }
 
-pub ready_joined : (s s' : View) (id : ℕ) (owner : Owner) (cs : Choices) → HoldsState s → ChoicesAreAt s cs → HasJoined s s' id owner → Ready s' id owner.block cs
+pub ready_joined : (s s' : View) (id : ℕ) (owner : Owner) (cs : Choices) → HoldsState s → ChoicesAreAt s cs →
+    HasJoined s s' id owner → Ready s' id owner.block cs
 ready_joined s s' id owner cs held known j = record {
   state = held_runs s s' (joined id) owner.joined j.runs held;
   owner = owner_seated s s' id owner.block held j.runs.kept j.room j.seat;
   known = record {
-    known = λ kind. choice_stays s s' kind (choice_in cs kind) held j.runs.kept (λ image state state' i h h' kind id. j.items.stay image state state' i.sees h h' kind id) (known.known kind);
+    known = λ kind. choice_stays s s' kind (choice_in cs kind) held j.runs.kept
+        (λ image state state' i h h' kind id. j.items.stay image state state' i.sees h h' kind id) (known.known kind);
   };
 }
 
 -- a pick's blocks at the size
-pick_at : (s : View) (id : ℕ) (block : Option ℕ) (cs : Choices) (kind : Kind) → Ready s id block cs → (image : List ℕ) (state : State) → RestsOn s image → (h : IsState (mem s image) (length image) state) → AtPick id block kind (choice_in cs kind) (mem s image) (length image) state h
+pick_at : (s : View) (id : ℕ) (block : Option ℕ) (cs : Choices) (kind : Kind) → Ready s id block cs →
+    (image : List ℕ) (state : State) → RestsOn s image → (h : IsState (mem s image) (length image) state) →
+    AtPick id block kind (choice_in cs kind) (mem s image) (length image) state h
 pick_at s id block cs kind r image state i h = record {
   owner = owner_at s id block r.owner image state i h;
   chosen = choice_at s kind (choice_in cs kind) (r.known.known kind) image state i h;
 }
 
-pub ready_next : {A : Type 0} (s s' : View) (id : ℕ) (block : Option ℕ) (cs : Choices) (kind : Kind) (f : State → State × A) (a : A) →
-    Ready s id block cs → RunsWhere s s' f a (AtPick id block kind (choice_in cs kind)) → BlocksStay s s' (AtPick id block kind (choice_in cs kind)) → Ready s' id block cs
+pub ready_next : {A : Type 0} (s s' : View) (id : ℕ) (block : Option ℕ) (cs : Choices) (kind : Kind) (f : State →
+    State × A) (a : A) →
+    Ready s id block cs → RunsWhere s s' f a (AtPick id block kind (choice_in cs kind)) →
+    BlocksStay s s' (AtPick id block kind (choice_in cs kind)) → Ready s' id block cs
 ready_next s s' id block cs kind f a r runs stays = record {
   state = record {
     inside = omega (arith, r.state.inside, runs.kept.size);
@@ -287,14 +356,18 @@ ready_next s s' id block cs kind f a r runs stays = record {
         let t = r.state.under image i0 in
         ((f t.0).0, runs.state image t.0 i.sees t.1 (pick_at s id block cs kind r image t.0 i0 t.1));
   };
-  owner = owner_stays s s' id block r.state runs.kept (λ image state state' i h h' id'. stays.customers image state state' i.sees h (pick_at s id block cs kind r image state (stood runs.kept image i) h) h' id') r.owner;
+  owner = owner_stays s s' id block r.state runs.kept (λ image state state' i h h' id'. stays.customers image state
+      state' i.sees h (pick_at s id block cs kind r image state (stood runs.kept image i) h) h' id') r.owner;
   known = record {
-    known = λ k. choice_stays s s' k (choice_in cs k) r.state runs.kept (λ image state state' i h h' kind' id'. stays.items image state state' i.sees h (pick_at s id block cs kind r image state (stood runs.kept image i) h) h' kind' id') (r.known.known k);
+    known = λ k. choice_stays s s' k (choice_in cs k) r.state runs.kept
+        (λ image state state' i h h' kind' id'. stays.items image state state' i.sees h
+        (pick_at s id block cs kind r image state (stood runs.kept image i) h) h' kind' id') (r.known.known k);
   };
 }
 
 -- what was found can be booked
-choice_found : (s : View) (kind : Kind) (o : Option Choice) → IfSome o (λ c. IsKnown s kind c) → IfSome o (λ c. ChoiceIsAt s kind c)
+choice_found : (s : View) (kind : Kind) (o : Option Choice) → IfSome o (λ c. IsKnown s kind c) →
+    IfSome o (λ c. ChoiceIsAt s kind c)
 choice_found s kind None k = tt
 choice_found s kind (Some c) k = record { id = k.id; at = item_found_at s kind c.id c.item k.at }
 
@@ -302,31 +375,49 @@ pub choices_found : (s : View) (cs : Choices) → AreKnown s cs → ChoicesAreAt
 choices_found s cs k = record { known = λ kind. choice_found s kind (choice_in cs kind) (k.known kind) }
 
 -- the customer and the three bookings, one after the other
-module _ (s s1 s2 s3 s4 : View) (id : ℕ) (owner : Owner) (cs : Choices) (car flight room : Option Pick) (j : HasJoined s s1 id owner)
-    (a : RunsWhere s1 s2 (picks id Car cs.car) car (AtPick id owner.block Car cs.car)) (sa : BlocksStay s1 s2 (AtPick id owner.block Car cs.car))
-    (b : RunsWhere s2 s3 (picks id Flight cs.flight) flight (AtPick id owner.block Flight cs.flight)) (sb : BlocksStay s2 s3 (AtPick id owner.block Flight cs.flight))
+module _ (s s1 s2 s3 s4 : View) (id : ℕ) (owner : Owner) (cs : Choices) (car flight room : Option Pick)
+    (j : HasJoined s s1 id owner)
+    (a : RunsWhere s1 s2 (picks id Car cs.car) car (AtPick id owner.block Car cs.car))
+    (sa : BlocksStay s1 s2 (AtPick id owner.block Car cs.car))
+    (b : RunsWhere s2 s3 (picks id Flight cs.flight) flight (AtPick id owner.block Flight cs.flight))
+    (sb : BlocksStay s2 s3 (AtPick id owner.block Flight cs.flight))
     (c : RunsWhere s3 s4 (picks id Room cs.room) room (AtPick id owner.block Room cs.room)) where
-  all : (image : List ℕ) (state : State) → Sees s4 image → (h : IsState (mem s image) (length image) state) → AtChoices cs (mem s image) (length image) state h →
-      IsState (mem s4 image) (length image) (book_choices state id (priced cs.car) (priced cs.flight) (priced cs.room)).0
-      × ((book_choices state id (priced cs.car) (priced cs.flight) (priced cs.room)).1 ≡ reply.Trip (record { joined = owner.joined; picks = car ∷ flight ∷ room ∷ [] }))
+  all : (image : List ℕ) (state : State) → Sees s4 image → (h : IsState (mem s image) (length image) state) →
+      AtChoices cs (mem s image) (length image) state h →
+      IsState (mem s4 image) (length image) (book_choices state id (priced cs.car) (priced cs.flight)
+      (priced cs.room)).0
+      × ((book_choices state id (priced cs.car) (priced cs.flight) (priced cs.room)).1 ≡ reply.Trip
+      (record { joined = owner.joined; picks = car ∷ flight ∷ room ∷ [] }))
   all image state i h p =
       let i3 = c.kept.seen image i in
       let i2 = b.kept.seen image i3 in
       let i1 = a.kept.seen image i2 in
       let h1 = j.runs.state image state i1 h in
       let seat1 = j.seat image state _ i1 h h1 in
-      let car_at : IsChoiceAt h1 Car cs.car = choice_moves h h1 Car cs.car (j.items.stay image state _ i1 h h1) (p.at Car) in
-      let flight_at : IsChoiceAt h1 Flight cs.flight = choice_moves h h1 Flight cs.flight (j.items.stay image state _ i1 h h1) (p.at Flight) in
-      let room_at : IsChoiceAt h1 Room cs.room = choice_moves h h1 Room cs.room (j.items.stay image state _ i1 h h1) (p.at Room) in
-      let p1 : AtPick id owner.block Car cs.car (mem s1 image) (length image) _ h1 = record { owner = seat1; chosen = car_at } in
+      let car_at : IsChoiceAt h1 Car cs.car = choice_moves h h1 Car cs.car (j.items.stay image state _ i1 h h1)
+      (p.at Car) in
+      let flight_at : IsChoiceAt h1 Flight cs.flight = choice_moves h h1 Flight cs.flight
+      (j.items.stay image state _ i1 h h1) (p.at Flight) in
+      let room_at : IsChoiceAt h1 Room cs.room = choice_moves h h1 Room cs.room (j.items.stay image state _ i1 h h1)
+      (p.at Room) in
+      let p1 : AtPick id owner.block Car cs.car (mem s1 image) (length image) _ h1 =
+      record { owner = seat1; chosen = car_at } in
       let h2 = a.state image _ i2 h1 p1 in
       let items2 = sa.items image _ _ i2 h1 p1 h2 in
       let customers2 = sa.customers image _ _ i2 h1 p1 h2 in
-      let p2 : AtPick id owner.block Flight cs.flight (mem s2 image) (length image) _ h2 = record { owner = owner_moves h1 h2 id owner.block customers2 seat1; chosen = choice_moves h1 h2 Flight cs.flight items2 flight_at } in
+      let p2 : AtPick id owner.block Flight cs.flight (mem s2 image) (length image) _ h2 =
+      record {
+        owner = owner_moves h1 h2 id owner.block customers2 seat1;
+        chosen = choice_moves h1 h2 Flight cs.flight items2 flight_at;
+      } in
       let h3 = b.state image _ i3 h2 p2 in
       let items3 = sb.items image _ _ i3 h2 p2 h3 in
       let customers3 = sb.customers image _ _ i3 h2 p2 h3 in
-      let p3 : AtPick id owner.block Room cs.room (mem s3 image) (length image) _ h3 = record { owner = owner_moves h2 h3 id owner.block customers3 p2.owner; chosen = choice_moves h2 h3 Room cs.room items3 (choice_moves h1 h2 Room cs.room items2 room_at) } in
+      let p3 : AtPick id owner.block Room cs.room (mem s3 image) (length image) _ h3 =
+      record {
+        owner = owner_moves h2 h3 id owner.block customers3 p2.owner;
+        chosen = choice_moves h2 h3 Room cs.room items3 (choice_moves h1 h2 Room cs.room items2 room_at);
+      } in
       let e = j.runs.answer image state i1 h in
       let ea = a.answer image _ i2 h1 p1 in
       let eb = b.answer image _ i3 h2 p2 in
@@ -345,34 +436,44 @@ some_priced : (o : Option Choice) → is_some (priced o) ≡ is_some o
 some_priced None = refl
 some_priced (Some c) = refl
 
-any_priced : (a b c : Option Choice) → (is_some (priced a) || is_some (priced b) || is_some (priced c)) ≡ (is_some a || is_some b || is_some c)
+any_priced : (a b c : Option Choice) → (is_some (priced a) || is_some (priced b) || is_some (priced c)) ≡
+    (is_some a || is_some b || is_some c)
 any_priced a b c = λ i. some_priced a i || some_priced b i || some_priced c i
 
 -- the definition's trip, where the choices are these
-trip_is : (state : State) (id : ℕ) (asks : List Place) (cs : Choices) → ((kind : Kind) → choice_of state kind asks ≡ priced (choice_in cs kind)) →
+trip_is : (state : State) (id : ℕ) (asks : List Place) (cs : Choices) →
+    ((kind : Kind) → choice_of state kind asks ≡ priced (choice_in cs kind)) →
     trip state id asks ≡ trip_with state id (priced cs.car) (priced cs.flight) (priced cs.room)
 trip_is state id asks cs e = λ i. trip_with state id (e Car i) (e Flight i) (e Room i)
 
 some_chosen : (state : State) (id : ℕ) (cs : Choices) → any_chosen cs ≡ true →
-    trip_with state id (priced cs.car) (priced cs.flight) (priced cs.room) ≡ book_choices state id (priced cs.car) (priced cs.flight) (priced cs.room)
+    trip_with state id (priced cs.car) (priced cs.flight) (priced cs.room) ≡ book_choices state id (priced cs.car)
+    (priced cs.flight) (priced cs.room)
 some_chosen state id cs e =
     let any = any_priced cs.car cs.flight cs.room ∙ e in
     ap (λ (t : Bool). if t then book_choices state id (priced cs.car) (priced cs.flight) (priced cs.room)
     else (state, reply.Trip (record { joined = NotAsked; picks = None ∷ None ∷ None ∷ [] }))) any
 
 none_chosen : (state : State) (id : ℕ) (cs : Choices) → any_chosen cs ≡ false →
-    trip_with state id (priced cs.car) (priced cs.flight) (priced cs.room) ≡ (state, reply.Trip (record { joined = NotAsked; picks = None ∷ None ∷ None ∷ [] }))
+    trip_with state id (priced cs.car) (priced cs.flight) (priced cs.room) ≡ (
+      state,
+      reply.Trip (record { joined = NotAsked; picks = None ∷ None ∷ None ∷ [] }),
+    )
 none_chosen state id cs e =
     let any = any_priced cs.car cs.flight cs.room ∙ e in
     ap (λ (t : Bool). if t then book_choices state id (priced cs.car) (priced cs.flight) (priced cs.room)
     else (state, reply.Trip (record { joined = NotAsked; picks = None ∷ None ∷ None ∷ [] }))) any
 
-known_at : (s : View) (kind : Kind) (o : Option Choice) → IfSome o (λ c. IsKnown s kind c) → (image : List ℕ) (state : State) → Sees s image → (h : IsState (mem s image) (length image) state) → IsChoiceAt h kind o
+known_at : (s : View) (kind : Kind) (o : Option Choice) → IfSome o (λ c. IsKnown s kind c) →
+    (image : List ℕ) (state : State) → Sees s image → (h : IsState (mem s image) (length image) state) →
+    IsChoiceAt h kind o
 known_at s kind None k image state i h = tt
 known_at s kind (Some c) k image state i h = k.at.at image state i h
 
-pub tripped : (s s1 s2 : View) (id : ℕ) (asks : List Place) (cs : Choices) (r : Reply) → Chosen s s1 asks cs → any_chosen cs ≡ true →
-    RunsWhere s1 s2 (λ state. book_choices state id (priced cs.car) (priced cs.flight) (priced cs.room)) r (AtChoices cs) → RanTask s s2 (task.Trip id asks) r
+pub tripped : (s s1 s2 : View) (id : ℕ) (asks : List Place) (cs : Choices) (r : Reply) → Chosen s s1 asks cs →
+    any_chosen cs ≡ true →
+    RunsWhere s1 s2 (λ state. book_choices state id (priced cs.car) (priced cs.flight) (priced cs.room)) r
+    (AtChoices cs) → RanTask s s2 (task.Trip id asks) r
 tripped s s1 s2 id asks cs r chosen any runs = record {
   kept = kept_both s s1 s2 chosen.reads.kept runs.kept;
   untouched = tt;
@@ -380,20 +481,24 @@ tripped s s1 s2 id asks cs r chosen any runs = record {
   outcome = λ image state i h.
       let i1 = runs.kept.seen image i in
       let h1 = state_on s s1 image state chosen.reads.writes h in
-      let p : AtChoices cs (mem s1 image) (length image) state h1 = record { at = λ kind. known_at s1 kind (choice_in cs kind) (chosen.known.known kind) image state i1 h1 } in
+      let p : AtChoices cs (mem s1 image) (length image) state h1 =
+      record { at = λ kind. known_at s1 kind (choice_in cs kind) (chosen.known.known kind) image state i1 h1 } in
       let o = book_choices state id (priced cs.car) (priced cs.flight) (priced cs.room) in
       let e = trip_is state id asks cs (chosen.are image state i1 h) ∙ some_chosen state id cs any in
       outcome_is (mem s2 image) (length image) (trip state id asks) o.0 r
       (e ∙ ap (λ (x : Reply). (o.0, x)) (runs.answer image state i h1 p)) (runs.state image state i h1 p);
 }
 
-pub tripped_none : (s s' : View) (id : ℕ) (asks : List Place) (cs : Choices) → Chosen s s' asks cs → any_chosen cs ≡ false →
+pub tripped_none : (s s' : View) (id : ℕ) (asks : List Place) (cs : Choices) → Chosen s s' asks cs →
+    any_chosen cs ≡ false →
     RanTask s s' (task.Trip id asks) (reply.Trip (record { joined = NotAsked; picks = None ∷ None ∷ None ∷ [] }))
 tripped_none s s' id asks cs chosen none = record {
   kept = chosen.reads.kept;
   untouched = tt;
   idle = tt;
   outcome = λ image state i h.
-      outcome_is (mem s' image) (length image) (trip state id asks) state (reply.Trip (record { joined = NotAsked; picks = None ∷ None ∷ None ∷ [] }))
-      (trip_is state id asks cs (chosen.are image state i h) ∙ none_chosen state id cs none) (state_on s s' image state chosen.reads.writes h);
+      outcome_is (mem s' image) (length image) (trip state id asks) state
+      (reply.Trip (record { joined = NotAsked; picks = None ∷ None ∷ None ∷ [] }))
+      (trip_is state id asks cs (chosen.are image state i h) ∙ none_chosen state id cs none)
+      (state_on s s' image state chosen.reads.writes h);
 }

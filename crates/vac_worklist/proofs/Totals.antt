@@ -1,5 +1,6 @@
 -- From each state of a generator the words are drawn that a reader of tasks asks for.
-use Rattle.std.proofs.Common.{refl, ℕ, zero, suc, ◌+◌, ◌*◌, ◌==◌, ◌%◌, Bool, true, false, if◌then◌else◌, nat_lt, List, [], ◌∷◌, ◌++◌, Some}
+use Rattle.std.proofs.Common.{refl, ℕ, zero, suc, ◌+◌, ◌*◌, ◌==◌, ◌%◌, Bool, true, false, if◌then◌else◌, nat_lt, List}
+use Rattle.std.proofs.Common.{[], ◌∷◌, ◌++◌, Some}
 use Rattle.rand_pcg.specs.Lcg.{Lcg}
 use Rattle.rand_pcg.specs.Pcg.{pcg32}
 use Rattle.vac_model.specs.declared.items.Kind.{Kind}
@@ -10,7 +11,9 @@ use Rattle.vac_draws.specs.declared.settings.Settings.{Settings}
 use Rattle.vac_draws.specs.declared.settings.TheConstants.{PERCENT, LEVELS, UNITS, PRICE_STEP, LOWEST_PRICE}
 use Rattle.vac_draws.specs.Draws.{Reader, always, below, after, joined, one, for_each, times, Drawn}
 use Rattle.vac_draws.specs.Streams.{gives}
-use Rattle.vac_draws.specs.Tasks.{up_to, kind, kind_at, price, ask, trip, leave, removal, change_of, change, update, task_at, work, question_at, question, mixed_at, task_of, stock, stocks, customers, opening}
+use Rattle.vac_draws.specs.Tasks.{up_to, kind, kind_at, price, ask, trip, leave, removal, change_of, change, update}
+use Rattle.vac_draws.specs.Tasks.{task_at, work, question_at, question, mixed_at, task_of, stock, stocks, customers}
+use Rattle.vac_draws.specs.Tasks.{opening}
 use Rattle.vac_draws.proofs.Drawing.{drawn_always, drawn_below, drawn_after}
 
 abbrev pub IsTotal : {X : Type 0} → Reader X → Type 0
@@ -20,9 +23,14 @@ always_total : {X : Type 0} (x : X) → IsTotal (always x)
 always_total x = λ state. (x, state, drawn_always gives state x)
 
 below_total : (n : ℕ) → IsTotal (below n)
-below_total n = λ state. ((pcg32 state).0 % n, (pcg32 state).1, drawn_below gives n state (pcg32 state).0 (pcg32 state).1 refl)
+below_total n = λ state. (
+  (pcg32 state).0 % n,
+  (pcg32 state).1,
+  drawn_below gives n state (pcg32 state).0 (pcg32 state).1 refl,
+)
 
-after_total : {X Y : Type 0} (first : Reader X) (next : X → Reader Y) → IsTotal first → ((x : X) → IsTotal (next x)) → IsTotal (after first next)
+after_total : {X Y : Type 0} (first : Reader X) (next : X → Reader Y) → IsTotal first → ((x : X) → IsTotal (next x)) →
+    IsTotal (after first next)
 after_total first next p q = λ state.
     let a = p state in
     let b = q a.0 a.1 in
@@ -31,12 +39,15 @@ after_total first next p q = λ state.
 then_total : {X Y : Type 0} (first : Reader X) (f : X → Y) → IsTotal first → IsTotal (after first (λ x. always (f x)))
 then_total first f p = after_total first (λ x. always (f x)) p (λ x. always_total (f x))
 
-if_total : {X : Type 0} (b : Bool) (first second : Reader X) → IsTotal first → IsTotal second → IsTotal (if b then first else second)
+if_total : {X : Type 0} (b : Bool) (first second : Reader X) → IsTotal first → IsTotal second →
+    IsTotal (if b then first else second)
 if_total true first second p q = p
 if_total false first second p q = q
 
-pub joined_total : {X : Type 0} (first second : Reader (List X)) → IsTotal first → IsTotal second → IsTotal (joined first second)
-joined_total first second p q = after_total first (λ xs. after second (λ ys. always (xs ++ ys))) p (λ xs. then_total second (λ ys. xs ++ ys) q)
+pub joined_total : {X : Type 0} (first second : Reader (List X)) → IsTotal first → IsTotal second →
+    IsTotal (joined first second)
+joined_total first second p q = after_total first (λ xs. after second (λ ys. always (xs ++ ys))) p
+    (λ xs. then_total second (λ ys. xs ++ ys) q)
 
 pub one_total : {X : Type 0} (reader : Reader X) → IsTotal reader → IsTotal (one reader)
 one_total reader p = then_total reader (λ x. x ∷ []) p
@@ -58,13 +69,17 @@ price_total : IsTotal price
 price_total = then_total (below LEVELS) (λ level. level * PRICE_STEP + LOWEST_PRICE) (below_total LEVELS)
 
 ask_total : (s : Settings) → IsTotal (ask s)
-ask_total s = after_total kind (λ k. after (up_to s.items) (λ id. always (k, id))) kind_total (λ k. then_total (up_to s.items) (λ id. (k, id)) (up_to_total s.items))
+ask_total s = after_total kind (λ k. after (up_to s.items) (λ id. always (k, id))) kind_total
+    (λ k. then_total (up_to s.items) (λ id. (k, id)) (up_to_total s.items))
 
 trip_total : (s : Settings) → IsTotal (trip s)
 trip_total s =
-    after_total (up_to s.asks) (λ count. after (up_to s.items) (λ customer. after (times count (ask s)) (λ asks. always (task.Trip customer asks)))) (up_to_total s.asks)
-    (λ count. after_total (up_to s.items) (λ customer. after (times count (ask s)) (λ asks. always (task.Trip customer asks))) (up_to_total s.items)
-    (λ customer. then_total (times count (ask s)) (λ asks. task.Trip customer asks) (times_total count (ask s) (ask_total s))))
+    after_total (up_to s.asks) (λ count. after (up_to s.items)
+    (λ customer. after (times count (ask s)) (λ asks. always (task.Trip customer asks)))) (up_to_total s.asks)
+    (λ count. after_total (up_to s.items) (λ customer. after (times count (ask s))
+    (λ asks. always (task.Trip customer asks))) (up_to_total s.items)
+    (λ customer. then_total (times count (ask s)) (λ asks. task.Trip customer asks)
+    (times_total count (ask s) (ask_total s))))
 
 leave_total : (s : Settings) → IsTotal (leave s)
 leave_total s = then_total (up_to s.items) (λ customer. task.Leave customer) (up_to_total s.items)
@@ -82,8 +97,10 @@ change_total s =
 
 update_total : (s : Settings) → IsTotal (update s)
 update_total s =
-    after_total (up_to s.asks) (λ count. after (times count (change s)) (λ changes. always (task.Update changes))) (up_to_total s.asks)
-    (λ count. then_total (times count (change s)) (λ changes. task.Update changes) (times_total count (change s) (change_total s)))
+    after_total (up_to s.asks) (λ count. after (times count (change s)) (λ changes. always (task.Update changes)))
+    (up_to_total s.asks)
+    (λ count. then_total (times count (change s)) (λ changes. task.Update changes)
+    (times_total count (change s) (change_total s)))
 
 task_at_total : (s : Settings) (r : ℕ) → IsTotal (task_at s r)
 task_at_total s r =
@@ -120,7 +137,8 @@ task_total s =
 
 pub stock_total : (id : ℕ) (k : Kind) → IsTotal (stock id k)
 stock_total id k =
-    after_total (below LEVELS) (λ level. after price (λ p. always (command.Add k id ((level + 1) * UNITS) (Some p) ∷ []))) (below_total LEVELS)
+    after_total (below LEVELS) (λ level. after price (λ p. always
+    (command.Add k id ((level + 1) * UNITS) (Some p) ∷ []))) (below_total LEVELS)
     (λ level. then_total price (λ p. command.Add k id ((level + 1) * UNITS) (Some p) ∷ []) price_total)
 
 pub stocks_total : (id : ℕ) → IsTotal (stocks id)
@@ -129,4 +147,5 @@ stocks_total id =
     (joined_total (stock id Car) (stock id Flight) (stock_total id Car) (stock_total id Flight)) (stock_total id Room)
 
 pub opening_total : (s : Settings) → IsTotal (opening s)
-opening_total s = then_total (for_each s.items stocks) (λ items. items ++ customers s.items) (for_each_total s.items stocks stocks_total)
+opening_total s = then_total (for_each s.items stocks) (λ items. items ++ customers s.items)
+    (for_each_total s.items stocks stocks_total)

@@ -5,5 +5,6 @@ use Rattle.heap_rows.proofs.steps.cut.Goals as goal
 
 pub returns-in-Some : goal.returns-in-Some
 returns-in-Some c =
-    let r : Removed (flat_view c.args.flat.now) (flat_view c.remove.new.memory) 3 c.args.key c.in-Some.block = rw c.in-Some.is at c.in-Ok.ensures.answer in
+    let r : Removed (flat_view c.args.flat.now) (flat_view c.remove.new.memory) 3 c.args.key c.in-Some.block =
+    rw c.in-Some.is at c.in-Ok.ensures.answer in
     rw c.saturating_sub.ensures (after_cut _ _ _ _ _ _ _ c.requires r)

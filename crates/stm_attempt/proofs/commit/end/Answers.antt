@@ -13,11 +13,13 @@ pub finish-requires-clause-allowed : goal.finish-requires-clause-allowed
 finish-requires-clause-allowed g c =
     let none = no_pairs c.args.logs.now.writes (sym c.len.ensures ∙ c.if-len-eq0.true) in (
       c.requires.running.begun.out,
-      may_act_so (stripe_of c.args.region.now.stripes) g.L.Law.lawful (bounds c.args.region.now) c.args.client.now.value.attempt (finish (g.T.Tag.numbers c.args.tag.now)) (
-        (c.requires.running.runs c.in-None.is, c.requires.running.begun.unversioned),
-        c.requires.running.begun.free,
-        subst (λ ps. g.L.Law.lawful (g.T.Tag.numbers c.args.tag.now) c.args.client.now.value.attempt.reads ps) none (c.requires.lawful c.in-None.is),
-      ),
+      may_act_so (stripe_of c.args.region.now.stripes) g.L.Law.lawful
+          (bounds c.args.region.now) c.args.client.now.value.attempt (finish (g.T.Tag.numbers c.args.tag.now)) (
+            (c.requires.running.runs c.in-None.is, c.requires.running.begun.unversioned),
+            c.requires.running.begun.free,
+            subst (λ ps. g.L.Law.lawful (g.T.Tag.numbers c.args.tag.now) c.args.client.now.value.attempt.reads ps) none
+                (c.requires.lawful c.in-None.is),
+          ),
     )
 
 pub returns-else-is_err-clause-ok : goal.returns-else-is_err-clause-ok
@@ -26,12 +28,18 @@ returns-else-is_err-clause-ok g c =
     let pairs = log_pairs c.args.logs.now.writes in
     let v = c.args.client.now.value in
     elim c.match-stopped.branch [
-      | in-Some w ↦ subst (λ r. IfOk r (λ version. HasCommitted c.args.region.now tag pairs v c.match-stopped.client.value version)) (sym w.answer-is) tt
-      | in-None+then-len-eq0 w ↦ subst (λ r. IfOk r (λ version. HasCommitted c.args.region.now tag pairs v c.match-stopped.client.value version)) (sym w.answer-is)
-          (has_finished c.args.region.now tag pairs v c.match-stopped.client.value c.args.rv w.finish.ensures.client.0 (no_pairs c.args.logs.now.writes (sym w.len.ensures ∙ w.if-len-eq0.true)) c.requires.running.begun
+      | in-Some w ↦ subst (λ r. IfOk r (λ version. HasCommitted c.args.region.now tag pairs v
+          c.match-stopped.client.value version)) (sym w.answer-is) tt
+      | in-None+then-len-eq0 w ↦ subst (λ r. IfOk r (λ version. HasCommitted c.args.region.now tag pairs v
+          c.match-stopped.client.value version)) (sym w.answer-is)
+          (has_finished c.args.region.now tag pairs v c.match-stopped.client.value c.args.rv w.finish.ensures.client.0
+          (no_pairs c.args.logs.now.writes (sym w.len.ensures ∙ w.if-len-eq0.true)) c.requires.running.begun
           (ap (λ (s : ClientShown). s.value) w.client-is ∙ ap (λ (s : ClientShown). s.value) w.finish.ensures.client.1))
-      | in-None+else-len-eq0 w ↦ subst (λ r. IfOk r (λ version. HasCommitted c.args.region.now tag pairs v c.match-stopped.client.value version)) (sym w.answer-is)
-          (subst (λ (s : ClientShown). IfOk w.commit_writes.result (λ version. HasCommitted c.args.region.now tag pairs v s.value version)) (sym w.client-is) w.commit_writes.ensures.ok)
+      | in-None+else-len-eq0 w ↦ subst (λ r. IfOk r (λ version. HasCommitted c.args.region.now tag pairs v
+          c.match-stopped.client.value version)) (sym w.answer-is)
+          (subst (λ (s : ClientShown). IfOk w.commit_writes.result
+          (λ version. HasCommitted c.args.region.now tag pairs v s.value version))
+          (sym w.client-is) w.commit_writes.ensures.ok)
     ]
 
 pub returns-then-is_err-clause-own : goal.returns-then-is_err-clause-own
@@ -75,9 +83,17 @@ returns-else-is_err-clause-decides g c =
     let pairs = log_pairs c.args.logs.now.writes in
     let v = c.args.client.now.value in
     elim c.match-stopped.branch [
-      | in-Some w ↦ subst (λ r. IfOk r (λ version. WasDecided g.L.Law.fits g.L.Law.lawful region (commit_record region tag v pairs version) c.match-stopped.client.value)) (sym w.answer-is) tt
-      | in-None+then-len-eq0 w ↦ subst (λ r. IfOk r (λ version. WasDecided g.L.Law.fits g.L.Law.lawful region (commit_record region tag v pairs version) c.match-stopped.client.value)) (sym w.answer-is)
-          (finished_by g.L.Law.fits g.L.Law.lawful region tag pairs w.finish.ensures.after.0 c.args.rv v w.finish.new.client.value c.match-stopped.client.value (no_pairs c.args.logs.now.writes (sym w.len.ensures ∙ w.if-len-eq0.true)) w.finish.ensures.after.2 (ap (λ (s : ClientShown). s.value) w.client-is))
-      | in-None+else-len-eq0 w ↦ subst (λ r. IfOk r (λ version. WasDecided g.L.Law.fits g.L.Law.lawful region (commit_record region tag v pairs version) c.match-stopped.client.value)) (sym w.answer-is)
-          (subst (λ (s : ClientShown). IfOk w.commit_writes.result (λ version. WasDecided g.L.Law.fits g.L.Law.lawful region (commit_record region tag v pairs version) s.value)) (sym w.client-is) w.commit_writes.ensures.decides)
+      | in-Some w ↦ subst (λ r. IfOk r (λ version. WasDecided g.L.Law.fits g.L.Law.lawful region
+          (commit_record region tag v pairs version) c.match-stopped.client.value)) (sym w.answer-is) tt
+      | in-None+then-len-eq0 w ↦ subst (λ r. IfOk r (λ version. WasDecided g.L.Law.fits g.L.Law.lawful region
+          (commit_record region tag v pairs version) c.match-stopped.client.value)) (sym w.answer-is)
+          (finished_by g.L.Law.fits g.L.Law.lawful region tag pairs w.finish.ensures.after.0 c.args.rv v
+          w.finish.new.client.value c.match-stopped.client.value
+          (no_pairs c.args.logs.now.writes (sym w.len.ensures ∙ w.if-len-eq0.true)) w.finish.ensures.after.2
+          (ap (λ (s : ClientShown). s.value) w.client-is))
+      | in-None+else-len-eq0 w ↦ subst (λ r. IfOk r (λ version. WasDecided g.L.Law.fits g.L.Law.lawful region
+          (commit_record region tag v pairs version) c.match-stopped.client.value)) (sym w.answer-is)
+          (subst (λ (s : ClientShown). IfOk w.commit_writes.result
+          (λ version. WasDecided g.L.Law.fits g.L.Law.lawful region
+          (commit_record region tag v pairs version) s.value)) (sym w.client-is) w.commit_writes.ensures.decides)
     ]

@@ -6,11 +6,15 @@ use Rattle.stm_attempt.proofs.storing.release_all.Goals as goal
 
 pub release-requires-clause-allowed : goal.release-requires-clause-allowed
 release-requires-clause-allowed g c =
-    may_release g.L.Law.lawful (unplaced c.args.region.now.renewal) (stripe_of c.args.region.now.stripes) (bounds c.args.region.now) c.args.writes.now c.args.client.now.value c.loop-lock.client.value _ _ _ c.loop-lock.invariant.3 c.in-Some.ensures.steps c.requires.committed c.requires.stored
+    may_release g.L.Law.lawful (unplaced c.args.region.now.renewal) (stripe_of c.args.region.now.stripes)
+    (bounds c.args.region.now) c.args.writes.now c.args.client.now.value c.loop-lock.client.value _ _ _
+    c.loop-lock.invariant.3 c.in-Some.ensures.steps c.requires.committed c.requires.stored
 
 pub release-requires-clause-range : goal.release-requires-clause-range
 release-requires-clause-range g c =
-    let at = release_logged g.L.Law.lawful (unplaced c.args.region.now.renewal) (stripe_of c.args.region.now.stripes) (bounds c.args.region.now) c.args.writes.now c.args.client.now.value c.loop-lock.client.value _ _ _ c.loop-lock.invariant.3 c.in-Some.ensures.steps in
+    let at = release_logged g.L.Law.lawful (unplaced c.args.region.now.renewal) (stripe_of c.args.region.now.stripes)
+    (bounds c.args.region.now) c.args.writes.now c.args.client.now.value c.loop-lock.client.value _ _ _
+    c.loop-lock.invariant.3 c.in-Some.ensures.steps in
     c.requires.placed.range at.0 _ at.1
 
 pub loop-lock-preserved : goal.loop-lock-preserved
@@ -18,5 +22,8 @@ loop-lock-preserved g c = (
   tt,
   tt,
   ap (λ (x : ClientShown). x.table) c.release.ensures.client ∙ c.loop-lock.invariant.2,
-  released_one g.L.Law.lawful (unplaced c.args.region.now.renewal) (stripe_of c.args.region.now.stripes) (bounds c.args.region.now) c.args.writes.now c.args.client.now.value c.loop-lock.client.value _ _ _ c.loop-lock.invariant.3 c.in-Some.ensures.steps c.release.new.client.value (ap (λ (x : ClientShown). x.value) c.release.ensures.client),
+  released_one g.L.Law.lawful (unplaced c.args.region.now.renewal) (stripe_of c.args.region.now.stripes)
+      (bounds c.args.region.now) c.args.writes.now c.args.client.now.value c.loop-lock.client.value _ _ _
+      c.loop-lock.invariant.3 c.in-Some.ensures.steps c.release.new.client.value
+      (ap (λ (x : ClientShown). x.value) c.release.ensures.client),
 )

@@ -8,17 +8,20 @@ loop-addr-init g c = (
   tt,
   tt,
   c.requires.own,
-  storing_none c.args.writes.now c.args.client.now.value _ (c.into_iter-addr-iterator.ensures.into_iter_gives ∙ c.pairs_by_lock-addr-items.ensures),
+  storing_none c.args.writes.now c.args.client.now.value _ (c.into_iter-addr-iterator.ensures.into_iter_gives ∙
+      c.pairs_by_lock-addr-items.ensures),
 )
 
 pub put-requires-clause-range : goal.put-requires-clause-range
 put-requires-clause-range g c =
-    put_inside g.L.Law.lawful (unplaced c.args.region.now.renewal) c.args.region.now c.args.client.now.value c.loop-addr.client.value _ _ _ _ _ c.loop-addr.invariant.3 c.in-Some.ensures.steps
+    put_inside g.L.Law.lawful (unplaced c.args.region.now.renewal) c.args.region.now c.args.client.now.value
+    c.loop-addr.client.value _ _ _ _ _ c.loop-addr.invariant.3 c.in-Some.ensures.steps
     (all_storable c.args.region.now c.args.writes.now c.args.client.now.value c.requires.placed c.requires.decided)
 
 pub put-requires-clause-allowed : goal.put-requires-clause-allowed
 put-requires-clause-allowed g c =
-    may_put g.L.Law.lawful (unplaced c.args.region.now.renewal) c.args.region.now c.args.client.now.value c.loop-addr.client.value _ _ _ _ _ c.loop-addr.invariant.3 c.in-Some.ensures.steps
+    may_put g.L.Law.lawful (unplaced c.args.region.now.renewal) c.args.region.now c.args.client.now.value
+    c.loop-addr.client.value _ _ _ _ _ c.loop-addr.invariant.3 c.in-Some.ensures.steps
     (all_storable c.args.region.now c.args.writes.now c.args.client.now.value c.requires.placed c.requires.decided)
     (c.requires.decided.out, c.requires.decided.phase)
 
@@ -27,11 +30,13 @@ loop-addr-preserved g c = (
   tt,
   tt,
   ap (λ (x : ClientShown). x.table) c.put.ensures.client ∙ c.loop-addr.invariant.2,
-  stored_one g.L.Law.lawful (unplaced c.args.region.now.renewal) c.args.region.now c.args.client.now.value c.loop-addr.client.value _ _ _ _ _ c.loop-addr.invariant.3 c.in-Some.ensures.steps
+  stored_one g.L.Law.lawful (unplaced c.args.region.now.renewal) c.args.region.now c.args.client.now.value
+      c.loop-addr.client.value _ _ _ _ _ c.loop-addr.invariant.3 c.in-Some.ensures.steps
       (all_storable c.args.region.now c.args.writes.now c.args.client.now.value c.requires.placed c.requires.decided)
       c.put.new.client.value (ap (λ (x : ClientShown). x.value) c.put.ensures.client),
 )
 
 pub returns-clause-stored : goal.returns-clause-stored
 returns-clause-stored g c =
-    has_stored c.args.writes.now c.args.client.now.value c.loop-addr.client.value _ c.loop-addr.invariant.3 c.in-None.ensures.steps.0 c.same_addresses.ensures c.requires.decided.writes
+    has_stored c.args.writes.now c.args.client.now.value c.loop-addr.client.value _ c.loop-addr.invariant.3
+    c.in-None.ensures.steps.0 c.same_addresses.ensures c.requires.decided.writes

@@ -7,11 +7,19 @@ use Rattle.stm_attempt.proofs.ticking.tick.Goals as goal
 
 pub returns-in-Ok-clause-won : goal.returns-in-Ok-clause-won
 returns-in-Ok-clause-won g c =
-    subst (λ (n : ℕ). HasTicked c.args.region.now (g.T.Tag.numbers c.args.tag.now) (log_pairs c.args.writes.now) c.args.client.now.value c.tick.new.client.value n) (sym c.in-Ok.ensures.version.0)
-    (has_won c.args.region.now _ _ _ _ _ _ c.loop.invariant.2 c.requires.ready.reading c.tick.new.client.value (ap (λ (x : ClientShown). x.value) c.in-Ok.ensures.client))
+    subst (λ (n : ℕ). HasTicked c.args.region.now (g.T.Tag.numbers c.args.tag.now)
+    (log_pairs c.args.writes.now) c.args.client.now.value c.tick.new.client.value n) (sym c.in-Ok.ensures.version.0)
+    (has_won c.args.region.now _ _ _ _ _ _ c.loop.invariant.2 c.requires.ready.reading c.tick.new.client.value
+    (ap (λ (x : ClientShown). x.value) c.in-Ok.ensures.client))
 
 pub loop-init : goal.loop-init
-loop-init g c = (refl, c.requires.ready.range, ticking_none c.args.client.now.value c.args.rv c.requires.ready.unticked c.requires.ready.from, λ _. (refl, refl))
+loop-init g c = (
+  refl,
+  c.requires.ready.range,
+  ticking_none c.args.client.now.value c.args.rv c.requires.ready.unticked
+      c.requires.ready.from,
+  λ _. (refl, refl),
+)
 
 pub returns-in-Ok-clause-own : goal.returns-in-Ok-clause-own
 returns-in-Ok-clause-own g c = ap (λ (s : ClientShown). s.table) c.in-Ok.ensures.client ∙ c.loop.invariant.0
@@ -23,7 +31,8 @@ pub returns-then-eq-clause-own : goal.returns-then-eq-clause-own
 returns-then-eq-clause-own g c = c.loop.invariant.0
 
 pub returns-then-eq-clause-failed : goal.returns-then-eq-clause-failed
-returns-then-eq-clause-failed g c = has_lost c.args.client.now.value c.loop.client.value _ _ c.loop.invariant.2 c.requires.ready.out c.requires.ready.reading
+returns-then-eq-clause-failed g c = has_lost c.args.client.now.value c.loop.client.value _ _ c.loop.invariant.2
+    c.requires.ready.out c.requires.ready.reading
 
 pub returns-then-eq-clause-lone : goal.returns-then-eq-clause-lone
 returns-then-eq-clause-lone g c = λ _. tt
@@ -32,13 +41,18 @@ pub returns-clause-own : goal.returns-clause-own
 returns-clause-own g c = c.loop.invariant.0
 
 pub returns-clause-failed : goal.returns-clause-failed
-returns-clause-failed g c = has_lost c.args.client.now.value c.loop.client.value _ _ c.loop.invariant.2 c.requires.ready.out c.requires.ready.reading
+returns-clause-failed g c = has_lost c.args.client.now.value c.loop.client.value _ _ c.loop.invariant.2
+    c.requires.ready.out c.requires.ready.reading
 
 pub loop-preserved : goal.loop-preserved
 loop-preserved g c =
     let lost = c.in-Err.ensures.client in (
       ap (λ (s : ClientShown). s.table) lost.1 ∙ c.loop.invariant.0,
       c.in-Err.ensures.version,
-      lost_on c.args.region.now (g.T.Tag.numbers c.args.tag.now) (log_pairs c.args.writes.now) c.args.client.now.value c.loop.client.value c.tick.new.client.value c.loop.counter c.loop.from c.in-Err.found c.loop.invariant.2 lost.0 (ap (λ (s : ClientShown). s.value) lost.1),
-      λ lone. not_won (c.in-Err.ensures.lone (still_open c.args.client.now.value c.loop.client.value c.loop.counter c.loop.from c.loop.invariant.2 c.requires.ready.reading lone)).0,
+      lost_on c.args.region.now (g.T.Tag.numbers c.args.tag.now)
+          (log_pairs c.args.writes.now) c.args.client.now.value c.loop.client.value c.tick.new.client.value
+          c.loop.counter c.loop.from c.in-Err.found c.loop.invariant.2 lost.0
+          (ap (λ (s : ClientShown). s.value) lost.1),
+      λ lone. not_won (c.in-Err.ensures.lone (still_open c.args.client.now.value c.loop.client.value c.loop.counter
+          c.loop.from c.loop.invariant.2 c.requires.ready.reading lone)).0,
     )

@@ -9,7 +9,8 @@ invariant-loop-start g l = record {
   ends : Ends l.nodes.list l.left l.at;
   lock : (at l.nodes.list l.at).lock ≡ (at l.nodes.list l.start).lock;
   locks : locks_from l.nodes.list l.most l.start ≡ locks_from l.nodes.list l.left l.at;
-  groups : (whole first : ℕ) → groups_from l.nodes.list whole first l.most l.start ≡ groups_from l.nodes.list whole first l.left l.at;
+  groups : (whole first : ℕ) → groups_from l.nodes.list whole first l.most l.start ≡ groups_from l.nodes.list whole
+      first l.left l.at;
 }
 
 abbrev pub decreases-loop-start : goal.decreases-loop-start

@@ -10,7 +10,12 @@ loop-scale-preserved g c = record {
 }
 
 pub point_at-requires-clause-room : goal.point_at-requires-clause-room
-point_at-requires-clause-room g c = omega (arith, c.loop-scale.invariant.same.len, c.loop-scale.invariant.count, c.requires.room)
+point_at-requires-clause-room g c = omega (
+  arith,
+  c.loop-scale.invariant.same.len,
+  c.loop-scale.invariant.count,
+  c.requires.room,
+)
 
 pub point_at-requires-clause-limit : goal.point_at-requires-clause-limit
 point_at-requires-clause-limit g c = omega (arith, c.loop-scale.invariant.same.len, c.requires.limit)

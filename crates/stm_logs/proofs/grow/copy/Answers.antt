@@ -12,10 +12,12 @@ loop-e-init g c =
     let old : List Node = c.args.old.now.list in
     let new : List Node = c.args.new.now.list in
     let y : Node = with_entry (at new 0) (entry_of (at old 0)) in
-    let list : c.put.new.self.list ≡ set new 0 y = ap (λ (b : Block). b.list) c.put.ensures ∙ ap (λ (x : Entry). set new 0 (with_entry (at new 0) x)) c.get-root.ensures in
+    let list : c.put.new.self.list ≡ set new 0 y = ap (λ (b : Block). b.list) c.put.ensures ∙
+    ap (λ (x : Entry). set new 0 (with_entry (at new 0) x)) c.get-root.ensures in
     record {
       count = ap (λ (b : Block). b.count) c.put.ensures ∙ c.requires.blank.0;
-      copied = subst (λ xs. Copied old xs 0) (sym list) (copied_start old new (omega (arith, c.requires.twice, c.requires.log.places)) c.requires.limit c.requires.blank.1);
+      copied = subst (λ xs. Copied old xs 0) (sym list) (copied_start old new
+          (omega (arith, c.requires.twice, c.requires.log.places)) c.requires.limit c.requires.blank.1);
       len = ap length list ∙ length-set new 0 y;
     }
 
@@ -37,10 +39,13 @@ loop-e-preserved g c =
     let more : List Node = c.enter.new.nodes.list in
     let node : Node = bare (entry_of (at old (c.loop-e.e + 1))) in
     let entered : Entered new more c.loop-e.e node =
-    subst (λ k. Entered new more k node) c.loop-e.invariant.count (subst (λ (x : Entry). Entered new more c.loop-e.new.count (bare x)) c.get-node.ensures c.enter.ensures.entered) in
+    subst (λ k. Entered new more k node) c.loop-e.invariant.count
+    (subst (λ (x : Entry). Entered new more c.loop-e.new.count (bare x)) c.get-node.ensures c.enter.ensures.entered)
+    in
     let list : c.set_count.new.self.list ≡ more = ap (λ (b : Block). b.list) c.set_count.ensures in
     record {
       count = ap (λ (b : Block). b.count) c.set_count.ensures;
-      copied = subst (λ xs. Copied old xs (c.loop-e.e + 1)) (sym list) (copied_more old new more c.loop-e.e c.loop-e.invariant.copied entered);
+      copied = subst (λ xs. Copied old xs (c.loop-e.e + 1)) (sym list)
+          (copied_more old new more c.loop-e.e c.loop-e.invariant.copied entered);
       len = ap length list ∙ c.enter.ensures.entered.len ∙ c.loop-e.invariant.len;
     }

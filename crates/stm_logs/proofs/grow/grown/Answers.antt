@@ -15,15 +15,24 @@ returns g c =
     let list : mid.list ≡ new = ap (λ (b : Block). b.list) c.set_recent.ensures in
     let count : mid.count ≡ old.count = ap (λ (b : Block). b.count) c.set_recent.ensures ∙ c.copy.ensures.count in
     let recent : mid.recent ≡ old.recent = ap (λ (b : Block). b.recent) c.set_recent.ensures ∙ c.recent.ensures in
-    let len : length new ≡ 2 * length old.list = omega (arith, c.copy.ensures.places, c.in_ok-new.ensures.0, c.len-places.ensures) in
+    let len : length new ≡ 2 * length old.list = omega (
+      arith,
+      c.copy.ensures.places,
+      c.in_ok-new.ensures.0,
+      c.len-places.ensures,
+    ) in
     let mid_len : length mid.list ≡ 2 * length old.list = ap (λ (xs : List Node). length xs) list ∙ len in
-    let log : IsLog mid = log_of mid new old.count old.recent list count recent (copied_ready old.list new old.count c.requires.ready copied) (omega (arith, len, c.requires.places)) c.requires.recent in
-    let value : block_log mid ≡ block_log old = ap (λ (xs : List Node). log_value xs mid.count) list ∙ ap (log_value new) count ∙ copied_value old.list new old.count copied in
+    let log : IsLog mid = log_of mid new old.count old.recent list count recent
+    (copied_ready old.list new old.count c.requires.ready copied)
+    (omega (arith, len, c.requires.places)) c.requires.recent in
+    let value : block_log mid ≡ block_log old = ap (λ (xs : List Node). log_value xs mid.count) list ∙
+    ap (log_value new) count ∙ copied_value old.list new old.count copied in
     let same = c.point_all_if.ensures.same in
     let some = c.requires.places in
     let room = c.requires.ready.indexed.room in
     record {
       log = fingers_log mid end same c.point_all_if.ensures.count c.point_all_if.ensures.recent log;
       room = omega (arith, c.point_all_if.ensures.count, count, same.len, mid_len);
-      same = ap (log_value end.list) c.point_all_if.ensures.count ∙ fingers_value mid.list end.list mid.count same ∙ value;
+      same = ap (log_value end.list) c.point_all_if.ensures.count ∙ fingers_value mid.list end.list mid.count same ∙
+          value;
     }

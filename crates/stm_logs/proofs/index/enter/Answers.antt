@@ -14,9 +14,13 @@ returns-clause-entered g c =
     let put : Entry = record c.args.node { place = c.args.place } in
     let position : c.args.position ≡ n + 1 = c.requires.position in
     let y : Node = placed node c.args.place (at ns (n + 1)).slot f in
-    let one : c.put.new.self.list ≡ set ns (n + 1) y = ap (λ b. b.list) c.put.ensures ∙ ap (λ i. set ns i (with_entry (at ns i) put)) position in
-    let two : c.set_slot.new.self.list ≡ set (set ns (n + 1) y) c.args.place (leads (at (set ns (n + 1) y) c.args.place) (n + 1)) =
-    ap (λ b. b.list) c.set_slot.ensures ∙ ap (λ xs. set xs c.args.place (with_slot (at xs c.args.place) c.args.position)) one
+    let one : c.put.new.self.list ≡ set ns (n + 1) y = ap (λ b. b.list) c.put.ensures ∙
+    ap (λ i. set ns i (with_entry (at ns i) put)) position in
+    let two : c.set_slot.new.self.list ≡ set (set ns (n + 1) y) c.args.place
+    (leads (at (set ns (n + 1) y) c.args.place) (n + 1)) =
+    ap (λ b. b.list) c.set_slot.ensures ∙ ap (λ xs. set xs c.args.place
+    (with_slot (at xs c.args.place) c.args.position)) one
     ∙ ap (λ i. set (set ns (n + 1) y) c.args.place (leads (at (set ns (n + 1) y) c.args.place) i)) position in
     subst (λ xs. Entered ns xs n node) (sym two)
-    (entered ns _ n c.args.place node c.requires.indexed c.requires.room c.requires.place c.requires.free (written ns n c.args.place f node c.requires.room c.requires.place.inside c.requires.free))
+    (entered ns _ n c.args.place node c.requires.indexed c.requires.room c.requires.place c.requires.free
+    (written ns n c.args.place f node c.requires.room c.requires.place.inside c.requires.free))

@@ -14,10 +14,13 @@ loop-e-preserved g c =
     let less : c.loop-e.e < n = omega arith in
     let place : c.get.result.now.place ≡ (at new (c.loop-e.e + 1)).place = ap (λ (x : Entry). x.place) c.get.ensures in
     let inside = cleared_place old new n c.loop-e.e c.requires.ready c.loop-e.invariant.cleared less in
-    let list : c.set_slot.new.self.list ≡ set new c.get.result.now.place (record (at new c.get.result.now.place) { slot = 0 }) = ap (λ (b : Block). b.list) c.set_slot.ensures in
+    let list : c.set_slot.new.self.list ≡ set new c.get.result.now.place
+    (record (at new c.get.result.now.place) { slot = 0 }) = ap (λ (b : Block). b.list) c.set_slot.ensures in
     record {
       count = ap (λ (b : Block). b.count) c.set_slot.ensures ∙ c.loop-e.invariant.count;
-      cleared = subst (λ xs. Cleared old xs n (c.loop-e.e + 1)) (sym list) (cleared_more old new n c.loop-e.e c.get.result.now.place c.loop-e.invariant.cleared place (omega (arith, inside, place)));
+      cleared = subst (λ xs. Cleared old xs n (c.loop-e.e + 1)) (sym list)
+          (cleared_more old new n c.loop-e.e c.get.result.now.place c.loop-e.invariant.cleared place
+          (omega (arith, inside, place)));
     }
 
 pub returns-clause-log : goal.returns-clause-log
@@ -30,6 +33,8 @@ returns-clause-log g c =
     let cleared : Cleared old new n n = subst (λ k. Cleared old new n k) all c.loop-e.invariant.cleared in
     let log = cleared_log c.args.nodes.now new c.requires cleared in
     let list : end.list ≡ set new 0 (with_next (at new 0) 0) =
-    ap (λ (b : Block). b.list) c.set_count.ensures ∙ ap (λ (b : Block). b.list) c.set_recent.ensures ∙ ap (λ (b : Block). b.list) c.set_next.ensures in
-    let recent : end.recent ≡ 0 = ap (λ (b : Block). b.recent) c.set_count.ensures ∙ ap (λ (b : Block). b.recent) c.set_recent.ensures in
+    ap (λ (b : Block). b.list) c.set_count.ensures ∙ ap (λ (b : Block). b.list) c.set_recent.ensures ∙
+    ap (λ (b : Block). b.list) c.set_next.ensures in
+    let recent : end.recent ≡ 0 = ap (λ (b : Block). b.recent) c.set_count.ensures ∙
+    ap (λ (b : Block). b.recent) c.set_recent.ensures in
     log_of end _ 0 0 list (ap (λ (b : Block). b.count) c.set_count.ensures) recent log.ready log.places (omega arith)

@@ -7,11 +7,15 @@ use Rattle.stm_logs.proofs.ChainLemmas.{least_behind, ends, pairs_are, lock_ther
 use Rattle.stm_logs.proofs.table.first_from.Given as given
 use Rattle.stm_logs.proofs.table.first_from.Goals as goal
 
-least : (g : given.Over) (c : goal.After-row_known-1 g) → Least c.args.nodes.now.list c.args.nodes.now.count (rank_of c.args.lock 0) c.get.result.now.next
+least : (g : given.Over) (c : goal.After-row_known-1 g) → Least c.args.nodes.now.list c.args.nodes.now.count
+    (rank_of c.args.lock 0) c.get.result.now.next
 least g c =
     let b : Block = c.args.nodes.now in
-    let next : c.get.result.now.next ≡ (at b.list c.seek-before.result).next = ap (λ (x : Entry). x.next) c.get.ensures in
-    subst (Least b.list b.count (rank_of c.args.lock 0)) (sym next) (least_behind b.list b.count c.requires.ready.chained c.requires.ready.indexed.room (rank_of c.args.lock 0) c.seek-before.result c.seek-before.ensures)
+    let next : c.get.result.now.next ≡ (at b.list c.seek-before.result).next =
+    ap (λ (x : Entry). x.next) c.get.ensures in
+    subst (Least b.list b.count (rank_of c.args.lock 0)) (sym next)
+    (least_behind b.list b.count c.requires.ready.chained c.requires.ready.indexed.room
+    (rank_of c.args.lock 0) c.seek-before.result c.seek-before.ensures)
 
 pub returns-clause-inside : goal.returns-clause-inside
 returns-clause-inside g c = elim (same_or c.get.result.now.next 0) [
@@ -31,6 +35,8 @@ returns-clause-words g c =
 pub returns-clause-there : goal.returns-clause-there
 returns-clause-there g c =
     let b : Block = c.args.nodes.now in (
-      λ h. lock_there b.list b.count c.requires.ready.chained c.requires.ready.indexed.room c.args.lock _ (least g c) h.0 h.1,
-      λ w. there_lock b.list b.count c.requires.ready.chained c.requires.ready.indexed.room c.args.lock _ w.0 (least g c) w.1,
+      λ h. lock_there b.list b.count c.requires.ready.chained c.requires.ready.indexed.room c.args.lock _
+          (least g c) h.0 h.1,
+      λ w. there_lock b.list b.count c.requires.ready.chained c.requires.ready.indexed.room c.args.lock _ w.0
+          (least g c) w.1,
     )

@@ -7,4 +7,5 @@ use Rattle.stm_logs.proofs.table.put_grown.Goals as goal
 pub put_roomy-requires-clause-new : goal.put_roomy-requires-clause-new
 put_roomy-requires-clause-new g c =
     let roomy = c.in_ok-nodes.ensures in
-    has_no_word _ _ _ roomy.log.ready.chained (ap (λ (w : LogValue). get w.words c.args.number) roomy.same ∙ no_word _ _ _ c.requires.new)
+    has_no_word _ _ _ roomy.log.ready.chained (ap (λ (w : LogValue). get w.words c.args.number) roomy.same ∙
+    no_word _ _ _ c.requires.new)

@@ -29,34 +29,42 @@ module _ (g : given.Over) (c : goal.After-set_count g) where
   next_is = ap (λ (x : Entry). x.next) c.get.ensures
 
   entered : Entered ns mid n (entering c.args.value c.args.number c.args.lock (at ns b).next)
-  entered = subst (λ q. Entered ns mid n (entering c.args.value c.args.number c.args.lock q)) next_is c.enter.ensures.entered
+  entered = subst (λ q. Entered ns mid n (entering c.args.value c.args.number c.args.lock q)) next_is
+      c.enter.ensures.entered
 
   position : c.count-position.result + 1 ≡ n + 1
   position = ap (λ k. k + 1) c.count-position.ensures
 
   list : c.set_count.new.self.list ≡ set mid b (with_next (at mid b) (n + 1))
   list =
-      ap (λ (x : Block). x.list) c.set_count.ensures ∙ ap (λ (x : Block). x.list) c.set_recent.ensures ∙ ap (λ (x : Block). x.list) c.set_next.ensures
+      ap (λ (x : Block). x.list) c.set_count.ensures ∙ ap (λ (x : Block). x.list) c.set_recent.ensures ∙
+      ap (λ (x : Block). x.list) c.set_next.ensures
       ∙ ap (λ q. set mid b (with_next (at mid b) q)) position
 
   count : c.set_count.new.self.count ≡ n + 1
   count = ap (λ (x : Block). x.count) c.set_count.ensures ∙ position
 
   recent : c.set_count.new.self.recent ≡ n + 1
-  recent = ap (λ (x : Block). x.recent) c.set_count.ensures ∙ ap (λ (x : Block). x.recent) c.set_recent.ensures ∙ position
+  recent = ap (λ (x : Block). x.recent) c.set_count.ensures ∙ ap (λ (x : Block). x.recent) c.set_recent.ensures ∙
+      position
 
   ready : IsReady (set mid b (with_next (at mid b) (n + 1))) (n + 1)
-  ready = entered_ready ns mid n b c.args.number c.args.lock c.args.value c.requires.log.ready c.seek-before.ensures c.requires.new fits entered
+  ready = entered_ready ns mid n b c.args.number c.args.lock c.args.value c.requires.log.ready c.seek-before.ensures
+      c.requires.new fits entered
 
   len : length (set mid b (with_next (at mid b) (n + 1))) ≡ length ns
-  len = entered_len ns mid n b c.args.number c.args.lock c.args.value c.requires.log.ready c.seek-before.ensures c.requires.new fits entered
+  len = entered_len ns mid n b c.args.number c.args.lock c.args.value c.requires.log.ready c.seek-before.ensures
+      c.requires.new fits entered
 
 pub returns-clause-more : goal.returns-clause-more
 returns-clause-more g c = record {
-  log = log_of _ _ _ _ (list g c) (count g c) (recent g c) (ready g c) (omega (arith, len g c, c.requires.log.places)) (omega arith);
+  log = log_of _ _ _ _ (list g c) (count g c) (recent g c) (ready g c) (omega (arith, len g c, c.requires.log.places))
+      (omega arith);
   same =
-      ap (λ (xs : List Node). log_value xs c.set_count.new.self.count) (list g c) ∙ ap (λ k. log_value (set (mid g c) (b g c) (with_next (at (mid g c) (b g c)) (n g c + 1))) k) (count g c)
-      ∙ entered_value (ns g c) (mid g c) (n g c) (b g c) c.args.number c.args.lock c.args.value c.requires.log.ready c.seek-before.ensures c.requires.new (fits g c) (entered g c);
+      ap (λ (xs : List Node). log_value xs c.set_count.new.self.count) (list g c) ∙
+      ap (λ k. log_value (set (mid g c) (b g c) (with_next (at (mid g c) (b g c)) (n g c + 1))) k) (count g c)
+      ∙ entered_value (ns g c) (mid g c) (n g c) (b g c) c.args.number c.args.lock c.args.value c.requires.log.ready
+      c.seek-before.ensures c.requires.new (fits g c) (entered g c);
 }
 
 pub returns-clause-len : goal.returns-clause-len

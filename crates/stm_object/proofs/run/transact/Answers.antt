@@ -11,10 +11,12 @@ tries-preserved g c = record {
   trying = trying_next _ _ c.tries.left (c.tries.left - 1) _ _ _ c.tries.invariant.trying
       (omega (arith, c.tries.invariant.some))
       (missed (λ conflict v. WasShown g.S.Object.fits g.S.Entry.Tag.numbers g.S.Object.finds g.S.Object.after
-      c.args.region.now (λ a. g.B.Body.entry_of c.args.body.now a) (λ a. g.B.Body.changes c.args.body.now a) conflict v) c.in-Err-Conflict.field-0-0 _ _
+      c.args.region.now (λ a. g.B.Body.entry_of c.args.body.now a)
+      (λ a. g.B.Body.changes c.args.body.now a) conflict v) c.in-Err-Conflict.field-0-0 _ _
       c.attempt_once.ensures.attempt (search rules)
       (conflict_shown g.S.Object.fits g.S.Entry.Tag.numbers g.S.Object.finds g.S.Object.after
-      (λ a. g.B.Body.entry_of c.args.body.now a) (λ a. g.B.Body.changes c.args.body.now a) c.args.region.now c.in-Err-Conflict.field-0-0
+      (λ a. g.B.Body.entry_of c.args.body.now a) (λ a. g.B.Body.changes c.args.body.now a) c.args.region.now
+      c.in-Err-Conflict.field-0-0
       c.tries.client.value _ c.attempt_once.result (c.in-Err-Conflict.is ∙ ap Err c.in-Err-Conflict.field-0-is)
       c.attempt_once.ensures.stopped));
   grants = search rules;
@@ -26,28 +28,34 @@ returns-in_default-2 g c = record {
   own = search rules;
   free_handed = search rules;
   call = has_run g.S.Object.fits g.S.Entry.Tag.numbers g.S.Object.finds g.S.Object.after c.args.region.now
-      (λ a. g.B.Body.entry_of c.args.body.now a) (λ a. g.B.Body.changes c.args.body.now a) c.args.tries c.tries.left (c.tries.left - 1) c.args.client.now.value
+      (λ a. g.B.Body.entry_of c.args.body.now a) (λ a. g.B.Body.changes c.args.body.now a) c.args.tries c.tries.left
+      (c.tries.left - 1) c.args.client.now.value
       c.tries.client.value c.attempt_once.new.client.value (Err _) c.attempt_once.result (search rules)
       c.tries.invariant.trying (omega (arith, c.tries.invariant.some))
       c.tries.invariant.grants c.tries.invariant.records c.attempt_once.ensures.grants c.attempt_once.ensures.attempt
-      c.attempt_once.ensures.records c.attempt_once.ensures.order c.attempt_once.ensures.spares c.attempt_once.ensures.alone
+      c.attempt_once.ensures.records c.attempt_once.ensures.order c.attempt_once.ensures.spares
+      c.attempt_once.ensures.alone
       c.attempt_once.ensures.stopped (λ conflict is. search rules);
 }
 
 pub returns-in_default-clause-call : goal.returns-in_default-clause-call
 returns-in_default-clause-call g c = has_run g.S.Object.fits g.S.Entry.Tag.numbers g.S.Object.finds g.S.Object.after
-    c.args.region.now (λ a. g.B.Body.entry_of c.args.body.now a) (λ a. g.B.Body.changes c.args.body.now a) c.args.tries c.tries.left (c.tries.left - 1)
+    c.args.region.now (λ a. g.B.Body.entry_of c.args.body.now a)
+    (λ a. g.B.Body.changes c.args.body.now a) c.args.tries c.tries.left (c.tries.left - 1)
     c.args.client.now.value c.tries.client.value c.attempt_once.new.client.value _ c.attempt_once.result
     (search rules) c.tries.invariant.trying (omega (arith, c.tries.invariant.some))
     c.tries.invariant.grants c.tries.invariant.records c.attempt_once.ensures.grants c.attempt_once.ensures.attempt
-    c.attempt_once.ensures.records c.attempt_once.ensures.order c.attempt_once.ensures.spares c.attempt_once.ensures.alone
+    c.attempt_once.ensures.records c.attempt_once.ensures.order c.attempt_once.ensures.spares
+    c.attempt_once.ensures.alone
     c.attempt_once.ensures.stopped (λ conflict is. search rules)
 
 pub returns-in_default-3-clause-call : goal.returns-in_default-3-clause-call
 returns-in_default-3-clause-call g c = has_run g.S.Object.fits g.S.Entry.Tag.numbers g.S.Object.finds
-    g.S.Object.after c.args.region.now (λ a. g.B.Body.entry_of c.args.body.now a) (λ a. g.B.Body.changes c.args.body.now a) c.args.tries c.tries.left
+    g.S.Object.after c.args.region.now (λ a. g.B.Body.entry_of c.args.body.now a)
+    (λ a. g.B.Body.changes c.args.body.now a) c.args.tries c.tries.left
     (c.tries.left - 1) c.args.client.now.value c.tries.client.value c.attempt_once.new.client.value _
     c.attempt_once.result (search rules) c.tries.invariant.trying (omega (arith, c.tries.invariant.some))
     c.tries.invariant.grants c.tries.invariant.records c.attempt_once.ensures.grants c.attempt_once.ensures.attempt
-    c.attempt_once.ensures.records c.attempt_once.ensures.order c.attempt_once.ensures.spares c.attempt_once.ensures.alone
+    c.attempt_once.ensures.records c.attempt_once.ensures.order c.attempt_once.ensures.spares
+    c.attempt_once.ensures.alone
     c.attempt_once.ensures.stopped (λ conflict is. search rules)

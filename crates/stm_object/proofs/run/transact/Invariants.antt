@@ -10,7 +10,8 @@ invariant-tries g l = record {
   free : IsFreeHanded l.client.value;
   some : 1 ≤ l.left;
   trying : Trying (λ conflict v. WasShown g.S.Object.fits g.S.Entry.Tag.numbers g.S.Object.finds g.S.Object.after
-      l.region (λ a. g.B.Body.entry_of l.body a) (λ a. g.B.Body.changes l.body a) conflict v) l.tries l.left l.initial.client.value l.client.value;
+      l.region (λ a. g.B.Body.entry_of l.body a) (λ a. g.B.Body.changes l.body a) conflict v) l.tries l.left
+      l.initial.client.value l.client.value;
   grants : l.client.value.grants ≡ l.initial.client.value.grants;
   records : l.client.value.records ≡ l.initial.client.value.records;
 }

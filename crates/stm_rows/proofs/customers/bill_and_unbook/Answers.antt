@@ -9,12 +9,15 @@ pub booking_of-requires-clause-list : goal.booking_of-requires-clause-list
 booking_of-requires-clause-list g c = one_list _ _ _ _ c.requires.booking
 
 pub bill-requires : goal.bill-requires
-bill-requires g c = can_bill _ _ _ _ (one_read _ _ _ _ c.requires.booking _ c.in_ok-found.ensures.answer.kept c.in_ok-found.ensures.answer.writes) (omega arith)
+bill-requires g c = can_bill _ _ _ _ (one_read _ _ _ _ c.requires.booking _ c.in_ok-found.ensures.answer.kept
+    c.in_ok-found.ensures.answer.writes) (omega arith)
 
 pub unbook-requires-clause-customer : goal.unbook-requires-clause-customer
 unbook-requires-clause-customer g c =
-    customer_node _ _ _ _ (one_read _ _ _ _ (one_read _ _ _ _ c.requires.booking _ c.in_ok-found.ensures.answer.kept c.in_ok-found.ensures.answer.writes) _ c.in_ok-total.ensures.answer.kept c.in_ok-total.ensures.answer.writes)
+    customer_node _ _ _ _ (one_read _ _ _ _ (one_read _ _ _ _ c.requires.booking _ c.in_ok-found.ensures.answer.kept
+    c.in_ok-found.ensures.answer.writes) _ c.in_ok-total.ensures.answer.kept c.in_ok-total.ensures.answer.writes)
 
 pub unbook-requires-clause-list : goal.unbook-requires-clause-list
 unbook-requires-clause-list g c =
-    one_list _ _ _ _ (one_read _ _ _ _ (one_read _ _ _ _ c.requires.booking _ c.in_ok-found.ensures.answer.kept c.in_ok-found.ensures.answer.writes) _ c.in_ok-total.ensures.answer.kept c.in_ok-total.ensures.answer.writes)
+    one_list _ _ _ _ (one_read _ _ _ _ (one_read _ _ _ _ c.requires.booking _ c.in_ok-found.ensures.answer.kept
+    c.in_ok-found.ensures.answer.writes) _ c.in_ok-total.ensures.answer.kept c.in_ok-total.ensures.answer.writes)

@@ -5,5 +5,6 @@ use Rattle.stm_rows.proofs.heaps.move_two_in_an_attempt.Goals as goal
 
 pub move_two-requires : goal.move_two-requires
 move_two-requires c = record {
-  pool = heap_pool _ (held_begun IsHeapOfTen 96 _ _ _ _ _ c.begin-attempt.ensures.empty.2 c.begin-attempt.ensures.region c.requires.size c.begin-attempt.ensures.empty.1);
+  pool = heap_pool _ (held_begun IsHeapOfTen 96 _ _ _ _ _ c.begin-attempt.ensures.empty.2 c.begin-attempt.ensures.region
+      c.requires.size c.begin-attempt.ensures.empty.1);
 }

@@ -5,5 +5,6 @@ use Rattle.stm_rows.proofs.lists.change_in_an_attempt.Goals as goal
 
 pub change-requires : goal.change-requires
 change-requires c = record {
-  stock = stock_held _ (held_begun IsStocked 976 _ _ _ _ _ c.begin-attempt.ensures.empty.2 c.begin-attempt.ensures.region c.requires.size c.begin-attempt.ensures.empty.1);
+  stock = stock_held _ (held_begun IsStocked 976 _ _ _ _ _ c.begin-attempt.ensures.empty.2
+      c.begin-attempt.ensures.region c.requires.size c.begin-attempt.ensures.empty.1);
 }

@@ -7,4 +7,5 @@ add_total-requires-clause-room g c = has_room _ _ _ _ _ _ c.requires.item 5 (ome
 
 pub returns-clause-item : goal.returns-clause-item
 returns-clause-item g c =
-    item_priced _ _ _ _ _ _ _ (item_added _ _ _ _ _ _ _ c.requires.item 5 c.in_ok-add_total.ensures.answer) 80 c.in_ok-set_price.ensures.answer
+    item_priced _ _ _ _ _ _ _ (item_added _ _ _ _ _ _ _ c.requires.item 5 c.in_ok-add_total.ensures.answer) 80
+    c.in_ok-set_price.ensures.answer

@@ -8,7 +8,8 @@ use Rattle.tx_alloc.proofs.fresh.fresh_words.Goals.{then-next-blocks, else-next-
 
 pub loop-block-preserved : goal.loop-block-preserved
 loop-block-preserved c =
-    let link_is : c.if-next-blocks.link ≡ place_of c.args.blocks (c.loop-block.block + 8) = elim c.if-next-blocks.branch [
+    let link_is : c.if-next-blocks.link ≡ place_of c.args.blocks (c.loop-block.block + 8) =
+    elim c.if-next-blocks.branch [
       | then-next-blocks w ↦ grind (arith, nat_tests)
       | else-next-blocks w ↦ grind (arith, nat_tests)
     ] in

@@ -8,7 +8,10 @@ word-requires g c =
     omega (arith, i.small)
 
 pub follow-requires : goal.follow-requires
-follow-requires g c = record { leads = rw c.word.ensures (next_leads _ _ c.requires.booking (g.met.M.TxRead.seen c.args.memory.now)) }
+follow-requires g c = record {
+  leads = rw c.word.ensures (next_leads _ _ c.requires.booking
+      (g.met.M.TxRead.seen c.args.memory.now));
+}
 
 pub returns-clause-answer : goal.returns-clause-answer
 returns-clause-answer g c = next_followed _ _ _ _ (rw c.word.ensures at c.in_ok-found.ensures.answer)

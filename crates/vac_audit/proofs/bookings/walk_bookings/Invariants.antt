@@ -3,4 +3,5 @@ use Rattle.vac_audit.proofs.Booked.{BookGoes}
 use Rattle.vac_audit.proofs.bookings.walk_bookings.Given as goal
 
 abbrev pub invariant-loop-level : goal.invariant-loop-level
-invariant-loop-level l = BookGoes l.words l.initial.reached.items l.head l.reached.items l.initial.notes l.notes l._level l.at (after l.last) × HasShortId l.last
+invariant-loop-level l = BookGoes l.words l.initial.reached.items l.head l.reached.items l.initial.notes l.notes
+    l._level l.at (after l.last) × HasShortId l.last

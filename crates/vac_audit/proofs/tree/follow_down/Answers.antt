@@ -8,7 +8,9 @@ pub returns-then-len-clause-ran : goal.returns-then-len-clause-ran
 returns-then-len-clause-ran c = inl (omega arith, refl)
 
 pub returns-in_err-follow-clause-ran : goal.returns-in_err-follow-clause-ran
-returns-in_err-follow-clause-ran c = handed (λ r. DownRan c.args.words.now c.args.reached.now.items c.follow.new.reached.items c.args.path.now.items c.args.path.now.items c.args.at r) c.from_residual.result _ c.from_residual.ensures.1
+returns-in_err-follow-clause-ran c = handed (λ r. DownRan c.args.words.now c.args.reached.now.items
+    c.follow.new.reached.items c.args.path.now.items c.args.path.now.items c.args.at r) c.from_residual.result _
+    c.from_residual.ensures.1
     (inr (omega arith, c.in_err-follow.ensures.followed))
 
 pub returns-in-None-clause-ran : goal.returns-in-None-clause-ran
@@ -18,11 +20,15 @@ returns-in-None-clause-ran c = (
     empty = record { blacks = refl; red = refl };
     same = refl;
     as_many = fewer_as _ _ _ _ c.in-None.is c.in_ok-follow.ensures.fewer;
-    followed = found_as c.args.words.now c.args.reached.now.items c.follow.new.reached.items c.args.at _ _ c.in-None.is c.in_ok-follow.ensures.followed;
+    followed = found_as c.args.words.now c.args.reached.now.items c.follow.new.reached.items c.args.at _ _ c.in-None.is
+        c.in_ok-follow.ensures.followed;
   },
 )
 
 pub returns-in-Some-clause-ran : goal.returns-in-Some-clause-ran
-returns-in-Some-clause-ran c = entered c.args.words.now c.args.reached.now.items c.follow.new.reached.items c.args.path.now.items c.go_down.new.path.items c.args.at _ c.go_down.result (omega arith)
-    (lands_as c.args.words.now _ _ c.in-Some.is c.in_ok-follow.ensures.lands) (fewer_as _ _ _ _ c.in-Some.is c.in_ok-follow.ensures.fewer)
-    (found_as c.args.words.now c.args.reached.now.items c.follow.new.reached.items c.args.at _ _ c.in-Some.is c.in_ok-follow.ensures.followed) c.go_down.ensures.down c.go_down.ensures.on c.go_down.ensures.memory
+returns-in-Some-clause-ran c = entered c.args.words.now c.args.reached.now.items c.follow.new.reached.items
+    c.args.path.now.items c.go_down.new.path.items c.args.at _ c.go_down.result (omega arith)
+    (lands_as c.args.words.now _ _ c.in-Some.is c.in_ok-follow.ensures.lands)
+    (fewer_as _ _ _ _ c.in-Some.is c.in_ok-follow.ensures.fewer)
+    (found_as c.args.words.now c.args.reached.now.items c.follow.new.reached.items c.args.at _ _ c.in-Some.is
+    c.in_ok-follow.ensures.followed) c.go_down.ensures.down c.go_down.ensures.on c.go_down.ensures.memory

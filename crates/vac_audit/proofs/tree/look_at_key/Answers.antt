@@ -2,7 +2,8 @@ use Rattle.std.proofs.Common.{arith, inl, inr, refl}
 use Rattle.std.specs.Prelude.{slice_index}
 use Rattle.vac_audit.proofs.Going.{key_fails, key_holds}
 use Rattle.vac_audit.proofs.tree.look_at_key.Goals as goal
-use Rattle.vac_audit.proofs.tree.look_at_key.Goals.{then-key-above-via-then-key-above, then-key-above-via-else-key-above+then-key-gt-LAST_ID}
+use Rattle.vac_audit.proofs.tree.look_at_key.Goals.{then-key-above-via-then-key-above}
+use Rattle.vac_audit.proofs.tree.look_at_key.Goals.{then-key-above-via-else-key-above+then-key-gt-LAST_ID}
 
 pub returns-then-key-above-clause-looked : goal.returns-then-key-above-clause-looked
 returns-then-key-above-clause-looked c = (
@@ -14,4 +15,8 @@ returns-then-key-above-clause-looked c = (
 )
 
 pub returns-clause-looked : goal.returns-clause-looked
-returns-clause-looked c = (key_holds (slice_index c.args.words.now) c.args.node c.args.above (omega arith) (omega arith), omega arith)
+returns-clause-looked c = (
+  key_holds (slice_index c.args.words.now) c.args.node c.args.above (omega arith)
+      (omega arith),
+  omega arith,
+)

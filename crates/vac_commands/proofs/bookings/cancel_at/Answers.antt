@@ -3,18 +3,23 @@ use Rattle.vac_commands.proofs.bookings.cancel_at.Goals as goal
 
 pub cancel-requires-clause-units : goal.cancel-requires-clause-units
 cancel-requires-clause-units g c =
-    can_cancel _ _ _ _ _ _ _ c.args.spot c.in-Some.taken.0 c.in-Some.taken.1 (rw c.in-Some.is at c.in_ok-taken.ensures.answer)
+    can_cancel _ _ _ _ _ _ _ c.args.spot c.in-Some.taken.0 c.in-Some.taken.1
+    (rw c.in-Some.is at c.in_ok-taken.ensures.answer)
     c.requires.state c.requires.customer c.requires.item c.requires.spot c.ranges.id.fits
 
 pub give-requires : goal.give-requires
 give-requires g c = record {
-  used = (used_now _ _ _ _ _ _ _ c.args.spot c.in-Some.taken.0 c.in-Some.taken.1 (rw c.in-Some.is at c.in_ok-taken.ensures.answer)
+  used = (used_now _ _ _ _ _ _ _ c.args.spot c.in-Some.taken.0 c.in-Some.taken.1
+      (rw c.in-Some.is at c.in_ok-taken.ensures.answer)
       c.requires.state c.requires.customer c.requires.item c.requires.spot c.ranges.id.fits
       _ c.in_ok-cancel.ensures.answer);
 }
 
 pub returns-in_default-clause-answer : goal.returns-in_default-clause-answer
-returns-in_default-clause-answer g c = none_booked _ _ _ _ _ _ _ c.args.spot (rw c.in_default.is at c.in_ok-taken.ensures.answer)
+returns-in_default-clause-answer g c = none_booked _ _ _ _ _ _ _ c.args.spot
+    (rw c.in_default.is at c.in_ok-taken.ensures.answer)
 
 pub returns-clause-answer : goal.returns-clause-answer
-returns-clause-answer g c = cancel_done _ _ _ _ _ _ _ c.args.spot c.in-Some.taken.0 c.in-Some.taken.1 (rw c.in-Some.is at c.in_ok-taken.ensures.answer) _ _ _ c.in_ok-give.ensures.list c.in_ok-cancel.ensures.answer c.in_ok-give.ensures.answer
+returns-clause-answer g c = cancel_done _ _ _ _ _ _ _ c.args.spot c.in-Some.taken.0 c.in-Some.taken.1
+    (rw c.in-Some.is at c.in_ok-taken.ensures.answer) _ _ _ c.in_ok-give.ensures.list c.in_ok-cancel.ensures.answer
+    c.in_ok-give.ensures.answer

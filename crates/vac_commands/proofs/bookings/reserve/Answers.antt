@@ -5,21 +5,25 @@ use Rattle.vac_commands.proofs.Reserving.{served_found}
 use Rattle.vac_commands.proofs.bookings.reserve.Goals as goal
 
 pub returns-in_default-clause-answer : goal.returns-in_default-clause-answer
-returns-in_default-clause-answer g c = lacks_customer _ _ _ _ _ _ (reserve_needs _ _ _ _) c.in_ok-owner.ensures.reads (rw c.in_default.is at c.in_ok-owner.ensures.answer)
+returns-in_default-clause-answer g c = lacks_customer _ _ _ _ _ _ (reserve_needs _ _ _ _) c.in_ok-owner.ensures.reads
+    (rw c.in_default.is at c.in_ok-owner.ensures.answer)
 
 pub find_item-requires : goal.find_item-requires
 find_item-requires g c = held_on _ _ c.in_ok-owner.ensures.reads c.requires.state
 
 pub returns-in_default-2-clause-answer : goal.returns-in_default-2-clause-answer
 returns-in_default-2-clause-answer g c =
-    lacks_item _ _ _ _ _ _ _ _ (reserve_needs _ _ _ _) c.in_ok-owner.ensures.reads (rw c.in-Some.is at c.in_ok-owner.ensures.answer)
+    lacks_item _ _ _ _ _ _ _ _ (reserve_needs _ _ _ _) c.in_ok-owner.ensures.reads
+    (rw c.in-Some.is at c.in_ok-owner.ensures.answer)
     c.in_ok-item.ensures.reads (rw c.in_default-2.is at c.in_ok-item.ensures.answer)
 
 pub reserve_at-requires-clause-state : goal.reserve_at-requires-clause-state
-reserve_at-requires-clause-state g c = held_on _ _ (read_both _ _ _ c.in_ok-owner.ensures.reads c.in_ok-item.ensures.reads) c.requires.state
+reserve_at-requires-clause-state g c = held_on _ _ (read_both _ _ _ c.in_ok-owner.ensures.reads
+    c.in_ok-item.ensures.reads) c.requires.state
 
 pub reserve_at-requires-clause-customer : goal.reserve_at-requires-clause-customer
-reserve_at-requires-clause-customer g c = customer_found_at _ _ _ (customer_at_on _ _ _ _ c.in_ok-item.ensures.reads (rw c.in-Some.is at c.in_ok-owner.ensures.answer))
+reserve_at-requires-clause-customer g c = customer_found_at _ _ _
+    (customer_at_on _ _ _ _ c.in_ok-item.ensures.reads (rw c.in-Some.is at c.in_ok-owner.ensures.answer))
 
 pub reserve_at-requires-clause-item : goal.reserve_at-requires-clause-item
 reserve_at-requires-clause-item g c = item_found_at _ _ _ _ (rw c.in-Some-2.is at c.in_ok-item.ensures.answer)
@@ -27,5 +31,6 @@ reserve_at-requires-clause-item g c = item_found_at _ _ _ _ (rw c.in-Some-2.is a
 pub returns-clause-answer : goal.returns-clause-answer
 returns-clause-answer g c =
     if_ok _ _ _ (λ r h. ran_after _ _ _ _ r (read_both _ _ _ c.in_ok-owner.ensures.reads c.in_ok-item.ensures.reads)
-    (served_found _ _ _ _ _ _ _ _ r c.requires.range (customer_at_on _ _ _ _ c.in_ok-item.ensures.reads (rw c.in-Some.is at c.in_ok-owner.ensures.answer))
+    (served_found _ _ _ _ _ _ _ _ r c.requires.range (customer_at_on _ _ _ _ c.in_ok-item.ensures.reads
+    (rw c.in-Some.is at c.in_ok-owner.ensures.answer))
     (rw c.in-Some-2.is at c.in_ok-item.ensures.answer) c.ranges.id.fits h).ran) c.reserve_at.ensures.answer

@@ -1,5 +1,6 @@
 use Rattle.vac_commands.proofs.Held.{items_stay_reads}
-use Rattle.vac_commands.proofs.Joining.{none_left_over, table_in_hand, fresh_in_hand, joined_ran, items_stay_joined, seated_at, stay_on}
+use Rattle.vac_commands.proofs.Joining.{none_left_over, table_in_hand, fresh_in_hand, joined_ran, items_stay_joined}
+use Rattle.vac_commands.proofs.Joining.{seated_at, stay_on}
 use Rattle.vac_commands.proofs.customers.add_customer.Goals as goal
 
 pub returns-in_default-clause-answer : goal.returns-in_default-clause-answer
@@ -12,11 +13,13 @@ returns-in_default-clause-items g c =
 
 pub insert-requires-clause-table : goal.insert-requires-clause-table
 insert-requires-clause-table g c =
-    table_in_hand _ _ _ _ _ _ (rw c.in-Some.is at c.in_ok-block.ensures.answer) c.in_ok-init_customer.ensures.answer c.requires.state
+    table_in_hand _ _ _ _ _ _ (rw c.in-Some.is at c.in_ok-block.ensures.answer) c.in_ok-init_customer.ensures.answer
+    c.requires.state
 
 pub insert-requires-clause-fresh : goal.insert-requires-clause-fresh
 insert-requires-clause-fresh g c =
-    fresh_in_hand _ _ _ _ _ _ (rw c.in-Some.is at c.in_ok-block.ensures.answer) c.in_ok-init_customer.ensures.answer c.requires.state c.requires.missing
+    fresh_in_hand _ _ _ _ _ _ (rw c.in-Some.is at c.in_ok-block.ensures.answer) c.in_ok-init_customer.ensures.answer
+    c.requires.state c.requires.missing
 
 pub returns-clause-answer : goal.returns-clause-answer
 returns-clause-answer g c =

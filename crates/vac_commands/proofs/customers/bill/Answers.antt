@@ -9,9 +9,11 @@ pub bill_at-requires-clause-customer : goal.bill_at-requires-clause-customer
 bill_at-requires-clause-customer g c = customer_found_at _ _ _ (rw c.in-Some.is at c.in_ok-find_customer.ensures.answer)
 
 pub returns-in-None-clause-answer : goal.returns-in-None-clause-answer
-returns-in-None-clause-answer g c = bill_missing _ _ _ c.in_ok-find_customer.ensures.reads (rw c.in-None.is at c.in_ok-find_customer.ensures.answer)
+returns-in-None-clause-answer g c = bill_missing _ _ _ c.in_ok-find_customer.ensures.reads
+    (rw c.in-None.is at c.in_ok-find_customer.ensures.answer)
 
 pub returns-in_ok-bill-in-Some-clause-answer : goal.returns-in_ok-bill-in-Some-clause-answer
 returns-in_ok-bill-in-Some-clause-answer g c =
     asked_after _ _ _ _ _ c.in_ok-find_customer.ensures.reads
-    (asked_found _ _ _ _ _ _ (rw c.in-Some.is at c.in_ok-find_customer.ensures.answer) c.in_ok-bill-in-Some.ensures.answer c.in_ok-bill-in-Some.ensures.writes)
+    (asked_found _ _ _ _ _ _ (rw c.in-Some.is at c.in_ok-find_customer.ensures.answer)
+    c.in_ok-bill-in-Some.ensures.answer c.in_ok-bill-in-Some.ensures.writes)

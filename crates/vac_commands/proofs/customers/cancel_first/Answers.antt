@@ -1,6 +1,7 @@
 use Rattle.std.proofs.Common.{arith}
 use Rattle.vac_commands.proofs.Held.{held_on, item_found_at, customer_is_on}
-use Rattle.vac_commands.proofs.Leaving.{in_a_list, reads_of, item_not_missing, id_fits, its_spot, cancel_range, one_given}
+use Rattle.vac_commands.proofs.Leaving.{in_a_list, reads_of, item_not_missing, id_fits, its_spot, cancel_range}
+use Rattle.vac_commands.proofs.Leaving.{one_given}
 use Rattle.vac_commands.proofs.customers.cancel_first.Goals as goal
 
 pub place_at-requires-clause-booking : goal.place_at-requires-clause-booking
@@ -13,7 +14,8 @@ find_item-requires g c =
 
 pub unreachable-requires : goal.unreachable-requires
 unreachable-requires g c =
-    item_not_missing _ _ _ _ _ _ _ c.in_ok-kind.ensures.answer c.in_ok-find_item.ensures.reads c.requires.state c.requires.first
+    item_not_missing _ _ _ _ _ _ _ c.in_ok-kind.ensures.answer c.in_ok-find_item.ensures.reads c.requires.state
+    c.requires.first
     (rw c.in-None.is at c.in_ok-find_item.ensures.answer) (g.met.M.TxRead.seen c.find_item.new.memory)
 
 pub cancel_at-requires-clause-state : goal.cancel_at-requires-clause-state
@@ -22,24 +24,32 @@ cancel_at-requires-clause-state g c =
 
 pub cancel_at-requires-clause-customer : goal.cancel_at-requires-clause-customer
 cancel_at-requires-clause-customer g c =
-    customer_is_on _ _ _ _ (reads_of _ _ _ _ _ c.in_ok-kind.ensures.answer c.in_ok-find_item.ensures.reads) c.requires.customer
+    customer_is_on _ _ _ _ (reads_of _ _ _ _ _ c.in_ok-kind.ensures.answer c.in_ok-find_item.ensures.reads)
+    c.requires.customer
 
 pub cancel_at-requires-clause-item : goal.cancel_at-requires-clause-item
 cancel_at-requires-clause-item g c = item_found_at _ _ _ _ (rw c.in-Some.is at c.in_ok-find_item.ensures.answer)
 
 pub cancel_at-requires-clause-spot : goal.cancel_at-requires-clause-spot
 cancel_at-requires-clause-spot g c =
-    rw (c.word.ensures, c.addr.ensures) (its_spot _ _ _ _ _ _ _ c.in_ok-kind.ensures.answer c.in_ok-find_item.ensures.reads c.requires.state c.requires.first c.requires.customer)
+    rw (c.word.ensures, c.addr.ensures) (its_spot _ _ _ _ _ _ _ c.in_ok-kind.ensures.answer
+    c.in_ok-find_item.ensures.reads c.requires.state c.requires.first c.requires.customer)
 
 pub cancel_at-requires-clause-range : goal.cancel_at-requires-clause-range
 cancel_at-requires-clause-range g c =
-    cancel_range _ _ _ _ _ _ _ c.in_ok-kind.ensures.answer c.in_ok-find_item.ensures.reads c.requires.state c.requires.first
-    _ c.requires.range (rw c.in-Some.is at c.in_ok-find_item.ensures.answer) (g.met.M.TxRead.seen c.find_item.new.memory)
+    cancel_range _ _ _ _ _ _ _ c.in_ok-kind.ensures.answer c.in_ok-find_item.ensures.reads c.requires.state
+    c.requires.first
+    _ c.requires.range (rw c.in-Some.is at c.in_ok-find_item.ensures.answer)
+    (g.met.M.TxRead.seen c.find_item.new.memory)
 
 pub returns-clause-answer : goal.returns-clause-answer
 returns-clause-answer g c =
     one_given _ _ _ _ _ _ _ c.in_ok-kind.ensures.answer c.in_ok-find_item.ensures.reads
-    _ _ _ c.requires.customer.some (let low = c.requires.first.inside.0 in omega arith) (rw c.in-Some.is at c.in_ok-find_item.ensures.answer)
-    (id_fits _ _ _ _ _ _ _ c.in_ok-kind.ensures.answer c.in_ok-find_item.ensures.reads c.requires.state c.requires.first _ (rw c.in-Some.is at c.in_ok-find_item.ensures.answer) (g.met.M.TxRead.seen c.find_item.new.memory))
-    (cancel_range _ _ _ _ _ _ _ c.in_ok-kind.ensures.answer c.in_ok-find_item.ensures.reads c.requires.state c.requires.first _ c.requires.range (rw c.in-Some.is at c.in_ok-find_item.ensures.answer) (g.met.M.TxRead.seen c.find_item.new.memory))
+    _ _ _ c.requires.customer.some (let low = c.requires.first.inside.0 in
+    omega arith) (rw c.in-Some.is at c.in_ok-find_item.ensures.answer)
+    (id_fits _ _ _ _ _ _ _ c.in_ok-kind.ensures.answer c.in_ok-find_item.ensures.reads c.requires.state c.requires.first
+    _ (rw c.in-Some.is at c.in_ok-find_item.ensures.answer) (g.met.M.TxRead.seen c.find_item.new.memory))
+    (cancel_range _ _ _ _ _ _ _ c.in_ok-kind.ensures.answer c.in_ok-find_item.ensures.reads c.requires.state
+    c.requires.first _ c.requires.range (rw c.in-Some.is at c.in_ok-find_item.ensures.answer)
+    (g.met.M.TxRead.seen c.find_item.new.memory))
     (rw (c.word.ensures, c.addr.ensures) at c.in_ok-cancel_at-in-Some.ensures.answer)

@@ -4,15 +4,18 @@ use Rattle.vac_commands.proofs.Parting.{nobody}
 use Rattle.vac_commands.proofs.customers.drop_customer.Goals as goal
 
 pub returns-in-None-clause-answer : goal.returns-in-None-clause-answer
-returns-in-None-clause-answer g c = nobody _ _ _ c.in_ok-find_customer.ensures.reads (rw c.in-None.is at c.in_ok-find_customer.ensures.answer)
+returns-in-None-clause-answer g c = nobody _ _ _ c.in_ok-find_customer.ensures.reads
+    (rw c.in-None.is at c.in_ok-find_customer.ensures.answer)
 
 pub drop_customer_at-requires-clause-state : goal.drop_customer_at-requires-clause-state
 drop_customer_at-requires-clause-state g c = held_on _ _ c.in_ok-find_customer.ensures.reads c.requires.state
 
 pub drop_customer_at-requires-clause-customer : goal.drop_customer_at-requires-clause-customer
-drop_customer_at-requires-clause-customer g c = customer_found_at _ _ _ (rw c.in-Some.is at c.in_ok-find_customer.ensures.answer)
+drop_customer_at-requires-clause-customer g c = customer_found_at _ _ _
+    (rw c.in-Some.is at c.in_ok-find_customer.ensures.answer)
 
 pub returns-in_ok-drop_customer_at-in-Some-clause-answer : goal.returns-in_ok-drop_customer_at-in-Some-clause-answer
 returns-in_ok-drop_customer_at-in-Some-clause-answer g c =
     ran_after _ _ _ _ _ c.in_ok-find_customer.ensures.reads
-    (ran_found _ _ _ _ _ _ (rw c.in-Some.is at c.in_ok-find_customer.ensures.answer) c.in_ok-drop_customer_at-in-Some.ensures.answer)
+    (ran_found _ _ _ _ _ _ (rw c.in-Some.is at c.in_ok-find_customer.ensures.answer)
+    c.in_ok-drop_customer_at-in-Some.ensures.answer)

@@ -2,10 +2,12 @@ use Rattle.vac_commands.proofs.Parting.{bare, given_holds, dropped}
 use Rattle.vac_commands.proofs.customers.drop_customer_at.Goals as goal
 
 pub remove_customer-requires-clause-state : goal.remove_customer-requires-clause-state
-remove_customer-requires-clause-state g c = given_holds _ _ _ _ _ c.requires.state c.requires.customer c.in_ok-give_bookings_back.ensures.answer
+remove_customer-requires-clause-state g c = given_holds _ _ _ _ _ c.requires.state c.requires.customer
+    c.in_ok-give_bookings_back.ensures.answer
 
 pub remove_customer-requires-clause-bare : goal.remove_customer-requires-clause-bare
-remove_customer-requires-clause-bare g c = bare _ _ _ _ c.requires.state c.requires.customer c.in_ok-give_bookings_back.ensures.answer
+remove_customer-requires-clause-bare g c = bare _ _ _ _ c.requires.state c.requires.customer
+    c.in_ok-give_bookings_back.ensures.answer
 
 pub returns-clause-answer : goal.returns-clause-answer
 returns-clause-answer g c =

@@ -1,6 +1,7 @@
 use Rattle.std.proofs.Common.{◌+◌, ◌-◌, refl, ◌∙◌, arith}
 use Rattle.vac_commands.proofs.Held.{held_on, customer_is_on}
-use Rattle.vac_commands.proofs.Leaving.{all_left, bookings_held, none_first, starts_at, first_found_at, given_read, given_one}
+use Rattle.vac_commands.proofs.Leaving.{all_left, bookings_held, none_first, starts_at, first_found_at, given_read}
+use Rattle.vac_commands.proofs.Leaving.{given_one}
 use Rattle.vac_commands.proofs.Parting.{given_holds, given_seat}
 use Rattle.vac_commands.proofs.customers.give_bookings_back.Goals as goal
 
@@ -13,11 +14,15 @@ loop-init g c = record {
 }
 
 pub first-requires : goal.first-requires
-first-requires g c = record { list = bookings_held _ _ _ _ c.word-head.ensures c.loop.invariant.state c.loop.invariant.customer }
+first-requires g c = record {
+  list = bookings_held _ _ _ _ c.word-head.ensures
+      c.loop.invariant.state c.loop.invariant.customer;
+}
 
 pub returns-in_default-clause-answer : goal.returns-in_default-clause-answer
 returns-in_default-clause-answer g c =
-    none_first _ _ _ _ _ _ _ c.word-head.ensures c.loop.invariant.customer.some (rw c.in_default.is at c.in_ok-booking.ensures.answer) c.loop.invariant.given
+    none_first _ _ _ _ _ _ _ c.word-head.ensures c.loop.invariant.customer.some
+    (rw c.in_default.is at c.in_ok-booking.ensures.answer) c.loop.invariant.given
 
 pub cancel_first-requires-clause-state : goal.cancel_first-requires-clause-state
 cancel_first-requires-clause-state g c =
@@ -32,15 +37,20 @@ cancel_first-requires-clause-customer g c =
 pub cancel_first-requires-clause-first : goal.cancel_first-requires-clause-first
 cancel_first-requires-clause-first g c =
     let f = c.in_ok-booking.ensures.answer in
-    starts_at _ _ _ _ _ _ c.word-head.ensures (held_on _ _ (record { kept = f.kept; writes = f.writes }) c.loop.invariant.state)
-    (customer_is_on _ _ _ _ (record { kept = f.kept; writes = f.writes }) c.loop.invariant.customer) (rw c.in-Some.is at c.in_ok-booking.ensures.answer)
+    starts_at _ _ _ _ _ _ c.word-head.ensures (held_on _ _ (record {
+      kept = f.kept;
+      writes = f.writes;
+    }) c.loop.invariant.state)
+    (customer_is_on _ _ _ _ (record { kept = f.kept; writes = f.writes }) c.loop.invariant.customer)
+    (rw c.in-Some.is at c.in_ok-booking.ensures.answer)
 
 pub loop-preserved : goal.loop-preserved
 loop-preserved g c =
     let f = c.in_ok-booking.ensures.answer in
     let given = given_one _ _ _ _ _ _ _ (262144 - (c.loop.counter + 1)) (omega arith)
     (given_read _ _ _ _ _ _ (record { kept = f.kept; writes = f.writes }) c.loop.invariant.given)
-    (first_found_at _ _ _ _ _ _ c.word-head.ensures c.requires.customer.some (rw c.in-Some.is at c.in_ok-booking.ensures.answer))
+    (first_found_at _ _ _ _ _ _ c.word-head.ensures c.requires.customer.some
+    (rw c.in-Some.is at c.in_ok-booking.ensures.answer))
     c.in_ok-cancel_first.ensures.answer in
     record {
       origin = c.in_ok-cancel_first.ensures.origin ∙ (c.in_ok-booking.ensures.origin ∙ c.loop.invariant.origin);

@@ -9,7 +9,9 @@ pub add_more-requires-clause-state : goal.add_more-requires-clause-state
 add_more-requires-clause-state g c = held_on _ _ c.in_ok-found.ensures.reads c.requires.state
 
 pub returns-in-None-clause-answer : goal.returns-in-None-clause-answer
-returns-in-None-clause-answer g c = if_ok _ _ _ (λ r h. ran_after _ _ _ _ r c.in_ok-found.ensures.reads h) c.add_new.ensures.answer
+returns-in-None-clause-answer g c = if_ok _ _ _ (λ r h. ran_after _ _ _ _ r c.in_ok-found.ensures.reads h)
+    c.add_new.ensures.answer
 
 pub returns-in-Some-clause-answer : goal.returns-in-Some-clause-answer
-returns-in-Some-clause-answer g c = if_ok _ _ _ (λ r h. ran_after _ _ _ _ r c.in_ok-found.ensures.reads h) c.add_more.ensures.answer
+returns-in-Some-clause-answer g c = if_ok _ _ _ (λ r h. ran_after _ _ _ _ r c.in_ok-found.ensures.reads h)
+    c.add_more.ensures.answer

@@ -5,16 +5,22 @@ use Rattle.vac_commands.proofs.ItemLess.{drop_none, drop_used, drop_done}
 use Rattle.vac_commands.proofs.items.drop_flight.Goals as goal
 
 pub returns-in_default-clause-answer : goal.returns-in_default-clause-answer
-returns-in_default-clause-answer g c = drop_none _ _ _ c.in_ok-found.ensures.reads (rw c.in_default.is at c.in_ok-found.ensures.answer)
+returns-in_default-clause-answer g c = drop_none _ _ _ c.in_ok-found.ensures.reads
+    (rw c.in_default.is at c.in_ok-found.ensures.answer)
 
 pub returns-then-used-gt0-clause-answer : goal.returns-then-used-gt0-clause-answer
-returns-then-used-gt0-clause-answer g c = drop_used _ _ _ _ _ _ c.in_ok-found.ensures.reads (rw c.in-Some.is at c.in_ok-found.ensures.answer) c.in_ok-used.ensures.answer c.if-used-gt0.true
+returns-then-used-gt0-clause-answer g c = drop_used _ _ _ _ _ _ c.in_ok-found.ensures.reads
+    (rw c.in-Some.is at c.in_ok-found.ensures.answer) c.in_ok-used.ensures.answer c.if-used-gt0.true
 
 pub remove_item-requires-clause-state : goal.remove_item-requires-clause-state
-remove_item-requires-clause-state g c = held_on _ _ (read_both _ _ _ c.in_ok-found.ensures.reads (read_by _ _ _ _ c.in_ok-used.ensures.answer)) c.requires.state
+remove_item-requires-clause-state g c = held_on _ _ (read_both _ _ _ c.in_ok-found.ensures.reads
+    (read_by _ _ _ _ c.in_ok-used.ensures.answer)) c.requires.state
 
 pub remove_item-requires-clause-item : goal.remove_item-requires-clause-item
-remove_item-requires-clause-item g c = item_there _ _ _ _ (item_at_on _ _ _ _ _ (read_by _ _ _ _ c.in_ok-used.ensures.answer) (rw c.in-Some.is at c.in_ok-found.ensures.answer))
+remove_item-requires-clause-item g c = item_there _ _ _ _ (item_at_on _ _ _ _ _
+    (read_by _ _ _ _ c.in_ok-used.ensures.answer) (rw c.in-Some.is at c.in_ok-found.ensures.answer))
 
 pub returns-clause-answer : goal.returns-clause-answer
-returns-clause-answer g c = drop_done _ _ _ _ _ _ _ c.in_ok-found.ensures.reads (rw c.in-Some.is at c.in_ok-found.ensures.answer) c.in_ok-used.ensures.answer c.if-used-gt0.false c.in_ok-remove_item.ensures.answer
+returns-clause-answer g c = drop_done _ _ _ _ _ _ _ c.in_ok-found.ensures.reads
+    (rw c.in-Some.is at c.in_ok-found.ensures.answer) c.in_ok-used.ensures.answer c.if-used-gt0.false
+    c.in_ok-remove_item.ensures.answer

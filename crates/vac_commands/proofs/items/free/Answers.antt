@@ -7,4 +7,5 @@ returns-in-None-clause-answer g c =
 
 pub returns-in_ok-free-in-Some-clause-answer : goal.returns-in_ok-free-in-Some-clause-answer
 returns-in_ok-free-in-Some-clause-answer g c =
-    free_there _ _ _ _ _ _ _ c.in_ok-find_item.ensures.reads (rw c.in-Some.is at c.in_ok-find_item.ensures.answer) c.in_ok-free-in-Some.ensures.answer
+    free_there _ _ _ _ _ _ _ c.in_ok-find_item.ensures.reads
+    (rw c.in-Some.is at c.in_ok-find_item.ensures.answer) c.in_ok-free-in-Some.ensures.answer

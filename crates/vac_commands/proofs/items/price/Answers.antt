@@ -7,4 +7,5 @@ returns-in-None-clause-answer g c =
 
 pub returns-in_ok-price-in-Some-clause-answer : goal.returns-in_ok-price-in-Some-clause-answer
 returns-in_ok-price-in-Some-clause-answer g c =
-    price_there _ _ _ _ _ _ _ c.in_ok-find_item.ensures.reads (rw c.in-Some.is at c.in_ok-find_item.ensures.answer) c.in_ok-price-in-Some.ensures.answer
+    price_there _ _ _ _ _ _ _ c.in_ok-find_item.ensures.reads
+    (rw c.in-Some.is at c.in_ok-find_item.ensures.answer) c.in_ok-price-in-Some.ensures.answer

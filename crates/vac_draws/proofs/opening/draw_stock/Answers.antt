@@ -12,5 +12,7 @@ returns-clause-drawn g c =
     let kind = c.args.kind in
     let id = c.args.id in
     let level = c.draw_below.result in
-    drawn_after leads (below LEVELS) (λ level. after price (λ p. always (Add kind id ((level + 1) * UNITS) (Some p) ∷ []))) _ _ _ _ _ c.draw_below.ensures.drawn
-    (drawn_then_always leads price (λ p. Add kind id ((level + 1) * UNITS) (Some p) ∷ []) _ _ _ c.draw_price-price.ensures.drawn)
+    drawn_after leads (below LEVELS) (λ level. after price (λ p. always
+    (Add kind id ((level + 1) * UNITS) (Some p) ∷ []))) _ _ _ _ _ c.draw_below.ensures.drawn
+    (drawn_then_always leads price (λ p. Add kind id ((level + 1) * UNITS) (Some p) ∷ []) _ _ _
+    c.draw_price-price.ensures.drawn)

@@ -9,6 +9,8 @@ pub asks-preserved : goal.asks-preserved
 asks-preserved g c = record {
   settings = refl;
   count = search rules;
-  drawn = rw c.push.ensures.items (drawn_times g.D.Draws.leads c.asks.counter (ask c.args.settings.now) _ _ _ _ _ c.asks.invariant.drawn c.draw_ask.ensures.drawn);
-  range = rw c.push.ensures.items (all_more (λ a. is_id a.1) c.asks.asks.items c.draw_ask.result c.asks.invariant.range c.draw_ask.ensures.range);
+  drawn = rw c.push.ensures.items (drawn_times g.D.Draws.leads c.asks.counter
+      (ask c.args.settings.now) _ _ _ _ _ c.asks.invariant.drawn c.draw_ask.ensures.drawn);
+  range = rw c.push.ensures.items (all_more (λ a. is_id a.1) c.asks.asks.items c.draw_ask.result c.asks.invariant.range
+      c.draw_ask.ensures.range);
 }

@@ -9,6 +9,9 @@ pub changes-preserved : goal.changes-preserved
 changes-preserved g c = record {
   settings = refl;
   count = search rules;
-  drawn = rw c.push.ensures.items (drawn_times g.D.Draws.leads c.changes.counter (change c.args.settings.now) _ _ _ _ _ c.changes.invariant.drawn c.draw_change.ensures.drawn);
-  range = rw c.push.ensures.items (all_more (λ c. is_change c && is_command c) c.changes.changes.items c.draw_change.result c.changes.invariant.range (both_hold _ _ c.draw_change.ensures.change c.draw_change.ensures.range));
+  drawn = rw c.push.ensures.items (drawn_times g.D.Draws.leads c.changes.counter
+      (change c.args.settings.now) _ _ _ _ _ c.changes.invariant.drawn c.draw_change.ensures.drawn);
+  range = rw c.push.ensures.items (all_more (λ c. is_change c && is_command c) c.changes.changes.items
+      c.draw_change.result c.changes.invariant.range (both_hold _ _ c.draw_change.ensures.change
+      c.draw_change.ensures.range));
 }

@@ -6,4 +6,5 @@ use Rattle.vac_draws.proofs.tasks.draw_question.Goals as goal
 
 pub returns-clause-drawn : goal.returns-clause-drawn
 returns-clause-drawn g c =
-    drawn_after g.D.Draws.leads (below PERCENT) (λ r. question_at c.args.settings.now r) _ _ _ _ _ c.draw_below-number.ensures.drawn c.draw_question_at.ensures.drawn
+    drawn_after g.D.Draws.leads (below PERCENT) (λ r. question_at c.args.settings.now r) _ _ _ _ _
+    c.draw_below-number.ensures.drawn c.draw_question_at.ensures.drawn

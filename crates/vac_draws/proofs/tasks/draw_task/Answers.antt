@@ -14,4 +14,5 @@ returns-then-number-settings-clause-drawn g c =
 pub returns-else-number-settings-clause-drawn : goal.returns-else-number-settings-clause-drawn
 returns-else-number-settings-clause-drawn g c =
     task_mixed g.D.Draws.leads c.args.settings.now _ _ _ _ _ (search rules) c.draw_below-number.ensures.drawn
-    (task_no_question g.D.Draws.leads c.args.settings.now _ _ _ _ (search rules) c.draw_work-else-number-settings.ensures.drawn)
+    (task_no_question g.D.Draws.leads c.args.settings.now _ _ _ _
+    (search rules) c.draw_work-else-number-settings.ensures.drawn)

@@ -16,9 +16,13 @@ returns-clause-drawn g c =
     record {
       task = Trip customer c.draw_asks-asks.result.items;
       drawn =
-          drawn_after leads (up_to s.asks) (λ count. after ids (λ customer. after (times count (ask s)) (λ asks. always (Trip customer asks)))) _ _ _ _ _ c.draw_up_to-count.ensures.drawn
-          (drawn_after leads ids (λ customer. after (times count (ask s)) (λ asks. always (Trip customer asks))) _ _ _ _ _ c.draw_up_to-customer.ensures.drawn
-          (drawn_then_always leads (times count (ask s)) (λ asks. Trip customer asks) _ _ _ c.draw_asks-asks.ensures.drawn));
+          drawn_after leads (up_to s.asks) (λ count. after ids
+          (λ customer. after (times count (ask s)) (λ asks. always (Trip customer asks)))) _ _ _ _ _
+          c.draw_up_to-count.ensures.drawn
+          (drawn_after leads ids (λ customer. after (times count (ask s)) (λ asks. always (Trip customer asks))) _ _ _ _
+          _ c.draw_up_to-customer.ensures.drawn
+          (drawn_then_always leads (times count (ask s)) (λ asks. Trip customer asks) _ _ _
+          c.draw_asks-asks.ensures.drawn));
       built = search rules;
     }
 
@@ -27,4 +31,5 @@ returns-clause-range g c =
     let most = most_asks c.args.settings.now c.requires in
     let number = c.draw_asks-asks.ensures.number in
     trip_in _ c.draw_up_to-customer.result c.draw_asks-asks.result.items (search rules) (search rules)
-    (omega (arith, number, c.draw_up_to-count.ensures.least)) (omega (arith, number, most, c.draw_up_to-count.ensures.most)) c.draw_asks-asks.ensures.range
+    (omega (arith, number, c.draw_up_to-count.ensures.least))
+    (omega (arith, number, most, c.draw_up_to-count.ensures.most)) c.draw_asks-asks.ensures.range

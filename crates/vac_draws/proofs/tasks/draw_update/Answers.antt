@@ -14,8 +14,10 @@ returns-clause-drawn g c =
     record {
       task = Update c.draw_changes-changes.result.items;
       drawn =
-          drawn_after leads (up_to s.asks) (λ count. after (times count (change s)) (λ changes. always (Update changes))) _ _ _ _ _ c.draw_up_to-count.ensures.drawn
-          (drawn_then_always leads (times count (change s)) (λ changes. Update changes) _ _ _ c.draw_changes-changes.ensures.drawn);
+          drawn_after leads (up_to s.asks) (λ count. after (times count (change s))
+          (λ changes. always (Update changes))) _ _ _ _ _ c.draw_up_to-count.ensures.drawn
+          (drawn_then_always leads (times count (change s)) (λ changes. Update changes) _ _ _
+          c.draw_changes-changes.ensures.drawn);
       built = search rules;
     }
 
@@ -24,4 +26,5 @@ returns-clause-range g c =
     let most = most_asks c.args.settings.now c.requires in
     let number = c.draw_changes-changes.ensures.number in
     update_in _ c.draw_changes-changes.result.items (search rules)
-    (omega (arith, number, c.draw_up_to-count.ensures.least)) (omega (arith, number, most, c.draw_up_to-count.ensures.most)) c.draw_changes-changes.ensures.range
+    (omega (arith, number, c.draw_up_to-count.ensures.least))
+    (omega (arith, number, most, c.draw_up_to-count.ensures.most)) c.draw_changes-changes.ensures.range

@@ -22,12 +22,14 @@ many_words (p ∷ q ∷ r ∷ s ∷ ws) h = refl
 pub returns-in_err-customer-clause-command : goal.returns-in_err-customer-clause-command
 returns-in_err-customer-clause-command c =
     let p = err_from_is_err_and c.from_residual.result c.from_residual.ensures.1 in
-    let w = three_words c.args.words.now (record { ref_ptr = (0, 0); now = [] }) c.in-len3.len_at_least c.in-len3.len_below in
+    let w = three_words c.args.words.now (record { ref_ptr = (0, 0); now = [] }) c.in-len3.len_at_least
+    c.in-len3.len_below in
     p.1 ∙ sym (ap cancel_line w ∙ rw (← c.in_err-customer.ensures.booking) (ap Err (sym p.2)))
 
 pub returns-clause-command : goal.returns-clause-command
 returns-clause-command c =
-    let w = three_words c.args.words.now (record { ref_ptr = (0, 0); now = [] }) c.in-len3.len_at_least c.in-len3.len_below in
+    let w = three_words c.args.words.now (record { ref_ptr = (0, 0); now = [] }) c.in-len3.len_at_least
+    c.in-len3.len_below in
     sym (ap cancel_line w ∙ rw (← c.in_ok-customer.ensures.booking) refl)
 
 pub returns-in_default-clause-command : goal.returns-in_default-clause-command

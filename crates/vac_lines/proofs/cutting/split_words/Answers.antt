@@ -8,12 +8,15 @@ loop-word-preserved c =
     let at = c.loop-word in
     let pushed = c.in_ok-push.ensures in
     record {
-      words = word_cut c.args.line.now c.in-Some.behind.now at.rest.now at.words.items c.in-Some.word at.invariant.words c.in-Some.ensures.0 c.in-Some.ensures.1
+      words = word_cut c.args.line.now c.in-Some.behind.now at.rest.now at.words.items c.in-Some.word at.invariant.words
+          c.in-Some.ensures.0 c.in-Some.ensures.1
           ∙ ap (λ v. texts v ++ words_of c.in-Some.behind.now) (sym pushed.ok);
-      inline = λ few. pushed.had_room (omega (arith, pushed.len, at.invariant.inline)) ∙ at.invariant.inline (omega (arith, pushed.len));
+      inline = λ few. pushed.had_room (omega (arith, pushed.len, at.invariant.inline)) ∙
+          at.invariant.inline (omega (arith, pushed.len));
     }
 
 pub returns-clause-words : goal.returns-clause-words
 returns-clause-words c =
     ap texts c.in_ok-push-2.ensures.ok
-    ∙ word_last c.args.line.now c.loop-word.words.items c.loop-word.rest c.loop-word.invariant.words c.in_default.ensures
+    ∙ word_last c.args.line.now c.loop-word.words.items c.loop-word.rest c.loop-word.invariant.words
+    c.in_default.ensures

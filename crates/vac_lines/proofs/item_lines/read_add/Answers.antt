@@ -24,18 +24,21 @@ many_words (p ∷ q ∷ r ∷ s ∷ t ∷ ws) h = refl
 pub returns-in_err-kind-clause-command : goal.returns-in_err-kind-clause-command
 returns-in_err-kind-clause-command c =
     let p = err_from_is_err_and c.from_residual.result c.from_residual.ensures.1 in
-    let w = four_words c.args.words.now (record { ref_ptr = (0, 0); now = [] }) c.in-len4.len_at_least c.in-len4.len_below in
+    let w = four_words c.args.words.now (record { ref_ptr = (0, 0); now = [] }) c.in-len4.len_at_least
+    c.in-len4.len_below in
     p.1 ∙ sym (ap add_line w ∙ rw (← c.place_at.ensures.place, c.in_err-kind.was) (ap Err (sym p.2)))
 
 pub returns-in_err-num-clause-command : goal.returns-in_err-num-clause-command
 returns-in_err-num-clause-command c =
     let p = err_from_is_err_and c.from_residual-in_err-num.result c.from_residual-in_err-num.ensures.1 in
-    let w = four_words c.args.words.now (record { ref_ptr = (0, 0); now = [] }) c.in-len4.len_at_least c.in-len4.len_below in
+    let w = four_words c.args.words.now (record { ref_ptr = (0, 0); now = [] }) c.in-len4.len_at_least
+    c.in-len4.len_below in
     p.1 ∙ sym (ap add_line w ∙ rw (← c.in_ok-kind.ensures.place, ← c.in_err-num.ensures.stock) (ap Err (sym p.2)))
 
 pub returns-clause-command : goal.returns-clause-command
 returns-clause-command c =
-    let w = four_words c.args.words.now (record { ref_ptr = (0, 0); now = [] }) c.in-len4.len_at_least c.in-len4.len_below in
+    let w = four_words c.args.words.now (record { ref_ptr = (0, 0); now = [] }) c.in-len4.len_at_least
+    c.in-len4.len_below in
     sym (ap add_line w ∙ rw (← c.in_ok-kind.ensures.place, ← c.in_ok-num.ensures.stock) refl)
 
 pub returns-in_default-clause-command : goal.returns-in_default-clause-command

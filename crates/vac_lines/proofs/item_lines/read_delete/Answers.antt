@@ -20,18 +20,23 @@ many_words kind (p ∷ q ∷ r ∷ ws) h = refl
 pub returns-in_err-kind-clause-command : goal.returns-in_err-kind-clause-command
 returns-in_err-kind-clause-command c =
     let p = err_from_is_err_and c.from_residual.result c.from_residual.ensures.1 in
-    let w = two_words c.args.words.now (record { ref_ptr = (0, 0); now = [] }) c.in-len2.len_at_least c.in-len2.len_below in
-    p.1 ∙ sym (ap (delete_line c.args.kind.now) w ∙ rw (← c.place_at.ensures.place, c.in_err-kind.was) (ap Err (sym p.2)))
+    let w = two_words c.args.words.now (record { ref_ptr = (0, 0); now = [] }) c.in-len2.len_at_least
+    c.in-len2.len_below in
+    p.1 ∙ sym (ap (delete_line c.args.kind.now) w ∙ rw (← c.place_at.ensures.place, c.in_err-kind.was)
+    (ap Err (sym p.2)))
 
 pub returns-in_err-num-clause-command : goal.returns-in_err-num-clause-command
 returns-in_err-num-clause-command c =
     let p = err_from_is_err_and c.from_residual-in_err-num.result c.from_residual-in_err-num.ensures.1 in
-    let w = two_words c.args.words.now (record { ref_ptr = (0, 0); now = [] }) c.in-len2.len_at_least c.in-len2.len_below in
-    p.1 ∙ sym (ap (delete_line c.args.kind.now) w ∙ rw (← c.in_ok-kind.ensures.place, ← c.in_err-num.ensures.amount) (ap Err (sym p.2)))
+    let w = two_words c.args.words.now (record { ref_ptr = (0, 0); now = [] }) c.in-len2.len_at_least
+    c.in-len2.len_below in
+    p.1 ∙ sym (ap (delete_line c.args.kind.now) w ∙ rw (← c.in_ok-kind.ensures.place, ← c.in_err-num.ensures.amount)
+    (ap Err (sym p.2)))
 
 pub returns-clause-command : goal.returns-clause-command
 returns-clause-command c =
-    let w = two_words c.args.words.now (record { ref_ptr = (0, 0); now = [] }) c.in-len2.len_at_least c.in-len2.len_below in
+    let w = two_words c.args.words.now (record { ref_ptr = (0, 0); now = [] }) c.in-len2.len_at_least
+    c.in-len2.len_below in
     sym (ap (delete_line c.args.kind.now) w ∙ rw (← c.in_ok-kind.ensures.place, ← c.in_ok-num.ensures.amount) refl)
 
 pub returns-in_default-clause-command : goal.returns-in_default-clause-command

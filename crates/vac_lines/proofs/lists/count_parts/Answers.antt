@@ -9,5 +9,6 @@ use Rattle.vac_lines.proofs.lists.count_parts.Goals as goal
 pub returns-clause-count : goal.returns-clause-count
 returns-clause-count c =
     let ended : length c.args.words.now ≤ c.loop-word.word-index = omega arith in
-    c.loop-word.invariant.count ∙ ap (λ ws. count_by is_separator (texts ws) + 1) (take_all c.loop-word.word-index c.args.words.now ended)
+    c.loop-word.invariant.count ∙ ap (λ ws. count_by is_separator (texts ws) + 1)
+    (take_all c.loop-word.word-index c.args.words.now ended)
     ∙ sym (length-slice_split is_separator (texts c.args.words.now))

@@ -12,6 +12,7 @@ invariant-loop-part l = record {
   same : changes_of (texts l.words)
       ≡ put_behind l.changes.items (read_each change_line (map texts (drop (length l.yielded) (parts l.words))));
   count : length l.changes.items ≡ length l.yielded;
-  short : 2 * length l.changes.items + cond l.part-iterator.done 0 (length l.part-iterator.rest.now + 1) ≤ length l.words + 1;
+  short : 2 * length l.changes.items + cond l.part-iterator.done 0
+      (length l.part-iterator.rest.now + 1) ≤ length l.words + 1;
   in_range : list_all (λ c. is_change c && is_command c) l.changes.items ≡ true;
 }

@@ -5,4 +5,5 @@ use Rattle.vac_lines.proofs.task_text.append_further.Given as goal
 
 -- the changes so far
 abbrev pub invariant-loop-change : goal.invariant-loop-change
-invariant-loop-change l = l.out.items ≡ l.initial.out.items ++ spaced (flat_map further_words (take l.change-index l.changes))
+invariant-loop-change l = l.out.items ≡ l.initial.out.items ++ spaced
+    (flat_map further_words (take l.change-index l.changes))

@@ -13,6 +13,9 @@ writes-preserved g c =
       | in-Ok w ↦
           let more = rw (taken_end all sent) at w.in-Ok.ensures.bytes in
           let bound = rw (taken_end all sent) at w.in-Ok.ensures.bound in
-          rw (w.sent-is, take-add sent w.in-Ok.taken all) (omega (arith, inv.0, bound, length-drop sent all), Appends-trans _ _ _ _ _ inv.1 more)
+          rw (w.sent-is, take-add sent w.in-Ok.taken all) (
+            omega (arith, inv.0, bound, length-drop sent all),
+            Appends-trans _ _ _ _ _ inv.1 more,
+          )
       | in-Err+else-ne w ↦ rw w.sent-is (inv.0, Appends-kept _ _ _ _ inv.1 w.in-Err.ensures.bytes)
     ]

@@ -6,7 +6,8 @@ use Rattle.vac_opaque.proofs.accesses.read_accesses.Given as goal
 -- the accesses so far and those of what is left are those of the text
 abbrev pub invariant-loop-kind : goal.invariant-loop-kind
 invariant-loop-kind l = record {
-  same : accesses_of l.words (words_left l.text) ≡ put_before l.accesses.items (accesses_of l.words (words_left l.left));
+  same : accesses_of l.words (words_left l.text) ≡ put_before l.accesses.items
+      (accesses_of l.words (words_left l.left));
   among : AllAmong l.words l.accesses.items;
 }
 

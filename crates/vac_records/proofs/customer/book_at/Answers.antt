@@ -2,4 +2,5 @@ use Rattle.vac_records.proofs.Hanging.{booked_after}
 use Rattle.vac_records.proofs.customer.book_at.Goals as goal
 
 pub returns-clause-answer : goal.returns-clause-answer
-returns-clause-answer g c = booked_after _ _ _ _ _ _ _ _ _ c.ranges.id.fits c.in_ok-init_booking.ensures.answer c.in_ok-insert_at.ensures.answer
+returns-clause-answer g c = booked_after _ _ _ _ _ _ _ _ _ c.ranges.id.fits c.in_ok-init_booking.ensures.answer
+    c.in_ok-insert_at.ensures.answer

@@ -8,4 +8,5 @@ pub overflow_sub-free : goal.overflow_sub-free
 overflow_sub-free g c = c.requires.units.enough
 
 pub returns-clause-answer : goal.returns-clause-answer
-returns-clause-answer g c = units_made _ _ _ _ _ _ _ _ c.word.ensures c.word-2.ensures c.in_ok-raise.ensures.answer c.in_ok-store.ensures.answer
+returns-clause-answer g c = units_made _ _ _ _ _ _ _ _ c.word.ensures c.word-2.ensures c.in_ok-raise.ensures.answer
+    c.in_ok-store.ensures.answer

@@ -5,5 +5,6 @@ use Rattle.vac_report.proofs.customers.sums_of_customer.Given as goal
 abbrev pub invariant-loop : goal.invariant-loop
 invariant-loop g l = record {
   origin : g.M.TxRead.origin l.memory ≡ g.M.TxRead.origin l.fn.memory;
-  walk : BookingWalk (g.M.TxRead.view l.fn.memory) (g.M.TxRead.view l.memory) l.fn.customer l.next l.counter l.units l.billed;
+  walk : BookingWalk (g.M.TxRead.view l.fn.memory) (g.M.TxRead.view l.memory) l.fn.customer l.next l.counter l.units
+      l.billed;
 }

@@ -20,8 +20,10 @@ plus-sums-requires g c =
 pub loop-preserved : goal.loop-preserved
 loop-preserved g c = record {
   origin = c.in_ok-sums_of_item-in-Some.ensures.origin ∙ (c.in_ok-least_above.ensures.origin ∙ c.loop.invariant.origin);
-  walk = item_step _ _ _ _ _ _ _ _ _ _ _ _ _ c.plus-sums.ensures c.root_of-root.ensures c.loop.invariant.walk (next_at _ _ _ _ _ _ c.in-Some.is c.in_ok-least_above.ensures.answer) c.in_ok-sums_of_item-in-Some.ensures.answer;
+  walk = item_step _ _ _ _ _ _ _ _ _ _ _ _ _ c.plus-sums.ensures c.root_of-root.ensures c.loop.invariant.walk
+      (next_at _ _ _ _ _ _ c.in-Some.is c.in_ok-least_above.ensures.answer) c.in_ok-sums_of_item-in-Some.ensures.answer;
 }
 
 pub returns-clause-answer : goal.returns-clause-answer
-returns-clause-answer g c = item_all _ _ _ _ _ _ (omega (arith, c.loop-test.false)) c.requires c.loop.invariant.walk (g.met.M.TxRead.seen c.loop.memory)
+returns-clause-answer g c = item_all _ _ _ _ _ _ (omega (arith, c.loop-test.false)) c.requires c.loop.invariant.walk
+    (g.met.M.TxRead.seen c.loop.memory)

@@ -7,7 +7,8 @@ reserve_choice-requires-clause-state g c =
     let customer = c.args.customer in
     let choices = c.args.choices.now in
     let owner = c.in_ok-owner.owner in
-    let ready = ready_joined _ _ customer owner choices c.requires.state c.requires.known c.in_ok-owner.ensures.answer in
+    let ready = ready_joined _ _ customer owner choices c.requires.state c.requires.known c.in_ok-owner.ensures.answer
+    in
     ready.state
 
 pub reserve_choice-requires-clause-owner : goal.reserve_choice-requires-clause-owner
@@ -15,7 +16,8 @@ reserve_choice-requires-clause-owner g c =
     let customer = c.args.customer in
     let choices = c.args.choices.now in
     let owner = c.in_ok-owner.owner in
-    let ready = ready_joined _ _ customer owner choices c.requires.state c.requires.known c.in_ok-owner.ensures.answer in
+    let ready = ready_joined _ _ customer owner choices c.requires.state c.requires.known c.in_ok-owner.ensures.answer
+    in
     ready.owner
 
 pub reserve_choice-requires-clause-known : goal.reserve_choice-requires-clause-known
@@ -23,7 +25,8 @@ reserve_choice-requires-clause-known g c =
     let customer = c.args.customer in
     let choices = c.args.choices.now in
     let owner = c.in_ok-owner.owner in
-    let ready = ready_joined _ _ customer owner choices c.requires.state c.requires.known c.in_ok-owner.ensures.answer in
+    let ready = ready_joined _ _ customer owner choices c.requires.state c.requires.known c.in_ok-owner.ensures.answer
+    in
     ready.known.known Car
 
 pub reserve_choice-requires-2-clause-state : goal.reserve_choice-requires-2-clause-state
@@ -31,7 +34,8 @@ reserve_choice-requires-2-clause-state g c =
     let customer = c.args.customer in
     let choices = c.args.choices.now in
     let owner = c.in_ok-owner.owner in
-    let ready = ready_joined _ _ customer owner choices c.requires.state c.requires.known c.in_ok-owner.ensures.answer in
+    let ready = ready_joined _ _ customer owner choices c.requires.state c.requires.known c.in_ok-owner.ensures.answer
+    in
     let car = c.in_ok-car.ensures in
     let ready2 = ready_next _ _ customer owner.block choices Car _ _ ready car.answer car.blocks in
     ready2.state
@@ -41,7 +45,8 @@ reserve_choice-requires-2-clause-owner g c =
     let customer = c.args.customer in
     let choices = c.args.choices.now in
     let owner = c.in_ok-owner.owner in
-    let ready = ready_joined _ _ customer owner choices c.requires.state c.requires.known c.in_ok-owner.ensures.answer in
+    let ready = ready_joined _ _ customer owner choices c.requires.state c.requires.known c.in_ok-owner.ensures.answer
+    in
     let car = c.in_ok-car.ensures in
     let ready2 = ready_next _ _ customer owner.block choices Car _ _ ready car.answer car.blocks in
     ready2.owner
@@ -51,7 +56,8 @@ reserve_choice-requires-2-clause-known g c =
     let customer = c.args.customer in
     let choices = c.args.choices.now in
     let owner = c.in_ok-owner.owner in
-    let ready = ready_joined _ _ customer owner choices c.requires.state c.requires.known c.in_ok-owner.ensures.answer in
+    let ready = ready_joined _ _ customer owner choices c.requires.state c.requires.known c.in_ok-owner.ensures.answer
+    in
     let car = c.in_ok-car.ensures in
     let ready2 = ready_next _ _ customer owner.block choices Car _ _ ready car.answer car.blocks in
     ready2.known.known Flight
@@ -61,7 +67,8 @@ reserve_choice-requires-3-clause-state g c =
     let customer = c.args.customer in
     let choices = c.args.choices.now in
     let owner = c.in_ok-owner.owner in
-    let ready = ready_joined _ _ customer owner choices c.requires.state c.requires.known c.in_ok-owner.ensures.answer in
+    let ready = ready_joined _ _ customer owner choices c.requires.state c.requires.known c.in_ok-owner.ensures.answer
+    in
     let car = c.in_ok-car.ensures in
     let ready2 = ready_next _ _ customer owner.block choices Car _ _ ready car.answer car.blocks in
     let flight = c.in_ok-flight.ensures in
@@ -73,7 +80,8 @@ reserve_choice-requires-3-clause-owner g c =
     let customer = c.args.customer in
     let choices = c.args.choices.now in
     let owner = c.in_ok-owner.owner in
-    let ready = ready_joined _ _ customer owner choices c.requires.state c.requires.known c.in_ok-owner.ensures.answer in
+    let ready = ready_joined _ _ customer owner choices c.requires.state c.requires.known c.in_ok-owner.ensures.answer
+    in
     let car = c.in_ok-car.ensures in
     let ready2 = ready_next _ _ customer owner.block choices Car _ _ ready car.answer car.blocks in
     let flight = c.in_ok-flight.ensures in
@@ -85,7 +93,8 @@ reserve_choice-requires-3-clause-known g c =
     let customer = c.args.customer in
     let choices = c.args.choices.now in
     let owner = c.in_ok-owner.owner in
-    let ready = ready_joined _ _ customer owner choices c.requires.state c.requires.known c.in_ok-owner.ensures.answer in
+    let ready = ready_joined _ _ customer owner choices c.requires.state c.requires.known c.in_ok-owner.ensures.answer
+    in
     let car = c.in_ok-car.ensures in
     let ready2 = ready_next _ _ customer owner.block choices Car _ _ ready car.answer car.blocks in
     let flight = c.in_ok-flight.ensures in
@@ -94,5 +103,6 @@ reserve_choice-requires-3-clause-known g c =
 
 pub returns-clause-answer : goal.returns-clause-answer
 returns-clause-answer g c =
-    booked _ _ _ _ _ _ c.in_ok-owner.owner c.args.choices.now _ _ _ c.in_ok-owner.ensures.answer c.in_ok-car.ensures.answer c.in_ok-car.ensures.blocks
+    booked _ _ _ _ _ _ c.in_ok-owner.owner c.args.choices.now _ _ _ c.in_ok-owner.ensures.answer
+    c.in_ok-car.ensures.answer c.in_ok-car.ensures.blocks
     c.in_ok-flight.ensures.answer c.in_ok-flight.ensures.blocks c.in_ok-room.ensures.answer

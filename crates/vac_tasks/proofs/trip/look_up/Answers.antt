@@ -7,4 +7,5 @@ returns-in_default-clause-answer g c =
 
 pub returns-clause-answer : goal.returns-clause-answer
 returns-clause-answer g c =
-    looked_up _ _ _ _ _ c.requires.range c.in_ok-item.ensures.reads (rw c.in-Some.is at c.in_ok-item.ensures.answer) c.in_ok-price.ensures.answer
+    looked_up _ _ _ _ _ c.requires.range c.in_ok-item.ensures.reads
+    (rw c.in-Some.is at c.in_ok-item.ensures.answer) c.in_ok-price.ensures.answer

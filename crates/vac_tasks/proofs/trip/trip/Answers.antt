@@ -12,7 +12,9 @@ book_choices-requires-clause-known g c = choices_found _ _ c.in_ok-choices.ensur
 
 pub returns-then-are_any-clause-answer : goal.returns-then-are_any-clause-answer
 returns-then-are_any-clause-answer g c =
-    if_ok _ _ _ (λ r runs. tripped _ _ _ _ c.args.asks.now c.in_ok-choices.choices r c.in_ok-choices.ensures.answer (sym c.if-are_any.ensures) runs) c.book_choices.ensures.answer
+    if_ok _ _ _ (λ r runs. tripped _ _ _ _ c.args.asks.now c.in_ok-choices.choices r c.in_ok-choices.ensures.answer
+    (sym c.if-are_any.ensures) runs) c.book_choices.ensures.answer
 
 pub returns-clause-answer : goal.returns-clause-answer
-returns-clause-answer g c = tripped_none _ _ _ c.args.asks.now c.in_ok-choices.choices c.in_ok-choices.ensures.answer (sym c.if-are_any.ensures)
+returns-clause-answer g c = tripped_none _ _ _ c.args.asks.now c.in_ok-choices.choices c.in_ok-choices.ensures.answer
+    (sym c.if-are_any.ensures)

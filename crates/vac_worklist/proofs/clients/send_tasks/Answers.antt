@@ -12,9 +12,11 @@ returns-in_err-send_task-clause-err g c =
     let s = c.args.settings.now in
     let less : c.tasks.counter < s.rounds * s.tasks = search rules in
     on_err c.from_residual.result
-    (part_more (task_line c.args.client) (λ _. one (task_of s)) (λ _. one_total (task_of s) (task_total s)) c.tasks.counter (s.rounds * s.tasks) less _ _ _ _ _ _ _
+    (part_more (task_line c.args.client) (λ _. one (task_of s))
+    (λ _. one_total (task_of s) (task_total s)) c.tasks.counter (s.rounds * s.tasks) less _ _ _ _ _ _ _
     c.tasks.invariant c.in_err-send_task.ensures.err)
 
 pub tasks-preserved : goal.tasks-preserved
 tasks-preserved g c =
-    sent_more (task_line c.args.client) c.tasks.counter (λ _. one (task_of c.args.settings.now)) _ _ _ _ _ _ _ _ _ c.tasks.invariant c.in_ok-send_task.ensures.ok
+    sent_more (task_line c.args.client) c.tasks.counter (λ _. one (task_of c.args.settings.now)) _ _ _ _ _ _ _ _ _
+    c.tasks.invariant c.in_ok-send_task.ensures.ok

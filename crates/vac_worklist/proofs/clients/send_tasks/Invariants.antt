@@ -5,4 +5,5 @@ use Rattle.vac_worklist.specs.Sending.{SentLines}
 use Rattle.vac_worklist.proofs.clients.send_tasks.Given as goal
 
 abbrev pub invariant-tasks : goal.invariant-tasks
-invariant-tasks g l = SentLines (times l.counter (task_of l.fn.settings)) (task_line l.fn.client) l.fn.draws l.draws (g.W.Write.contents l.fn.output) (g.W.Write.contents l.output) l.fn.hand.items l.hand.items
+invariant-tasks g l = SentLines (times l.counter (task_of l.fn.settings)) (task_line l.fn.client) l.fn.draws l.draws
+    (g.W.Write.contents l.fn.output) (g.W.Write.contents l.output) l.fn.hand.items l.hand.items

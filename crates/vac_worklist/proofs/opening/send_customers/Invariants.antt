@@ -3,4 +3,5 @@ use Rattle.vac_worklist.proofs.Sending.{made}
 use Rattle.vac_worklist.proofs.opening.send_customers.Given as goal
 
 abbrev pub invariant-customers : goal.invariant-customers
-invariant-customers g l = Sent (g.W.Write.contents l.fn.output) (g.W.Write.contents l.output) l.fn.hand.items l.hand.items (made l.place)
+invariant-customers g l = Sent (g.W.Write.contents l.fn.output)
+    (g.W.Write.contents l.output) l.fn.hand.items l.hand.items (made l.place)

@@ -5,4 +5,5 @@ use Rattle.vac_worklist.specs.Sending.{SentLines}
 use Rattle.vac_worklist.proofs.opening.send_items.Given as goal
 
 abbrev pub invariant-items : goal.invariant-items
-invariant-items g l = SentLines (for_each l.place stocks) opening_line l.fn.draws l.draws (g.W.Write.contents l.fn.output) (g.W.Write.contents l.output) l.fn.hand.items l.hand.items
+invariant-items g l = SentLines (for_each l.place stocks) opening_line l.fn.draws l.draws
+    (g.W.Write.contents l.fn.output) (g.W.Write.contents l.output) l.fn.hand.items l.hand.items

@@ -7,7 +7,8 @@ use Rattle.ring.proofs.bodies.PushBodyRingObject.run.Goals as goal
 
 pub overflow_sub-tail : goal.overflow_sub-tail
 overflow_sub-tail g c = known_le _ _ c.requires
-    (two_steps (load_step c.in_ok-head.ensures.answer (omega arith)) (load_step c.in_ok-tail.ensures.answer (omega arith)))
+    (two_steps (load_step c.in_ok-head.ensures.answer (omega arith))
+    (load_step c.in_ok-tail.ensures.answer (omega arith)))
     (g.met.M.TxRead.seen c.load-2.new.memory) (λ xs b p. omega (arith, p.0, p.1, b.order))
 
 pub returns-clause-answer : goal.returns-clause-answer
@@ -15,4 +16,7 @@ returns-clause-answer g c = has_done WORDS IsRing Finds after (Push c.args.self.
     (two_steps (load_step c.in_ok-head.ensures.answer (omega arith))
     (two_steps (load_step c.in_ok-tail.ensures.answer (omega arith))
     (two_steps (store_step c.in_ok-store.ensures.answer) (store_step c.in_ok-store-2.ensures.answer))))
-    (λ xs b p. (record { slot = omega (arith, p.0, p.1.0); count = omega (arith, p.1.0) }, rw (p.1.0, c.slot.ensures) refl))
+    (λ xs b p. (
+      record { slot = omega (arith, p.0, p.1.0); count = omega (arith, p.1.0) },
+      rw (p.1.0, c.slot.ensures) refl,
+    ))

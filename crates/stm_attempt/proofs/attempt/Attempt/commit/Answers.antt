@@ -9,7 +9,9 @@ end-requires-clause-inside g c = c.args.self.inside c.requires.running
 
 pub returns-clause-met : goal.returns-clause-met
 returns-clause-met g c = λ conflict e.
-    subst (λ (s : ClientShown). ∥ ((address : ℕ) × IsReadConflict (stripe_of c.args.self.region.now.stripes) address conflict s.value) ∥₁) (sym (c.end.ensures.again conflict e).1)
+    subst (λ (s : ClientShown). ∥ ((address : ℕ) × IsReadConflict
+    (stripe_of c.args.self.region.now.stripes) address conflict s.value) ∥₁)
+    (sym (c.end.ensures.again conflict e).1)
     ((c.args.self.running c.requires.running).shown conflict e)
 
 pub returns-clause-own : goal.returns-clause-own

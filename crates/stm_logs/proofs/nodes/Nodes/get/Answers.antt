@@ -7,7 +7,8 @@ pub get-requires : goal.get-requires
 get-requires g c =
     let s = c.self.inside in
     let list = ap (λ (b : Block). b.list) c.self.view_is in
-    let p = place_in _ _ s.len s.row.items s.index.items _ c.args.i s.row.ok.0 s.index.ok.0 c.self.invariant.0.0 c.self.invariant.2.0 list c.requires in
+    let p = place_in _ _ s.len s.row.items s.index.items _ c.args.i s.row.ok.0 s.index.ok.0 c.self.invariant.0.0
+    c.self.invariant.2.0 list c.requires in
     let l : c.args.i < length s.row.items = omega (arith, p.1, s.row.ok.0, c.self.invariant.0.0) in
     let there : get_or s.row.filled c.args.i false ≡ true = c.self.invariant.0.1 c.args.i (omega arith) p.1 in
     (omega (arith, l, s.row.ok.0), rw there (search rules))
@@ -16,6 +17,7 @@ pub returns : goal.returns
 returns g c =
     let s = c.self.inside in
     let list = ap (λ (b : Block). b.list) c.self.view_is in
-    let p = place_in _ _ s.len s.row.items s.index.items _ c.args.i s.row.ok.0 s.index.ok.0 c.self.invariant.0.0 c.self.invariant.2.0 list c.requires in
+    let p = place_in _ _ s.len s.row.items s.index.items _ c.args.i s.row.ok.0 s.index.ok.0 c.self.invariant.0.0
+    c.self.invariant.2.0 list c.requires in
     let l : c.args.i < length s.row.items = omega (arith, p.1, s.row.ok.0, c.self.invariant.0.0) in
     c.get.ensures ∙ entry_here _ _ _ _ _ p.0 l list

@@ -12,7 +12,13 @@ reserve-requires-2 g c κs within = (search rules, (search rules, (sym (length-r
 
 pub returns : goal.returns
 returns g c =
-    let nodes : length c.fill.new.row.items ≡ c.args.len = omega (arith, c.fill.new.row.ok.0, c.fill.ensures.places.1, c.in_ok-row.ensures.0) in
-    let places : length c.fill-2.new.row.items ≡ c.args.len = omega (arith, c.fill-2.new.row.ok.0, c.fill-2.ensures.places.1, c.in-Ok.ensures.0) in
+    let nodes : length c.fill.new.row.items ≡ c.args.len = omega (
+      arith,
+      c.fill.new.row.ok.0,
+      c.fill.ensures.places.1,
+      c.in_ok-row.ensures.0,
+    ) in
+    let places : length c.fill-2.new.row.items ≡ c.args.len =
+    omega (arith, c.fill-2.new.row.ok.0, c.fill-2.ensures.places.1, c.in-Ok.ensures.0) in
     let same : length c.fill.new.row.items ≡ length c.fill-2.new.row.items = nodes ∙ sym places in
     (len_beside _ _ same ∙ nodes, refl, refl, blank_beside _ _ same c.fill.ensures.items c.fill-2.ensures.items)

@@ -11,7 +11,8 @@ returns-then-chunk-self g c =
     let below = c.if-chunk-self.true in
     let chunk = c.index.ensures ∙ get_or_default s.rest.items _ _ [] (omega (arith, below, room.count)) in
     c.get.ensures ∙ ap (λ (x : List ℕ). get_or x (c.args.i % 1024) 0) chunk
-    ∙ full_at s.rest.items s.full s.hand s.used c.args.i room below ∙ ap (λ (x : List ℕ). get_or x c.args.i 0) c.self.view_is
+    ∙ full_at s.rest.items s.full s.hand s.used c.args.i room below ∙
+    ap (λ (x : List ℕ). get_or x c.args.i 0) c.self.view_is
 
 pub unreachable-requires : goal.unreachable-requires
 unreachable-requires g c =
@@ -20,7 +21,15 @@ unreachable-requires g c =
     let inside : c.args.i < length (logged s.rest.items s.full s.hand s.used) = rw is c.requires in
     let none : length (in_hand s.hand) ≡ 0 = ap (λ h. length (in_hand h)) c.in-None.is in
     let few = c.self.invariant.2 in
-    omega (arith, none, c.self.invariant.1, few, inside, c.if-chunk-self.false, length-logged s.rest.items s.full s.hand s.used c.self.invariant.0 (omega (arith, few, c.self.invariant.1)))
+    omega (
+      arith,
+      none,
+      c.self.invariant.1,
+      few,
+      inside,
+      c.if-chunk-self.false,
+      length-logged s.rest.items s.full s.hand s.used c.self.invariant.0 (omega (arith, few, c.self.invariant.1)),
+    )
 
 pub returns : goal.returns
 returns g c =
@@ -32,5 +41,6 @@ returns g c =
     let whole : length (in_hand s.hand) ≡ 1024 = ap length chunk ∙ room.here c.in-Some.hand c.in-Some.is in
     let few = c.self.invariant.2 in
     c.get-in-Some.ensures ∙ ap (λ (x : List ℕ). get_or x (c.args.i % 1024) 0) (sym chunk)
-    ∙ hand_at s.rest.items s.full s.hand s.used c.args.i room (omega (arith, few, c.self.invariant.1)) (omega (arith, whole)) c.if-chunk-self.false inside
+    ∙ hand_at s.rest.items s.full s.hand s.used c.args.i room (omega (arith, few, c.self.invariant.1))
+    (omega (arith, whole)) c.if-chunk-self.false inside
     ∙ ap (λ (x : List ℕ). get_or x c.args.i 0) is

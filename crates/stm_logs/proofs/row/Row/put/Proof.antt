@@ -25,9 +25,11 @@ use denote.Triple.Clauses.{Clauses, Ended, closing}
 use denote.Triple.Spec.{Meets, triple_of}
 use denote.Triple.Table.{entered}
 use sound.WpLaws.{WpFn-mono}
-use types.Kit.{‵, raw, ◌⊛◌, at_ret, ◌$◌, ◌∵◌, !, qed, move, keep, use1, use3, drop, split, join, fsplit, fsplit3, fjoin, fjoin3, feq_i, suffices, done}
+use types.Kit.{‵, raw, ◌⊛◌, at_ret, ◌$◌, ◌∵◌, !, qed, move, keep, use1, use3, drop, split, join, fsplit, fsplit3, fjoin}
+use types.Kit.{fjoin3, feq_i, suffices, done}
 use types.Part.{whole, sub, look_in}
-use types.Run.{init, stop, fld, load, size_lit, unit_lit, of_opd, bin, assigns_last, first, blocks, exec, returns, enter}
+use types.Run.{init, stop, fld, load, size_lit, unit_lit, of_opd, bin, assigns_last, first, blocks, exec, returns}
+use types.Run.{enter}
 use types.ByLocal.{alloc_all, pass_all, free_all, look_at, get, through, sets, env}
 use denote.Exit.{yes, no}
 use denote.Builtin.{usize}
@@ -52,9 +54,16 @@ module _ (E : El) where
   ended = F.ended E.row
 
   abbrev stayed : Stays ended.signature.params ended.kept
-  stayed = (stay_ref (0 ∷ []) tt (plain (λ _. Sr E)), (stay_dropped (plain (λ _. usize)) yes, (stay_dropped (plain (λ _. R E)) no, tt)))
+  stayed = (
+    stay_ref (0 ∷ []) tt (plain (λ _. Sr E)),
+    (
+      stay_dropped (plain (λ _. usize)) yes,
+      (stay_dropped (plain (λ _. R E)) no, tt),
+    ),
+  )
 
-  module _ {M : Type 1} {𝓤 : Ura M} (𝓛 : Logic 𝓤) (at_mem : Memory → SProp 𝓤) (run : Routine → Fun 𝓤) (𝓣 : Tables 𝓤 𝓛.H) where
+  module _ {M : Type 1} {𝓤 : Ura M} (𝓛 : Logic 𝓤) (at_mem : Memory → SProp 𝓤) (run : Routine →
+      Fun 𝓤) (𝓣 : Tables 𝓤 𝓛.H) where
     open 𝓛 use {H}
 
     abbrev held : Clauses 𝓤 ended
@@ -64,7 +73,8 @@ module _ (E : El) where
     Bound = (walk_of 𝓛 ended stayed held).Ghost
 
     abbrev Goes : Bound → Type 1
-    Goes y = ent 𝓤 ((walk_of 𝓛 ended stayed held).pre y) (WpFn 𝓤 H 𝓣.C 𝓣.Λ here ((walk_of 𝓛 ended stayed held).args y) ((walk_of 𝓛 ended stayed held).post y))
+    Goes y = ent 𝓤 ((walk_of 𝓛 ended stayed held).pre y) (WpFn 𝓤 H 𝓣.C 𝓣.Λ here ((walk_of 𝓛 ended stayed held).args y)
+        ((walk_of 𝓛 ended stayed held).post y))
 
     abbrev at : (z : Bound) → Vals ended.signature z.0.0 → Bound
     at z vss = ((z.0.0, z.0.1, z.0.2, z.0.3, vss), z.1)
@@ -75,47 +85,77 @@ module _ (E : El) where
     walk : (z : Bound) → z.0.3.1.0 < 2 ^ 64 → (v : Val) → Good E v → Goes (spelled z v)
     walk z fi v tv =
         let κ = z.0.0.0 in let κ₁ = z.0.0.1.0 in let q = z.0.1.0 in let q₁ = z.0.1.1.0 in
-        let rb : ℕ = z.0.3.0.ref_ptr.0 in let ro : ℕ = z.0.3.0.ref_ptr.1 in let h : el_d E = z.0.3.0.now in let i : ℕ = z.0.3.1.0 in let x : el_x E = z.0.3.1.1.0 in
+        let rb : ℕ = z.0.3.0.ref_ptr.0 in let ro : ℕ = z.0.3.0.ref_ptr.1 in let h : el_d E = z.0.3.0.now in let i : ℕ =
+        z.0.3.1.0 in let x : el_x E = z.0.3.1.1.0 in
         let Post : Val → SProp 𝓤 = (walk_of 𝓛 ended stayed held).post (spelled z v) in
         let s : ℕ = sz E in
         let lx : h.len ≡ length h.items = h.ok.0 in let lf : h.len ≡ length h.filled = h.ok.1 in
-        let new : el_d E = record { ptr = h.ptr; len = h.len; items = set h.items i x; filled = set h.filled i true; ok = (lx ∙ sym (length-set h.items i x), lf ∙ sym (length-set h.filled i true)); small = h.small } in
-        qed 𝓛 (((‵ (flft κ q) ⊛ ‵ (flft κ₁ q₁) ⊛ ‵ ftrue) ⊛ ‵ (owns (types_at ended.signature.params z.0.0) z.0.3 (spelled z v).0.4)) ∷ (raw (fact 𝓤 (κ₁ ⊑ E.row.lives)) ⊛ raw (fact 𝓤 (i < h.len))) ∷ []) ∵
+        let new : el_d E = record {
+          ptr = h.ptr;
+          len = h.len;
+          items = set h.items i x;
+          filled = set h.filled i true;
+          ok =
+              (lx ∙ sym (length-set h.items i x), lf ∙ sym (length-set h.filled i true));
+          small = h.small;
+        } in
+        qed 𝓛 (((‵ (flft κ q) ⊛ ‵ (flft κ₁ q₁) ⊛ ‵ ftrue) ⊛ ‵
+        (owns (types_at ended.signature.params z.0.0) z.0.3 (spelled z v).0.4)) ∷
+        (raw (fact 𝓤 (κ₁ ⊑ E.row.lives)) ⊛ raw (fact 𝓤 (i < h.len))) ∷ []) ∵
         move ! (1 ∷ []) $ split ! $ drop ! $ heard ! (i < h.len) (λ li.
         let ix : i < length h.items = omega arith in let fx : i < length h.filled = omega arith in
-        split ! $ split ! $ move ! (2 ∷ []) $ fsplit3 ! $ fsplit3 ! $ move ! (4 ∷ []) $ fsplit ! $ keep ! (3 ∷ 4 ∷ 6 ∷ 0 ∷ 7 ∷ []) $
-        enter ! 𝓣.C 𝓣.Λ here (vptr rb ro ∷ vint w64 i ∷ v ∷ []) _ $ alloc_all ! (λ l. pass_all ! refl ((tt, tt), ((tt, record { fits = fi }), (tv, tt))) $
+        split ! $ split ! $ move ! (2 ∷ []) $ fsplit3 ! $ fsplit3 ! $ move ! (4 ∷ []) $ fsplit ! $ keep !
+        (3 ∷ 4 ∷ 6 ∷ 0 ∷ 7 ∷ []) $
+        enter ! 𝓣.C 𝓣.Λ here (vptr rb ro ∷ vint w64 i ∷ v ∷ []) _ $ alloc_all !
+        (λ l. pass_all ! refl ((tt, tt), ((tt, record { fits = fi }), (tv, tt))) $
         let En : Env 𝓤 H = env here.locals l in
         row_opens E ! tt h rb ro (λ b o at_b fl fit.
         let small : s < 2 ^ 63 = one_below h.len s (2 ^ 63) (omega arith) fit in let tiny : s < 2 ^ 64 = omega arith in
-        let part : i * s < 2 ^ 63 = times_below i h.len s (2 ^ 63) (omega arith) fit in let fm : i * s < 2 ^ 64 = omega arith in
-        use1 𝓛 (‵ (froom (elτ E) b (i * s + o)) ⊛ ‵ (besides E b o h.items h.filled i)) (room_out E 𝓛 b o h.items h.filled i ix fx x) $ split ! $
+        let part : i * s < 2 ^ 63 = times_below i h.len s (2 ^ 63) (omega arith) fit in let fm : i * s < 2 ^ 64 =
+        omega arith in
+        use1 𝓛 (‵ (froom (elτ E) b (i * s + o)) ⊛ ‵ (besides E b o h.items h.filled i))
+        (room_out E 𝓛 b o h.items h.filled i ix fx x) $ split ! $
         -- [the room; the other places; the two words; the open borrow; obs; auth; what x owns; the other token]
         first ! $ blocks ! $
-        sets ! (of_opd ! (load ! (through ! refl (fld ! refl (stop !))) (look_in ! 2 (sub ! 0 refl (whole !))))) refl (tt, tt) $
-        sets ! (bin ! (get ! refl) (size_lit ! (record { fits = tiny })) (record { fits = fm })) refl (tt, record { fits = fm }) $
+        sets ! (of_opd ! (load ! (through ! refl (fld ! refl (stop !))) (look_in ! 2 (sub ! 0 refl (whole !))))) refl
+        (tt, tt) $
+        sets ! (bin ! (get ! refl) (size_lit ! (record { fits = tiny })) (record { fits = fm })) refl (
+          tt,
+          record { fits = fm },
+        ) $
         sets ! (bin ! (get ! refl) (get ! refl) tt) refl (tt, tt) $ sets ! (of_opd ! (get ! refl)) refl tv $
         assigns_last ! (of_opd ! (get ! refl)) (through ! refl (stop !)) (init ! 0 refl tv) $
         exec ! 𝓣.C 𝓣.Λ En (after 1 here.body) (at_ret En Post) $ sets ! (of_opd ! (unit_lit !)) refl (tt, tt) $
         move ! (0 ∷ 6 ∷ []) $ use3 𝓛 (‵ (places E new b o)) (value_in E 𝓛 b o h.items h.filled i ix fx x v) $
         row_closes E ! tt new b o rb ro at_b fl fit $ returns ! (look_at ! 0 refl) $ free_all ! refl $
-        suffices ! _ (ends_at 𝓛 ended stayed held (spelled z v) vunit tt (new, (tt, (tt, tt))) (tt, (tt, (tt, tt)))) $ says_three ! (refl, refl, (refl, refl)) $
-        feq_i ! (List Val) (vptr rb ro ∷ []) (vptr rb ro ∷ []) refl $ fjoin3 ! $ nothing ! $ nothing ! $ fjoin ! $ nothing ! $ fjoin ! $ move ! (1 ∷ 0 ∷ []) $ fjoin ! $
-        move ! (1 ∷ 2 ∷ []) $ join ! $ feq_i ! (List Val) (vunit ∷ []) (vunit ∷ []) refl $ keep ! (1 ∷ 2 ∷ 0 ∷ []) $ done !)))
+        suffices ! _ (ends_at 𝓛 ended stayed held (spelled z v) vunit tt (new, (tt, (tt, tt))) (tt, (tt, (tt, tt)))) $
+        says_three ! (refl, refl, (refl, refl)) $
+        feq_i ! (List Val) (vptr rb ro ∷ []) (vptr rb ro ∷ []) refl $ fjoin3 ! $ nothing ! $ nothing ! $ fjoin ! $
+        nothing ! $ fjoin ! $ move ! (1 ∷ 0 ∷ []) $ fjoin ! $
+        move ! (1 ∷ 2 ∷ []) $ join ! $ feq_i ! (List Val) (vunit ∷ []) (vunit ∷ []) refl $ keep !
+        (1 ∷ 2 ∷ 0 ∷ []) $ done !)))
 
     meets : Meets 𝓛 ended.signature (WpFn 𝓤 H 𝓣.C 𝓣.Λ here) (closing 𝓛 ended held)
     meets =
-        walk_Meets 𝓛 ended stayed (Goes-ref 𝓛 2 0 tt (plain (λ _. Sr E)), (Goes-dropped 𝓛 2 (plain (λ _. usize)) yes (λ κs x f. refl), (Goes-dropped 𝓛 2 (plain (λ _. R E)) no (λ κs x f. refl), tt))) held
+        walk_Meets 𝓛 ended stayed (
+          Goes-ref 𝓛 2 0 tt (plain (λ _. Sr E)),
+          (
+            Goes-dropped 𝓛 2 (plain (λ _. usize)) yes (λ κs x f. refl),
+            (Goes-dropped 𝓛 2 (plain (λ _. R E)) no (λ κs x f. refl), tt),
+          ),
+        ) held
         (WpFn 𝓤 H 𝓣.C 𝓣.Λ here) (WpFn-mono 𝓤 H 𝓛.laws 𝓣 here)
         (λ z. let a = z.0.3 in let vss = z.0.4 in
         knowing 𝓛 ended stayed held (WpFn 𝓤 H 𝓣.C 𝓣.Λ here) z (λ are.
         let got = one E vss.1.1.0 ((lawful E 𝓛).typed a.1.1.0 vss.1.1.0 are.1.1.0) in
-        subst (λ (uss : Vals ended.signature z.0.0). Goes (at z uss)) (sym (λ k. (are.0.0 k, (are.1.0.0 k, (got.1 k, tt))))) (walk z are.1.0.1 got.0 got.2)))
+        subst (λ (uss : Vals ended.signature z.0.0). Goes (at z uss))
+        (sym (λ k. (are.0.0 k, (are.1.0.0 k, (got.1 k, tt))))) (walk z are.1.0.1 got.0 got.2)))
 
 pub put_spec : {M : Type 1} → stated.statement M
 unfolding tables_of
 put_spec 𝓤 𝓛 𝓜 𝓡 wired X L =
     let E : El = record { row = X; laws = L } in
     let 𝓣 : Tables 𝓤 𝓛.H = tables_of 𝓤 𝓛.H 𝓜 (tables 𝓤 𝓛.H 𝓜 𝓡 𝓡.env) in
-    entered 𝓤 𝓛.H (triple_of 𝓛 (F.signature X) (F.spec X 𝓛 𝓜.mem 𝓡.returns)) 𝓣.C 𝓣.Λ (#self (args E)) (here E) (code.unfolded 𝓤 𝓛.H 𝓜 𝓡 wired (X, tt))
+    entered 𝓤 𝓛.H (triple_of 𝓛 (F.signature X) (F.spec X 𝓛 𝓜.mem 𝓡.returns)) 𝓣.C 𝓣.Λ (#self (args E)) (here E)
+    (code.unfolded 𝓤 𝓛.H 𝓜 𝓡 wired (X, tt))
     (meets E 𝓛 𝓜.mem 𝓡.returns 𝓣)

@@ -11,7 +11,8 @@ returns-then-shows g c = (
       let b : Block = c.self.inside.nodes in
       let h = c.shows.ensures c.if-shows.true in (
         (at b.list h.0).number,
-        ap (λ (w : LogValue). get w.locks (at b.list h.0).number) (sym c.self.view_is) ∙ get_lock b.list b.count h.0 _ c.self.invariant.ready.chained h.1.0 h.1.1 refl ∙ ap Some h.1.2,
+        ap (λ (w : LogValue). get w.locks (at b.list h.0).number) (sym c.self.view_is) ∙
+            get_lock b.list b.count h.0 _ c.self.invariant.ready.chained h.1.0 h.1.1 refl ∙ ap Some h.1.2,
       )),
   λ w. refl,
 )

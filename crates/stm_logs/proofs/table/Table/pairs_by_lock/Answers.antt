@@ -12,8 +12,10 @@ invariant_of-result g c =
     let b : Block = c.self.inside.nodes in
     let ready = c.self.invariant.ready in
     let first : c.get.result.now.next ≡ (at b.list 0).next = ap (λ (x : Entry). x.next) c.get.ensures in
-    subst (λ p. Ends b.list c.count.result p) (sym first) (subst (λ n. Ends b.list n (at b.list 0).next) (sym c.count.ensures)
-    (ends b.list b.count ready.chained ready.indexed.room _ _ (least_first b.list b.count ready.chained ready.indexed.room)))
+    subst (λ p. Ends b.list c.count.result p) (sym first) (subst (λ n. Ends b.list n (at b.list 0).next)
+    (sym c.count.ensures)
+    (ends b.list b.count ready.chained ready.indexed.room _ _
+    (least_first b.list b.count ready.chained ready.indexed.room)))
 
 pub returns : goal.returns
 returns g c =
@@ -23,5 +25,6 @@ returns g c =
     let least = least_first b.list b.count ready.chained ready.indexed.room in
     ap (λ p. pairs_from b.list c.count.result p) first
     ∙ ap (λ n. pairs_from b.list n (at b.list 0).next) c.count.ensures
-    ∙ all_pairs b.list b.count ready.chained ready.indexed.room b.count _ least (ends b.list b.count ready.chained ready.indexed.room _ _ least)
+    ∙ all_pairs b.list b.count ready.chained ready.indexed.room b.count _ least
+    (ends b.list b.count ready.chained ready.indexed.room _ _ least)
     ∙ ap (λ (w : LogValue). pairs_by_lock w) c.self.view_is

@@ -8,6 +8,8 @@ use Rattle.stm_logs.proofs.write.WriteLog.clear.Goals.{in-Some, in_default}
 
 pub invariant_of-self : goal.invariant_of-self
 invariant_of-self g c = elim c.match-self.branch [
-  | in-Some w ↦ rw w.self-inside-is (λ a away. ap (λ (x : LogValue). get x.words a) w.clear.ensures ∙ get-empty nat_cmp a)
-  | in_default w ↦ rw w.self-inside-is (λ a away. ap (λ (o : Option LogValue). get (held_value o).words a) w.in_default.is ∙ get-empty nat_cmp a)
+  | in-Some w ↦ rw w.self-inside-is (λ a away. ap (λ (x : LogValue). get x.words a) w.clear.ensures ∙
+      get-empty nat_cmp a)
+  | in_default w ↦ rw w.self-inside-is (λ a away. ap (λ (o : Option LogValue). get (held_value o).words a)
+      w.in_default.is ∙ get-empty nat_cmp a)
 ]

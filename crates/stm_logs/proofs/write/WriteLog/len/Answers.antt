@@ -6,4 +6,5 @@ use Rattle.stm_logs.proofs.LogLemmas.{held_none}
 use Rattle.stm_logs.proofs.write.WriteLog.len.Goals as goal
 
 pub returns-in-None : goal.returns-in-None
-returns-in-None g c = sym (ap (λ (w : LogValue). len w.words) (held_none c.self.inside.table _ c.in-None.is c.self.view_is) ∙ len-empty nat_cmp ℕ)
+returns-in-None g c = sym (ap (λ (w : LogValue). len w.words)
+    (held_none c.self.inside.table _ c.in-None.is c.self.view_is) ∙ len-empty nat_cmp ℕ)

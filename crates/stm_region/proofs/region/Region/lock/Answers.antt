@@ -6,4 +6,5 @@ use Rattle.stm_region.proofs.region.Region.lock.Goals as goal
 
 pub exchange_as-found-requires-clause-allowed : goal.exchange_as-found-requires-clause-allowed
 exchange_as-found-requires-clause-allowed g c =
-    let r = c.args.self.now in subst (λ (w : ClientShown). May g.L.Law.lawful (stripe_of r.stripes) (bounds r) (lock c.args.lock) w.value) (sym c.client.view_is) c.requires.allowed
+    let r = c.args.self.now in subst (λ (w : ClientShown). May g.L.Law.lawful (stripe_of r.stripes) (bounds r)
+    (lock c.args.lock) w.value) (sym c.client.view_is) c.requires.allowed

@@ -13,4 +13,6 @@ of_words-requires g c =
     let some = c.self.invariant.some in
     let laid = c.in-Ok-lay_out.ensures ∙ (λ i. replicate (first_cell (stripes i)) 0 ++ c.as_slice.ensures.value i) in
     rw (c.as_slice-2.ensures.value, c.of.ensures, c.of-first.ensures, c.of-start.ensures, stripes, renewal, value)
-    (renews_on g.L.Law.fits g.L.Law.lawful c.args.self c.args.client.value c.take_out-version.new.words.items c.in-Ok-lay_out.laid.items c.take_out-version.result c.args.last c.take_out-version.ensures.ends c.requires.free_handed may c.take_out-version.ensures.fits (omega arith) laid)
+    (renews_on g.L.Law.fits g.L.Law.lawful c.args.self c.args.client.value c.take_out-version.new.words.items
+    c.in-Ok-lay_out.laid.items c.take_out-version.result c.args.last c.take_out-version.ensures.ends
+    c.requires.free_handed may c.take_out-version.ensures.fits (omega arith) laid)

@@ -3,4 +3,7 @@ use Rattle.stm_logs.specs.Log.{log_pairs}
 use Rattle.stm_region.proofs.region.Region.tick.Given as goal
 
 abbrev pub ghosts-tick_as : goal.ghosts-tick_as
-ghosts-tick_as g a = record { action = tick a.from (g.T.Tag.numbers a.tag.now) (log_pairs a.writes.now); region = a.self.now }
+ghosts-tick_as g a = record {
+  action = tick a.from (g.T.Tag.numbers a.tag.now) (log_pairs a.writes.now);
+  region = a.self.now;
+}

@@ -9,4 +9,5 @@ make-requires-clause-sane g c = reached_sane c.self.inside.state c.self.invarian
 
 pub invariant_of-self : goal.invariant_of-self
 invariant_of-self g c =
-    subst IsReached (sym c.in-Ok.ensures.done) (reached_next (event_of c.args.event) c.self.inside.state c.self.invariant (sym c.allows.ensures ∙ c.if-not-allows.false))
+    subst IsReached (sym c.in-Ok.ensures.done) (reached_next
+    (event_of c.args.event) c.self.inside.state c.self.invariant (sym c.allows.ensures ∙ c.if-not-allows.false))

@@ -4,4 +4,5 @@ use Rattle.stm_replay.proofs.Following.{reached_opening}
 use Rattle.stm_replay.proofs.replay.Core.start.Goals as goal
 
 pub invariant_of-result : goal.invariant_of-result
-invariant_of-result g c = subst IsReached (sym c.in_ok-state.ensures) (reached_opening c.args.image.now c.args.last c.args.stripes c.requires.versions.1 c.requires.locks.0)
+invariant_of-result g c = subst IsReached (sym c.in_ok-state.ensures)
+    (reached_opening c.args.image.now c.args.last c.args.stripes c.requires.versions.1 c.requires.locks.0)

@@ -9,4 +9,13 @@ use Rattle.stm_replay.proofs.Stepping.{acts_is}
 use Rattle.stm_replay.proofs.state.State.give_back.Goals as goal
 
 pub returns-clause-done : goal.returns-clause-done
-returns-clause-done g c = acts_is c.self.inside c.args.self.now c.args.client (give_back c.args.stripe) (slice_index c.args.self.now.core.locks c.args.stripe) c.in_ok-events.events c.index_mut-seat.result.now c.give_back.new.self (record (running_of c.self.inside).core { locks = set c.self.inside.locks.items c.args.stripe c.free_lock.result }) c.self.inside.order c.self.view_is c.requires.there.inside c.index_mut-seat.ensures.value refl c.in_ok-events.ensures c.give_back.ensures (ap (λ (z : ℕ). record (running_of c.self.inside).core { locks = set c.self.inside.locks.items c.args.stripe z }) (c.free_lock.ensures ∙ ap free_word (c.old_version-version.ensures ∙ ap (λ (v : Client). old_version v.attempt.held c.args.stripe) c.seat.ensures))) (ap (λ (x : Running). x.order) c.self.view_is)
+returns-clause-done g c = acts_is c.self.inside c.args.self.now c.args.client (give_back c.args.stripe)
+    (slice_index c.args.self.now.core.locks c.args.stripe) c.in_ok-events.events c.index_mut-seat.result.now
+    c.give_back.new.self (record (running_of c.self.inside).core {
+      locks = set c.self.inside.locks.items c.args.stripe c.free_lock.result;
+    }) c.self.inside.order c.self.view_is
+    c.requires.there.inside c.index_mut-seat.ensures.value refl c.in_ok-events.ensures c.give_back.ensures
+    (ap (λ (z : ℕ). record (running_of c.self.inside).core { locks = set c.self.inside.locks.items c.args.stripe z })
+    (c.free_lock.ensures ∙ ap free_word (c.old_version-version.ensures ∙
+    ap (λ (v : Client). old_version v.attempt.held c.args.stripe) c.seat.ensures)))
+    (ap (λ (x : Running). x.order) c.self.view_is)

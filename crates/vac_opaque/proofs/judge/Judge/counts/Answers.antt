@@ -14,4 +14,5 @@ counts_same a b c x y z e f g = cc
 
 pub returns : goal.returns
 returns c = λ words earlier f.
-    counts_same _ _ _ _ _ _ (c.count.ensures ∙ f.spans.count_is ∙ length-map earlier span_of) f.committed (c.clients.ensures _ f.spans ∙ clients_mapped span_of earlier)
+    counts_same _ _ _ _ _ _ (c.count.ensures ∙ f.spans.count_is ∙ length-map earlier span_of) f.committed
+    (c.clients.ensures _ f.spans ∙ clients_mapped span_of earlier)

@@ -5,7 +5,8 @@ use Rattle.vac_opaque.proofs.memory.Memory.undo.Goals as goal
 
 pub loop-covered-preserved : goal.loop-covered-preserved
 loop-covered-preserved c =
-    ap (uncovered c.pop.new.self.items) c.set_word.ensures ∙ sym (uncover_last c.pop.new.self.items c.in-Some.covered c.loop-covered.self.words.items)
+    ap (uncovered c.pop.new.self.items) c.set_word.ensures ∙
+    sym (uncover_last c.pop.new.self.items c.in-Some.covered c.loop-covered.self.words.items)
     ∙ ap (λ t. uncovered t c.loop-covered.self.words.items) (sym c.in-Some.ensures.items) ∙ c.loop-covered.invariant
 
 pub returns : goal.returns

@@ -7,4 +7,5 @@ invariant_of-result c = rw c.new-memory.ensures (spread_holds _ _ c.requires.mos
     c.in_ok-words.ensures.pool)
 
 pub returns : goal.returns
-returns c = holds_empty _ _ _ c.requires.most c.in_ok-words.ensures.words c.in_ok-words.ensures.pool c.new-memory.ensures
+returns c = holds_empty _ _ _ c.requires.most c.in_ok-words.ensures.words c.in_ok-words.ensures.pool
+    c.new-memory.ensures

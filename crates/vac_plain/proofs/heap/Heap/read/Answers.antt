@@ -11,7 +11,9 @@ pub returns-clause-words : goal.returns-clause-words
 returns-clause-words c = same_words _ _ c.in-Ok.ensures.answer.kept.size c.in-Ok.ensures.writes ∙ c.self.view_is
 
 pub returns-clause-state : goal.returns-clause-state
-returns-clause-state c = λ s h. holds_run _ _ _ _ c.in-Ok.ensures.answer s (subst (λ w. IsStateOf w s) (sym c.self.view_is) h)
+returns-clause-state c = λ s h. holds_run _ _ _ _ c.in-Ok.ensures.answer s
+    (subst (λ w. IsStateOf w s) (sym c.self.view_is) h)
 
 pub returns-clause-reply : goal.returns-clause-reply
-returns-clause-reply c = λ s h. reply_run _ _ _ _ c.in-Ok.ensures.answer s (subst (λ w. IsStateOf w s) (sym c.self.view_is) h)
+returns-clause-reply c = λ s h. reply_run _ _ _ _ c.in-Ok.ensures.answer s
+    (subst (λ w. IsStateOf w s) (sym c.self.view_is) h)

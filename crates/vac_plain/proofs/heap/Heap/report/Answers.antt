@@ -11,4 +11,5 @@ pub returns-clause-words : goal.returns-clause-words
 returns-clause-words c = words_stay _ _ c.in-Ok.ensures.answer.reads ∙ c.self.view_is
 
 pub returns-clause-report : goal.returns-clause-report
-returns-clause-report c = λ s h. report_is _ _ _ c.in-Ok.ensures.answer s (subst (λ w. IsStateOf w s) (sym c.self.view_is) h)
+returns-clause-report c = λ s h. report_is _ _ _ c.in-Ok.ensures.answer s
+    (subst (λ w. IsStateOf w s) (sym c.self.view_is) h)

@@ -6,7 +6,9 @@ use Rattle.vac_sequential.proofs.maps.BookingMap.bill.Goals as goal
 
 pub prices-requires : goal.prices-requires
 prices-requires c =
-    subst (λ xs. sum_by {X = Booking} (λ b. b.sum) xs < 2 ^ 64) (values_seen place_cmp_total c.self.inside.entries c.args.self.now c.self.invariant c.self.view_is) c.requires
+    subst (λ xs. sum_by {X = Booking} (λ b. b.sum) xs < 2 ^ 64)
+    (values_seen place_cmp_total c.self.inside.entries c.args.self.now c.self.invariant c.self.view_is) c.requires
 
 pub returns : goal.returns
-returns c = c.prices.ensures ∙ ap (sum_by (λ b. b.sum)) (sym (values_seen place_cmp_total c.self.inside.entries c.args.self.now c.self.invariant c.self.view_is))
+returns c = c.prices.ensures ∙ ap (sum_by (λ b. b.sum)) (sym
+    (values_seen place_cmp_total c.self.inside.entries c.args.self.now c.self.invariant c.self.view_is))

@@ -8,5 +8,6 @@ use Rattle.vac_sequential.proofs.maps.BookingMap.len.Goals as goal
 pub returns : goal.returns
 returns c =
     c.len.ensures.len
-    ∙ sym (len-tree place_cmp_total c.self.inside.entries (subst (λ R. tree.IsOrdered R c.self.inside.entries) pair_cmp c.len.ensures.ordered))
+    ∙ sym (len-tree place_cmp_total c.self.inside.entries (subst
+    (λ R. tree.IsOrdered R c.self.inside.entries) pair_cmp c.len.ensures.ordered))
     ∙ ap map.len c.self.view_is

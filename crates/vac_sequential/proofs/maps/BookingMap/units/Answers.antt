@@ -6,7 +6,9 @@ use Rattle.vac_sequential.proofs.maps.BookingMap.units.Goals as goal
 
 pub units_of_all-requires : goal.units_of_all-requires
 units_of_all-requires c =
-    subst (λ xs. sum_by {X = Booking} (λ b. b.units) xs < 2 ^ 64) (values_seen place_cmp_total c.self.inside.entries c.args.self.now c.self.invariant c.self.view_is) c.requires
+    subst (λ xs. sum_by {X = Booking} (λ b. b.units) xs < 2 ^ 64)
+    (values_seen place_cmp_total c.self.inside.entries c.args.self.now c.self.invariant c.self.view_is) c.requires
 
 pub returns : goal.returns
-returns c = c.units_of_all.ensures ∙ ap (sum_by (λ b. b.units)) (sym (values_seen place_cmp_total c.self.inside.entries c.args.self.now c.self.invariant c.self.view_is))
+returns c = c.units_of_all.ensures ∙ ap (sum_by (λ b. b.units))
+    (sym (values_seen place_cmp_total c.self.inside.entries c.args.self.now c.self.invariant c.self.view_is))

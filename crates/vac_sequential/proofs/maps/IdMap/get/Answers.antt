@@ -6,4 +6,5 @@ use Rattle.vac_sequential.proofs.maps.IdMap.get.Goals as goal
 
 pub returns-in-None : goal.returns-in-None
 returns-in-None g c =
-    sym (fin.get-empty nat_cmp c.args.id) ∙ ap (λ l. fin.get (map_at l) c.args.id) (sym c.in-None.is) ∙ ap (λ m. fin.get m c.args.id) c.self.view_is
+    sym (fin.get-empty nat_cmp c.args.id) ∙ ap (λ l. fin.get (map_at l) c.args.id) (sym c.in-None.is) ∙
+    ap (λ m. fin.get m c.args.id) c.self.view_is

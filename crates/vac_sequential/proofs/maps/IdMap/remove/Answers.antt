@@ -7,20 +7,26 @@ use Rattle.vac_sequential.proofs.maps.IdMap.remove.Goals as goal
 pub overflow_sub-self : goal.overflow_sub-self
 overflow_sub-self g c =
     let held = c.held-held.result in
-    let h = subst (λ n. Holds g.V.Entry.weight (fin.get n c.args.id) held.len held.weight) (sym c.self.view_is) c.held-held.ensures in
-    (counted_cut g.V.Entry.weight (map_at c.self.inside.root) c.args.id c.self.inside.len c.self.inside.weight held.len held.weight c.self.invariant h).0
+    let h = subst (λ n. Holds g.V.Entry.weight (fin.get n c.args.id) held.len held.weight)
+    (sym c.self.view_is) c.held-held.ensures in
+    (counted_cut g.V.Entry.weight (map_at c.self.inside.root) c.args.id c.self.inside.len c.self.inside.weight held.len
+    held.weight c.self.invariant h).0
 
 pub overflow_sub-self-2 : goal.overflow_sub-self-2
 overflow_sub-self-2 g c =
     let held = c.held-held.result in
-    let h = subst (λ n. Holds g.V.Entry.weight (fin.get n c.args.id) held.len held.weight) (sym c.self.view_is) c.held-held.ensures in
-    (counted_cut g.V.Entry.weight (map_at c.self.inside.root) c.args.id c.self.inside.len c.self.inside.weight held.len held.weight c.self.invariant h).1
+    let h = subst (λ n. Holds g.V.Entry.weight (fin.get n c.args.id) held.len held.weight)
+    (sym c.self.view_is) c.held-held.ensures in
+    (counted_cut g.V.Entry.weight (map_at c.self.inside.root) c.args.id c.self.inside.len c.self.inside.weight held.len
+    held.weight c.self.invariant h).1
 
 pub invariant_of-self : goal.invariant_of-self
 invariant_of-self g c =
     let held = c.held-held.result in
-    let h = subst (λ n. Holds g.V.Entry.weight (fin.get n c.args.id) held.len held.weight) (sym c.self.view_is) c.held-held.ensures in
-    let r = counted_cut g.V.Entry.weight (map_at c.self.inside.root) c.args.id c.self.inside.len c.self.inside.weight held.len held.weight c.self.invariant h in (
+    let h = subst (λ n. Holds g.V.Entry.weight (fin.get n c.args.id) held.len held.weight)
+    (sym c.self.view_is) c.held-held.ensures in
+    let r = counted_cut g.V.Entry.weight (map_at c.self.inside.root) c.args.id c.self.inside.len c.self.inside.weight
+    held.len held.weight c.self.invariant h in (
       r.2.0 ∙ ap fin.len (sym c.in_ok-root.ensures),
       r.2.1 ∙ ap (λ n. sum_by g.V.Entry.weight (fin.values n)) (sym c.in_ok-root.ensures),
     )

@@ -86,4 +86,12 @@ overflow_add-result-5 c =
 pub overflow_add-result-6 : goal.overflow_add-result-6
 overflow_add-result-6 c =
     let sums = subst HasSmallSums (sym c.self.view_is) (small_sums c.args.self.now c.requires) in
-    omega (arith, sums.total Car, sums.total Flight, sums.total Room, c.total.ensures, c.total-2.ensures, c.total-3.ensures)
+    omega (
+      arith,
+      sums.total Car,
+      sums.total Flight,
+      sums.total Room,
+      c.total.ensures,
+      c.total-2.ensures,
+      c.total-3.ensures,
+    )

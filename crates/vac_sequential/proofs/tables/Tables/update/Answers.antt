@@ -10,10 +10,12 @@ pub loop-i-preserved : goal.loop-i-preserved
 loop-i-preserved c =
     let done = take c.loop-i.i c.args.changes.now in
     let more = take_more c.args.changes.now c.loop-i.i _ c.loop-i-test.true in
-    let after = steps_more c.args.self.now c.loop-i.self c.step.new.self done (take (c.loop-i.i + 1) c.args.changes.now) _ c.in_ok-reply.reply
+    let after = steps_more c.args.self.now c.loop-i.self c.step.new.self done
+    (take (c.loop-i.i + 1) c.args.changes.now) _ c.in_ok-reply.reply
     c.loop-i.invariant.state more c.in_ok-reply.ensures.ok in
     let whys = (steps c.args.self.now done).1 in
-    let count : length whys ≡ c.loop-i.i = length-steps c.args.self.now done ∙ length-take-le c.loop-i.i c.args.changes.now (omega (arith, c.loop-i-test.true)) in
+    let count : length whys ≡ c.loop-i.i = length-steps c.args.self.now done ∙
+    length-take-le c.loop-i.i c.args.changes.now (omega (arith, c.loop-i-test.true)) in
     let short : c.loop-i.i < 32 = omega (arith, c.loop-i-test.true, c.requires.short) in
     record {
       state = ap (λ o. o.0) after;

@@ -27,5 +27,7 @@ pub returns : goal.returns
 returns g c =
     let first = λ (x : FinMap nat_cmp g.row.V.Denot × ℕ). x.0 in
     last_empty c.args.self.now (sym c.if-is_some.ensures) (ap first (sym c.deref.ensures) ∙ c.if-not-is_empty.ensures)
-    (ap first (sym c.deref-2.ensures) ∙ c.if-not-is_empty-2.ensures) (ap first (sym c.deref-3.ensures) ∙ c.if-not-is_empty-3.ensures)
-    c.is_empty-4.result (subst (λ m. TellsEmpty m c.is_empty-4.result) (ap first c.deref-4.ensures) c.is_empty-4.ensures)
+    (ap first (sym c.deref-2.ensures) ∙ c.if-not-is_empty-2.ensures)
+    (ap first (sym c.deref-3.ensures) ∙ c.if-not-is_empty-3.ensures)
+    c.is_empty-4.result (subst (λ m. TellsEmpty m c.is_empty-4.result)
+    (ap first c.deref-4.ensures) c.is_empty-4.ensures)

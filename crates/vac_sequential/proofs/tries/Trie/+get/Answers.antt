@@ -8,7 +8,8 @@ use Rattle.vac_sequential.proofs.Woven.{get_kid, get_first}
 use Rattle.vac_sequential.proofs.tries.Trie.+get.Goals as goal
 
 pub returns-in_default : goal.returns-in_default
-returns-in_default g t c = sym (fin.get-empty nat_cmp c.args.id) ∙ ap (λ (m : FinMap nat_cmp g.row.V.Denot). fin.get m c.args.id) (sym c.in_default.ensures)
+returns-in_default g t c = sym (fin.get-empty nat_cmp c.args.id) ∙
+    ap (λ (m : FinMap nat_cmp g.row.V.Denot). fin.get m c.args.id) (sym c.in_default.ensures)
 
 pub returns-in-Some-value : goal.returns-in-Some-value
 returns-in-Some-value g t c =
@@ -27,4 +28,5 @@ returns g t c =
     let id = c.args.id in
     c.get.ensures ∙ ap (λ (x : FinMap nat_cmp g.row.V.Denot × ℕ). fin.get x.0 ((id - 1) / 4)) c.deref-2.ensures
     ∙ ap (λ (l : Link g.row.V.Denot). fin.get (map_in l) ((id - 1) / 4)) c.kid.ensures
-    ∙ get_kid c.args.self.now.0 (option_copied c.in-Some.value) c.in-Some.kids.now id c.if-id-eq0.false c.in-Some.ensures.map
+    ∙ get_kid c.args.self.now.0 (option_copied c.in-Some.value) c.in-Some.kids.now id c.if-id-eq0.false
+    c.in-Some.ensures.map

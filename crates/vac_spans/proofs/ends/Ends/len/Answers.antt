@@ -5,4 +5,5 @@ use Rattle.vac_model.proofs.Views.{len-tree}
 use Rattle.vac_spans.proofs.ends.Ends.len.Goals as goal
 
 pub returns : goal.returns
-returns c = c.len.ensures.len ∙ sym (len-tree nat_cmp_total c.self.inside.entries c.len.ensures.ordered) ∙ ap map.len c.self.view_is
+returns c = c.len.ensures.len ∙ sym (len-tree nat_cmp_total c.self.inside.entries c.len.ensures.ordered) ∙
+    ap map.len c.self.view_is

@@ -1,6 +1,7 @@
 use Rattle.std.proofs.Common.{◌≡◌, ◌≤◌, ◌<◌, Some, None, sym, ◌∙◌, false, arith}
 use Rattle.vac_spans.specs.Order.{itself, breaks_client}
-use Rattle.vac_spans.proofs.Keeping.{ends_first, breaks_by, in_turn, too_late, in_time, misplaced_client, misplaced_time, well_placed}
+use Rattle.vac_spans.proofs.Keeping.{ends_first, breaks_by, in_turn, too_late, in_time, misplaced_client}
+use Rattle.vac_spans.proofs.Keeping.{misplaced_time, well_placed}
 use Rattle.vac_spans.proofs.spans.Spans.find.Goals as goal
 use Rattle.vac_spans.proofs.spans.Spans.find.Goals.{in-Some+else-begin-last, in_default}
 
