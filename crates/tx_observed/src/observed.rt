@@ -16,8 +16,8 @@ pub struct Observed<'a, M: TxRead, O: Observer> {
     memory: &'a mut M,
     observer: &'a mut O,
     ghost tracked: { IsTracked (O.seen observer.now)
-        (M.view memory.now).reads (M.view memory.now).writes } by { IsTracked-prop (O.seen observer.now)
-            (M.view memory.now).reads (M.view memory.now).writes },
+        (M.view memory.now).reads (M.view memory.now).writes } by { IsTracked-prop
+            (O.seen observer.now) (M.view memory.now).reads (M.view memory.now).writes },
 }
 
 impl<'a, M: TxRead, O: Observer> Observed<'a, M, O> {

@@ -80,7 +80,8 @@ pub trait Tracer {
         ensures { HasGivenUp (accesses self.old) (ended self.old) (ended self.new) };
 }
 
-/// Runs the task of an attempt that has begun in this renewal with this read version, and traces it.
+/// Runs the task of an attempt that has begun in this renewal and with this read version, and
+/// traces it.
 #[inline]
 pub(crate) fn run_task<M: TxMem, T: Tracer>(
     memory: &mut M,
@@ -105,7 +106,7 @@ pub(crate) fn run_task<M: TxMem, T: Tracer>(
     tracer.run_task(memory, task, start)
 }
 
-/// Runs the task of an attempt that only reads, and has begun in this renewal with this read
+/// Runs the task of an attempt that only reads, and has begun in this renewal and with this read
 /// version, and traces it.
 #[inline]
 pub(crate) fn read_task<M: TxRead, T: Tracer>(
