@@ -3,10 +3,8 @@ use Rattle.std.proofs.Common.{◌≡◌, ◌≢◌, ◌⊎◌, ◌++◌, ◌∙�
 use Rattle.std.specs.Io.KnownBytes.{Appends}
 use Rattle.std.proofs.Math.Seq.{take-nil}
 use Rattle.vac_lines.specs.Writing.{AppendsPrefix}
-use Rattle.vac_judge.specs.declared.fault.JudgeFault.{JudgeFault}
-use Rattle.vac_judge.specs.declared.fault.JudgeFault.TheVariants as judge
 use Rattle.vac_judge.specs.Reading.{HasStopped}
-use Rattle.vac_cli.specs.Ending.{as_stream_fault, fault_line}
+use Rattle.vac_cli.specs.Ending.{fault_line}
 use Rattle.vac_judge.specs.HeldReading.{HasHeldStopped}
 use Rattle.vac_streams.specs.declared.fault.StreamFault.{StreamFault}
 use Rattle.vac_streams.specs.declared.fault.StreamFault.TheVariants as stream
@@ -27,30 +25,32 @@ then_nothing (Some h) None holds text part none = absurd part.1
 then_nothing (Some h) (Some m) None text part none = absurd none.1
 then_nothing (Some h) (Some m) (Some b) text part none = (part.0, (none.1 ∙ (ap (λ more. m ++ more) (take-nil none.0) ∙ append-nil m)) ∙ part.1)
 
-read_is : judge.Read ≡ judge.Write → ⊥
-read_is e = absurd cc
-
-memory_is : judge.Memory ≡ judge.Write → ⊥
-memory_is e = absurd cc
-
-bound_is : judge.Bound ≡ judge.Write → ⊥
-bound_is e = absurd cc
+-- a fault of no output was named, and nothing was written before
+named_stream : (fault : StreamFault) → (fault ≡ stream.Write → ⊥) → (held middle holds : Option (List ℕ))
+    → Appends held middle [] → AppendsPrefix middle holds (fault_line fault)
+    → (f : StreamFault) × (f ≢ stream.Write) × AppendsPrefix held holds (fault_line f)
+named_stream fault other held middle holds none line = (fault, other, nothing_then held middle holds _ none line)
 
 -- the line of the fault was written in part
-pub judge_stopped : (blocks : ℕ) (fault : JudgeFault) (unread left held middle holds : Option (List ℕ)) → HasStopped blocks fault unread left held middle
-    → AppendsPrefix middle holds (fault_line (as_stream_fault fault)) → JudgeStopped blocks unread left held holds
-judge_stopped blocks judge.Read unread left held middle holds none line = inr (judge.Read, read_is, nothing_then held middle holds _ none line)
-judge_stopped blocks judge.Write unread left held middle holds part line =
+pub judge_stopped : (blocks : ℕ) (fault : StreamFault) (unread left held middle holds : Option (List ℕ))
+    → HasStopped blocks fault unread left held middle → AppendsPrefix middle holds (fault_line fault)
+    → JudgeStopped blocks unread left held holds
+judge_stopped blocks stream.Read unread left held middle holds none line =
+    inr (named_stream stream.Read (λ e. absurd cc) held middle holds none line)
+judge_stopped blocks stream.Write unread left held middle holds part line =
     inl (record { verdict = part.verdict; is = part.is; written = then_nothing held middle holds _ part.written line })
-judge_stopped blocks judge.Memory unread left held middle holds none line = inr (judge.Memory, memory_is, nothing_then held middle holds _ none line)
-judge_stopped blocks judge.Bound unread left held middle holds none line = inr (judge.Bound, bound_is, nothing_then held middle holds _ none line)
+judge_stopped blocks stream.Memory unread left held middle holds none line =
+    inr (named_stream stream.Memory (λ e. absurd cc) held middle holds none line)
+judge_stopped blocks stream.Bound unread left held middle holds none line =
+    inr (named_stream stream.Bound (λ e. absurd cc) held middle holds none line)
 
 -- the same of a history that is held against work
-pub work_stopped : (tasks rest : Option (List ℕ)) (blocks : ℕ) (fault : JudgeFault) (unread left held middle holds : Option (List ℕ))
-    → HasHeldStopped blocks fault tasks rest unread left held middle → AppendsPrefix middle holds (fault_line (as_stream_fault fault))
-    → WorkStopped tasks blocks unread left held holds
-work_stopped tasks rest blocks judge.Read unread left held middle holds none line = inr (judge.Read, read_is, nothing_then held middle holds _ none line)
-work_stopped tasks rest blocks judge.Write unread left held middle holds part line = inl (
+pub work_stopped : (tasks rest : Option (List ℕ)) (blocks : ℕ) (fault : StreamFault)
+    (unread left held middle holds : Option (List ℕ)) → HasHeldStopped blocks fault tasks rest unread left held middle
+    → AppendsPrefix middle holds (fault_line fault) → WorkStopped tasks blocks unread left held holds
+work_stopped tasks rest blocks stream.Read unread left held middle holds none line =
+    inr (named_stream stream.Read (λ e. absurd cc) held middle holds none line)
+work_stopped tasks rest blocks stream.Write unread left held middle holds part line = inl (
   rest,
   record {
     work = part.work;
@@ -60,12 +60,10 @@ work_stopped tasks rest blocks judge.Write unread left held middle holds part li
     written = then_nothing held middle holds _ part.written line;
   },
 )
-work_stopped tasks rest blocks judge.Memory unread left held middle holds none line = inr (judge.Memory, memory_is, nothing_then held middle holds _ none line)
-work_stopped tasks rest blocks judge.Bound unread left held middle holds none line = inr (judge.Bound, bound_is, nothing_then held middle holds _ none line)
-
-named_stream : (fault : StreamFault) → (fault ≡ stream.Write → ⊥) → (held middle holds : Option (List ℕ)) → Appends held middle [] → AppendsPrefix middle holds (fault_line fault)
-    → (f : StreamFault) × (f ≢ stream.Write) × AppendsPrefix held holds (fault_line f)
-named_stream fault other held middle holds none line = (fault, other, nothing_then held middle holds _ none line)
+work_stopped tasks rest blocks stream.Memory unread left held middle holds none line =
+    inr (named_stream stream.Memory (λ e. absurd cc) held middle holds none line)
+work_stopped tasks rest blocks stream.Bound unread left held middle holds none line =
+    inr (named_stream stream.Bound (λ e. absurd cc) held middle holds none line)
 
 -- the same of a search for an order
 pub order_stopped : (blocks steps : ℕ) (fault : StreamFault) (unread left held middle holds : Option (List ℕ)) → order.HasStopped blocks steps fault unread left held middle

@@ -4,8 +4,6 @@ use Rattle.vac_lines.specs.Script.{as_line}
 use Rattle.vac_lines.specs.Writing.{AppendsPrefix}
 use Rattle.vac_streams.specs.declared.fault.StreamFault.{StreamFault}
 use Rattle.vac_streams.specs.declared.fault.StreamFault.TheVariants as stream
-use Rattle.vac_judge.specs.declared.fault.JudgeFault.{JudgeFault}
-use Rattle.vac_judge.specs.declared.fault.JudgeFault.TheVariants as judge
 use Rattle.vac_load.specs.declared.load.LoadFault.{LoadFault}
 use Rattle.vac_load.specs.declared.load.LoadFault.TheVariants as load
 
@@ -19,13 +17,6 @@ fault_line stream.Bound = as_line (codes "fault bound")
 -- the last line where a file could not be opened
 abbrev pub unopened_line : List ℕ
 unopened_line = as_line (codes "fault open")
-
--- a fault of a judge is the one of the same name
-abbrev pub as_stream_fault : JudgeFault → StreamFault
-as_stream_fault judge.Read = stream.Read
-as_stream_fault judge.Write = stream.Write
-as_stream_fault judge.Memory = stream.Memory
-as_stream_fault judge.Bound = stream.Bound
 
 -- the last line of a load after a fault
 abbrev pub load_fault_line : LoadFault → List ℕ

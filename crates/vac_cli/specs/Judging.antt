@@ -1,18 +1,17 @@
 -- What the program does with a history: its status, and what it reads and writes.
 use Rattle.std.specs.Prelude.{◌≡◌, ◌≢◌, ◌⊎◌, ℕ, Bool, true, false, Option, List}
 use Rattle.vac_lines.specs.Writing.{AppendsPrefix}
-use Rattle.vac_streams.specs.declared.fault.StreamFault.TheVariants.{Memory}
+use Rattle.vac_streams.specs.declared.fault.StreamFault.{StreamFault}
+use Rattle.vac_streams.specs.declared.fault.StreamFault.TheVariants.{Memory, Write}
 use Rattle.vac_judge.specs.Reading.{HasJudged, HasJudgedInPart}
 use Rattle.vac_judge.specs.HeldReading.{HasHeld, HasHeldInPart}
-use Rattle.vac_judge.specs.declared.fault.JudgeFault.{JudgeFault}
-use Rattle.vac_judge.specs.declared.fault.JudgeFault.TheVariants as judge
-use Rattle.vac_cli.specs.Ending.{Ends, fault_line, unopened_line, as_stream_fault}
+use Rattle.vac_cli.specs.Ending.{Ends, fault_line, unopened_line}
 
 -- a fault other than one of the output ended a judgement: nothing was written but a prefix of the
 -- line that names it
 abbrev pub NamedAlone : Option (List ℕ) → Option (List ℕ) → Type 0
-NamedAlone held holds = (fault : JudgeFault) × (fault ≢ judge.Write)
-    × AppendsPrefix held holds (fault_line (as_stream_fault fault))
+NamedAlone held holds = (fault : StreamFault) × (fault ≢ Write)
+    × AppendsPrefix held holds (fault_line fault)
 
 -- a fault ended a judgement: one of the output, and a prefix of the verdict was written; or
 -- another, and nothing was written but a prefix of the line that names it

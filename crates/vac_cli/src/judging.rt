@@ -2,7 +2,6 @@
 
 ghost use Rattle.std.specs.Prelude.{◌≡◌, true};
 ghost use Rattle.vac_model.specs.Ranges.{is_block_count};
-ghost use Rattle.vac_cli.specs.Ending.{as_stream_fault};
 ghost use Rattle.vac_cli.specs.Judging.{Judges, JudgesHeld, JudgesWork, NotOpened};
 ghost use Rattle.vac_cli.specs.Ordering.{JudgesAnyWork};
 ghost use Rattle.vac_cli.specs.Asking.{JudgesAs, JudgesAttempts};
@@ -14,22 +13,10 @@ use std::alloc::Global;
 use std::io;
 use std::io::{ErrorKind, Read, Write};
 use std::time::Clock;
-use vac_judge::{JudgeFault, judge_history, judge_work};
+use vac_judge::{judge_history, judge_work};
 use vac_opaque::judge_attempts;
 use vac_options::{Judging, Search};
 use vac_streams::StreamFault;
-
-/// The fault of the same name.
-fn as_stream_fault(fault: JudgeFault) -> StreamFault
-    ensures { result ≡ as_stream_fault fault }
-{
-    match fault {
-        JudgeFault::Read => StreamFault::Read,
-        JudgeFault::Write => StreamFault::Write,
-        JudgeFault::Memory => StreamFault::Memory,
-        JudgeFault::Bound => StreamFault::Bound,
-    }
-}
 
 /// Judges a history, and returns the status: 0 where it is legal.
 pub(crate) fn judge_alone<R: Read, W: Write>(
@@ -45,7 +32,7 @@ pub(crate) fn judge_alone<R: Read, W: Write>(
     match judge_history(alloc, blocks, input, output) {
         Ok(true) => DONE,
         Ok(false) => FAULT,
-        Err(fault) => end_by(as_stream_fault(fault), output),
+        Err(fault) => end_by(fault, output),
     }
 }
 
@@ -77,7 +64,7 @@ pub(crate) fn judge_held<F: Read, R: Read, W: Write>(
     match judge_work(alloc, blocks, tasks, input, output) {
         Ok(true) => DONE,
         Ok(false) => FAULT,
-        Err(fault) => end_by(as_stream_fault(fault), output),
+        Err(fault) => end_by(fault, output),
     }
 }
 

@@ -13,5 +13,5 @@ pub returns-in-Err : goal.returns-in-Err
 returns-in-Err g c =
     inr (
       c.end_by.ensures.status,
-      inr (work_stopped _ _ _ c.in-Err.fault _ _ _ _ _ c.in-Err.ensures.err (rw c.as_stream_fault.ensures at c.end_by.ensures.line)),
+      inr (work_stopped _ _ _ c.in-Err.fault _ _ _ _ _ c.in-Err.ensures.err c.end_by.ensures.line),
     )
