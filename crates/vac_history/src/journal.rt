@@ -7,7 +7,7 @@ ghost use Rattle.vac_history.specs.Stamps.{IsStamp};
 
 use crate::watch::Watch;
 use std::alloc::{AllocError, Global};
-use vac_manager::{Keep, Note, Place, Placed};
+use vac_manager::{AttemptNote, Keep, Note, Place, Placed, Untraced};
 use vac_model::Task;
 
 /// Keeps the answered calls of a client, with readings of a watch before each of them and after it.
@@ -33,6 +33,9 @@ fn stamp<W: Watch>(watch: &mut W, last: u64) -> u64
 }
 
 impl<W: Watch> Journal<W> {
+    ghost use Rattle.std.specs.Prelude.{◌≡◌, ◌<◌, vec_len, vec_capacity};
+    ghost use Rattle.vac_history.specs.Stamped.{HasStamped, KeepsWith};
+
     /// An empty journal, whose times are those of this watch.
     pub fn new(alloc: Global, watch: W) -> Journal<W>
         ensures empty { result.notes.items ≡ [] }
@@ -56,22 +59,48 @@ impl<W: Watch> Journal<W> {
     }
 
     /// The calls that it keeps.
-    pub(crate) fn notes(&self) -> &[Note]
+    pub fn notes(&self) -> &[Note]
         ensures { result.now ≡ self.now.notes.items }
     {
         self.notes.as_slice()
     }
+
+    /// Keeps a call that was answered as `keep` does, and with it the attempt that answered it.
+    pub fn keep_with(&mut self, task: Task, placed: Placed, attempt: Option<Box<AttemptNote>>)
+        requires { vec_len self.old.notes < vec_capacity self.old.notes }
+        ensures kept { KeepsWith task placed attempt
+            self.old.notes.items self.new.notes.items }
+        ensures whole { self.new.is_whole ≡ self.old.is_whole }
+        ensures stamped { HasStamped W.shows self.old self.new }
+    {
+        let begin = self.latest;
+        let end = stamp(&mut self.watch, begin);
+        let Placed { reply, place } = placed;
+        self.latest = end;
+        self.notes.push_reserved(Note {
+            begin,
+            end,
+            task,
+            reply,
+            place,
+            attempt,
+        });
+    }
 }
 
 impl<W: Watch> Keep for Journal<W> {
-    ghost use Rattle.std.specs.Prelude.{◌≡◌, ◌<◌, Some, OnOk, OnErr, false, vec_len, vec_capacity};
+    ghost use Rattle.std.specs.Prelude.{◌≡◌, ◌<◌, Some, None, OnOk, OnErr, false, vec_len, vec_capacity};
     ghost use Rattle.vac_manager.specs.Keeping.{HasKept};
     ghost use Rattle.vac_history.specs.Stamps.{IsStamp};
     ghost use Rattle.vac_history.specs.Stamped.{HasStamped};
 
     ghost notes = { λ journal. Some journal.notes.items };
 
+    ghost traced = { λ _. None };
+
     ghost ready = { λ journal. vec_len journal.notes < vec_capacity journal.notes };
+
+    type Tracing = Untraced;
 
     /// Reads the watch once. Where room is refused it is not read, and the journal is not whole
     /// from then on.
@@ -95,25 +124,27 @@ impl<W: Watch> Keep for Journal<W> {
         Ok(())
     }
 
+    fn lend(&mut self) -> Untraced
+        ensures { self.new ≡ self.old }
+    {
+        Untraced
+    }
+
+    fn take_back(&mut self, tracer: Untraced)
+        ensures { self.new ≡ self.old }
+    {
+        let Untraced = tracer;
+    }
+
     /// Not said: that `begin` was called since the last call was kept, and that the call ended
     /// right before it; that a call without room is not made. Its caller sees to that.
     fn keep(&mut self, task: Task, placed: Placed)
         requires { vec_len self.old.notes < vec_capacity self.old.notes }
-        ensures kept { HasKept task placed
+        ensures kept { HasKept task placed None
             (Some self.old.notes.items) (Some self.new.notes.items) }
         ensures whole { self.new.is_whole ≡ self.old.is_whole }
         ensures stamped { HasStamped W.shows self.old self.new }
     {
-        let begin = self.latest;
-        let end = stamp(&mut self.watch, begin);
-        let Placed { reply, place } = placed;
-        self.latest = end;
-        self.notes.push_reserved(Note {
-            begin,
-            end,
-            task,
-            reply,
-            place,
-        });
+        self.keep_with(task, placed, None);
     }
 }

@@ -21,8 +21,9 @@ pub(crate) struct Picked<'j> {
     pub(crate) note: &'j Note,
 }
 
-/// The place of a record among those of its renewal.
-fn rank(place: Place) -> u64
+/// The place of a record among those of its renewal: by version, the writer of a version before its
+/// readers.
+pub fn rank(place: Place) -> u64
     ensures { result ≡ rank_of place }
 {
     let reader = if place.wrote { 0 } else { 1 };

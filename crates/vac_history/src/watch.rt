@@ -15,7 +15,8 @@ pub trait Watch {
 }
 
 /// A clock, whose time counts from a start.
-#[derive(Clone, Copy, Drop)]
+#[derive(Drop)]
+#[derive_where(Clone, Copy)]
 pub struct Since<'a, C> {
     clock: &'a C,
     start: Option<Instant>,
