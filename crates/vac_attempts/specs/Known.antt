@@ -1,0 +1,32 @@
+-- What is known of the attempts of a client's calls.
+use Rattle.std.specs.Prelude.{Bool, ◌&&◌, List, [], ◌∷◌, ◌++◌, map, Option, Some, None, if◌then◌else◌}
+use Rattle.std.specs.List.{list_all}
+use Rattle.vac_manager.specs.declared.note.AttemptNote.{AttemptNote}
+use Rattle.vac_manager.specs.Tracing.{Trace, trace_of}
+use Rattle.vac_attempts.specs.declared.trail.Trail.{Trail}
+use Rattle.vac_attempts.specs.declared.ledger.Ledger.{Ledger}
+
+-- all of these, where there was room for all
+abbrev pub known : {X : Type 0} → Bool → List X → Option (List X)
+known whole xs = if whole then Some xs else None
+
+-- the attempt that committed, if one is at hand
+abbrev pub committed : Option AttemptNote → List Trace
+committed None = []
+committed (Some a) = trace_of a ∷ []
+
+-- the attempts that have ended: those that were given up, and one that committed after them
+abbrev pub ended_by : {W : Type 0} → Trail W → Option (List Trace)
+ended_by t = known t.is_whole (map trace_of t.given_up.items ++ committed t.committed)
+
+-- there was room for each attempt, and for what it read and wrote
+abbrev pub is_whole_trail : {W : Type 0} → Trail W → Bool
+is_whole_trail t = t.is_whole && t.accesses.is_whole
+
+-- there was room for each call of a client and for each attempt, and each call has its attempt
+abbrev pub is_whole : {W : Type 0} → Ledger W → Bool
+is_whole ledger = ledger.is_whole && ledger.journal.is_whole && is_whole_trail ledger.trail
+
+-- so it was for the opening and for each of the clients
+abbrev pub are_whole : {W : Type 0} → Ledger W → List (Ledger W) → Bool
+are_whole opening clients = is_whole opening && list_all is_whole clients

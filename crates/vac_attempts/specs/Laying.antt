@@ -1,0 +1,35 @@
+-- The words that a system begins with, as attempts.
+use Rattle.std.specs.Prelude.{◌≡◌, ℕ, suc, true, eqb, List, [], ◌∷◌, ◌++◌, flat_map, if◌then◌else◌}
+use Rattle.std.specs.List.{All}
+use Rattle.tx_alloc.specs.Spread.{IsSpreadHeap}
+use Rattle.tx_observed.specs.declared.access.Access.{Access}
+use Rattle.tx_observed.specs.declared.access.Access.TheVariants.{Write}
+use Rattle.vac_manager.specs.declared.note.AttemptNote.{AttemptNote}
+
+-- it committed before all others: it began and ended at 0
+pub record IsLaid (a : AttemptNote) : Type 0 where
+  pub commits : a.commits ≡ true
+  pub begin : a.begin ≡ 0
+  pub end : a.end ≡ 0
+
+-- the write of a word at an address, where it is not 0
+abbrev pub write_of : ℕ → ℕ → List Access
+write_of address word = if eqb word 0 then [] else Write (record { 0 = address }) word ∷ []
+
+-- the writes of those words that are not 0, the first of which has this address
+abbrev pub writes_from : ℕ → List ℕ → List Access
+writes_from first [] = []
+writes_from first (word ∷ words) = write_of first word ++ writes_from (suc first) words
+
+-- what attempts did, one after the other
+abbrev pub done_by : List AttemptNote → List Access
+done_by attempts = flat_map (λ a. a.accesses.items) attempts
+
+-- the attempts write the words that a system of so many blocks begins with, where they are not 0,
+-- and do nothing else
+-- Not said: how many attempts there are.
+pub record Lays (blocks : ℕ) (laid : List AttemptNote) : Type 0 where
+  pub words : List ℕ
+  pub heap : IsSpreadHeap words blocks
+  pub before_all : All (λ a. IsLaid a) laid
+  pub writes : done_by laid ≡ writes_from 0 words

@@ -1,0 +1,7 @@
+pub mod Known
+pub mod Stamped
+pub mod Lines
+pub mod Order
+pub mod Pages
+pub mod Laying
+pub mod Text

@@ -1,0 +1,19 @@
+-- The order in which attempts are written.
+use Rattle.std.specs.Prelude.{List}
+use Rattle.std.specs.Ordering.{nat_cmp, ordering_then}
+use Rattle.std.specs.List.Sorted.{IsSorted}
+use Rattle.std.specs.declared.cmp.Ordering.{Ordering}
+use Rattle.vac_history.specs.Order.{rank_of}
+use Rattle.vac_manager.specs.declared.note.AttemptNote.{AttemptNote}
+use Rattle.vac_attempts.specs.Lines.{Entry}
+
+-- by renewal, by version, the writer of a version before all others that read it, and then by when
+-- they began
+abbrev pub compare : AttemptNote → AttemptNote → Ordering
+compare a b =
+    ordering_then (ordering_then (nat_cmp a.place.renewal b.place.renewal)
+    (nat_cmp (rank_of a.place) (rank_of b.place))) (nat_cmp a.begin b.begin)
+
+-- none is to be before the one before it
+abbrev pub AreOrdered : List Entry → Type 0
+AreOrdered entries = IsSorted (λ a b. compare a.attempt b.attempt) entries

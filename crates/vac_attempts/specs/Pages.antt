@@ -1,0 +1,55 @@
+-- What is kept of a client's attempts.
+use Rattle.std.specs.Prelude.{ℕ, suc, Bool, List, [], ◌∷◌, ◌++◌, map, flat_map, Option, Some, None, is_some}
+use Rattle.std.specs.List.{list_all}
+use Rattle.std.specs.Global.{Box}
+use Rattle.vac_manager.specs.declared.note.Note.{Note}
+use Rattle.vac_manager.specs.declared.note.AttemptNote.{AttemptNote}
+use Rattle.vac_attempts.specs.declared.ledger.Ledger.{Ledger}
+use Rattle.vac_attempts.specs.Lines.{Entry}
+
+-- the answered calls of a client, and its attempts that were given up
+pub record Page : Type 0 where
+  pub calls : List Note
+  pub given_up : List AttemptNote
+
+-- those that a ledger has
+abbrev pub page_of : {W : Type 0} → Ledger W → Page
+page_of ledger = record {
+  calls = ledger.journal.notes.items;
+  given_up = ledger.trail.given_up.items;
+}
+
+-- the opening's, and those of the clients
+abbrev pub pages_of : {W : Type 0} → Ledger W → List (Ledger W) → List Page
+pages_of opening clients = page_of opening ∷ map page_of clients
+
+-- the attempt, if it is noted
+abbrev pub attempt_of : Option (Box AttemptNote) → List AttemptNote
+attempt_of None = []
+attempt_of (Some a) = a.value ∷ []
+
+-- the attempts that answered these calls, as far as they are noted
+abbrev pub attempts_of : List Note → List AttemptNote
+attempts_of calls = flat_map (λ n. attempt_of n.attempt) calls
+
+-- each call's attempt is noted
+abbrev pub all_noted : List Note → Bool
+all_noted calls = list_all (λ n. is_some n.attempt) calls
+
+-- so it is for each client
+abbrev pub are_noted : List Page → Bool
+are_noted pages = list_all (λ page. all_noted page.calls) pages
+
+-- attempts, each with the number of its client
+abbrev pub entries_of : ℕ → List AttemptNote → List Entry
+entries_of client attempts = map (λ a. record { client = client; attempt = a }) attempts
+
+-- the attempts of a client: that of each answered call once, and each that was given up
+abbrev pub entries_on : ℕ → Page → List Entry
+entries_on client page =
+    entries_of client (attempts_of page.calls) ++ entries_of client page.given_up
+
+-- those of each client; their numbers count from this one on
+abbrev pub entries_from : ℕ → List Page → List Entry
+entries_from first [] = []
+entries_from first (page ∷ pages) = entries_on first page ++ entries_from (suc first) pages

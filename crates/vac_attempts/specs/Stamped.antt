@@ -1,0 +1,12 @@
+-- The stamps of attempts.
+use Rattle.std.specs.Prelude.{◌≡◌, ℕ}
+use Rattle.vac_manager.specs.declared.note.AttemptNote.{AttemptNote}
+use Rattle.vac_history.specs.Stamps.{IsStamp}
+use Rattle.vac_attempts.specs.declared.trail.Trail.{Trail}
+
+-- this attempt began at the last stamp, and ended at the one that was then read
+pub record IsStamped {W : Type 0} (shows : W → ℕ → W → Type 0) (before after : Trail W)
+    (a : AttemptNote) : Type 0 where
+  pub begin : a.begin ≡ before.latest
+  pub end : a.end ≡ after.latest
+  pub read : IsStamp shows before.watch after.watch before.latest after.latest

@@ -1,0 +1,83 @@
+//! The attempts of all clients, as lines that are to be written.
+
+ghost use Rattle.std.specs.Prelude.{◌≡◌, ◌+◌, ◌<◌, ◌^◌, ◌++◌, true, length, map, OnOk};
+ghost use Rattle.vac_attempts.specs.Lines.{entry_of};
+ghost use Rattle.vac_attempts.specs.Pages.{attempts_of, all_noted, page_of, pages_of, are_noted};
+ghost use Rattle.vac_attempts.specs.Pages.{entries_of, entries_on, entries_from};
+
+use crate::ledger::Ledger;
+use crate::lines::Line;
+use std::alloc::AllocError;
+use vac_history::Watch;
+use vac_manager::{AttemptNote, Note};
+use vac_worklist::OPENING;
+
+/// Adds attempts of a client.
+pub(crate) fn add_attempts<'a>(
+    lines: &mut Vec<Line<'a>>,
+    client: u32,
+    attempts: &'a [AttemptNote],
+) -> Result<(), AllocError>
+    ensures { OnOk result (map entry_of lines.new.items
+        ≡ map entry_of lines.old.items ++ entries_of client attempts.now) }
+{
+    for attempt in attempts {
+        lines.push(Line { client, attempt })?;
+    }
+    Ok(())
+}
+
+/// Adds the attempts that answered the calls of a client. Where one is wanting, there was no room
+/// for it.
+fn add_answered<'a>(
+    lines: &mut Vec<Line<'a>>,
+    client: u32,
+    calls: &'a [Note],
+) -> Result<(), AllocError>
+    ensures added { OnOk result (map entry_of lines.new.items
+        ≡ map entry_of lines.old.items ++ entries_of client (attempts_of calls.now)) }
+    ensures noted { OnOk result (all_noted calls.now ≡ true) }
+{
+    for call in calls {
+        let Some(attempt) = &call.attempt else {
+            return Err(AllocError);
+        };
+        lines.push(Line {
+            client,
+            attempt: &**attempt,
+        })?;
+    }
+    Ok(())
+}
+
+/// Adds all attempts of a client.
+fn add_client<'a, W: Watch + Copy + Drop>(
+    lines: &mut Vec<Line<'a>>,
+    client: u32,
+    ledger: &'a Ledger<W>,
+) -> Result<(), AllocError>
+    ensures added { OnOk result (map entry_of lines.new.items
+        ≡ map entry_of lines.old.items ++ entries_on client (page_of ledger.now)) }
+    ensures noted { OnOk result (all_noted ledger.now.journal.notes.items ≡ true) }
+{
+    add_answered(lines, client, ledger.journal().notes())?;
+    add_attempts(lines, client, ledger.trail().given_up())
+}
+
+/// Adds all attempts of the opening, which is client 0, and of the clients from 1 on.
+pub(crate) fn add_all<'a, W: Watch + Copy + Drop>(
+    lines: &mut Vec<Line<'a>>,
+    opening: &'a Ledger<W>,
+    clients: &'a [Ledger<W>],
+) -> Result<(), AllocError>
+    requires few { length clients.now < 2 ^ 32 }
+    ensures added { OnOk result (map entry_of lines.new.items
+        ≡ map entry_of lines.old.items ++ entries_from 0 (pages_of opening.now clients.now)) }
+    ensures noted { OnOk result (are_noted (pages_of opening.now clients.now) ≡ true) }
+{
+    add_client(lines, OPENING, opening)?;
+    'clients: for place in 0..clients.len() {
+        add_client(lines, place as u32 + 1, &clients[place])?;
+    }
+    Ok(())
+}

@@ -1,0 +1,89 @@
+//! The words that a system begins with, as attempts.
+
+ghost use Rattle.std.specs.Prelude.{◌≡◌, ◌+◌, ◌<◌, ◌≤◌, ◌^◌, ◌++◌, true, OnOk, IfOk, length};
+ghost use Rattle.std.specs.List.{All};
+ghost use Rattle.vac_attempts.specs.Laying.{IsLaid, Lays, write_of, writes_from, done_by};
+
+use std::alloc::{AllocError, Global};
+use stm_words::Version;
+use tx_alloc::spread_words;
+use tx_memory::Addr;
+use tx_observed::Access;
+use vac_manager::{AttemptNote, Place};
+use vac_model::limits::MOST_BLOCKS;
+
+/// How many words an attempt lays at most, so that its line is not too long.
+const MOST_LAID: usize = 16_384;
+
+/// The place before all others.
+fn before_all() -> Place {
+    let Some(version) = Version::new(0) else {
+        unreachable!()
+    };
+    Place {
+        renewal: 0,
+        version,
+        wrote: true,
+    }
+}
+
+/// Adds the write of a word, where it is not 0.
+fn lay_word(accesses: &mut Vec<Access>, address: u32, word: u64) -> Result<(), AllocError>
+    ensures { OnOk result (accesses.new.items ≡ accesses.old.items ++ write_of address word) }
+{
+    if word != 0 {
+        accesses.push(Access::Write {
+            addr: Addr(address),
+            value: word,
+        })?;
+    }
+    Ok(())
+}
+
+/// An attempt that writes those of these words that are not 0, the first of which has this address.
+fn lay_some(alloc: Global, first: u32, words: &[u64]) -> Result<AttemptNote, AllocError>
+    requires few { first + length words.now < 2 ^ 32 }
+    ensures laid { IfOk result (λ a. IsLaid a) }
+    ensures writes { IfOk result (λ a. a.accesses.items ≡ writes_from first words.now) }
+{
+    let mut accesses = Vec::new(alloc);
+    for (place, word) in words.iter().enumerate() {
+        lay_word(&mut accesses, first + place as u32, *word)?;
+    }
+    Ok(AttemptNote {
+        begin: 0,
+        end: 0,
+        commits: true,
+        place: before_all(),
+        accesses,
+    })
+}
+
+/// Attempts that write those of these words that are not 0.
+fn lay_all(alloc: Global, words: &[u64]) -> Result<Vec<AttemptNote>, AllocError>
+    requires few { length words.now < 2 ^ 31 }
+    ensures laid { IfOk result (λ laid. All (λ a. IsLaid a) laid.items) }
+    ensures writes { IfOk result (λ laid. done_by laid.items ≡ writes_from 0 words.now) }
+{
+    let mut laid = Vec::new(alloc);
+    let mut left = words;
+    let mut first = 0;
+    'pieces: while !left.is_empty() {
+        let count = left.len().min(MOST_LAID);
+        let (piece, rest) = left.split_at(count);
+        laid.push(lay_some(alloc, first, piece)?)?;
+        left = rest;
+        first += count as u32;
+    }
+    Ok(laid)
+}
+
+/// Attempts that lay the words that a system of so many blocks begins with.
+pub(crate) fn lay(alloc: Global, blocks: u32) -> Result<Vec<AttemptNote>, AllocError>
+    requires some { 1 ≤ blocks }
+    requires most { blocks ≤ MOST_BLOCKS }
+    ensures { IfOk result (λ laid. Lays blocks laid.items) }
+{
+    let words = spread_words(alloc, blocks as usize)?;
+    lay_all(alloc, words.as_slice())
+}

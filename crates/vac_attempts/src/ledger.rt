@@ -1,0 +1,94 @@
+//! What keeps the answered calls of a client, and traces their attempts.
+
+ghost use Rattle.std.specs.Prelude.{◌≡◌, [], true};
+ghost use Rattle.vac_attempts.specs.Known.{is_whole};
+
+use crate::trail::Trail;
+use std::alloc::{AllocError, Global};
+use std::mem;
+use vac_history::{Journal, Watch};
+use vac_manager::{Keep, Placed};
+use vac_model::Task;
+
+/// Keeps the answered calls of a client, each with the attempt that answered it, and the attempts
+/// that were given up.
+#[derive(Drop)]
+pub struct Ledger<W> {
+    alloc: Global,
+    watch: W,
+    journal: Journal<W>,
+    trail: Trail<W>,
+    /// Whether each call that is kept has its attempt.
+    is_whole: bool,
+}
+
+impl<W: Watch + Copy + Drop> Ledger<W> {
+    /// An empty ledger, whose times are those of this watch.
+    pub fn new(alloc: Global, watch: W) -> Ledger<W>
+        ensures no_calls { result.journal.notes.items ≡ [] }
+        ensures none_given_up { result.trail.given_up.items ≡ [] }
+        ensures whole { is_whole result ≡ true }
+    {
+        Ledger {
+            alloc,
+            watch,
+            journal: Journal::new(alloc, watch),
+            trail: Trail::new(alloc, watch),
+            is_whole: true,
+        }
+    }
+
+    /// Whether there was room for each call and each attempt.
+    pub(crate) fn is_whole(&self) -> bool
+        ensures { result ≡ is_whole self.now }
+    {
+        self.is_whole && self.journal.is_whole() && self.trail.is_whole()
+    }
+
+    /// The calls that it keeps.
+    pub(crate) fn journal(&self) -> &Journal<W>
+        ensures { result.now ≡ self.now.journal }
+    {
+        &self.journal
+    }
+
+    /// What has traced their attempts.
+    pub(crate) fn trail(&self) -> &Trail<W>
+        ensures { result.now ≡ self.now.trail }
+    {
+        &self.trail
+    }
+}
+
+impl<W: Watch + Copy + Send + Drop> Keep for Ledger<W> {
+    ghost use Rattle.std.specs.Prelude.{◌<◌, Some, vec_len, vec_capacity};
+    ghost use Rattle.vac_attempts.specs.Known.{ended_by};
+
+    type Tracing = Trail<W>;
+
+    ghost notes = { λ ledger. Some ledger.journal.notes.items };
+
+    ghost traced = { λ ledger. ended_by ledger.trail };
+
+    ghost ready = { λ ledger. vec_len ledger.journal.notes < vec_capacity ledger.journal.notes };
+
+    fn begin(&mut self) -> Result<(), AllocError> {
+        self.journal.begin()
+    }
+
+    fn lend(&mut self) -> Trail<W> {
+        mem::replace(&mut self.trail, Trail::new(self.alloc, self.watch))
+    }
+
+    fn take_back(&mut self, tracer: Trail<W>) {
+        self.trail = tracer;
+    }
+
+    fn keep(&mut self, task: Task, placed: Placed) {
+        let attempt = self.trail.take_committed();
+        if attempt.is_none() {
+            self.is_whole = false;
+        }
+        self.journal.keep_with(task, placed, attempt);
+    }
+}

@@ -1,0 +1,229 @@
+//! What traces the attempts of a client's calls.
+
+ghost use Rattle.std.specs.Prelude.{◌≡◌, ◌≤◌, [], true, None, IfSome, IfOk};
+ghost use Rattle.vac_manager.specs.Tracing.{trace_of, IsLast};
+ghost use Rattle.vac_history.specs.Stamps.{IsStamp};
+ghost use Rattle.vac_attempts.specs.Known.{ended_by, is_whole_trail};
+ghost use Rattle.vac_attempts.specs.Stamped.{IsStamped};
+
+use crate::accesses::Accesses;
+use std::alloc::{AllocError, Global};
+use stm_words::Version;
+use tx_alloc::FreeList;
+use tx_memory::{TxMem, TxRead};
+use tx_observed::Observed;
+use vac_history::Watch;
+use vac_manager::{AttemptNote, Place, Tracer};
+use vac_model::{Reply, Task};
+use vac_tasks::{read_task, run_task};
+
+/// Traces the attempts of a client's calls, with readings of a watch before each of them and after
+/// it. Those that were given up gather in it; the one that committed stays at hand until it is
+/// taken.
+#[derive(Drop)]
+pub struct Trail<W> {
+    alloc: Global,
+    watch: W,
+    /// The last stamp: when the attempt that runs began, or when the last one had ended.
+    latest: u64,
+    /// The place of a record that would read what the attempt that runs reads.
+    place: Place,
+    accesses: Accesses,
+    given_up: Vec<AttemptNote>,
+    committed: Option<AttemptNote>,
+    /// Whether there was room for each attempt.
+    is_whole: bool,
+}
+
+/// The first place of all.
+fn first_place() -> Place {
+    let Some(version) = Version::new(0) else {
+        unreachable!()
+    };
+    Place {
+        renewal: 0,
+        version,
+        wrote: false,
+    }
+}
+
+/// Reads the watch: a stamp that is not before the last one.
+fn stamp<W: Watch>(watch: &mut W, last: u64) -> u64
+    ensures { IsStamp W.shows watch.old watch.new last result }
+{
+    watch.read().max(last)
+}
+
+impl<W: Watch> Trail<W> {
+    /// An empty trail, whose times are those of this watch.
+    pub(crate) fn new(alloc: Global, watch: W) -> Trail<W>
+        ensures given_up { result.given_up.items ≡ [] }
+        ensures committed { result.committed ≡ None }
+        ensures whole { is_whole_trail result ≡ true }
+        ensures fresh { result.latest ≡ 0 }
+        ensures watch { result.watch ≡ watch }
+    {
+        Trail {
+            alloc,
+            watch,
+            latest: 0,
+            place: first_place(),
+            accesses: Accesses::new(alloc),
+            given_up: Vec::new(alloc),
+            committed: None,
+            is_whole: true,
+        }
+    }
+
+    /// Whether there was room for each attempt and for what it read and wrote.
+    pub(crate) fn is_whole(&self) -> bool
+        ensures { result ≡ is_whole_trail self.now }
+    {
+        self.is_whole && self.accesses.is_whole()
+    }
+
+    /// The attempts that were given up.
+    pub(crate) fn given_up(&self) -> &[AttemptNote]
+        ensures { result.now ≡ self.now.given_up.items }
+    {
+        self.given_up.as_slice()
+    }
+
+    /// Takes out the attempt that committed, where there is one and all is whole.
+    pub(crate) fn take_committed(&mut self) -> Option<Box<AttemptNote>>
+        ensures last { IfSome result (λ a. IsLast (ended_by self.old) (trace_of a.value)) }
+        ensures given_up { self.new.given_up.items ≡ self.old.given_up.items }
+    {
+        let note = self.committed.take()?;
+        if !self.is_whole {
+            return None;
+        }
+        Box::new(self.alloc, note).ok()
+    }
+
+    /// The attempt that has ended, with all that it has read and written.
+    fn end(&mut self, commits: bool, place: Place) -> Result<AttemptNote, AllocError>
+        ensures trace { IfOk result (λ a. trace_of a ≡ record {
+          commits = commits;
+          place = place;
+          accesses = self.old.accesses.items.items;
+        }) }
+        ensures all { IfOk result (λ _. self.old.accesses.is_whole ≡ true) }
+        ensures accesses { self.new.accesses ≡ self.old.accesses }
+        ensures given_up { self.new.given_up ≡ self.old.given_up }
+        ensures committed { self.new.committed ≡ self.old.committed }
+        ensures whole { self.new.is_whole ≡ self.old.is_whole }
+        ensures stamped { IfOk result (λ a. IsStamped W.shows self.old self.new a) }
+    {
+        let begin = self.latest;
+        let end = stamp(&mut self.watch, begin);
+        self.latest = end;
+        if !self.accesses.is_whole() {
+            return Err(AllocError);
+        }
+        let accesses = self.accesses.copied()?;
+        Ok(AttemptNote {
+            begin,
+            end,
+            commits,
+            place,
+            accesses,
+        })
+    }
+}
+
+impl<W: Watch> Tracer for Trail<W> {
+    ghost use Rattle.std.specs.Prelude.{◌≡◌, ◌∷◌, ◌++◌, [], false, None, IfSome};
+    ghost use Rattle.vac_manager.specs.declared.note.AttemptNote.{AttemptNote};
+    ghost use Rattle.vac_manager.specs.Tracing.{IsFresh, HasCommitted, HasGivenUp};
+    ghost use Rattle.vac_history.specs.Stamps.{IsStamp};
+    ghost use Rattle.vac_attempts.specs.Known.{known, ended_by};
+    ghost use Rattle.vac_attempts.specs.Stamped.{IsStamped};
+
+    ghost ended = { λ t. ended_by t };
+
+    ghost accesses = { λ t. known t.accesses.is_whole t.accesses.items.items };
+
+    /// Reads the watch once.
+    ///
+    /// Not said: that the attempt begins right after it.
+    fn prepare(&mut self)
+        ensures ended { ended_by self.new ≡ ended_by self.old }
+        ensures fresh { IsFresh (known self.new.accesses.is_whole self.new.accesses.items.items) }
+        ensures read { IsStamp W.shows self.old.watch self.new.watch
+            self.old.latest self.new.latest }
+    {
+        self.accesses.clear();
+        self.latest = stamp(&mut self.watch, self.latest);
+    }
+
+    fn begun(&mut self, renewal: u32, version: Version)
+        ensures ended { ended_by self.new ≡ ended_by self.old }
+        ensures accesses { known self.new.accesses.is_whole self.new.accesses.items.items
+            ≡ known self.old.accesses.is_whole self.old.accesses.items.items }
+        ensures place { self.new.place ≡ record {
+          renewal = renewal;
+          version = version;
+          wrote = false;
+        } }
+    {
+        self.place = Place {
+            renewal,
+            version,
+            wrote: false,
+        };
+    }
+
+    fn run_task<M: TxMem>(
+        &mut self,
+        memory: &mut M,
+        task: &Task,
+        start: FreeList,
+    ) -> Result<Reply, M::Stop> {
+        let mut observed = Observed::new(memory, &mut self.accesses);
+        run_task(&mut observed, task, start)
+    }
+
+    fn read_task<M: TxRead>(&mut self, memory: &mut M, task: &Task) -> Result<Reply, M::Stop> {
+        let mut observed = Observed::new(memory, &mut self.accesses);
+        read_task(&mut observed, task)
+    }
+
+    /// Not said: that `prepare` was called since the last attempt ended, and that this one ended
+    /// right before it. Its caller sees to that.
+    fn commit(&mut self, place: Place)
+        ensures ended { HasCommitted place
+            (known self.old.accesses.is_whole self.old.accesses.items.items)
+            (ended_by self.old) (ended_by self.new) }
+        ensures stamped { self.old.committed ≡ None →
+            IfSome self.new.committed (λ a. IsStamped W.shows self.old self.new a) }
+    {
+        match self.end(true, place) {
+            Ok(note) if self.committed.is_none() => self.committed = Some(note),
+            _ => self.is_whole = false,
+        }
+    }
+
+    /// Its place is that of a record which read the version that it read.
+    ///
+    /// Not said: as of `commit`.
+    fn give_up(&mut self)
+        ensures ended { HasGivenUp
+            (known self.old.accesses.is_whole self.old.accesses.items.items)
+            (ended_by self.old) (ended_by self.new) }
+        ensures stamped { (a : AttemptNote) →
+            self.new.given_up.items ≡ self.old.given_up.items ++ (a ∷ []) →
+            IsStamped W.shows self.old self.new a }
+        ensures placed { (a : AttemptNote) →
+            self.new.given_up.items ≡ self.old.given_up.items ++ (a ∷ []) →
+            a.place ≡ self.old.place }
+    {
+        let Ok(note) = self.end(false, self.place) else {
+            self.is_whole = false;
+            return;
+        };
+        if self.committed.is_some() || self.given_up.push(note).is_err() {
+            self.is_whole = false;
+        }
+    }
+}
