@@ -1,5 +1,6 @@
 -- Trips that were booked, one behind the other.
-use Rattle.std.proofs.Common.{◌≡◌, ◌∙◌, ℕ, zero, suc, ◌+◌, ◌*◌, ◌<◌, ◌≤◌, ◌⊎◌, inl, inr, List, [], ◌∷◌, ◌++◌, length, length-append, refl, sym, ap, subst, arith}
+use Rattle.std.proofs.Common.{◌≡◌, ◌∙◌, ℕ, zero, suc, ◌+◌, ◌*◌, ◌<◌, ◌≤◌, ◌⊎◌, inl, inr, List, [], ◌∷◌, ◌++◌, length}
+use Rattle.std.proofs.Common.{length-append, refl, sym, ap, subst, arith}
 use mathlib.Core.Option.{some-injective, some-ne-none}
 use Rattle.tx_memory.specs.Image.{In}
 use Rattle.stm_core.specs.Client.{Record}
@@ -20,11 +21,13 @@ ascend_from : (low mid : ℕ) (ns : List ℕ) (high : ℕ) → low ≤ mid → A
 ascend_from low mid [] high l h = let m : low ≤ high = omega (arith, h, l) in m
 ascend_from low mid (n ∷ ns) high l h = let m : low ≤ n = omega (arith, l, h.0) in (m, h.1)
 
-pub ascend_both : (low : ℕ) (ns : List ℕ) (mid : ℕ) (ms : List ℕ) (high : ℕ) → Ascend low ns mid → Ascend mid ms high → Ascend low (ns ++ ms) high
+pub ascend_both : (low : ℕ) (ns : List ℕ) (mid : ℕ) (ms : List ℕ) (high : ℕ) → Ascend low ns mid → Ascend mid ms high →
+    Ascend low (ns ++ ms) high
 ascend_both low [] mid ms high h k = ascend_from low mid ms high h k
 ascend_both low (n ∷ ns) mid ms high h k = (h.0, ascend_both (n + 1) ns mid ms high h.1 k)
 
-pub are_both : (desk : ℕ) (ns ms : List ℕ) (rs qs : List Record) → AreTrips desk ns rs → AreTrips desk ms qs → AreTrips desk (ns ++ ms) (rs ++ qs)
+pub are_both : (desk : ℕ) (ns ms : List ℕ) (rs qs : List Record) → AreTrips desk ns rs → AreTrips desk ms qs →
+    AreTrips desk (ns ++ ms) (rs ++ qs)
 are_both desk [] ms [] qs h k = k
 are_both desk [] ms (r ∷ rs) qs h k = absurd h
 are_both desk (n ∷ ns) ms [] qs h k = absurd h
@@ -50,24 +53,31 @@ pub paid_none : (price from low : ℕ) → Paid price from low [] [] low from
 paid_none price from low = let l : from + low * price ≤ from + low * price = omega arith in l
 
 -- attempts that cost nothing
-pub paid_same : (price from low : ℕ) (ns : List ℕ) (rs : List Record) (high to to' : ℕ) → Paid price from low ns rs high to → to ≤ to' → Paid price from low ns rs high to'
-paid_same price from low [] [] high to to' h l = let m : from + high * price ≤ to' + low * price = omega (arith, h, l) in m
+pub paid_same : (price from low : ℕ) (ns : List ℕ) (rs : List Record) (high to to' : ℕ) →
+    Paid price from low ns rs high to → to ≤ to' → Paid price from low ns rs high to'
+paid_same price from low [] [] high to to' h l = let m : from + high * price ≤ to' + low * price =
+    omega (arith, h, l) in m
 paid_same price from low [] (r ∷ rs) high to to' h l = absurd h
 paid_same price from low (n ∷ ns) [] high to to' h l = absurd h
-paid_same price from low (n ∷ ns) (r ∷ rs) high to to' h l = (h.0, paid_same price r.attempt (n + 1) ns rs high to to' h.1 l)
+paid_same price from low (n ∷ ns) (r ∷ rs) high to to' h l =
+    (h.0, paid_same price r.attempt (n + 1) ns rs high to to' h.1 l)
 
 -- the next trip was given up
-pub paid_on : (price from low : ℕ) (ns : List ℕ) (rs : List Record) (high high' to to' : ℕ) → Paid price from low ns rs high to → high' ≡ high + 1 → to' ≡ to + price → Paid price from low ns rs high' to'
+pub paid_on : (price from low : ℕ) (ns : List ℕ) (rs : List Record) (high high' to to' : ℕ) →
+    Paid price from low ns rs high to → high' ≡ high + 1 → to' ≡ to + price → Paid price from low ns rs high' to'
 paid_on price from low [] [] high high' to to' h e f =
     let more : high' * price ≡ high * price + price = ap (λ (k : ℕ). k * price) e ∙ one_more high price in
     let m : from + high' * price ≤ to' + low * price = omega (arith, h, more, f) in
     m
 paid_on price from low [] (r ∷ rs) high high' to to' h e f = absurd h
 paid_on price from low (n ∷ ns) [] high high' to to' h e f = absurd h
-paid_on price from low (n ∷ ns) (r ∷ rs) high high' to to' h e f = (h.0, paid_on price r.attempt (n + 1) ns rs high high' to to' h.1 e f)
+paid_on price from low (n ∷ ns) (r ∷ rs) high high' to to' h e f =
+    (h.0, paid_on price r.attempt (n + 1) ns rs high high' to to' h.1 e f)
 
 -- the next trip was booked
-pub paid_more : (price from low : ℕ) (ns : List ℕ) (rs : List Record) (r : Record) (high high' to to' : ℕ) → Paid price from low ns rs high to → high' ≡ high + 1 → to < to' → r.attempt ≡ to' → Paid price from low (ns ++ (high ∷ [])) (rs ++ (r ∷ [])) high' to'
+pub paid_more : (price from low : ℕ) (ns : List ℕ) (rs : List Record) (r : Record) (high high' to to' : ℕ) →
+    Paid price from low ns rs high to → high' ≡ high + 1 → to < to' → r.attempt ≡ to' →
+    Paid price from low (ns ++ (high ∷ [])) (rs ++ (r ∷ [])) high' to'
 paid_more price from low [] [] r high high' to to' h e l f =
     let same : high' * price ≡ (high + 1) * price = ap (λ (k : ℕ). k * price) e in
     let a : from + high * price < r.attempt + low * price = omega (arith, h, l, f) in
@@ -75,20 +85,28 @@ paid_more price from low [] [] r high high' to to' h e l f =
     (a, b)
 paid_more price from low [] (q ∷ rs) r high high' to to' h e l f = absurd h
 paid_more price from low (n ∷ ns) [] r high high' to to' h e l f = absurd h
-paid_more price from low (n ∷ ns) (q ∷ rs) r high high' to to' h e l f = (h.0, paid_more price q.attempt (n + 1) ns rs r high high' to to' h.1 e l f)
+paid_more price from low (n ∷ ns) (q ∷ rs) r high high' to to' h e l f =
+    (h.0, paid_more price q.attempt (n + 1) ns rs r high high' to to' h.1 e l f)
 
 -- the trips between two booked ones
-next_between : (price n : ℕ) (r : Record) (ms : List ℕ) (qs : List Record) (high to : ℕ) → Paid price r.attempt (n + 1) ms qs high to → IsNextPaid price n r ms qs
+next_between : (price n : ℕ) (r : Record) (ms : List ℕ) (qs : List Record) (high to : ℕ) →
+    Paid price r.attempt (n + 1) ms qs high to → IsNextPaid price n r ms qs
 next_between price n r [] qs high to h = tt
 next_between price n r (m ∷ ms) [] high to h = tt
 next_between price n r (m ∷ ms) (q ∷ qs) high to h = λ same. h.0
 
-pub paid_between : (price from low : ℕ) (ns : List ℕ) (rs : List Record) (high to : ℕ) → Paid price from low ns rs high to → ArePaid price ns rs
+pub paid_between : (price from low : ℕ) (ns : List ℕ) (rs : List Record) (high to : ℕ) →
+    Paid price from low ns rs high to → ArePaid price ns rs
 paid_between price from low [] rs high to h = tt
 paid_between price from low (n ∷ ns) [] high to h = tt
-paid_between price from low (n ∷ ns) (r ∷ rs) high to h = (next_between price n r ns rs high to h.1, paid_between price r.attempt (n + 1) ns rs high to h.1)
+paid_between price from low (n ∷ ns) (r ∷ rs) high to h = (
+  next_between price n r ns rs high to h.1,
+  paid_between price r.attempt (n + 1) ns rs high to h.1,
+)
 
-next_both : (price desk n : ℕ) (r : Record) (ns ms : List ℕ) (rs qs : List Record) → AreTrips desk ns rs → IsNextPaid price n r ns rs → ((q : Record) → In q qs → r.renewal ≡ q.renewal → ⊥) → IsNextPaid price n r (ns ++ ms) (rs ++ qs)
+next_both : (price desk n : ℕ) (r : Record) (ns ms : List ℕ) (rs qs : List Record) → AreTrips desk ns rs →
+    IsNextPaid price n r ns rs → ((q : Record) → In q qs → r.renewal ≡ q.renewal → ⊥) →
+    IsNextPaid price n r (ns ++ ms) (rs ++ qs)
 next_both price desk n r [] [] [] qs t h f = tt
 next_both price desk n r [] (m ∷ ms) [] [] t h f = tt
 next_both price desk n r [] (m ∷ ms) [] (q ∷ qs) t h f = λ same. absurd (f q (zero, refl) same)
@@ -97,7 +115,9 @@ next_both price desk n r (m ∷ ns) ms [] qs t h f = absurd t
 next_both price desk n r (m ∷ ns) ms (x ∷ rs) qs t h f = h
 
 -- in some rounds, and then in others, of other renewals
-pub paid_both : (price desk : ℕ) (ns ms : List ℕ) (rs qs : List Record) → AreTrips desk ns rs → ArePaid price ns rs → ArePaid price ms qs → ((r q : Record) → In r rs → In q qs → r.renewal ≡ q.renewal → ⊥) → ArePaid price (ns ++ ms) (rs ++ qs)
+pub paid_both : (price desk : ℕ) (ns ms : List ℕ) (rs qs : List Record) → AreTrips desk ns rs → ArePaid price ns rs →
+    ArePaid price ms qs → ((r q : Record) → In r rs → In q qs → r.renewal ≡ q.renewal → ⊥) →
+    ArePaid price (ns ++ ms) (rs ++ qs)
 paid_both price desk [] ms [] qs t h k f = k
 paid_both price desk [] ms (r ∷ rs) qs t h k f = absurd t
 paid_both price desk (n ∷ ns) ms [] qs t h k f = absurd t
@@ -117,13 +137,15 @@ booked_none d =
     record { same = refl; ascend = l; booked = omega arith; given_up = omega arith; are_of = tt }
 
 -- in some rounds, and then in others
-pub booked_both : (d e f : Desk) (x y : Booked) → HasBooked d e x → HasBooked e f y → HasBooked d f (record { trips = x.trips ++ y.trips; records = x.records ++ y.records })
+pub booked_both : (d e f : Desk) (x y : Booked) → HasBooked d e x → HasBooked e f y →
+    HasBooked d f (record { trips = x.trips ++ y.trips; records = x.records ++ y.records })
 booked_both d e f x y h k = record {
   same = k.same ∙ h.same;
   ascend = ascend_both (asked d) x.trips (asked e) y.trips (asked f) h.ascend k.ascend;
   booked = omega (arith, length-append x.trips y.trips, h.booked, k.booked);
   given_up = omega (arith, h.given_up, k.given_up);
-  are_of = are_both d.number x.trips y.trips x.records y.records h.are_of (same_desk e.number d.number y.trips y.records h.same k.are_of);
+  are_of = are_both d.number x.trips y.trips x.records y.records h.are_of
+      (same_desk e.number d.number y.trips y.records h.same k.are_of);
 }
 
 sub_after : {A : Type 0} (us bs xs : List A) → Sub xs bs → Sub xs (us ++ bs)

@@ -1,5 +1,6 @@
 -- Attempts that have ended.
-use Rattle.std.proofs.Common.{◌≡◌, ◌∙◌, sym, ap, subst, Bool, true, List, [], ◌∷◌, ◌++◌, map, Option, Some, Result, Ok, Err}
+use Rattle.std.proofs.Common.{◌≡◌, ◌∙◌, sym, ap, subst, Bool, true, List, [], ◌∷◌, ◌++◌, map, Option, Some, Result, Ok}
+use Rattle.std.proofs.Common.{Err}
 use Rattle.std.specs.Prelude.{IfOk, IfSome}
 use Rattle.std.specs.Result.{result_ok}
 use Rattle.std.specs.Global.{Box}
@@ -12,10 +13,17 @@ abbrev all_ended : Bool → List AttemptNote → Option AttemptNote → Option (
 all_ended whole given at_hand = known whole (map trace_of given ++ committed at_hand)
 
 -- the one that is taken is the last of them
-pub last_taken : {E : Type 0} (given : List AttemptNote) (at_hand : Option AttemptNote) (a : AttemptNote) (made : Result (Box AttemptNote) E) (taken : Option (Box AttemptNote)) (whole : Bool)
-    → whole ≡ true → at_hand ≡ Some a → IfOk made (λ b. b.value ≡ a) → taken ≡ result_ok made → IfSome taken (λ b. IsLast (all_ended whole given at_hand) (trace_of b.value))
+pub last_taken : {E : Type 0} (given : List AttemptNote) (at_hand : Option AttemptNote) (a : AttemptNote)
+    (made : Result (Box AttemptNote) E) (taken : Option (Box AttemptNote)) (whole : Bool)
+    → whole ≡ true → at_hand ≡ Some a → IfOk made (λ b. b.value ≡ a) → taken ≡ result_ok made →
+    IfSome taken (λ b. IsLast (all_ended whole given at_hand) (trace_of b.value))
 last_taken given at_hand a (Ok b) taken whole all there is e =
-    subst (λ (o : Option (Box AttemptNote)). IfSome o (λ x. IsLast (all_ended whole given at_hand) (trace_of x.value))) (sym e)
-    (map trace_of given, ap (λ (w : Bool). all_ended w given at_hand) all ∙ ap (all_ended true given) there ∙ ap (λ (x : AttemptNote). Some (map trace_of given ++ trace_of x ∷ [])) (sym is))
+    subst (λ (o : Option (Box AttemptNote)). IfSome o (λ x. IsLast (all_ended whole given at_hand) (trace_of x.value)))
+    (sym e) (
+      map trace_of given,
+      ap (λ (w : Bool). all_ended w given at_hand) all ∙ ap (all_ended true given) there ∙
+          ap (λ (x : AttemptNote). Some (map trace_of given ++ trace_of x ∷ [])) (sym is),
+    )
 last_taken given at_hand a (Err x) taken whole all there is e =
-    subst (λ (o : Option (Box AttemptNote)). IfSome o (λ b. IsLast (all_ended whole given at_hand) (trace_of b.value))) (sym e) tt
+    subst (λ (o : Option (Box AttemptNote)). IfSome o (λ b. IsLast (all_ended whole given at_hand) (trace_of b.value)))
+    (sym e) tt

@@ -15,8 +15,10 @@ pub in_order : (lines : List Line) → IsLineOrder lines → AreOrdered (map ent
 in_order [] sorted k d first low = absurd (omega (arith, low))
 in_order (l ∷ lines) sorted k d first low =
     let long : length (map entry_of (l ∷ lines)) ≡ length (l ∷ lines) = length-map (l ∷ lines) entry_of in
-    let later : get_or (map entry_of (l ∷ lines)) (k + 1) d ≡ entry_of (get_or (l ∷ lines) (k + 1) l) = get_or-map entry_of (l ∷ lines) (k + 1) l d (omega (arith, low, long)) in
-    let earlier : get_or (map entry_of (l ∷ lines)) k d ≡ entry_of (get_or (l ∷ lines) k l) = get_or-map entry_of (l ∷ lines) k l d (omega (arith, low, long)) in
+    let later : get_or (map entry_of (l ∷ lines)) (k + 1) d ≡ entry_of (get_or (l ∷ lines) (k + 1) l) =
+    get_or-map entry_of (l ∷ lines) (k + 1) l d (omega (arith, low, long)) in
+    let earlier : get_or (map entry_of (l ∷ lines)) k d ≡ entry_of (get_or (l ∷ lines) k l) =
+    get_or-map entry_of (l ∷ lines) k l d (omega (arith, low, long)) in
     ap (λ (e : Entry). is_lt (compare e.attempt (get_or (map entry_of (l ∷ lines)) k d).attempt)) later
     ∙ ap (λ (e : Entry). is_lt (compare (entry_of (get_or (l ∷ lines) (k + 1) l)).attempt e.attempt)) earlier
     ∙ sorted k l first (omega (arith, low, long))

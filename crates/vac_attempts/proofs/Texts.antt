@@ -1,5 +1,6 @@
 -- Lines of attempts that are sent one after the other.
-use Rattle.std.proofs.Common.{◌≡◌, ◌∙◌, ◌+◌, ◌<◌, ◌⊎◌, inl, inr, sym, ap, subst, ℕ, true, Result, Ok, Err, List, [], ◌∷◌, ◌++◌, Option, length, take, drop, get_or, map, append-nil, take-append-drop}
+use Rattle.std.proofs.Common.{◌≡◌, ◌∙◌, ◌+◌, ◌<◌, ◌⊎◌, inl, inr, sym, ap, subst, ℕ, true, Result, Ok, Err, List, []}
+use Rattle.std.proofs.Common.{◌∷◌, ◌++◌, Option, length, take, drop, get_or, map, append-nil, take-append-drop}
 use Rattle.std.proofs.lemmas.Grind.{flat_map-append}
 use Rattle.std.proofs.lemmas.List.{map-append, take_more}
 use Rattle.std.proofs.lemmas.List.Sorted.{IsPermutation-map}
@@ -11,7 +12,8 @@ use Rattle.std.specs.Prelude.{IfErr}
 use Rattle.vac_streams.specs.declared.fault.StreamFault.{StreamFault}
 use Rattle.vac_streams.specs.declared.fault.StreamFault.TheVariants.{Memory, Write}
 use Rattle.vac_streams.specs.Sent.{Sent}
-use Rattle.vac_streams.proofs.Texts.{sent_both, part_second, prefix_longer, prefix_is, none_written, sent_end, sent_end_in_part}
+use Rattle.vac_streams.proofs.Texts.{sent_both, part_second, prefix_longer, prefix_is, none_written, sent_end}
+use Rattle.vac_streams.proofs.Texts.{sent_end_in_part}
 use Rattle.vac_attempts.specs.declared.lines.Line.{Line}
 use Rattle.vac_manager.specs.declared.note.AttemptNote.{AttemptNote}
 use Rattle.vac_attempts.specs.Laying.{Lays}
@@ -25,16 +27,19 @@ abbrev text_of : List Line → List ℕ
 text_of lines = lines_text (map entry_of lines)
 
 text_both : (xs ys : List Line) → text_of (xs ++ ys) ≡ text_of xs ++ text_of ys
-text_both xs ys = ap lines_text (map-append entry_of xs ys) ∙ flat_map-append line_text (map entry_of xs) (map entry_of ys)
+text_both xs ys = ap lines_text (map-append entry_of xs ys) ∙ flat_map-append line_text (map entry_of xs)
+    (map entry_of ys)
 
 text_more : (lines : List Line) (place : ℕ) (line : Line) → place < length lines → line ≡ get_or lines place line
     → text_of (take (place + 1) lines) ≡ text_of (take place lines) ++ line_text (entry_of line)
 text_more lines place line low at =
     ap text_of (take_more lines place line low) ∙ ap (λ (l : Line). text_of (take place lines ++ l ∷ [])) (sym at)
-    ∙ text_both (take place lines) (line ∷ []) ∙ ap (λ t. text_of (take place lines) ++ t) (append-nil (line_text (entry_of line)))
+    ∙ text_both (take place lines) (line ∷ []) ∙ ap (λ t. text_of (take place lines) ++ t)
+    (append-nil (line_text (entry_of line)))
 
 -- a fault of a write is one of the two that can come
-pub write_fault : {T : Type 0} (r : Result T StreamFault) → IfErr r (λ fault. fault ≡ Write) → IfErr r (λ fault. (fault ≡ Memory) ⊎ (fault ≡ Write))
+pub write_fault : {T : Type 0} (r : Result T StreamFault) → IfErr r (λ fault. fault ≡ Write) →
+    IfErr r (λ fault. (fault ≡ Memory) ⊎ (fault ≡ Write))
 write_fault (Ok t) h = tt
 write_fault (Err e) h = inr h
 
@@ -43,20 +48,25 @@ pub none_sent : (held : Option (List ℕ)) (hand : List ℕ) → hand ≡ [] →
 none_sent held hand e = record { front = []; written = Appends-nil held; all = sym e }
 
 -- one line more
-pub line_sent : (lines : List Line) (place : ℕ) (line : Line) → place < length lines → line ≡ get_or lines place line → (held holds grown : Option (List ℕ)) (hand hand' : List ℕ)
-    → Sent held holds [] hand (text_of (take place lines)) → Sent holds grown hand hand' (line_text (entry_of line)) → Sent held grown [] hand' (text_of (take (place + 1) lines))
+pub line_sent : (lines : List Line) (place : ℕ) (line : Line) → place < length lines → line ≡ get_or lines place line →
+    (held holds grown : Option (List ℕ)) (hand hand' : List ℕ)
+    → Sent held holds [] hand (text_of (take place lines)) → Sent holds grown hand hand' (line_text (entry_of line)) →
+    Sent held grown [] hand' (text_of (take (place + 1) lines))
 line_sent lines place line low at held holds grown hand hand' p q =
     subst (λ (t : List ℕ). Sent held grown [] hand' t) (sym (text_more lines place line low at))
     (sent_both held holds grown [] hand hand' (text_of (take place lines)) (line_text (entry_of line)) p q)
 
 -- a line was sent in part
-pub line_in_part : (lines : List Line) (place : ℕ) (line : Line) → place < length lines → line ≡ get_or lines place line → (held holds grown : Option (List ℕ)) (hand : List ℕ)
-    → Sent held holds [] hand (text_of (take place lines)) → AppendsPrefix holds grown (hand ++ line_text (entry_of line)) → AppendsPrefix held grown (text_of lines)
+pub line_in_part : (lines : List Line) (place : ℕ) (line : Line) → place < length lines →
+    line ≡ get_or lines place line → (held holds grown : Option (List ℕ)) (hand : List ℕ)
+    → Sent held holds [] hand (text_of (take place lines)) →
+    AppendsPrefix holds grown (hand ++ line_text (entry_of line)) → AppendsPrefix held grown (text_of lines)
 line_in_part lines place line low at held holds grown hand p q =
     let front = text_of (take place lines) ++ line_text (entry_of line) in
     let part = part_second held holds grown [] hand (text_of (take place lines)) (line_text (entry_of line)) p q in
     prefix_is held grown (front ++ text_of (drop (place + 1) lines)) (text_of lines)
-    (ap (λ t. t ++ text_of (drop (place + 1) lines)) (sym (text_more lines place line low at)) ∙ sym (text_both (take (place + 1) lines) (drop (place + 1) lines))
+    (ap (λ t. t ++ text_of (drop (place + 1) lines)) (sym (text_more lines place line low at)) ∙
+    sym (text_both (take (place + 1) lines) (drop (place + 1) lines))
     ∙ ap text_of (take-append-drop (place + 1) lines))
     (prefix_longer held grown front (text_of (drop (place + 1) lines)) part)
 
@@ -64,27 +74,43 @@ line_in_part lines place line low at held holds grown hand p q =
 
 module _ (blocks : ℕ) (pages : List Page) where
   -- the attempts that were laid, and then those of the clients, and all of them put in order
-  pub attempts : (laid laid_now : List AttemptNote) (first all sorted now : List Line) → Lays blocks laid → laid_now ≡ laid → map entry_of first ≡ entries_of 0 laid_now
-      → map entry_of all ≡ map entry_of first ++ entries_from 0 pages → are_noted pages ≡ true → IsPermutation all sorted → AreOrdered (map entry_of sorted) → now ≡ sorted → AreAttempts blocks pages (map entry_of now)
+  pub attempts : (laid laid_now : List AttemptNote) (first all sorted now : List Line) → Lays blocks laid →
+      laid_now ≡ laid → map entry_of first ≡ entries_of 0 laid_now
+      → map entry_of all ≡ map entry_of first ++ entries_from 0 pages → are_noted pages ≡ true →
+      IsPermutation all sorted → AreOrdered (map entry_of sorted) → now ≡ sorted →
+      AreAttempts blocks pages (map entry_of now)
   attempts laid laid_now first all sorted now lays same own more noted moved order is = record {
     laid = laid;
     lays = lays;
     noted = noted;
-    each_once = subst (λ (l : List Line). IsPermutation (entries_of 0 laid ++ entries_from 0 pages) (map entry_of l)) (sym is)
-        (subst (λ (l : List Entry). IsPermutation l (map entry_of sorted)) (more ∙ ap (λ t. t ++ entries_from 0 pages) (own ∙ ap (entries_of 0) same))
+    each_once = subst (λ (l : List Line). IsPermutation (entries_of 0 laid ++ entries_from 0 pages) (map entry_of l))
+        (sym is)
+        (subst (λ (l : List Entry). IsPermutation l (map entry_of sorted))
+        (more ∙ ap (λ t. t ++ entries_from 0 pages) (own ∙ ap (entries_of 0) same))
         (IsPermutation-map entry_of all sorted moved));
     ordered = subst (λ (l : List Line). AreOrdered (map entry_of l)) (sym is) order;
   }
 
-  module _ (lines : List Line) (are : AreAttempts blocks pages (map entry_of lines)) (held holds : Option (List ℕ)) where
-    pub wrote_all : (grown : Option (List ℕ)) (hand : List ℕ) → Sent held holds [] hand (text_of lines) → Appends holds grown hand → WroteAttempts blocks pages held grown
-    wrote_all grown hand p w = record { all = map entry_of lines; attempts = are; written = sent_end held holds grown hand (text_of lines) p w }
+  module _ (lines : List Line) (are : AreAttempts blocks pages (map entry_of lines))
+      (held holds : Option (List ℕ)) where
+    pub wrote_all : (grown : Option (List ℕ)) (hand : List ℕ) → Sent held holds [] hand (text_of lines) →
+        Appends holds grown hand → WroteAttempts blocks pages held grown
+    wrote_all grown hand p w = record {
+      all = map entry_of lines;
+      attempts = are;
+      written = sent_end held holds grown hand (text_of lines) p w;
+    }
 
     pub wrote_part : AppendsPrefix held holds (text_of lines) → WroteAttemptsPrefix blocks pages held holds
     wrote_part w = inr (record { all = map entry_of lines; attempts = are; written = w })
 
-    pub wrote_rest : (grown : Option (List ℕ)) (hand : List ℕ) → Sent held holds [] hand (text_of lines) → AppendsPrefix holds grown hand → WroteAttemptsPrefix blocks pages held grown
-    wrote_rest grown hand p w = inr (record { all = map entry_of lines; attempts = are; written = sent_end_in_part held holds grown hand (text_of lines) p w })
+    pub wrote_rest : (grown : Option (List ℕ)) (hand : List ℕ) → Sent held holds [] hand (text_of lines) →
+        AppendsPrefix holds grown hand → WroteAttemptsPrefix blocks pages held grown
+    wrote_rest grown hand p w = inr (record {
+      all = map entry_of lines;
+      attempts = are;
+      written = sent_end_in_part held holds grown hand (text_of lines) p w;
+    })
 
   -- nothing was written
   pub wrote_nothing : (held : Option (List ℕ)) → WroteAttemptsPrefix blocks pages held held

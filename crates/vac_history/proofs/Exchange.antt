@@ -1,6 +1,7 @@
 -- Readers of one version are exchanged: the calls of a legal history are legal in any order of
 -- their records' places.
-use Rattle.std.proofs.Common.{◌≡◌, ◌∙◌, ◌⊎◌, inl, inr, ◌<◌, ◌*◌, ◌+◌, ◌&&◌, ◌||◌, ℕ, zero, suc, Bool, true, false, cond, eqb, ltb, List, [], ◌∷◌, ◌++◌, get_or, length, map, refl, sym, ap, subst, arith}
+use Rattle.std.proofs.Common.{◌≡◌, ◌∙◌, ◌⊎◌, inl, inr, ◌<◌, ◌*◌, ◌+◌, ◌&&◌, ◌||◌, ℕ, zero, suc, Bool, true, false, cond}
+use Rattle.std.proofs.Common.{eqb, ltb, List, [], ◌∷◌, ◌++◌, get_or, length, map, refl, sym, ap, subst, arith}
 use Rattle.std.proofs.lemmas.Bool.Decides.{nat_tests}
 use mathlib.Core.Option.{some, some-injective, some-ne-none}
 use lib.ListN.{get_elem?}
@@ -56,11 +57,13 @@ sorted_without : (first more : List Record) (r : Record) → Sorted (first ++ r 
 sorted_without [] more r o = o.1
 sorted_without (x ∷ first) more r o = (λ y i. o.0 y (in_more first more r y i), sorted_without first more r o.1)
 
-writers_without : (first more : List Record) (r : Record) → HaveOneWriter (first ++ r ∷ more) → HaveOneWriter (first ++ more)
+writers_without : (first more : List Record) (r : Record) → HaveOneWriter (first ++ r ∷ more) →
+    HaveOneWriter (first ++ more)
 writers_without [] more r o = o.1
 writers_without (x ∷ first) more r o = (λ y i. o.0 y (in_more first more r y i), writers_without first more r o.1)
 
-versioned_without : (first more : List Record) (r : Record) → AreVersioned (first ++ r ∷ more) → AreVersioned (first ++ more)
+versioned_without : (first more : List Record) (r : Record) → AreVersioned (first ++ r ∷ more) →
+    AreVersioned (first ++ more)
 versioned_without first more r v = record {
   writers = writers_without first more r v.writers;
   readers = λ x i e. v.readers x (in_more first more r x i) e;
@@ -84,7 +87,8 @@ no_rivals (y ∷ first) more r x o i = elim (in_cons y x first i) [
 -- ---- the calls of records
 
 -- each record has a call
-noted_by : (notes : List Note) (records : List Record) (x : Record) → AreCallsOf notes records → In x records → (n : Note) × In n notes × IsNoted n x
+noted_by : (notes : List Note) (records : List Record) (x : Record) → AreCallsOf notes records → In x records →
+    (n : Note) × In n notes × IsNoted n x
 noted_by [] records x h i = absurd (nothing_in x (subst (λ (l : List Record). In x l) h i))
 noted_by (n ∷ notes) records x h i = elim (in_split h.0 h.2 h.1 x (subst (λ (l : List Record). In x l) h.3 i)) [
   | inl e ↦ (n, (0, refl), subst (λ (z : Record). IsNoted n z) e h.4)
@@ -92,7 +96,8 @@ noted_by (n ∷ notes) records x h i = elim (in_split h.0 h.2 h.1 x (subst (λ (
 ]
 
 -- the first call in order precedes no other, nor does another precede it
-at_place : (notes : List Note) (j : ℕ) (m : Note) → get_elem? notes j ≡ some m → (j < length notes) × (get_or notes j m ≡ m)
+at_place : (notes : List Note) (j : ℕ) (m : Note) → get_elem? notes j ≡ some m →
+    (j < length notes) × (get_or notes j m ≡ m)
 at_place [] j m e = absurd (some-ne-none m (sym e))
 at_place (n ∷ notes) zero m e = (omega arith, some-injective n m e)
 at_place (n ∷ notes) (suc j) m e = let q = at_place notes j m e in (omega (arith, q.0), q.1)
@@ -126,17 +131,20 @@ record AtOnePlace (r x : Record) : Type 0 where
   version : x.version ≡ r.version
   writer : x.writer ≡ r.writer
 
-at_one_place : (r x : Record) (n m : Note) → IsNoted n r → IsNoted m x → before r x ≡ false → precedes m n ≡ false → AtOnePlace r x
+at_one_place : (r x : Record) (n m : Note) → IsNoted n r → IsNoted m x → before r x ≡ false → precedes m n ≡ false →
+    AtOnePlace r x
 at_one_place r x n m h k behind least =
     let at : below x.renewal (rank x) m.begin r.renewal (rank r) n.begin ≡ false =
     subst (λ (p : Place). below x.renewal (rank x) m.begin p.renewal (rank_of p) n.begin ≡ false) h.place
-    (subst (λ (p : Place). below p.renewal (rank_of p) m.begin n.place.renewal (rank_of n.place) n.begin ≡ false) k.place least) in
+    (subst (λ (p : Place). below p.renewal (rank_of p) m.begin n.place.renewal (rank_of n.place) n.begin ≡ false)
+    k.place least) in
     let same = level r.renewal (rank r) r.point n.begin x.renewal (rank x) x.point m.begin behind at in
     let parts = rank_parts x.version r.version x.writer r.writer same.1 in
     record { renewal = same.0; version = parts.0; writer = parts.1 }
 
 -- so both are readers
-both_read : (first more : List Record) (r x : Record) → AreVersioned (first ++ r ∷ more) → In x first → AtOnePlace r x → (x.writes ≡ []) × (r.writes ≡ [])
+both_read : (first more : List Record) (r x : Record) → AreVersioned (first ++ r ∷ more) → In x first → AtOnePlace r x →
+    (x.writes ≡ []) × (r.writes ≡ [])
 both_read first more r x v i one =
     let reads : r.writer ≡ false = by_bool r.writer
     (λ w. absurd (no_rivals first more r x v.writers i one.renewal one.version (one.writer ∙ w) w)) (λ w. w) in
@@ -145,7 +153,8 @@ both_read first more r x v i one =
 -- ---- a record runs first
 
 -- a record runs before those in front of it, where they and it wrote nothing
-taken : (s last : State) (first : List Record) (r : Record) (more : List Record) → ((x : Record) → In x first → (x.writes ≡ []) × (r.writes ≡ [])) → IsLegal s (first ++ r ∷ more) last →
+taken : (s last : State) (first : List Record) (r : Record) (more : List Record) →
+    ((x : Record) → In x first → (x.writes ≡ []) × (r.writes ≡ [])) → IsLegal s (first ++ r ∷ more) last →
     (after : State) × Runs r s after × IsLegal after (first ++ more) last
 taken s last [] r more quiet l = l
 taken s last (x ∷ first) r more quiet l =
@@ -165,7 +174,8 @@ ran n r s after h p =
     let same = code_determines n.task p.task n.reply p.reply (sym h.tag ∙ p.told) in
     ap (λ (t : Task). run s t) same.0 ∙ (p.runs ∙ ap (λ (a : Reply). (after, a)) (sym same.1))
 
-pub gives : (s last : State) (all : List Entry) (records : List Record) → AreCallsOf (map (λ e. e.note) all) records → AreOrdered (map (λ e. e.note) all) → Sorted records → AreVersioned records → IsLegal s records last →
+pub gives : (s last : State) (all : List Entry) (records : List Record) → AreCallsOf (map (λ e. e.note) all) records →
+    AreOrdered (map (λ e. e.note) all) → Sorted records → AreVersioned records → IsLegal s records last →
     GiveReplies s (map call_of all) × (state_after s (map call_of all) ≡ last)
 gives s last [] records m o sorted v l = (tt, subst (λ (rs : List Record). IsLegal s rs last) m l)
 gives s last (e ∷ all) records m o sorted v l =
@@ -184,7 +194,8 @@ gives s last (e ∷ all) records m o sorted v l =
     let done : run s e.note.task ≡ (q.0, e.note.reply) = ran e.note r s q.0 m.4 q.1 in
     let state : (run s e.note.task).0 ≡ q.0 = ap (λ (x : State × Reply). x.0) done in
     let reply : (run s e.note.task).1 ≡ e.note.reply = ap (λ (x : State × Reply). x.1) done in
-    let k = gives q.0 last all (first ++ more) m.5 (ordered_rest e.note notes o) (sorted_without first more r sorted') (versioned_without first more r v') q.2 in (
+    let k = gives q.0 last all (first ++ more) m.5 (ordered_rest e.note notes o) (sorted_without first more r sorted')
+    (versioned_without first more r v') q.2 in (
       (ap reply_text reply, subst (λ (z : State). GiveReplies z (map call_of all)) (sym state) k.0),
       ap (λ (z : State). state_after z (map call_of all)) state ∙ k.1,
     )

@@ -8,7 +8,8 @@ use Rattle.vac_history.specs.Order.{precedes, rank_of}
 abbrev below : ℕ → ℕ → ℕ → ℕ → ℕ → ℕ → Bool
 below a b c x y z = ltb a x || (eqb a x && (ltb b y || (eqb b y && ltb c z)))
 
-below_chain : (a b c k l m x y z : ℕ) → below a b c k l m ≡ false → below k l m x y z ≡ false → below a b c x y z ≡ false
+below_chain : (a b c k l m x y z : ℕ) → below a b c k l m ≡ false → below k l m x y z ≡ false →
+    below a b c x y z ≡ false
 below_chain a b c k l m x y z p q = grind (arith, nat_tests, p, q)
 
 below_turns : (a b c x y z : ℕ) → below a b c x y z ≡ true → below x y z a b c ≡ false
@@ -19,7 +20,8 @@ below_self a b c = grind (arith, nat_tests)
 
 pub precedes_chain : (a b c : Note) → precedes a b ≡ false → precedes b c ≡ false → precedes a c ≡ false
 precedes_chain a b c p q =
-    below_chain a.place.renewal (rank_of a.place) a.begin b.place.renewal (rank_of b.place) b.begin c.place.renewal (rank_of c.place) c.begin p q
+    below_chain a.place.renewal (rank_of a.place) a.begin b.place.renewal (rank_of b.place) b.begin c.place.renewal
+    (rank_of c.place) c.begin p q
 
 pub precedes_turns : (a b : Note) → precedes a b ≡ true → precedes b a ≡ false
 precedes_turns a b p = below_turns a.place.renewal (rank_of a.place) a.begin b.place.renewal (rank_of b.place) b.begin p

@@ -8,7 +8,8 @@ use Rattle.vac_lines.specs.Script.{as_line}
 use Rattle.vac_judge.specs.CallText.{call_text, history_text}
 use Rattle.vac_lines.specs.Writing.{AppendsPrefix}
 use Rattle.vac_streams.specs.Sent.{Sent}
-use Rattle.vac_worklist.proofs.Texts.{sent_both, part_second, prefix_longer, prefix_is, none_written, sent_end, sent_end_in_part}
+use Rattle.vac_worklist.proofs.Texts.{sent_both, part_second, prefix_longer, prefix_is, none_written, sent_end}
+use Rattle.vac_worklist.proofs.Texts.{sent_end_in_part}
 use Rattle.vac_manager.specs.declared.note.Note.{Note}
 use Rattle.vac_history.specs.Order.{Entry, entries_from}
 use Rattle.vac_history.specs.Picking.{Picks, IsEmpty, Merges}
@@ -21,13 +22,15 @@ abbrev line_of : Entry → List ℕ
 line_of e = as_line (call_text (call_of e))
 
 text_both : (xs ys : List Entry) → entries_text (xs ++ ys) ≡ entries_text xs ++ entries_text ys
-text_both xs ys = ap history_text (map-append call_of xs ys) ∙ flat_map-append (λ call. as_line (call_text call)) (map call_of xs) (map call_of ys)
+text_both xs ys = ap history_text (map-append call_of xs ys) ∙ flat_map-append (λ call. as_line (call_text call))
+    (map call_of xs) (map call_of ys)
 
 text_more : (xs : List Entry) (e : Entry) → entries_text (xs ++ e ∷ []) ≡ entries_text xs ++ line_of e
 text_more xs e = text_both xs (e ∷ []) ∙ ap (λ t. entries_text xs ++ t) (append-nil (line_of e))
 
 -- nothing was sent yet
-pub sent_none : (lists : List (List Entry)) (held : Option (List ℕ)) (hand : List ℕ) → hand ≡ [] → SentPicked lists lists held held hand
+pub sent_none : (lists : List (List Entry)) (held : Option (List ℕ)) (hand : List ℕ) → hand ≡ [] →
+    SentPicked lists lists held held hand
 sent_none lists held hand e = record {
   all = [];
   picked = refl;
@@ -35,17 +38,21 @@ sent_none lists held hand e = record {
 }
 
 -- one line more
-pub sent_one : (lists mid left : List (List Entry)) (e : Entry) (held holds grown : Option (List ℕ)) (hand hand' : List ℕ)
-    → SentPicked lists mid held holds hand → Picks e mid left → Sent holds grown hand hand' (line_of e) → SentPicked lists left held grown hand'
+pub sent_one : (lists mid left : List (List Entry)) (e : Entry) (held holds grown : Option (List ℕ))
+    (hand hand' : List ℕ)
+    → SentPicked lists mid held holds hand → Picks e mid left → Sent holds grown hand hand' (line_of e) →
+    SentPicked lists left held grown hand'
 sent_one lists mid left e held holds grown hand hand' p q s = record {
   all = p.all ++ e ∷ [];
   picked = picks_one lists p.all e mid left p.picked q;
-  sent = subst (λ (t : List ℕ). Sent held grown [] hand' t) (sym (text_more p.all e)) (sent_both held holds grown [] hand hand' (entries_text p.all) (line_of e) p.sent s);
+  sent = subst (λ (t : List ℕ). Sent held grown [] hand' t) (sym (text_more p.all e))
+      (sent_both held holds grown [] hand hand' (entries_text p.all) (line_of e) p.sent s);
 }
 
 -- a line was sent in part
 pub one_in_part : (lists mid left : List (List Entry)) (e : Entry) (held holds grown : Option (List ℕ)) (hand : List ℕ)
-    → SentPicked lists mid held holds hand → Picks e mid left → AppendsPrefix holds grown (hand ++ line_of e) → MergedPrefix lists held grown
+    → SentPicked lists mid held holds hand → Picks e mid left → AppendsPrefix holds grown (hand ++ line_of e) →
+    MergedPrefix lists held grown
 one_in_part lists mid left e held holds grown hand p q w =
     let more = merging left in
     let before = p.all ++ e ∷ [] in
@@ -54,16 +61,19 @@ one_in_part lists mid left e held holds grown hand p q w =
       all = before ++ more.0;
       merges = record {
         left = more.1.left;
-        picked = picks_both lists before more.0 left more.1.left (picks_one lists p.all e mid left p.picked q) more.1.picked;
+        picked = picks_both lists before more.0 left more.1.left
+            (picks_one lists p.all e mid left p.picked q) more.1.picked;
         empty = more.1.empty;
       };
-      written = prefix_is held grown ((entries_text p.all ++ line_of e) ++ entries_text more.0) (entries_text (before ++ more.0))
+      written = prefix_is held grown ((entries_text p.all ++ line_of e) ++ entries_text more.0)
+          (entries_text (before ++ more.0))
           (sym (text_both before more.0 ∙ ap (λ t. t ++ entries_text more.0) (text_more p.all e)))
           (prefix_longer held grown (entries_text p.all ++ line_of e) (entries_text more.0) part);
     }
 
 -- nothing is left
-pub sent_all : (lists left : List (List Entry)) (held holds : Option (List ℕ)) (hand : List ℕ) → SentPicked lists left held holds hand → IsEmpty left → SentMerged lists held holds hand
+pub sent_all : (lists left : List (List Entry)) (held holds : Option (List ℕ)) (hand : List ℕ) →
+    SentPicked lists left held holds hand → IsEmpty left → SentMerged lists held holds hand
 sent_all lists left held holds hand p empty = record {
   all = p.all;
   merges = record { left = left; picked = p.picked; empty = empty };
@@ -80,16 +90,23 @@ module _ (kept : List (List Note)) (held : Option (List ℕ)) where
 
   module _ (holds : Option (List ℕ)) (lists : List (List Entry)) (is : lists ≡ entries_from 0 kept) where
     pub prefix_of_it : MergedPrefix lists held holds → WroteHistoryPrefix kept held holds
-    prefix_of_it p = record { all = p.all; merged = is_merged kept p.all (subst (λ (l : List (List Entry)). Merges l p.all) is p.merges); written = p.written }
+    prefix_of_it p = record {
+      all = p.all;
+      merged = is_merged kept p.all (subst
+          (λ (l : List (List Entry)). Merges l p.all) is p.merges);
+      written = p.written;
+    }
 
-    pub rest_of_it : (grown : Option (List ℕ)) (hand : List ℕ) → SentMerged lists held holds hand → Appends holds grown hand → WroteHistory kept held grown
+    pub rest_of_it : (grown : Option (List ℕ)) (hand : List ℕ) → SentMerged lists held holds hand →
+        Appends holds grown hand → WroteHistory kept held grown
     rest_of_it grown hand p w = record {
       all = p.all;
       merged = is_merged kept p.all (subst (λ (l : List (List Entry)). Merges l p.all) is p.merges);
       written = sent_end held holds grown hand (entries_text p.all) p.sent w;
     }
 
-    pub rest_in_part : (grown : Option (List ℕ)) (hand : List ℕ) → SentMerged lists held holds hand → AppendsPrefix holds grown hand → WroteHistoryPrefix kept held grown
+    pub rest_in_part : (grown : Option (List ℕ)) (hand : List ℕ) → SentMerged lists held holds hand →
+        AppendsPrefix holds grown hand → WroteHistoryPrefix kept held grown
     rest_in_part grown hand p w = record {
       all = p.all;
       merged = is_merged kept p.all (subst (λ (l : List (List Entry)). Merges l p.all) is p.merges);

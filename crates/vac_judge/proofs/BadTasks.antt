@@ -1,11 +1,13 @@
 -- A verdict that names a line of the work names the first that hands out no task.
-use Rattle.std.proofs.Common.{◌≡◌, ℕ, ◌+◌, suc, List, [], ◌∷◌, ◌++◌, length, map, Result, Ok, Err, refl, sym, ap, ◌∙◌, arith}
+use Rattle.std.proofs.Common.{◌≡◌, ℕ, ◌+◌, suc, List, [], ◌∷◌, ◌++◌, length, map, Result, Ok, Err, refl, sym, ap, ◌∙◌}
+use Rattle.std.proofs.Common.{arith}
 use Rattle.vac_lines.specs.Lines.{lines_of}
 use Rattle.vac_judge.specs.declared.fault.CallFault.{CallFault}
 use Rattle.vac_judge.specs.declared.held.HeldVerdict.TheVariants.{BadTasks}
 use Rattle.vac_judge.specs.Call.{line_call}
 use Rattle.vac_judge.specs.Verdict.{verdict_on}
-use Rattle.vac_judge.specs.Work.{Asked, line_asked, onto_work, work_of, first_foreign, calls_in, first_missing, held_by, held_verdict}
+use Rattle.vac_judge.specs.Work.{Asked, line_asked, onto_work, work_of, first_foreign, calls_in, first_missing, held_by}
+use Rattle.vac_judge.specs.Work.{held_verdict}
 use Rattle.vac_judge.specs.NotWhole.{IsFirstWithoutTask, BadTasksIsFirst}
 use Rattle.vac_judge.proofs.NotWhole.{not_bad}
 

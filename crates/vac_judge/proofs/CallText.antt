@@ -1,5 +1,8 @@
 -- The line that is written of a call is read as that call.
-use Rattle.std.proofs.Common.{◌≡◌, ◌≤◌, ◌<◌, ◌+◌, ◌*◌, ◌-◌, ◌/◌, ◌%◌, ◌^◌, ◌&&◌, ◌||◌, Bool, true, false, cond, not, inl, inr, Option, Some, None, Ok, ℕ, List, [], ◌∷◌, ◌++◌, length, take, decimal, codes, refl, sym, ap, subst, ◌∙◌, arith, append_assoc, append-nil, length-append, length-take, slice_index, ◌==◌, All}
+use Rattle.std.proofs.Common.{◌≡◌, ◌≤◌, ◌<◌, ◌+◌, ◌*◌, ◌-◌, ◌/◌, ◌%◌, ◌^◌, ◌&&◌, ◌||◌, Bool, true, false, cond, not}
+use Rattle.std.proofs.Common.{inl, inr, Option, Some, None, Ok, ℕ, List, [], ◌∷◌, ◌++◌, length, take, decimal, codes}
+use Rattle.std.proofs.Common.{refl, sym, ap, subst, ◌∙◌, arith, append_assoc, append-nil, length-append, length-take}
+use Rattle.std.proofs.Common.{slice_index, ◌==◌, All}
 use Rattle.std.specs.List.{list_all, list_any, flat_map, zip}
 use Rattle.std.specs.Char.{is_ascii_digit}
 use Rattle.std.proofs.lemmas.Bool.{le-leb, le-ltb}
@@ -22,22 +25,28 @@ use Rattle.vac_model.specs.declared.replies.Report.{Report}
 use Rattle.vac_model.specs.declared.replies.Joined.{Joined}
 use Rattle.vac_model.specs.declared.replies.Joined.TheVariants.{NotAsked, Added, Refused}
 use Rattle.vac_model.specs.declared.replies.Pick.{Pick}
-use Rattle.vac_model.specs.Amounts.{is_id, is_amount, is_optional_amount, is_unit_count, is_list_length, has_deletable_units}
+use Rattle.vac_model.specs.Amounts.{is_id, is_amount, is_optional_amount, is_unit_count, is_list_length}
+use Rattle.vac_model.specs.Amounts.{has_deletable_units}
 use Rattle.vac_model.specs.Ranges.{is_change, is_command, is_task}
 use Rattle.vac_lines.specs.Lines.{words_of}
 use Rattle.vac_lines.specs.Words.{decimal_value}
 use Rattle.vac_lines.specs.LineTable.{is_bad_byte}
-use Rattle.vac_lines.specs.Text.{why_name, done_text, field_text, entries_text, booked_text, sums_text, report_text, joined_text, pick_text, change_text, picks_text, trip_text, reply_text}
-use Rattle.vac_lines.specs.TaskText.{TaskTextsAreRead, kind_word, price_word, units_words, command_words, further_words, changes_words, task_words, task_text, spaced, words_text}
+use Rattle.vac_lines.specs.Text.{why_name, done_text, field_text, entries_text, booked_text, sums_text, report_text}
+use Rattle.vac_lines.specs.Text.{joined_text, pick_text, change_text, picks_text, trip_text, reply_text}
+use Rattle.vac_lines.specs.TaskText.{TaskTextsAreRead, kind_word, price_word, units_words, command_words, further_words}
+use Rattle.vac_lines.specs.TaskText.{changes_words, task_words, task_text, spaced, words_text}
 use Rattle.vac_lines.proofs.Decimals.{all_digits, number_in_word}
 use Rattle.vac_lines.proofs.Spacing.{Each, IsPlain, each_both, words_cut, words_clean}
-use Rattle.vac_lines.proofs.TaskReading.{both, small_id, small_amount, small_units, ask_words, has_id, is_good_change, words_plain, task_some}
-use Rattle.vac_judge.specs.Call.{Call, Parts, is_arrow, parts_of, call_parts, parts_call, at_client, at_time, at_end, reply_at, is_no_end, is_no_reply, line_call}
+use Rattle.vac_lines.proofs.TaskReading.{both, small_id, small_amount, small_units, ask_words, has_id, is_good_change}
+use Rattle.vac_lines.proofs.TaskReading.{words_plain, task_some}
+use Rattle.vac_judge.specs.Call.{Call, Parts, is_arrow, parts_of, call_parts, parts_call, at_client, at_time, at_end}
+use Rattle.vac_judge.specs.Call.{reply_at, is_no_end, is_no_reply, line_call}
 use Rattle.vac_spans.specs.declared.client.TheConstants.{MOST_CLIENT}
 use Rattle.vac_judge.specs.declared.call.TheConstants.{NEVER}
 use Rattle.vac_lines.specs.declared.line.TheConstants.{LINE_BYTES}
 use Rattle.vac_judge.specs.Parts.{IsCutAtArrow}
-use Rattle.vac_judge.specs.CallText.{call_text, end_text, answer_text, IsPick, IsReply, IsUnanswered, IsWritten, CallTextsAreRead}
+use Rattle.vac_judge.specs.CallText.{call_text, end_text, answer_text, IsPick, IsReply, IsUnanswered, IsWritten}
+use Rattle.vac_judge.specs.CallText.{CallTextsAreRead}
 use Rattle.vac_judge.proofs.Arrows.{words_between, cut_gives, all_parts}
 
 -- numbers
@@ -45,7 +54,8 @@ use Rattle.vac_judge.proofs.Arrows.{words_between, cut_gives, all_parts}
 value_one : (n : ℕ) → n < 10 → decimal_value ((48 + n) ∷ []) ≡ n
 value_one n h = omega arith
 
-value_more : (n : ℕ) (digits : List ℕ) → 10 ≤ n → decimal_value digits ≡ n / 10 → decimal_value (digits ++ ((48 + n % 10) ∷ [])) ≡ n
+value_more : (n : ℕ) (digits : List ℕ) → 10 ≤ n → decimal_value digits ≡ n / 10 →
+    decimal_value (digits ++ ((48 + n % 10) ∷ [])) ≡ n
 value_more n digits h e =
     let last = fold-append (λ (m d : ℕ). 10 * m + (d - 48)) 0 digits ((48 + n % 10) ∷ []) in
     omega (arith, last, e)
@@ -58,13 +68,27 @@ client_read : (n : ℕ) → n ≤ 4294967295 → at_client (decimal n) ≡ Ok n
 client_read n low =
     let some = decimal_nonempty n (omega (arith, low)) in
     let few = length-decimal-le 10 n (omega arith) (omega (arith, low)) (omega (arith, low)) in
-    rw (le-leb 1 (length (decimal n)) some, le-leb (length (decimal n)) 10 few, all_digits n (omega (arith, low)), value_is n (omega (arith, low)), le-leb 0 n (omega arith), le-leb n 4294967295 low) refl
+    rw (
+      le-leb 1 (length (decimal n)) some,
+      le-leb (length (decimal n)) 10 few,
+      all_digits n (omega (arith, low)),
+      value_is n (omega (arith, low)),
+      le-leb 0 n (omega arith),
+      le-leb n 4294967295 low,
+    ) refl
 
 time_read : (n : ℕ) → n < 2 ^ 64 → at_time (decimal n) ≡ Ok n
 time_read n small =
     let some = decimal_nonempty n small in
     let few = length-decimal-le 20 n (omega arith) (omega (arith, small)) small in
-    rw (le-leb 1 (length (decimal n)) some, le-leb (length (decimal n)) 20 few, all_digits n small, value_is n small, le-leb 0 n (omega arith), le-leb n (2 ^ 64 - 1) (omega (arith, small))) refl
+    rw (
+      le-leb 1 (length (decimal n)) some,
+      le-leb (length (decimal n)) 20 few,
+      all_digits n small,
+      value_is n small,
+      le-leb 0 n (omega arith),
+      le-leb n (2 ^ 64 - 1) (omega (arith, small)),
+    ) refl
 
 -- a word that is no arrow
 abbrev IsOther : List ℕ → Type 0
@@ -76,7 +100,8 @@ and_left false b e = e
 
 digits_other : (digits : List ℕ) → list_all is_ascii_digit digits ≡ true → IsOther digits
 digits_other [] e = refl
-digits_other (d ∷ ds) e = let h = and_left (is_ascii_digit d) (list_all is_ascii_digit ds) e in grind (arith, nat_tests, h)
+digits_other (d ∷ ds) e = let h = and_left (is_ascii_digit d) (list_all is_ascii_digit ds) e in
+    grind (arith, nat_tests, h)
 
 number_other : (n : ℕ) → n < 2 ^ 64 → IsOther (decimal n)
 number_other n small = digits_other (decimal n) (all_digits n small)
@@ -138,8 +163,11 @@ further_other : (cs : List Command) → list_all is_good_change cs ≡ true → 
 further_other [] h = tt
 further_other (c ∷ cs) h =
     let p = both (is_good_change c) (list_all is_good_change cs) h in
-    let q = both (is_change c) (is_command c) p.left in
-    (refl, each_both IsOther (command_words c) (flat_map further_words cs) (command_other c q.right) (further_other cs p.right))
+    let q = both (is_change c) (is_command c) p.left in (
+      refl,
+      each_both IsOther (command_words c) (flat_map further_words cs) (command_other c q.right)
+          (further_other cs p.right),
+    )
 
 changes_other : (cs : List Command) → list_all is_good_change cs ≡ true → Each IsOther (changes_words cs)
 changes_other [] h = tt
@@ -179,7 +207,8 @@ fits_more a b xs h p = record { clean = p.clean; size = omega (arith, h, p.size)
 
 number_fits : (n : ℕ) → n < 2 ^ 64 → Fits 20 (decimal n)
 number_fits n small = record {
-  clean = ap (list_any is_bad_byte) (sym (append-nil (decimal n))) ∙ words_clean (decimal n ∷ []) (number_in_word n small, tt);
+  clean = ap (list_any is_bad_byte) (sym (append-nil (decimal n))) ∙ words_clean (decimal n ∷ [])
+      (number_in_word n small, tt);
   size = length-decimal-le 20 n (omega arith) (omega (arith, small)) small;
 }
 
@@ -213,7 +242,8 @@ pick_fits : (p : Option Pick) → IsPick p → Fits 42 (pick_text p)
 pick_fits None h = record { clean = refl; size = omega arith }
 pick_fits (Some pick) h =
     fits_both 21 21 (decimal pick.id ++ codes ":") (done_text pick.refused)
-    (fits_both 20 1 (decimal pick.id) (codes ":") (number_fits pick.id (omega (arith, h))) (record { clean = refl; size = omega arith })) (done_fits pick.refused)
+    (fits_both 20 1 (decimal pick.id) (codes ":") (number_fits pick.id (omega (arith, h)))
+    (record { clean = refl; size = omega arith })) (done_fits pick.refused)
 
 picks_fit : (names : List (List ℕ)) (picks : List (Option Pick)) → Each (Fits 8) names → All IsPick picks
     → Fits (50 * length names) (flat_map (λ p. p.0 ++ pick_text p.1) (zip names picks))
@@ -222,8 +252,10 @@ picks_fit (name ∷ names) [] h g = record { clean = refl; size = omega arith }
 picks_fit (name ∷ names) (p ∷ ps) h g =
     let own = fits_both 8 42 name (pick_text p) h.0 (pick_fits p (All-head IsPick p ps g)) in
     let more = picks_fit names ps h.1 (All-tail IsPick p ps g) in
-    fits_more (50 + 50 * length names) (50 * length (name ∷ names)) ((name ++ pick_text p) ++ flat_map (λ p. p.0 ++ pick_text p.1) (zip names ps)) (omega arith)
-    (fits_both 50 (50 * length names) (name ++ pick_text p) (flat_map (λ p. p.0 ++ pick_text p.1) (zip names ps)) own more)
+    fits_more (50 + 50 * length names) (50 * length (name ∷ names))
+    ((name ++ pick_text p) ++ flat_map (λ p. p.0 ++ pick_text p.1) (zip names ps)) (omega arith)
+    (fits_both 50 (50 * length names) (name ++ pick_text p) (flat_map (λ p. p.0 ++ pick_text p.1) (zip names ps)) own
+    more)
 
 changes_fit : (changes : List (Option Why)) → Fits (22 * length changes) (flat_map change_text changes)
 changes_fit [] = record { clean = refl; size = omega arith }
@@ -236,34 +268,43 @@ three_fit : (xs ys zs : List ℕ) → Fits 31 xs → Fits 31 ys → Fits 31 zs �
 three_fit xs ys zs p q r = fits_both 62 31 (xs ++ ys) zs (fits_both 31 31 xs ys p q) r
 
 report_fits : (r : Report) → IsReply (reply.Report r) → Fits 279 (report_text r)
-report_fits r h = fits_both 186 93 (entries_text r ++ booked_text r) (sums_text r) (fits_both 93 93 (entries_text r) (booked_text r) entries booked) sums
+report_fits r h = fits_both 186 93 (entries_text r ++ booked_text r) (sums_text r)
+    (fits_both 93 93 (entries_text r) (booked_text r) entries booked) sums
   where
-    at : (n : ℕ) → n < 9 → slice_index (r.cars ∷ r.flights ∷ r.rooms ∷ r.customers ∷ r.bookings ∷ r.used ∷ r.free ∷ r.total ∷ r.billed ∷ []) n < 2 ^ 64
+    at : (n : ℕ) → n < 9 → slice_index (r.cars ∷ r.flights ∷ r.rooms ∷ r.customers ∷ r.bookings ∷ r.used ∷ r.free ∷
+        r.total ∷ r.billed ∷ []) n < 2 ^ 64
     at n l = h n 0 l
 
     entries : Fits 93 (entries_text r)
-    entries = three_fit (field_text (codes "cars=") r.cars) (field_text (codes " flights=") r.flights) (field_text (codes " rooms=") r.rooms)
+    entries = three_fit (field_text (codes "cars=") r.cars) (field_text (codes " flights=") r.flights)
+        (field_text (codes " rooms=") r.rooms)
         (field_fits (codes "cars=") r.cars (record { clean = refl; size = omega arith }) (at 0 (omega arith)))
         (field_fits (codes " flights=") r.flights (record { clean = refl; size = omega arith }) (at 1 (omega arith)))
         (field_fits (codes " rooms=") r.rooms (record { clean = refl; size = omega arith }) (at 2 (omega arith)))
 
     booked : Fits 93 (booked_text r)
-    booked = three_fit (field_text (codes " customers=") r.customers) (field_text (codes " bookings=") r.bookings) (field_text (codes " used=") r.used)
-        (field_fits (codes " customers=") r.customers (record { clean = refl; size = omega arith }) (at 3 (omega arith)))
+    booked = three_fit (field_text (codes " customers=") r.customers) (field_text (codes " bookings=") r.bookings)
+        (field_text (codes " used=") r.used)
+        (field_fits (codes " customers=") r.customers (record { clean = refl; size = omega arith })
+        (at 3 (omega arith)))
         (field_fits (codes " bookings=") r.bookings (record { clean = refl; size = omega arith }) (at 4 (omega arith)))
         (field_fits (codes " used=") r.used (record { clean = refl; size = omega arith }) (at 5 (omega arith)))
 
     sums : Fits 93 (sums_text r)
-    sums = three_fit (field_text (codes " free=") r.free) (field_text (codes " total=") r.total) (field_text (codes " billed=") r.billed)
+    sums = three_fit (field_text (codes " free=") r.free) (field_text (codes " total=") r.total)
+        (field_text (codes " billed=") r.billed)
         (field_fits (codes " free=") r.free (record { clean = refl; size = omega arith }) (at 6 (omega arith)))
         (field_fits (codes " total=") r.total (record { clean = refl; size = omega arith }) (at 7 (omega arith)))
         (field_fits (codes " billed=") r.billed (record { clean = refl; size = omega arith }) (at 8 (omega arith)))
 
-update_fits : (len : ℕ) (refused : List (Option Why)) → length refused ≤ 32 → Fits 800 (codes "update" ++ flat_map change_text (take len refused))
+update_fits : (len : ℕ) (refused : List (Option Why)) → length refused ≤ 32 →
+    Fits 800 (codes "update" ++ flat_map change_text (take len refused))
 update_fits len refused few =
     let changes = take len refused in
-    fits_more (6 + 22 * length changes) 800 (codes "update" ++ flat_map change_text changes) (omega (arith, few, length-take len refused))
-    (fits_both 6 (22 * length changes) (codes "update") (flat_map change_text changes) (record { clean = refl; size = omega arith }) (changes_fit changes))
+    fits_more (6 + 22 * length changes) 800 (codes "update" ++ flat_map change_text changes)
+    (omega (arith, few, length-take len refused))
+    (fits_both 6 (22 * length changes) (codes "update") (flat_map change_text changes)
+    (record { clean = refl; size = omega arith }) (changes_fit changes))
 
 -- the text of a reply
 reply_fits : (r : Reply) → IsReply r → Fits 800 (reply_text r)
@@ -272,13 +313,18 @@ reply_fits (reply.Number None) h = record { clean = refl; size = omega arith }
 reply_fits (reply.Number (Some n)) h = fits_more 20 800 (decimal n) (omega arith) (number_fits n h)
 reply_fits (reply.Report r) h = fits_more 279 800 (report_text r) (omega arith) (report_fits r h)
 reply_fits (reply.No w) h =
-    fits_more 27 800 (codes "false " ++ why_name w) (omega arith) (fits_both 6 21 (codes "false ") (why_name w) (record { clean = refl; size = omega arith }) (why_fits w))
+    fits_more 27 800 (codes "false " ++ why_name w) (omega arith)
+    (fits_both 6 21 (codes "false ") (why_name w) (record { clean = refl; size = omega arith }) (why_fits w))
 reply_fits (reply.Trip t) h =
     let names = codes " car=" ∷ codes " flight=" ∷ codes " room=" ∷ [] in
-    let picks = picks_fit names t.picks (record { clean = refl; size = omega arith }, (record { clean = refl; size = omega arith }, (record { clean = refl; size = omega arith }, tt))) h in
+    let picks = picks_fit names t.picks (
+      record { clean = refl; size = omega arith },
+      (record { clean = refl; size = omega arith }, (record { clean = refl; size = omega arith }, tt)),
+    ) h in
     fits_more 181 800 (trip_text t) (omega arith)
     (fits_both 31 150 (codes "trip cust=" ++ joined_text t.joined) (picks_text t.picks)
-    (fits_both 10 21 (codes "trip cust=") (joined_text t.joined) (record { clean = refl; size = omega arith }) (joined_fits t.joined)) picks)
+    (fits_both 10 21 (codes "trip cust=") (joined_text t.joined) (record { clean = refl; size = omega arith })
+    (joined_fits t.joined)) picks)
 reply_fits (reply.Update u) h = update_fits u.len u.refused h
 
 -- the line of a task
@@ -287,7 +333,8 @@ task_fits t h few = record { clean = words_clean (task_words t) (words_plain t h
 
 -- one more word behind a space
 fits_spaced : (a b : ℕ) (xs ys : List ℕ) → Fits a xs → Fits b ys → Fits (a + 1 + b) (xs ++ codes " " ++ ys)
-fits_spaced a b xs ys p q = fits_both (a + 1) b (xs ++ codes " ") ys (fits_both a 1 xs (codes " ") p (record { clean = refl; size = omega arith })) q
+fits_spaced a b xs ys p q = fits_both (a + 1) b (xs ++ codes " ") ys
+    (fits_both a 1 xs (codes " ") p (record { clean = refl; size = omega arith })) q
 
 -- END and REPLY of a call as they are written, and what reading them gives
 record IsGiven (c : Call) : Type 0 where
@@ -305,11 +352,13 @@ record IsGiven (c : Call) : Type 0 where
 
 digits_no_end : (digits : List ℕ) → list_all is_ascii_digit digits ≡ true → is_no_end digits ≡ false
 digits_no_end [] e = refl
-digits_no_end (d ∷ ds) e = let h = and_left (is_ascii_digit d) (list_all is_ascii_digit ds) e in grind (arith, nat_tests, h)
+digits_no_end (d ∷ ds) e = let h = and_left (is_ascii_digit d) (list_all is_ascii_digit ds) e in
+    grind (arith, nat_tests, h)
 
 digits_no_reply : (digits : List ℕ) → list_all is_ascii_digit digits ≡ true → is_no_reply digits ≡ false
 digits_no_reply [] e = refl
-digits_no_reply (d ∷ ds) e = let h = and_left (is_ascii_digit d) (list_all is_ascii_digit ds) e in grind (arith, nat_tests, h)
+digits_no_reply (d ∷ ds) e = let h = and_left (is_ascii_digit d) (list_all is_ascii_digit ds) e in
+    grind (arith, nat_tests, h)
 
 -- no reply has the text that stands for none
 reply_other : (r : Reply) → IsReply r → is_no_reply (reply_text r) ≡ false
@@ -322,7 +371,8 @@ reply_other (reply.Trip t) h = refl
 reply_other (reply.Update u) h = refl
 
 -- the facts of a call that was answered so
-given_some : (c : Call) (text : List ℕ) → c.reply ≡ Some text → c.client ≤ MOST_CLIENT → c.begin < 2 ^ 64 → c.end < 2 ^ 64 → is_task c.task ≡ true
+given_some : (c : Call) (text : List ℕ) → c.reply ≡ Some text → c.client ≤ MOST_CLIENT → c.begin < 2 ^ 64 →
+    c.end < 2 ^ 64 → is_task c.task ≡ true
     → length (task_text c.task) ≤ LINE_BYTES → Fits 800 text → is_no_reply text ≡ false → IsGiven c
 given_some c text e client begin end task line f other =
     let digits = digits_no_end (decimal c.end) (all_digits c.end end) in
@@ -362,24 +412,29 @@ given_none c h = record {
 given_of : (c : Call) → IsWritten c → IsGiven c
 given_of c (inl h) =
     let a = h.1 in
-    given_some c (reply_text h.0) a.reply a.client a.begin a.end a.task a.line (reply_fits h.0 a.numbers) (reply_other h.0 a.numbers)
+    given_some c (reply_text h.0) a.reply a.client a.begin a.end a.task a.line (reply_fits h.0 a.numbers)
+    (reply_other h.0 a.numbers)
 given_of c (inr h) = given_none c h
 
 -- what stands before the arrow
 abbrev front : Call → List ℕ
-front c = decimal c.client ++ codes " " ++ decimal c.begin ++ codes " " ++ end_text c.reply c.end ++ codes " " ++ task_text c.task
+front c = decimal c.client ++ codes " " ++ decimal c.begin ++ codes " " ++ end_text c.reply c.end ++ codes " " ++
+    task_text c.task
 
 call_fits : (c : Call) → IsGiven c → Fits 4096 (call_text c)
 call_fits c h =
     let last = end_text c.reply c.end in
     let client : Fits 20 (decimal c.client) = number_fits c.client (let small = h.client in omega (arith, small)) in
-    let begin : Fits 41 (decimal c.client ++ codes " " ++ decimal c.begin) = fits_spaced 20 20 (decimal c.client) (decimal c.begin) client (number_fits c.begin h.begin) in
+    let begin : Fits 41 (decimal c.client ++ codes " " ++ decimal c.begin) =
+    fits_spaced 20 20 (decimal c.client) (decimal c.begin) client (number_fits c.begin h.begin) in
     let end : Fits 62 (decimal c.client ++ codes " " ++ decimal c.begin ++ codes " " ++ last) =
     fits_spaced 41 20 (decimal c.client ++ codes " " ++ decimal c.begin) last begin h.end_fits in
     let line : Fits 1087 (front c) =
-    fits_spaced 62 1024 (decimal c.client ++ codes " " ++ decimal c.begin ++ codes " " ++ last) (task_text c.task) end (task_fits c.task h.task h.line) in
+    fits_spaced 62 1024 (decimal c.client ++ codes " " ++ decimal c.begin ++ codes " " ++ last) (task_text c.task) end
+    (task_fits c.task h.task h.line) in
     fits_more 1891 4096 (call_text c) (omega arith)
-    (fits_both 1091 800 (front c ++ codes " -> ") (answer_text c.reply) (fits_both 1087 4 (front c) (codes " -> ") line (record { clean = refl; size = omega arith })) h.reply_fits)
+    (fits_both 1091 800 (front c ++ codes " -> ") (answer_text c.reply)
+    (fits_both 1087 4 (front c) (codes " -> ") line (record { clean = refl; size = omega arith })) h.reply_fits)
 
 -- the words before the arrow
 abbrev head_words : Call → List (List ℕ)
@@ -396,21 +451,27 @@ front_is : (c : Call) → front c ≡ words_text (head_words c)
 front_is c =
     let last = end_text c.reply c.end in
     from_left (decimal c.client) (decimal c.begin) last (task_text c.task)
-    ∙ ap (λ s. decimal c.client ++ 32 ∷ (decimal c.begin ++ 32 ∷ (last ++ s))) (sym (spaced_text (task_words c.task) (task_some c.task)))
+    ∙ ap (λ s. decimal c.client ++ 32 ∷ (decimal c.begin ++ 32 ∷ (last ++ s)))
+    (sym (spaced_text (task_words c.task) (task_some c.task)))
 
 front_words : (c : Call) → IsGiven c → words_of (front c) ≡ head_words c
 front_words c h =
     ap words_of (front_is c)
-    ∙ words_cut (head_words c) (omega arith)
-    (number_in_word c.client (let small = h.client in omega (arith, small)), (number_in_word c.begin h.begin, (h.end_plain, words_plain c.task h.task)))
+    ∙ words_cut (head_words c) (omega arith) (
+      number_in_word c.client (let small = h.client in omega (arith, small)),
+      (number_in_word c.begin h.begin, (h.end_plain, words_plain c.task h.task)),
+    )
 
 call_cut : (c : Call) → IsGiven c → IsCutAtArrow (call_text c) (front c) (answer_text c.reply)
 call_cut c h = record {
-  words = ap words_of (append_assoc (front c) (codes " -> ") (answer_text c.reply)) ∙ words_between (front c) (codes "-> " ++ answer_text c.reply);
+  words = ap words_of (append_assoc (front c) (codes " -> ") (answer_text c.reply)) ∙ words_between (front c)
+      (codes "-> " ++ answer_text c.reply);
   first =
       ap (list_any is_arrow) (front_words c h)
-      ∙ no_arrow (head_words c)
-      (number_other c.client (let small = h.client in omega (arith, small)), (number_other c.begin h.begin, (h.end_other, task_other c.task h.task)));
+      ∙ no_arrow (head_words c) (
+        number_other c.client (let small = h.client in omega (arith, small)),
+        (number_other c.begin h.begin, (h.end_other, task_other c.task h.task)),
+      );
 }
 
 -- the parts of the line
@@ -426,9 +487,11 @@ written c = record {
 call_cut_parts : (c : Call) → IsGiven c → call_parts (call_text c) ≡ Some (written c)
 call_cut_parts c h =
     let last = end_text c.reply c.end in
-    let task : words_of (task_text c.task) ≡ task_words c.task = words_cut (task_words c.task) (task_some c.task) (words_plain c.task h.task) in
+    let task : words_of (task_text c.task) ≡ task_words c.task =
+    words_cut (task_words c.task) (task_some c.task) (words_plain c.task h.task) in
     cut_gives (call_text c) (front c) (answer_text c.reply) (call_cut c h)
-    ∙ ap (λ t. parts_of t (words_of (answer_text c.reply))) (front_words c h ∙ ap (λ t. decimal c.client ∷ decimal c.begin ∷ last ∷ t) (sym task))
+    ∙ ap (λ t. parts_of t (words_of (answer_text c.reply))) (front_words c h ∙
+    ap (λ t. decimal c.client ∷ decimal c.begin ∷ last ∷ t) (sym task))
     ∙ all_parts (decimal c.client) (decimal c.begin) last (task_text c.task) (answer_text c.reply)
 
 -- tests that agree make no half
@@ -440,9 +503,17 @@ whole false true e = cc
 
 parts_read : TaskTextsAreRead → (c : Call) → IsGiven c → parts_call (written c) ≡ Ok c
 parts_read read c h =
-    rw (whole (is_no_end (end_text c.reply c.end)) (is_no_reply (answer_text c.reply)) h.same, client_read c.client h.client, time_read c.begin h.begin, h.end_read, h.reply_read, read c.task h.task h.line) refl
+    rw (
+      whole (is_no_end (end_text c.reply c.end)) (is_no_reply (answer_text c.reply)) h.same,
+      client_read c.client h.client,
+      time_read c.begin h.begin,
+      h.end_read,
+      h.reply_read,
+      read c.task h.task h.line,
+    ) refl
 
-line_read : (line : List ℕ) (parts : Parts) (c : Call) → Fits 4096 line → call_parts line ≡ Some parts → parts_call parts ≡ Ok c → line_call line ≡ Ok c
+line_read : (line : List ℕ) (parts : Parts) (c : Call) → Fits 4096 line → call_parts line ≡ Some parts →
+    parts_call parts ≡ Ok c → line_call line ≡ Ok c
 line_read line parts c f p r = rw (le-ltb 4096 (length line) f.size, f.clean, p) r
 
 -- the line of a call is read as that call

@@ -1,5 +1,7 @@
 -- A verdict that names a line of another task names the first.
-use Rattle.std.proofs.Common.{◌≡◌, ℕ, ◌+◌, ◌≤◌, suc, Bool, true, false, cond, List, [], ◌∷◌, ◌++◌, length, map, drop, Option, Some, None, Result, Ok, Err, refl, sym, ap, subst, ◌∙◌, arith, append_assoc, nat_le}
+use Rattle.std.proofs.Common.{◌≡◌, ℕ, ◌+◌, ◌≤◌, suc, Bool, true, false, cond, List, [], ◌∷◌, ◌++◌, length, map, drop}
+use Rattle.std.proofs.Common.{Option, Some, None, Result, Ok, Err, refl, sym, ap, subst, ◌∙◌, arith, append_assoc}
+use Rattle.std.proofs.Common.{nat_le}
 use Rattle.std.proofs.Math.Seq.{drop-append_seam}
 use Rattle.std.proofs.lemmas.Bool.Decides.{nat_tests}
 use Rattle.std.proofs.lemmas.List.{map-append}
@@ -16,12 +18,14 @@ use Rattle.vac_judge.specs.declared.held.HeldVerdict.TheVariants.{Judged, BadTas
 use Rattle.vac_judge.specs.Call.{Call, line_call}
 use Rattle.vac_judge.specs.Order.{wrong_of}
 use Rattle.vac_judge.specs.Verdict.{judged, unless_wrong, verdict_on}
-use Rattle.vac_judge.specs.Work.{Asked, line_asked, work_of, tasks_of, made_by, is_next, first_foreign, calls_in, first_missing, comes_first, joined_verdict, held_by, held_verdict}
+use Rattle.vac_judge.specs.Work.{Asked, line_asked, work_of, tasks_of, made_by, is_next, first_foreign, calls_in}
+use Rattle.vac_judge.specs.Work.{first_missing, comes_first, joined_verdict, held_by, held_verdict}
 use Rattle.vac_judge.specs.Whole.{asked_by, forms}
 use Rattle.vac_judge.specs.NotWhole.{AskForFirst, IsFirstForeign, ForeignIsFirst}
 use Rattle.vac_judge.proofs.Order.{right_of, wrong_none}
 use Rattle.vac_judge.proofs.Linearized.{AllRight, linearized, right_from}
-use Rattle.vac_judge.proofs.Done.{false_true, work_lines, lines_work, drop_at, at_drop, none_some, goes_on, none_foreign, made_in, forms_size}
+use Rattle.vac_judge.proofs.Done.{false_true, work_lines, lines_work, drop_at, at_drop, none_some, goes_on}
+use Rattle.vac_judge.proofs.Done.{none_foreign, made_in, forms_size}
 use Rattle.vac_judge.proofs.NotWhole.{is_foreign, asked_split}
 
 -- ---- a client's calls and its tasks

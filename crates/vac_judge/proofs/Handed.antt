@@ -1,5 +1,8 @@
 -- Reading work, and holding calls against it, step by step.
-use Rattle.std.proofs.Common.{◌≡◌, ◌≢◌, ◌⊎◌, ℕ, ◌+◌, ◌<◌, ◌≤◌, ◌==◌, ◌&&◌, ◌||◌, suc, Bool, true, false, not, cond, List, [], ◌∷◌, ◌++◌, length, map, Option, Some, None, is_none, unwrap_or, Result, Ok, Err, refl, sym, ap, subst, ◌∙◌, inl, inr, arith, append-nil, append_assoc, length-append, eqb, ne_eqb, nat_le}
+use Rattle.std.proofs.Common.{◌≡◌, ◌≢◌, ◌⊎◌, ℕ, ◌+◌, ◌<◌, ◌≤◌, ◌==◌, ◌&&◌, ◌||◌, suc, Bool, true, false, not, cond}
+use Rattle.std.proofs.Common.{List, [], ◌∷◌, ◌++◌, length, map, Option, Some, None, is_none, unwrap_or, Result, Ok, Err}
+use Rattle.std.proofs.Common.{refl, sym, ap, subst, ◌∙◌, inl, inr, arith, append-nil, append_assoc, length-append, eqb}
+use Rattle.std.proofs.Common.{ne_eqb, nat_le}
 use Rattle.std.specs.Prelude.{codes}
 use Rattle.std.specs.Ordering.{nat_cmp, eq_by_cmp}
 use Rattle.std.specs.FinMap.{FinMap, get, insert, remove, empty, get-empty, get-insert, get-remove}
@@ -16,7 +19,8 @@ use Rattle.vac_judge.specs.declared.work.Work.{Work}
 use Rattle.vac_judge.specs.declared.holding.Progress.{Progress}
 use Rattle.vac_judge.specs.declared.holding.Holding.{Holding}
 use Rattle.vac_judge.specs.Call.{Call, line_call, joined}
-use Rattle.vac_judge.specs.Work.{Asked, words_asked, text_asked, line_asked, onto_work, work_of, tasks_of, made_by, has_stopped, is_next, first_foreign, calls_in, is_missing, first_missing}
+use Rattle.vac_judge.specs.Work.{Asked, words_asked, text_asked, line_asked, onto_work, work_of, tasks_of, made_by}
+use Rattle.vac_judge.specs.Work.{has_stopped, is_next, first_foreign, calls_in, is_missing, first_missing}
 use Rattle.vac_judge.specs.Holding.{asked_of, listed, IsWork, onto_all, IsProgress, IsKept, Counts, Sees}
 use Rattle.vac_judge.proofs.Arrows.{first_word, one_word, word_first, text_is}
 
@@ -27,7 +31,8 @@ pub no_bytes : (text : List ℕ) → length text ≡ 0 → text ≡ []
 no_bytes [] e = refl
 no_bytes (b ∷ bs) e = absurd (omega arith)
 
-pub first_line : (text line behind : List ℕ) → HasNoEnd line → text ≡ line ++ 10 ∷ behind → lines_of text ≡ line ∷ lines_of behind
+pub first_line : (text line behind : List ℕ) → HasNoEnd line → text ≡ line ++ 10 ∷ behind →
+    lines_of text ≡ line ∷ lines_of behind
 first_line text line behind h e = ap lines_of e ∙ lines_cut line behind h
 
 pub only_line : (text : List ℕ) → HasNoEnd text → 0 < length text → lines_of text ≡ text ∷ []
@@ -35,7 +40,8 @@ only_line text h some =
     let full : eqb (length text) 0 ≡ false = ne_eqb (length text) 0 (λ z. omega arith) in
     lines_last text h ∙ ap (λ b. cond b [] (text ∷ [])) full
 
-pub asked_cut : (line client rest : List ℕ) → HasNo 32 client → line ≡ client ++ 32 ∷ rest → line_asked line ≡ text_asked client rest
+pub asked_cut : (line client rest : List ℕ) → HasNo 32 client → line ≡ client ++ 32 ∷ rest →
+    line_asked line ≡ text_asked client rest
 asked_cut line client rest h e =
     let w = first_word rest in
     ap words_asked (word_first line client rest h e) ∙ ap (λ ws. words_asked (client ∷ ws)) w.2
@@ -85,24 +91,31 @@ tasks_both client (x ∷ a) b =
       | false ↦ more
     ]
 
-clients_more : (work : List Asked) (a : Asked) → map (λ b. b.client) (work ++ a ∷ []) ≡ map (λ b. b.client) work ++ a.client ∷ []
+clients_more : (work : List Asked) (a : Asked) → map (λ b. b.client) (work ++ a ∷ []) ≡ map
+    (λ b. b.client) work ++ a.client ∷ []
 clients_more [] a = refl
 clients_more (b ∷ work) a = ap (λ t. b.client ∷ t) (clients_more work a)
 
-pub push_more : (old new : Work) (client : ℕ) (task : Task) (tasks tasks' : Vec Task) (left : FinMap nat_cmp (Vec Task)) → tasks.items ≡ listed (get old.tasks client)
-    → tasks'.items ≡ tasks.items ++ task ∷ [] → left ≡ remove old.tasks client → new.tasks ≡ insert left client tasks' → new.clients.items ≡ old.clients.items ++ client ∷ []
+pub push_more : (old new : Work) (client : ℕ) (task : Task) (tasks tasks' : Vec Task) (left : FinMap nat_cmp (Vec Task))
+    → tasks.items ≡ listed (get old.tasks client)
+    → tasks'.items ≡ tasks.items ++ task ∷ [] → left ≡ remove old.tasks client → new.tasks ≡ insert left client tasks' →
+    new.clients.items ≡ old.clients.items ++ client ∷ []
     → (work : List Asked) → IsWork old work → IsWork new (work ++ asked_of (client, task) ∷ [])
 push_more old new client task tasks tasks' left had pushed l i c = λ work h. record {
   clients = c ∙ ap (λ t. t ++ client ∷ []) h.clients ∙ sym (clients_more work (asked_of (client, task)));
   tasks = λ k. elim (test client k) [
     | inl same ↦
         subst (λ q. listed (get new.tasks q) ≡ tasks_of q (work ++ asked_of (client, task) ∷ [])) same.1
-        (ap (λ (m : FinMap nat_cmp (Vec Task)). listed (get m client)) i ∙ ap listed (get_here left client tasks') ∙ pushed ∙ ap (λ t. t ++ task ∷ []) (had ∙ h.tasks client)
-        ∙ ap (λ t. tasks_of client work ++ t) (ap (λ b. cond b (task ∷ []) []) (sym (itself client))) ∙ sym (tasks_both client work (asked_of (client, task) ∷ [])))
+        (ap (λ (m : FinMap nat_cmp (Vec Task)). listed (get m client)) i ∙ ap listed (get_here left client tasks') ∙
+        pushed ∙ ap (λ t. t ++ task ∷ []) (had ∙ h.tasks client)
+        ∙ ap (λ t. tasks_of client work ++ t) (ap (λ b. cond b (task ∷ []) []) (sym (itself client))) ∙
+        sym (tasks_both client work (asked_of (client, task) ∷ [])))
     | inr other ↦
-        ap (λ (m : FinMap nat_cmp (Vec Task)). listed (get m k)) i ∙ ap listed (get_other left client tasks' k other.1) ∙ ap (λ (m : FinMap nat_cmp (Vec Task)). listed (get m k)) l
+        ap (λ (m : FinMap nat_cmp (Vec Task)). listed (get m k)) i ∙ ap listed (get_other left client tasks' k other.1)
+        ∙ ap (λ (m : FinMap nat_cmp (Vec Task)). listed (get m k)) l
         ∙ ap listed (get_left old.tasks client k other.1) ∙ h.tasks k ∙ sym (append-nil (tasks_of k work))
-        ∙ ap (λ t. tasks_of k work ++ t) (ap (λ b. cond b (task ∷ []) []) (sym other.0)) ∙ sym (tasks_both k work (asked_of (client, task) ∷ []))
+        ∙ ap (λ t. tasks_of k work ++ t) (ap (λ b. cond b (task ∷ []) []) (sym other.0)) ∙
+        sym (tasks_both k work (asked_of (client, task) ∷ []))
   ];
 }
   where
@@ -120,7 +133,8 @@ onto_none : (r : Result (List Asked) ℕ) → onto_all [] r ≡ r
 onto_none (Ok work) = refl
 onto_none (Err line) = let plain : 0 + line ≡ line = omega arith in ap Err plain
 
-onto_more : (work : List Asked) (a : Asked) (r : Result (List Asked) ℕ) → onto_all work (onto_work a r) ≡ onto_all (work ++ a ∷ []) r
+onto_more : (work : List Asked) (a : Asked) (r : Result (List Asked) ℕ) →
+    onto_all work (onto_work a r) ≡ onto_all (work ++ a ∷ []) r
 onto_more work a (Ok more) = ap Ok (sym (append_assoc work (a ∷ []) more))
 onto_more work a (Err line) =
     let size = length-append work (a ∷ []) in
@@ -128,49 +142,71 @@ onto_more work a (Err line) =
     ap Err same
 
 pub read_first : (kept : Work) (text : List ℕ) → IsWork kept [] → ReadTo kept 0 text text
-read_first kept text h = record { work = []; is = h; number = refl; all = sym (onto_none (work_of (map line_asked (lines_of text)))) }
+read_first kept text h = record {
+  work = [];
+  is = h;
+  number = refl;
+  all = sym (onto_none (work_of (map line_asked (lines_of text))));
+}
 
-pub read_more : (kept after : Work) (count count' : ℕ) (text rest line behind : List ℕ) (a : ℕ × Task) → ReadTo kept count text rest → lines_of rest ≡ line ∷ lines_of behind
-    → line_asked line ≡ Ok (asked_of a) → count' ≡ count + 1 → ((work : List Asked) → IsWork kept work → IsWork after (work ++ asked_of a ∷ [])) → ReadTo after count' text behind
+pub read_more : (kept after : Work) (count count' : ℕ) (text rest line behind : List ℕ) (a : ℕ × Task) →
+    ReadTo kept count text rest → lines_of rest ≡ line ∷ lines_of behind
+    → line_asked line ≡ Ok (asked_of a) → count' ≡ count + 1 →
+    ((work : List Asked) → IsWork kept work → IsWork after (work ++ asked_of a ∷ [])) →
+    ReadTo after count' text behind
 read_more kept after count count' text rest line behind a r cut is n p =
     let size = length-append r.work (asked_of a ∷ []) in
     record {
       work = r.work ++ asked_of a ∷ [];
       is = p r.work r.is;
       number = omega (arith, n, r.number, size);
-      all = r.all ∙ ap (λ ls. onto_all r.work (work_of (map line_asked ls))) cut ∙ ap (λ x. onto_all r.work (work_of (x ∷ map line_asked (lines_of behind)))) is
+      all = r.all ∙ ap (λ ls. onto_all r.work (work_of (map line_asked ls))) cut ∙
+          ap (λ x. onto_all r.work (work_of (x ∷ map line_asked (lines_of behind)))) is
           ∙ onto_more r.work (asked_of a) (work_of (map line_asked (lines_of behind)));
     }
 
-pub read_bad : (kept : Work) (count count' : ℕ) (text rest line behind : List ℕ) (fault : CallFault) → ReadTo kept count text rest → lines_of rest ≡ line ∷ lines_of behind
+pub read_bad : (kept : Work) (count count' : ℕ) (text rest line behind : List ℕ) (fault : CallFault) →
+    ReadTo kept count text rest → lines_of rest ≡ line ∷ lines_of behind
     → line_asked line ≡ Err fault → count' ≡ count + 1 → work_of (map line_asked (lines_of text)) ≡ Err count'
 read_bad kept count count' text rest line behind fault r cut is n =
     let same : length r.work + 1 ≡ count' = omega (arith, n, r.number) in
-    r.all ∙ ap (λ ls. onto_all r.work (work_of (map line_asked ls))) cut ∙ ap (λ x. onto_all r.work (work_of (x ∷ map line_asked (lines_of behind)))) is ∙ ap Err same
+    r.all ∙ ap (λ ls. onto_all r.work (work_of (map line_asked ls))) cut ∙
+    ap (λ x. onto_all r.work (work_of (x ∷ map line_asked (lines_of behind)))) is ∙ ap Err same
 
 -- what was read in the end
 abbrev pub IsRead : Work → List ℕ → Type 0
 IsRead kept text = (work : List Asked) × IsWork kept work × (work_of (map line_asked (lines_of text)) ≡ Ok work)
 
-pub read_all : (kept : Work) (count : ℕ) (text rest : List ℕ) → ReadTo kept count text rest → lines_of rest ≡ [] → IsRead kept text
-read_all kept count text rest r none = (r.work, r.is, r.all ∙ ap (λ ls. onto_all r.work (work_of (map line_asked ls))) none ∙ ap Ok (append-nil r.work))
+pub read_all : (kept : Work) (count : ℕ) (text rest : List ℕ) → ReadTo kept count text rest → lines_of rest ≡ [] →
+    IsRead kept text
+read_all kept count text rest r none = (
+  r.work,
+  r.is,
+  r.all ∙
+      ap (λ ls. onto_all r.work (work_of (map line_asked ls))) none ∙ ap Ok (append-nil r.work),
+)
 
 -- ---- calls
 
-pub count_more : (old new : Holding) (c : Call) (p p' : Progress) → new.clients ≡ insert old.clients c.client p' → p'.made ≡ p.made + 1
-    → p'.stopped ≡ (is_none c.reply || p.stopped) → new.count ≡ old.count + 1 → (calls : List Call) → Counts old calls → IsProgress p c.client calls → Counts new (c ∷ calls)
+pub count_more : (old new : Holding) (c : Call) (p p' : Progress) → new.clients ≡ insert old.clients c.client p' →
+    p'.made ≡ p.made + 1
+    → p'.stopped ≡ (is_none c.reply || p.stopped) → new.count ≡ old.count + 1 → (calls : List Call) → Counts old calls →
+    IsProgress p c.client calls → Counts new (c ∷ calls)
 count_more old new c p p' i made stopped n calls h progress = record {
   clients = λ k. elim (test c.client k) [
     | inl same ↦
         subst (λ o. IsKept o k (c ∷ calls))
-        (sym (ap (λ (m : FinMap nat_cmp Progress). get m k) i ∙ ap (get (insert old.clients c.client p')) (sym same.1) ∙ get_here old.clients c.client p'))
+        (sym (ap (λ (m : FinMap nat_cmp Progress). get m k) i ∙ ap (get (insert old.clients c.client p')) (sym same.1) ∙
+        get_here old.clients c.client p'))
         (record {
-          made = made ∙ ap (λ m. m + 1) (progress.made ∙ ap (λ q. made_by q calls) same.1) ∙ ap (λ b. cond b (made_by k calls + 1) (made_by k calls)) (sym same.0);
+          made = made ∙ ap (λ m. m + 1) (progress.made ∙ ap (λ q. made_by q calls) same.1) ∙
+              ap (λ b. cond b (made_by k calls + 1) (made_by k calls)) (sym same.0);
           stopped = stopped ∙ ap (λ b. is_none c.reply || b) (progress.stopped ∙ ap (λ q. has_stopped q calls) same.1)
               ∙ ap (λ b. (b && is_none c.reply) || has_stopped k calls) (sym same.0);
         })
     | inr other ↦
-        subst (λ o. IsKept o k (c ∷ calls)) (sym (ap (λ (m : FinMap nat_cmp Progress). get m k) i ∙ get_other old.clients c.client p' k other.1))
+        subst (λ o. IsKept o k (c ∷ calls)) (sym (ap (λ (m : FinMap nat_cmp Progress). get m k) i ∙
+        get_other old.clients c.client p' k other.1))
         (kept_on (get old.clients k) k other.0 (h.clients k))
   ];
   number = n ∙ ap (λ m. m + 1) h.number ∙ one_more (length calls);
@@ -194,7 +230,8 @@ pub record HeldTo (work : Work) (held : Holding) (text rest : List ℕ) : Type 0
   pub calls : List Call
   pub counts : Counts held calls
   pub line : (asked : List Asked) → IsWork work asked
-      → first_foreign asked [] (map line_call (lines_of text)) ≡ first_foreign asked calls (map line_call (lines_of rest))
+      → first_foreign asked [] (map line_call (lines_of text)) ≡ first_foreign asked calls
+      (map line_call (lines_of rest))
   pub all : calls_in [] (map line_call (lines_of text)) ≡ calls_in calls (map line_call (lines_of rest))
 
 pub held_first : (work : Work) (held : Holding) (text : List ℕ) → Counts held [] → HeldTo work held text text
@@ -202,45 +239,58 @@ held_first work held text c = record { calls = []; counts = c; line = λ asked w
 
 -- what is said of a call that is taken, or not
 abbrev pub IsTaken : Work → Holding → Call → Bool → Type 0
-IsTaken work held c next = (asked : List Asked) (calls : List Call) → IsWork work asked → Counts held calls → next ≡ is_next asked calls c
+IsTaken work held c next = (asked : List Asked) (calls : List Call) → IsWork work asked → Counts held calls →
+    next ≡ is_next asked calls c
 
-pub held_more : (work : Work) (held after : Holding) (text rest line behind : List ℕ) (c : Call) → HeldTo work held text rest → lines_of rest ≡ line ∷ lines_of behind
-    → line_call line ≡ Ok c → IsTaken work held c true → ((calls : List Call) → Counts held calls → Counts after (c ∷ calls)) → HeldTo work after text behind
+pub held_more : (work : Work) (held after : Holding) (text rest line behind : List ℕ) (c : Call) →
+    HeldTo work held text rest → lines_of rest ≡ line ∷ lines_of behind
+    → line_call line ≡ Ok c → IsTaken work held c true → ((calls : List Call) → Counts held calls →
+    Counts after (c ∷ calls)) → HeldTo work after text behind
 held_more work held after text rest line behind c h cut is next counts =
     let more = map line_call (lines_of behind) in
     record {
       calls = c ∷ h.calls;
       counts = counts h.calls h.counts;
-      line = λ asked w. h.line asked w ∙ ap (λ ls. first_foreign asked h.calls (map line_call ls)) cut ∙ ap (λ x. first_foreign asked h.calls (x ∷ more)) is
-          ∙ ap (λ b. cond b (first_foreign asked (c ∷ h.calls) more) (Some (length h.calls + 1))) (sym (next asked h.calls w h.counts));
+      line = λ asked w. h.line asked w ∙ ap (λ ls. first_foreign asked h.calls (map line_call ls)) cut ∙
+          ap (λ x. first_foreign asked h.calls (x ∷ more)) is
+          ∙ ap (λ b. cond b (first_foreign asked (c ∷ h.calls) more) (Some (length h.calls + 1)))
+          (sym (next asked h.calls w h.counts));
       all = h.all ∙ ap (λ ls. calls_in h.calls (map line_call ls)) cut ∙ ap (λ x. calls_in h.calls (x ∷ more)) is;
     }
 
 -- this is the first line that is foreign
 abbrev pub IsForeign : Work → List ℕ → Option ℕ → Type 0
-IsForeign work text found = (asked : List Asked) → IsWork work asked → found ≡ first_foreign asked [] (map line_call (lines_of text))
+IsForeign work text found = (asked : List Asked) → IsWork work asked →
+    found ≡ first_foreign asked [] (map line_call (lines_of text))
 
 -- so many calls are all
 abbrev pub CountsAll : Holding → List ℕ → Type 0
 CountsAll held text = Counts held (calls_in [] (map line_call (lines_of text)))
 
-pub held_foreign : (work : Work) (held : Holding) (number : ℕ) (text rest line behind : List ℕ) (c : Call) → HeldTo work held text rest → lines_of rest ≡ line ∷ lines_of behind
+pub held_foreign : (work : Work) (held : Holding) (number : ℕ) (text rest line behind : List ℕ) (c : Call) →
+    HeldTo work held text rest → lines_of rest ≡ line ∷ lines_of behind
     → line_call line ≡ Ok c → IsTaken work held c false → number ≡ held.count + 1 → IsForeign work text (Some number)
 held_foreign work held number text rest line behind c h cut is next n = λ asked w.
     let more = map line_call (lines_of behind) in
     let same : length h.calls + 1 ≡ number = omega (arith, n, h.counts.number) in
-    sym (h.line asked w ∙ ap (λ ls. first_foreign asked h.calls (map line_call ls)) cut ∙ ap (λ x. first_foreign asked h.calls (x ∷ more)) is
-    ∙ ap (λ b. cond b (first_foreign asked (c ∷ h.calls) more) (Some (length h.calls + 1))) (sym (next asked h.calls w h.counts)) ∙ ap Some same)
+    sym (h.line asked w ∙ ap (λ ls. first_foreign asked h.calls (map line_call ls)) cut ∙
+    ap (λ x. first_foreign asked h.calls (x ∷ more)) is
+    ∙ ap (λ b. cond b (first_foreign asked (c ∷ h.calls) more) (Some (length h.calls + 1)))
+    (sym (next asked h.calls w h.counts)) ∙ ap Some same)
 
-pub held_fault : (work : Work) (held : Holding) (text rest line behind : List ℕ) (fault : CallFault) → HeldTo work held text rest → lines_of rest ≡ line ∷ lines_of behind
+pub held_fault : (work : Work) (held : Holding) (text rest line behind : List ℕ) (fault : CallFault) →
+    HeldTo work held text rest → lines_of rest ≡ line ∷ lines_of behind
     → line_call line ≡ Err fault → IsForeign work text None × CountsAll held text
 held_fault work held text rest line behind fault h cut is =
     let more = map line_call (lines_of behind) in (
-      λ asked w. sym (h.line asked w ∙ ap (λ ls. first_foreign asked h.calls (map line_call ls)) cut ∙ ap (λ x. first_foreign asked h.calls (x ∷ more)) is),
-      subst (Counts held) (sym (h.all ∙ ap (λ ls. calls_in h.calls (map line_call ls)) cut ∙ ap (λ x. calls_in h.calls (x ∷ more)) is)) h.counts,
+      λ asked w. sym (h.line asked w ∙ ap (λ ls. first_foreign asked h.calls (map line_call ls)) cut ∙
+          ap (λ x. first_foreign asked h.calls (x ∷ more)) is),
+      subst (Counts held) (sym (h.all ∙ ap (λ ls. calls_in h.calls (map line_call ls)) cut ∙
+          ap (λ x. calls_in h.calls (x ∷ more)) is)) h.counts,
     )
 
-pub held_all : (work : Work) (held : Holding) (text rest : List ℕ) → HeldTo work held text rest → lines_of rest ≡ [] → IsForeign work text None × CountsAll held text
+pub held_all : (work : Work) (held : Holding) (text rest : List ℕ) → HeldTo work held text rest → lines_of rest ≡ [] →
+    IsForeign work text None × CountsAll held text
 held_all work held text rest h none = (
   λ asked w. sym (h.line asked w ∙ ap (λ ls. first_foreign asked h.calls (map line_call ls)) none),
   subst (Counts held) (sym (h.all ∙ ap (λ ls. calls_in h.calls (map line_call ls)) none)) h.counts,
@@ -249,7 +299,8 @@ held_all work held text rest h none = (
 -- ---- tasks that are missing
 
 -- the tasks of these clients are still to be looked at
-pub record SeenTo (work : Work) (held : Holding) (seen : FinMap nat_cmp ℕ) (rest : List ℕ) (asked : List Asked) (calls : List Call) : Type 0 where
+pub record SeenTo (work : Work) (held : Holding) (seen : FinMap nat_cmp ℕ) (rest : List ℕ) (asked : List Asked)
+    (calls : List Call) : Type 0 where
   pub before : List Asked
   pub behind : List Asked
   pub clients : map (λ a. a.client) behind ≡ rest
@@ -258,9 +309,11 @@ pub record SeenTo (work : Work) (held : Holding) (seen : FinMap nat_cmp ℕ) (re
 
 -- so it is whatever the work and the calls are
 abbrev pub AllSeen : Work → Holding → FinMap nat_cmp ℕ → List ℕ → Type 0
-AllSeen work held seen rest = (asked : List Asked) (calls : List Call) → IsWork work asked → Counts held calls → SeenTo work held seen rest asked calls
+AllSeen work held seen rest = (asked : List Asked) (calls : List Call) → IsWork work asked → Counts held calls →
+    SeenTo work held seen rest asked calls
 
-pub seen_first : (work : Work) (held : Holding) (seen : FinMap nat_cmp ℕ) (rest : List ℕ) → seen ≡ empty → rest ≡ work.clients.items → AllSeen work held seen rest
+pub seen_first : (work : Work) (held : Holding) (seen : FinMap nat_cmp ℕ) (rest : List ℕ) → seen ≡ empty →
+    rest ≡ work.clients.items → AllSeen work held seen rest
 seen_first work held seen rest e c = λ asked calls w h. record {
   before = [];
   behind = asked;
@@ -270,17 +323,22 @@ seen_first work held seen rest e c = λ asked calls w h. record {
 }
 
 -- a client is open or not, as its numbers say
-number_of : (p : Progress) (held : Holding) (client before : ℕ) (calls : List Call) → IsProgress p client calls → (nat_le p.made before && not p.stopped) ≡ is_missing calls client before
-number_of p held client before calls h = ap (λ m. nat_le m before && not p.stopped) h.made ∙ ap (λ b. nat_le (made_by client calls) before && not b) h.stopped
+number_of : (p : Progress) (held : Holding) (client before : ℕ) (calls : List Call) → IsProgress p client calls →
+    (nat_le p.made before && not p.stopped) ≡ is_missing calls client before
+number_of p held client before calls h = ap (λ m. nat_le m before && not p.stopped) h.made ∙
+    ap (λ b. nat_le (made_by client calls) before && not b) h.stopped
 
 seen_head : (client : ℕ) (rest : List ℕ) (behind : List Asked) → map (λ a. a.client) behind ≡ client ∷ rest
     → (a : Asked) × (more : List Asked) × (behind ≡ a ∷ more) × (a.client ≡ client) × (map (λ b. b.client) more ≡ rest)
 seen_head client rest [] e = absurd (let h = e in cc)
 seen_head client rest (a ∷ more) e = (a, more, refl, cc, cc)
 
-pub seen_more : (work : Work) (held : Holding) (seen seen' : FinMap nat_cmp ℕ) (client before number : ℕ) (rest behind : List ℕ) (p : Progress) → AllSeen work held seen rest
-    → rest ≡ client ∷ behind → before ≡ unwrap_or (get seen client) 0 → number ≡ before + 1 → seen' ≡ insert seen client number
-    → ((calls : List Call) → Counts held calls → IsProgress p client calls) → (nat_le p.made before && not p.stopped) ≡ false → AllSeen work held seen' behind
+pub seen_more : (work : Work) (held : Holding) (seen seen' : FinMap nat_cmp ℕ) (client before number : ℕ)
+    (rest behind : List ℕ) (p : Progress) → AllSeen work held seen rest
+    → rest ≡ client ∷ behind → before ≡ unwrap_or (get seen client) 0 → number ≡ before + 1 →
+    seen' ≡ insert seen client number
+    → ((calls : List Call) → Counts held calls → IsProgress p client calls) →
+    (nat_le p.made before && not p.stopped) ≡ false → AllSeen work held seen' behind
 seen_more work held seen seen' client before number rest behind p all cut b n i progress closed = λ asked calls w h.
     let s = all asked calls w h in
     let q = seen_head client behind s.behind (s.clients ∙ cut) in
@@ -288,7 +346,8 @@ seen_more work held seen seen' client before number rest behind p all cut b n i 
     let more = q.1 in
     let is : before ≡ length (tasks_of client s.before) = b ∙ s.sees client in
     let not_it : is_missing calls a.client (length (tasks_of a.client s.before)) ≡ false =
-    ap (λ k. is_missing calls k (length (tasks_of k s.before))) q.3 ∙ ap (is_missing calls client) (sym is) ∙ sym (number_of p held client before calls (progress calls h)) ∙ closed in
+    ap (λ k. is_missing calls k (length (tasks_of k s.before))) q.3 ∙ ap (is_missing calls client) (sym is) ∙
+    sym (number_of p held client before calls (progress calls h)) ∙ closed in
     record {
       before = a ∷ s.before;
       behind = more;
@@ -296,23 +355,29 @@ seen_more work held seen seen' client before number rest behind p all cut b n i 
       sees = λ k. elim (test client k) [
         | inl same ↦
             let here : (a.client == k) ≡ true = ap (λ x. x == k) q.3 ∙ same.0 in
-            ap (λ (m : FinMap nat_cmp ℕ). unwrap_or (get m k) 0) i ∙ ap (λ x. unwrap_or (get (insert seen client number) x) 0) (sym same.1)
-            ∙ ap (λ o. unwrap_or o 0) (get_here seen client number) ∙ n ∙ ap (λ m. m + 1) (is ∙ ap (λ x. length (tasks_of x s.before)) same.1) ∙ one_more (length (tasks_of k s.before))
+            ap (λ (m : FinMap nat_cmp ℕ). unwrap_or (get m k) 0) i ∙
+            ap (λ x. unwrap_or (get (insert seen client number) x) 0) (sym same.1)
+            ∙ ap (λ o. unwrap_or o 0) (get_here seen client number) ∙ n ∙
+            ap (λ m. m + 1) (is ∙ ap (λ x. length (tasks_of x s.before)) same.1) ∙
+            one_more (length (tasks_of k s.before))
             ∙ ap (λ v. length (cond v (a.task ∷ tasks_of k s.before) (tasks_of k s.before))) (sym here)
         | inr other ↦
             let there : (a.client == k) ≡ false = ap (λ x. x == k) q.3 ∙ other.0 in
-            ap (λ (m : FinMap nat_cmp ℕ). unwrap_or (get m k) 0) i ∙ ap (λ o. unwrap_or o 0) (get_other seen client number k other.1) ∙ s.sees k
+            ap (λ (m : FinMap nat_cmp ℕ). unwrap_or (get m k) 0) i ∙ ap (λ o. unwrap_or o 0)
+            (get_other seen client number k other.1) ∙ s.sees k
             ∙ ap (λ v. length (cond v (a.task ∷ tasks_of k s.before) (tasks_of k s.before))) (sym there)
       ];
       same = s.same ∙ ap (first_missing calls s.before) q.2
-          ∙ ap (λ v. cond v (Some (a.client, length (tasks_of a.client s.before) + 1)) (first_missing calls (a ∷ s.before) more)) not_it;
+          ∙ ap (λ v. cond v (Some (a.client, length (tasks_of a.client s.before) + 1))
+          (first_missing calls (a ∷ s.before) more)) not_it;
     }
   where
     one_more : (n : ℕ) → n + 1 ≡ suc n
     one_more n = omega arith
 
 -- what is written of a task that is missing
-pub missing_text : (out client number : List ℕ) → (out ++ (codes "illegal missing " ++ client)) ++ ((codes " " ++ number) ++ 10 ∷ [])
+pub missing_text : (out client number : List ℕ) → (out ++ (codes "illegal missing " ++ client)) ++
+    ((codes " " ++ number) ++ 10 ∷ [])
     ≡ out ++ ((codes "illegal missing " ++ client ++ codes " " ++ number) ++ 10 ∷ [])
 missing_text out client number = simp append_assoc
 
@@ -332,11 +397,14 @@ closed_by_made a b s h = grind (arith, nat_tests)
 
 -- this is the first task that is missing
 abbrev pub IsMissing : Work → Holding → Option (ℕ × ℕ) → Type 0
-IsMissing work held found = (asked : List Asked) (calls : List Call) → IsWork work asked → Counts held calls → found ≡ first_missing calls [] asked
+IsMissing work held found = (asked : List Asked) (calls : List Call) → IsWork work asked → Counts held calls →
+    found ≡ first_missing calls [] asked
 
-pub seen_missing : (work : Work) (held : Holding) (seen : FinMap nat_cmp ℕ) (client before number : ℕ) (rest behind : List ℕ) (p : Progress) → AllSeen work held seen rest
+pub seen_missing : (work : Work) (held : Holding) (seen : FinMap nat_cmp ℕ) (client before number : ℕ)
+    (rest behind : List ℕ) (p : Progress) → AllSeen work held seen rest
     → rest ≡ client ∷ behind → before ≡ unwrap_or (get seen client) 0 → number ≡ before + 1
-    → ((calls : List Call) → Counts held calls → IsProgress p client calls) → (nat_le p.made before && not p.stopped) ≡ true → IsMissing work held (Some (client, number))
+    → ((calls : List Call) → Counts held calls → IsProgress p client calls) →
+    (nat_le p.made before && not p.stopped) ≡ true → IsMissing work held (Some (client, number))
 seen_missing work held seen client before number rest behind p all cut b n progress found = λ asked calls w h.
     let s = all asked calls w h in
     let q = seen_head client behind s.behind (s.clients ∙ cut) in
@@ -344,12 +412,16 @@ seen_missing work held seen client before number rest behind p all cut b n progr
     let more = q.1 in
     let is : before ≡ length (tasks_of client s.before) = b ∙ s.sees client in
     let it : is_missing calls a.client (length (tasks_of a.client s.before)) ≡ true =
-    ap (λ k. is_missing calls k (length (tasks_of k s.before))) q.3 ∙ ap (is_missing calls client) (sym is) ∙ sym (number_of p held client before calls (progress calls h)) ∙ found in
+    ap (λ k. is_missing calls k (length (tasks_of k s.before))) q.3 ∙ ap (is_missing calls client) (sym is) ∙
+    sym (number_of p held client before calls (progress calls h)) ∙ found in
     sym (s.same ∙ ap (first_missing calls s.before) q.2
-    ∙ ap (λ v. cond v (Some (a.client, length (tasks_of a.client s.before) + 1)) (first_missing calls (a ∷ s.before) more)) it
-    ∙ ap (λ k. Some (k, length (tasks_of k s.before) + 1)) q.3 ∙ ap (λ m. Some (client, m)) (ap (λ m. m + 1) (sym is) ∙ sym n))
+    ∙ ap (λ v. cond v (Some (a.client, length (tasks_of a.client s.before) + 1))
+    (first_missing calls (a ∷ s.before) more)) it
+    ∙ ap (λ k. Some (k, length (tasks_of k s.before) + 1)) q.3 ∙ ap (λ m. Some (client, m))
+    (ap (λ m. m + 1) (sym is) ∙ sym n))
 
-pub seen_all : (work : Work) (held : Holding) (seen : FinMap nat_cmp ℕ) (rest : List ℕ) → AllSeen work held seen rest → rest ≡ [] → IsMissing work held None
+pub seen_all : (work : Work) (held : Holding) (seen : FinMap nat_cmp ℕ) (rest : List ℕ) → AllSeen work held seen rest →
+    rest ≡ [] → IsMissing work held None
 seen_all work held seen rest all none = λ asked calls w h.
     let s = all asked calls w h in
     sym (s.same ∙ ap (first_missing calls s.before) (no_more s.behind (s.clients ∙ none)))

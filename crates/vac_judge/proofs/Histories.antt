@@ -1,5 +1,6 @@
 -- The history that is written of calls has these calls.
-use Rattle.std.proofs.Common.{◌≡◌, ◌≢◌, ◌||◌, ℕ, Bool, true, false, Result, Ok, List, [], ◌∷◌, map, refl, sym, ap, subst, ◌∙◌, append_assoc}
+use Rattle.std.proofs.Common.{◌≡◌, ◌≢◌, ◌||◌, ℕ, Bool, true, false, Result, Ok, List, [], ◌∷◌, map, refl, sym, ap}
+use Rattle.std.proofs.Common.{subst, ◌∙◌, append_assoc}
 use Rattle.std.specs.List.{list_any}
 use Rattle.std.proofs.lemmas.List.Elements.{All-head, All-tail, All-nil, All-cons}
 use Rattle.vac_lines.specs.Lines.{lines_of, HasNo}
@@ -51,7 +52,8 @@ histories_read legal read = λ calls h.
     record {
       listed = listed;
       judged = λ n. (
-        λ e. let found = (legal n (history_text calls)).0 e in subst (IsLinearization n) (one_list found.calls calls (sym found.listed ∙ listed)) found.linearization,
+        λ e. let found = (legal n (history_text calls)).0 e in
+            subst (IsLinearization n) (one_list found.calls calls (sym found.listed ∙ listed)) found.linearization,
         λ l. (legal n (history_text calls)).1 (record { calls = calls; listed = listed; linearization = l }),
       );
     }

@@ -19,38 +19,47 @@ as_wrong None = None
 as_wrong (Some place.Client) = Some Client
 as_wrong (Some place.Time) = Some Time
 
-tests_say : (client time : Bool) → TimesSay client time (as_wrong (cond client (Some place.Client) (cond time (Some place.Time) None)))
+tests_say : (client time : Bool) → TimesSay client time (as_wrong
+    (cond client (Some place.Client) (cond time (Some place.Time) None)))
 tests_say true time = refl
 tests_say false true = (refl, refl)
 tests_say false false = (refl, refl)
 
 -- what was found of its span
-pub span_says : (earlier : List Call) (call : Call) (span : Span) (found : Option Misplaced) → span ≡ span_of call → misplaced itself (map span_of earlier) span ≡ found
+pub span_says : (earlier : List Call) (call : Call) (span : Span) (found : Option Misplaced) → span ≡ span_of call →
+    misplaced itself (map span_of earlier) span ≡ found
     → JudgesTimes earlier call (as_wrong found)
 span_says earlier call span found e h =
-    let same : misplaced span_of earlier call ≡ found = sym (misplaced_mapped span_of earlier call) ∙ ap (misplaced itself (map span_of earlier)) (sym e) ∙ h in
-    subst (λ f. JudgesTimes earlier call (as_wrong f)) same (tests_say (breaks_client earlier call) (breaks_time earlier call))
+    let same : misplaced span_of earlier call ≡ found = sym (misplaced_mapped span_of earlier call) ∙
+    ap (misplaced itself (map span_of earlier)) (sym e) ∙ h in
+    subst (λ f. JudgesTimes earlier call (as_wrong f)) same (tests_say (breaks_client earlier call)
+    (breaks_time earlier call))
 
 -- a call whose times are right is well placed
-pub well_placed : (earlier : List Call) (call : Call) (span : Span) → span ≡ span_of call → JudgesTimes earlier call None → misplaced itself (map span_of earlier) span ≡ None
+pub well_placed : (earlier : List Call) (call : Call) (span : Span) → span ≡ span_of call →
+    JudgesTimes earlier call None → misplaced itself (map span_of earlier) span ≡ None
 well_placed earlier call span e h =
     ap (misplaced itself (map span_of earlier)) e ∙ misplaced_mapped span_of earlier call
-    ∙ ap (λ b. cond b (Some place.Client) (cond (breaks_time earlier call) (Some place.Time) None)) h.0 ∙ ap (λ b. cond b (Some place.Time) None) h.1
+    ∙ ap (λ b. cond b (Some place.Client) (cond (breaks_time earlier call) (Some place.Time) None)) h.0 ∙
+    ap (λ b. cond b (Some place.Time) None) h.1
 
 -- the order of the tests
 abbrev found : Bool → Bool → Bool → Option Wrong → Option Wrong
 found client time reply last = cond client (Some Client) (cond time (Some Time) (cond reply None last))
 
 -- what is wrong with the times is wrong with the call
-pub wrong_times : (s : State) (earlier : List Call) (c : Call) (w : Wrong) → JudgesTimes earlier c (Some w) → wrong_of s earlier c ≡ Some w
-wrong_times s earlier c Client h = ap (λ b. found b (breaks_time earlier c) (is_right c.reply (run s c.task).1) (Some (Reply (run s c.task).1))) h
+pub wrong_times : (s : State) (earlier : List Call) (c : Call) (w : Wrong) → JudgesTimes earlier c (Some w) →
+    wrong_of s earlier c ≡ Some w
+wrong_times s earlier c Client h = ap (λ b. found b (breaks_time earlier c) (is_right c.reply (run s c.task).1)
+    (Some (Reply (run s c.task).1))) h
 wrong_times s earlier c Time h =
     ap (λ b. found b (breaks_time earlier c) (is_right c.reply (run s c.task).1) (Some (Reply (run s c.task).1))) h.0
     ∙ ap (λ b. found false b (is_right c.reply (run s c.task).1) (Some (Reply (run s c.task).1))) h.1
 wrong_times s earlier c (Reply r) h = absurd h
 
 -- where the times are right, the reply decides
-pub wrong_reply : (s : State) (earlier : List Call) (c : Call) (same : Bool) → JudgesTimes earlier c None → same ≡ is_right c.reply (run s c.task).1
+pub wrong_reply : (s : State) (earlier : List Call) (c : Call) (same : Bool) → JudgesTimes earlier c None →
+    same ≡ is_right c.reply (run s c.task).1
     → wrong_of s earlier c ≡ cond same None (Some (Reply (run s c.task).1))
 wrong_reply s earlier c same h e =
     ap (λ b. found b (breaks_time earlier c) (is_right c.reply (run s c.task).1) (Some (Reply (run s c.task).1))) h.0

@@ -1,5 +1,6 @@
 -- A verdict is legal exactly where the calls' order is a linearization.
-use Rattle.std.proofs.Common.{◌≡◌, ℕ, ◌+◌, ◌<◌, ◌≤◌, suc, zero, true, false, List, [], ◌∷◌, length, map, Option, Some, None, Result, Ok, Err, refl, sym, ap, ◌∙◌, subst, inl, inr, arith}
+use Rattle.std.proofs.Common.{◌≡◌, ℕ, ◌+◌, ◌<◌, ◌≤◌, suc, zero, true, false, List, [], ◌∷◌, length, map, Option, Some}
+use Rattle.std.proofs.Common.{None, Result, Ok, Err, refl, sym, ap, ◌∙◌, subst, inl, inr, arith}
 use Rattle.std.specs.Prelude.{⊤, slice_get}
 use mathlib.Core.List.{reverse_aux}
 use Rattle.std.proofs.lemmas.Bool.{cases_lt}
@@ -13,7 +14,8 @@ use Rattle.vac_judge.specs.declared.verdict.Verdict.TheVariants.{Legal}
 use Rattle.vac_judge.specs.Call.{Call, line_call}
 use Rattle.vac_judge.specs.Order.{wrong_of}
 use Rattle.vac_judge.specs.Verdict.{judged, unless_wrong, summary_of, is_legal, verdict_on}
-use Rattle.vac_judge.specs.Laws.{IsAt, GiveReplies, TakeTime, AreSequential, KeepPrecedence, IsLinearization, IsLegalHistory, LegalIsLinearization, state_after, LegalSummary}
+use Rattle.vac_judge.specs.Laws.{IsAt, GiveReplies, TakeTime, AreSequential, KeepPrecedence, IsLinearization}
+use Rattle.vac_judge.specs.Laws.{IsLegalHistory, LegalIsLinearization, state_after, LegalSummary}
 use Rattle.vac_judge.proofs.Order.{Each, FitsBefore, IsRight, right_of, wrong_none}
 
 -- each call is right behind those before it
@@ -33,23 +35,28 @@ CallsOf s earlier lines = (calls : List Call) × (lines ≡ map Ok calls) × All
 false_true : false ≡ true → ⊥
 false_true e = cc
 
-unless_legal : (w : Option Wrong) (line : ℕ) (rest : Verdict) → is_legal (unless_wrong w line rest) ≡ true → (w ≡ None) × (is_legal rest ≡ true)
+unless_legal : (w : Option Wrong) (line : ℕ) (rest : Verdict) → is_legal (unless_wrong w line rest) ≡ true →
+    (w ≡ None) × (is_legal rest ≡ true)
 unless_legal None line rest h = (refl, h)
 unless_legal (Some w) line rest h = absurd (false_true h)
 
-legal_calls : (s : State) (earlier : List Call) (lines : List (Result Call CallFault)) → is_legal (judged s earlier lines) ≡ true → CallsOf s earlier lines
+legal_calls : (s : State) (earlier : List Call) (lines : List (Result Call CallFault)) →
+    is_legal (judged s earlier lines) ≡ true → CallsOf s earlier lines
 legal_calls s earlier [] h = ([], refl, tt)
 legal_calls s earlier (Err fault ∷ rest) h = absurd (false_true h)
 legal_calls s earlier (Ok c ∷ rest) h =
-    let both = unless_legal (wrong_of s earlier c) (length earlier + 1) (judged (run s c.task).0 (c ∷ earlier) rest) h in
+    let both = unless_legal (wrong_of s earlier c) (length earlier + 1)
+    (judged (run s c.task).0 (c ∷ earlier) rest) h in
     let more = legal_calls (run s c.task).0 (c ∷ earlier) rest both.1 in
     (c ∷ more.0, ap (λ t. Ok c ∷ t) more.1, (right_of s earlier c both.0, more.2))
 
 -- calls that are right have this verdict
-calls_legal : (s : State) (earlier calls : List Call) → AllRight s earlier calls → judged s earlier (map Ok calls) ≡ Legal (summary_of (state_after s calls) (reverse_aux calls earlier))
+calls_legal : (s : State) (earlier calls : List Call) → AllRight s earlier calls →
+    judged s earlier (map Ok calls) ≡ Legal (summary_of (state_after s calls) (reverse_aux calls earlier))
 calls_legal s earlier [] h = refl
 calls_legal s earlier (c ∷ cs) h =
-    ap (λ w. unless_wrong w (length earlier + 1) (judged (run s c.task).0 (c ∷ earlier) (map Ok cs))) (wrong_none s earlier c h.0)
+    ap (λ w. unless_wrong w (length earlier + 1) (judged (run s c.task).0 (c ∷ earlier) (map Ok cs)))
+    (wrong_none s earlier c h.0)
     ∙ calls_legal (run s c.task).0 (c ∷ earlier) cs h.1
 
 each_both : {X : Type 0} (P Q : X → Type 0) (xs : List X) → Each P xs → Each Q xs → Each (λ x. P x × Q x) xs
@@ -78,19 +85,28 @@ replies_of s earlier (c ∷ cs) h = (h.0.reply, replies_of (run s c.task).0 (c �
 
 behind_of : (s : State) (earlier calls : List Call) → AllRight s earlier calls → AllBehind earlier calls
 behind_of s earlier [] h = tt
-behind_of s earlier (c ∷ cs) h =
-    (h.0.fits, each_right (FitsBefore c) (λ d. Each (λ e. FitsBefore e d) earlier) cs (behind_of (run s c.task).0 (c ∷ earlier) cs h.1))
+behind_of s earlier (c ∷ cs) h = (
+  h.0.fits,
+  each_right (FitsBefore c) (λ d. Each (λ e. FitsBefore e d) earlier) cs
+      (behind_of (run s c.task).0 (c ∷ earlier) cs h.1),
+)
 
 pairwise_of : (s : State) (earlier calls : List Call) → AllRight s earlier calls → Pairwise calls
 pairwise_of s earlier [] h = tt
-pairwise_of s earlier (c ∷ cs) h =
-    (h.0.own, each_left (FitsBefore c) (λ d. Each (λ e. FitsBefore e d) earlier) cs (behind_of (run s c.task).0 (c ∷ earlier) cs h.1), pairwise_of (run s c.task).0 (c ∷ earlier) cs h.1)
+pairwise_of s earlier (c ∷ cs) h = (
+  h.0.own,
+  each_left (FitsBefore c) (λ d. Each (λ e. FitsBefore e d) earlier) cs
+      (behind_of (run s c.task).0 (c ∷ earlier) cs h.1),
+  pairwise_of (run s c.task).0 (c ∷ earlier) cs h.1,
+)
 
-right_all : (s : State) (earlier calls : List Call) → GiveReplies s calls → AllBehind earlier calls → Pairwise calls → AllRight s earlier calls
+right_all : (s : State) (earlier calls : List Call) → GiveReplies s calls → AllBehind earlier calls → Pairwise calls →
+    AllRight s earlier calls
 right_all s earlier [] g b p = tt
 right_all s earlier (c ∷ cs) g b p = (
   record { own = p.0; fits = b.0; reply = g.0 },
-  right_all (run s c.task).0 (c ∷ earlier) cs g.1 (each_both (FitsBefore c) (λ d. Each (λ e. FitsBefore e d) earlier) cs p.1 b.1) p.2,
+  right_all (run s c.task).0 (c ∷ earlier) cs g.1 (each_both (FitsBefore c)
+      (λ d. Each (λ e. FitsBefore e d) earlier) cs p.1 b.1) p.2,
 )
 
 none_some : (c : Call) → None ≡ Some c → ⊥
@@ -113,10 +129,12 @@ times_of [] p i a e = absurd (none_some a e)
 times_of (c ∷ cs) p zero a e = subst (λ d. d.begin ≤ d.end) (some_same c a e) p.0
 times_of (c ∷ cs) p (suc i) a e = times_of cs p.2 i a e
 
-pub pair_of : (cs : List Call) → Pairwise cs → (i j : ℕ) (a b : Call) → IsAt cs i a → IsAt cs j b → i < j → FitsBefore a b
+pub pair_of : (cs : List Call) → Pairwise cs → (i j : ℕ) (a b : Call) → IsAt cs i a → IsAt cs j b → i < j →
+    FitsBefore a b
 pair_of [] p i j a b e f l = absurd (none_some a e)
 pair_of (c ∷ cs) p i zero a b e f l = absurd (omega arith)
-pair_of (c ∷ cs) p zero (suc j) a b e f l = subst (λ d. FitsBefore d b) (some_same c a e) (each_at (FitsBefore c) cs j b p.1 f)
+pair_of (c ∷ cs) p zero (suc j) a b e f l = subst (λ d. FitsBefore d b) (some_same c a e)
+    (each_at (FitsBefore c) cs j b p.1 f)
 pair_of (c ∷ cs) p (suc i) (suc j) a b e f l = pair_of cs p.2 i j a b e f (omega arith)
 
 pub precedence_of : (cs : List Call) → Pairwise cs → KeepPrecedence cs
@@ -134,7 +152,8 @@ precedence_of cs p i j a b e f l =
       ]
     ]
 
-not_before : (cs : List Call) → KeepPrecedence cs → (i j : ℕ) (a b : Call) → IsAt cs i a → IsAt cs j b → i < j → a.begin ≤ b.end
+not_before : (cs : List Call) → KeepPrecedence cs → (i j : ℕ) (a b : Call) → IsAt cs i a → IsAt cs j b → i < j →
+    a.begin ≤ b.end
 not_before cs k i j a b e f l =
     elim (cases_lt b.end a.begin) [
       | inl h ↦ let back = k j i b a f e h in absurd (omega arith)
@@ -164,7 +183,8 @@ linearized n calls h =
     }
 
 pub right_from : (n : ℕ) (calls : List Call) → IsLinearization n calls → AllRight (empty_state n) [] calls
-right_from n calls h = right_all (empty_state n) [] calls h.replies (each_top calls) (pairwise_from calls h.times h.clients h.precedence)
+right_from n calls h = right_all (empty_state n) [] calls h.replies (each_top calls)
+    (pairwise_from calls h.times h.clients h.precedence)
 
 legal_history : (n : ℕ) (bytes : List ℕ) → is_legal (verdict_on n bytes) ≡ true → IsLegalHistory n bytes
 legal_history n bytes h =

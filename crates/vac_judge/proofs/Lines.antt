@@ -18,24 +18,29 @@ JudgesNext judge after call found =
     (s : State) (earlier : List Call) → Follows judge s earlier → Judges after s earlier call found
 
 -- the number of the next line
-number_is : (judge : Judge) (line : ℕ) (s : State) (earlier : List Call) → line ≡ judge.spans.count + 1 → Follows judge s earlier → length earlier + 1 ≡ line
+number_is : (judge : Judge) (line : ℕ) (s : State) (earlier : List Call) → line ≡ judge.spans.count + 1 →
+    Follows judge s earlier → length earlier + 1 ≡ line
 number_is judge line s earlier n f = sym (n ∙ ap (λ k. k + 1) (f.spans.count_is ∙ length-map earlier span_of))
 
-pub ends_wrong : (judge after : Judge) (read : Result Call CallFault) (call : Call) (line : ℕ) (wrong : Wrong) → read ≡ Ok call → line ≡ judge.spans.count + 1
+pub ends_wrong : (judge after : Judge) (read : Result Call CallFault) (call : Call) (line : ℕ) (wrong : Wrong) →
+    read ≡ Ok call → line ≡ judge.spans.count + 1
     → JudgesNext judge after call (Some wrong) → Ends judge read (Illegal line wrong)
 ends_wrong judge after read call line wrong e n h = record {
   on = λ s earlier f more. ap (λ l. judged s earlier (l ∷ more)) e
-      ∙ ap (λ w. unless_wrong w (length earlier + 1) (judged (run s call.task).0 (call ∷ earlier) more)) (h s earlier f).found_is
+      ∙ ap (λ w. unless_wrong w (length earlier + 1) (judged (run s call.task).0 (call ∷ earlier) more))
+      (h s earlier f).found_is
       ∙ ap (λ k. Illegal k wrong) (number_is judge line s earlier n f);
 }
 
-pub takes_call : (judge after : Judge) (read : Result Call CallFault) (call : Call) → read ≡ Ok call → JudgesNext judge after call None → Takes judge after read
+pub takes_call : (judge after : Judge) (read : Result Call CallFault) (call : Call) → read ≡ Ok call →
+    JudgesNext judge after call None → Takes judge after read
 takes_call judge after read call e h = record {
   on = λ s earlier f. (
     (run s call.task).0,
     call ∷ earlier,
     (h s earlier f).taken refl,
     λ more. ap (λ l. judged s earlier (l ∷ more)) e
-        ∙ ap (λ w. unless_wrong w (length earlier + 1) (judged (run s call.task).0 (call ∷ earlier) more)) (h s earlier f).found_is,
+        ∙ ap (λ w. unless_wrong w (length earlier + 1) (judged (run s call.task).0 (call ∷ earlier) more))
+        (h s earlier f).found_is,
   );
 }

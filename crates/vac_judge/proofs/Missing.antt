@@ -1,5 +1,7 @@
 -- A verdict that names a missing task names the first that is left out.
-use Rattle.std.proofs.Common.{◌≡◌, ◌⊎◌, ℕ, ◌+◌, ◌<◌, ◌≤◌, ◌==◌, ◌&&◌, suc, zero, Bool, true, false, not, cond, List, [], ◌∷◌, ◌++◌, length, map, Option, Some, None, Result, Ok, Err, refl, sym, ap, subst, ◌∙◌, inl, inr, arith, append_assoc, length-append, nat_le}
+use Rattle.std.proofs.Common.{◌≡◌, ◌⊎◌, ℕ, ◌+◌, ◌<◌, ◌≤◌, ◌==◌, ◌&&◌, suc, zero, Bool, true, false, not, cond, List, []}
+use Rattle.std.proofs.Common.{◌∷◌, ◌++◌, length, map, Option, Some, None, Result, Ok, Err, refl, sym, ap, subst, ◌∙◌}
+use Rattle.std.proofs.Common.{inl, inr, arith, append_assoc, length-append, nat_le}
 use Rattle.std.proofs.lemmas.Bool.{cases_lt}
 use Rattle.std.proofs.lemmas.Bool.Decides.{nat_tests}
 use Rattle.std.proofs.lemmas.List.{map-append}
@@ -11,11 +13,13 @@ use Rattle.vac_judge.specs.declared.held.HeldVerdict.TheVariants.{BadTasks, Miss
 use Rattle.vac_judge.specs.Call.{Call, line_call}
 use Rattle.vac_judge.specs.Verdict.{verdict_on, is_legal}
 use Rattle.vac_judge.specs.Laws.{LegalIsLinearization}
-use Rattle.vac_judge.specs.Work.{Asked, line_asked, work_of, tasks_of, made_by, has_stopped, first_foreign, calls_in, is_missing, first_missing, unless_missing, joined_verdict, held_by, held_verdict}
+use Rattle.vac_judge.specs.Work.{Asked, line_asked, work_of, tasks_of, made_by, has_stopped, first_foreign, calls_in}
+use Rattle.vac_judge.specs.Work.{is_missing, first_missing, unless_missing, joined_verdict, held_by, held_verdict}
 use Rattle.vac_judge.specs.Whole.{asked_by, forms}
 use Rattle.vac_judge.specs.NotWhole.{AskForFirst, AsksFor, IsSettled, IsLeftOut, IsFirstMissing, MissingIsFirst}
 use Rattle.vac_judge.proofs.Handed.{Test, test, found_open}
-use Rattle.vac_judge.proofs.Done.{false_true, work_lines, lines_work, goes_on, none_foreign, made_in, stopped_in, not_both, closed_more, closed_stop, forms_size}
+use Rattle.vac_judge.proofs.Done.{false_true, work_lines, lines_work, goes_on, none_foreign, made_in, stopped_in}
+use Rattle.vac_judge.proofs.Done.{not_both, closed_more, closed_stop, forms_size}
 use Rattle.vac_judge.proofs.NotWhole.{named_missing, asked_split, tasks_split}
 
 -- ---- a call that asks for a task

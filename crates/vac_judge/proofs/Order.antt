@@ -1,5 +1,6 @@
 -- What the tests on a call say of it and the calls before it.
-use Rattle.std.proofs.Common.{◌≡◌, ℕ, ◌≤◌, Bool, true, false, cond, List, [], ◌∷◌, Option, Some, None, refl, sym, ap, ◌∙◌, nat_lt}
+use Rattle.std.proofs.Common.{◌≡◌, ℕ, ◌≤◌, Bool, true, false, cond, List, [], ◌∷◌, Option, Some, None, refl, sym, ap}
+use Rattle.std.proofs.Common.{◌∙◌, nat_lt}
 use Rattle.std.specs.Prelude.{⊤}
 use Rattle.std.specs.List.{list_any}
 use Rattle.std.proofs.lemmas.Slice.Eq.{bytes_eq-Decides}
@@ -32,20 +33,27 @@ pub record IsRight (s : State) (earlier : List Call) (c : Call) : Type 0 where
   pub reply : IsAnswerOf (run s c.task).1 c.reply
 
 -- two tests that pass none say that all fit
-fits_all : (c : Call) (earlier : List Call) → list_any (spans.overlaps span_of c) earlier ≡ false → list_any (spans.ended_before span_of c) earlier ≡ false → Each (λ e. FitsBefore e c) earlier
+fits_all : (c : Call) (earlier : List Call) → list_any (spans.overlaps span_of c) earlier ≡ false →
+    list_any (spans.ended_before span_of c) earlier ≡ false → Each (λ e. FitsBefore e c) earlier
 fits_all c [] h g = tt
 fits_all c (e ∷ es) h g =
     let x = both_false (spans.overlaps span_of c e) (list_any (spans.overlaps span_of c) es) h in
-    let y = both_false (spans.ended_before span_of c e) (list_any (spans.ended_before span_of c) es) g in
-    (record { turn = turn_from e.client c.client c.begin e.end x.0; time = time_from c.end e.begin y.0 }, fits_all c es x.1 y.1)
+    let y = both_false (spans.ended_before span_of c e) (list_any (spans.ended_before span_of c) es) g in (
+      record { turn = turn_from e.client c.client c.begin e.end x.0; time = time_from c.end e.begin y.0 },
+      fits_all c es x.1 y.1,
+    )
 
-none_overlaps : (c : Call) (earlier : List Call) → Each (λ e. FitsBefore e c) earlier → list_any (spans.overlaps span_of c) earlier ≡ false
+none_overlaps : (c : Call) (earlier : List Call) → Each (λ e. FitsBefore e c) earlier →
+    list_any (spans.overlaps span_of c) earlier ≡ false
 none_overlaps c [] h = refl
-none_overlaps c (e ∷ es) h = false_both (spans.overlaps span_of c e) (list_any (spans.overlaps span_of c) es) (turn_test e.client c.client c.begin e.end h.0.turn) (none_overlaps c es h.1)
+none_overlaps c (e ∷ es) h = false_both (spans.overlaps span_of c e) (list_any (spans.overlaps span_of c) es)
+    (turn_test e.client c.client c.begin e.end h.0.turn) (none_overlaps c es h.1)
 
-none_ended : (c : Call) (earlier : List Call) → Each (λ e. FitsBefore e c) earlier → list_any (spans.ended_before span_of c) earlier ≡ false
+none_ended : (c : Call) (earlier : List Call) → Each (λ e. FitsBefore e c) earlier →
+    list_any (spans.ended_before span_of c) earlier ≡ false
 none_ended c [] h = refl
-none_ended c (e ∷ es) h = false_both (spans.ended_before span_of c e) (list_any (spans.ended_before span_of c) es) (time_test c.end e.begin h.0.time) (none_ended c es h.1)
+none_ended c (e ∷ es) h = false_both (spans.ended_before span_of c e) (list_any (spans.ended_before span_of c) es)
+    (time_test c.end e.begin h.0.time) (none_ended c es h.1)
 
 -- the order of the tests
 abbrev pub found : Bool → Bool → Bool → Option Wrong → Option Wrong
@@ -54,7 +62,8 @@ found client time reply last = cond client (Some wrong.Client) (cond time (Some 
 some_none : (w : Wrong) → Some w ≡ None → ⊥
 some_none w e = cc
 
-found_none : (client time reply : Bool) (w : Wrong) → found client time reply (Some w) ≡ None → (client ≡ false) × (time ≡ false) × (reply ≡ true)
+found_none : (client time reply : Bool) (w : Wrong) → found client time reply (Some w) ≡ None →
+    (client ≡ false) × (time ≡ false) × (reply ≡ true)
 found_none true time reply w h = absurd (some_none wrong.Client h)
 found_none false true reply w h = absurd (some_none wrong.Time h)
 found_none false false true w h = (refl, refl, refl)
@@ -72,7 +81,8 @@ of_answer r (Some text) h = (bytes_eq-Decides text (reply_text r)).1 (sym h)
 -- no wrong is found in a call that is right, and in no other
 pub right_of : (s : State) (earlier : List Call) (c : Call) → wrong_of s earlier c ≡ None → IsRight s earlier c
 right_of s earlier c h =
-    let tests = found_none (breaks_client earlier c) (breaks_time earlier c) (is_right c.reply (run s c.task).1) (wrong.Reply (run s c.task).1) h in
+    let tests = found_none (breaks_client earlier c) (breaks_time earlier c) (is_right c.reply (run s c.task).1)
+    (wrong.Reply (run s c.task).1) h in
     let client = both_false (nat_lt c.end c.begin) (list_any (spans.overlaps span_of c) earlier) tests.0 in
     record {
       own = time_from c.end c.begin client.0;
@@ -83,7 +93,9 @@ right_of s earlier c h =
 pub wrong_none : (s : State) (earlier : List Call) (c : Call) → IsRight s earlier c → wrong_of s earlier c ≡ None
 wrong_none s earlier c h =
     let last : Option Wrong = Some (wrong.Reply (run s c.task).1) in
-    let client : breaks_client earlier c ≡ false = false_both (nat_lt c.end c.begin) (list_any (spans.overlaps span_of c) earlier) (time_test c.end c.begin h.own) (none_overlaps c earlier h.fits) in
+    let client : breaks_client earlier c ≡ false = false_both (nat_lt c.end c.begin)
+    (list_any (spans.overlaps span_of c) earlier) (time_test c.end c.begin h.own)
+    (none_overlaps c earlier h.fits) in
     let reply : is_right c.reply (run s c.task).1 ≡ true = of_answer (run s c.task).1 c.reply h.reply in
     ap (λ b. found b (breaks_time earlier c) (is_right c.reply (run s c.task).1) last) client
     ∙ ap (λ b. found false b (is_right c.reply (run s c.task).1) last) (none_ended c earlier h.fits)

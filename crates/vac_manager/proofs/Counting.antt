@@ -46,9 +46,12 @@ one_conflict (LostTick found) e = record { attempts = refl; kinds = omega arith;
 -- each attempt of these ended in a conflict
 pub each_counted : (cs : List Conflict) → (effort_of cs).attempts ≡ conflicts_of (effort_of cs)
 each_counted [] = refl
-each_counted (c ∷ cs) = let k = one_conflict c (effort_of cs) in let e = each_counted cs in omega (arith, k.attempts, k.kinds, e)
+each_counted (c ∷ cs) = let k = one_conflict c (effort_of cs) in let e = each_counted cs in
+    omega (arith, k.attempts, k.kinds, e)
 
 -- and each of these conflicts but the lost ticks is over a lock
-pub each_located : (cs : List Conflict) → locks_of (effort_of cs) + (effort_of cs).lost_tick ≡ conflicts_of (effort_of cs)
+pub each_located : (cs : List Conflict) → locks_of (effort_of cs) + (effort_of cs).lost_tick ≡ conflicts_of
+    (effort_of cs)
 each_located [] = refl
-each_located (c ∷ cs) = let k = one_conflict c (effort_of cs) in let e = each_located cs in omega (arith, k.locks, k.kinds, e)
+each_located (c ∷ cs) = let k = one_conflict c (effort_of cs) in let e = each_located cs in
+    omega (arith, k.locks, k.kinds, e)

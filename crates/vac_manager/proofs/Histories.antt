@@ -1,5 +1,6 @@
 -- A client that is alone has the whole history, and each call leads it on.
-use Rattle.std.proofs.Common.{◌≡◌, ◌≢◌, ℕ, zero, suc, List, [], ◌∷◌, ◌++◌, append_assoc, append-nil, false, inl, inr, Result, Ok, Err, IfOk, refl, sym, ap, subst, ◌∙◌, arith}
+use Rattle.std.proofs.Common.{◌≡◌, ◌≢◌, ℕ, zero, suc, List, [], ◌∷◌, ◌++◌, append_assoc, append-nil, false, inl, inr}
+use Rattle.std.proofs.Common.{Result, Ok, Err, IfOk, refl, sym, ap, subst, ◌∙◌, arith}
 use mathlib.Core.Option.{some, some-injective, some-ne-none}
 use lib.ListN.{get_elem?}
 use Rattle.tx_memory.specs.Image.{In}
@@ -22,7 +23,8 @@ use Rattle.vac_manager.specs.Called.{HasAllGrants, Adds, Records, Continues, Lea
 use Rattle.vac_manager.proofs.Adding.{in_snoc, inserted_last}
 
 -- a sorted list of which nothing stands before what is in another is put behind it
-merged_last : (l m : List Record) → Sorted m → ((x y : Record) → In x l → In y m → before y x ≡ false) → merged l m ≡ l ++ m
+merged_last : (l m : List Record) → Sorted m → ((x y : Record) → In x l → In y m → before y x ≡ false) →
+    merged l m ≡ l ++ m
 merged_last l [] s f = sym (append-nil l)
 merged_last l (y ∷ m) s f =
     ap (λ (k : List Record). merged k m) (inserted_last y l (λ x i. f x y i (zero, refl)))
@@ -35,17 +37,20 @@ merged_last l (y ∷ m) s f =
 all_none : (cs : List Client) → ((i : ℕ) (v : Client) → get_elem? cs i ≡ some v → v.records ≡ []) → all_records cs ≡ []
 all_none [] f = refl
 all_none (v ∷ cs) f =
-    ap (λ (l : List Record). merged l (all_records cs)) (f 0 v refl) ∙ ap (λ (l : List Record). merged [] l) (all_none cs (λ i w e. f (suc i) w e))
+    ap (λ (l : List Record). merged l (all_records cs)) (f 0 v refl) ∙ ap (λ (l : List Record). merged [] l)
+    (all_none cs (λ i w e. f (suc i) w e))
 
 -- where the others have none, one client's records are all there are
-all_of_one : (cs : List Client) (i : ℕ) (v : Client) → get_elem? cs i ≡ some v → Sorted v.records → ((j : ℕ) (w : Client) → get_elem? cs j ≡ some w → j ≢ i → w.records ≡ []) → all_records cs ≡ v.records
+all_of_one : (cs : List Client) (i : ℕ) (v : Client) → get_elem? cs i ≡ some v → Sorted v.records →
+    ((j : ℕ) (w : Client) → get_elem? cs j ≡ some w → j ≢ i → w.records ≡ []) → all_records cs ≡ v.records
 all_of_one [] i v e s f = absurd (some-ne-none v (sym e))
 all_of_one (x ∷ cs) zero v e s f =
     ap (λ (l : List Record). merged x.records l) (all_none cs (λ i w t. f (suc i) w t (λ z. omega (arith, z))))
     ∙ ap (λ (c : Client). c.records) (some-injective x v e)
 all_of_one (x ∷ cs) (suc i) v e s f =
     ap (λ (l : List Record). merged l (all_records cs)) (f zero x refl (λ z. omega (arith, z)))
-    ∙ (ap (λ (l : List Record). merged [] l) (all_of_one cs i v e s (λ j w t n. f (suc j) w t (λ z. n (omega (arith, z)))))
+    ∙ (ap (λ (l : List Record). merged [] l) (all_of_one cs i v e s
+    (λ j w t n. f (suc j) w t (λ z. n (omega (arith, z)))))
     ∙ merged_last [] v.records s (λ x y i j. absurd (nothing_in x i)))
 
 -- the records of a client with all grants are a history
@@ -60,14 +65,16 @@ whole region v h all =
     let records : then.records ≡ v.records = ap (λ (c : Client). c.records) same in
     let alone = all_grants law (stripe_of region.stripes) k.core k.rule k.number then k.member out (grants ∙ all) in
     let sorted = own_sorted law (stripe_of region.stripes) k.core k.rule k.number then k.member in
-    let mine = all_of_one k.core.clients k.number then k.member sorted (λ j w t n. ap (λ (c : Client). c.records) (k.rule.past.are_gone j w t (alone j w t n))) in
+    let mine = all_of_one k.core.clients k.number then k.member sorted
+    (λ j w t n. ap (λ (c : Client). c.records) (k.rule.past.are_gone j w t (alone j w t n))) in
     (h.last, subst (λ (rs : List Record). IsHistory region rs h.last) (mine ∙ records) h.legal)
 
 -- a record's tag says its task and its reply
 one_step : (r : Record) (s a b : State) → Runs r s a → Runs r s b → a ≡ b
 one_step r s a b p q =
     let same = code_determines p.task q.task p.reply q.reply (sym p.told ∙ q.told) in
-    sym (ap (λ (x : State × Reply). x.0) p.runs) ∙ (ap (λ (t : Task). (run s t).0) same.0 ∙ ap (λ (x : State × Reply). x.0) q.runs)
+    sym (ap (λ (x : State × Reply). x.0) p.runs) ∙ (ap (λ (t : Task). (run s t).0) same.0 ∙
+    ap (λ (x : State × Reply). x.0) q.runs)
 
 -- a history leads to one state
 pub one_last : (s : State) (rs : List Record) (a b : State) → IsLegal s rs a → IsLegal s rs b → a ≡ b
@@ -76,28 +83,34 @@ one_last s (r ∷ rs) a b h g =
     let same = one_step r s h.0 g.0 h.1 g.1 in
     one_last g.0 rs a b (subst (λ (x : State). IsLegal x rs a) same h.2) g.2
 
-last_runs : (s : State) (rs : List Record) (r : Record) (last : State) → IsLegal s (rs ++ (r ∷ [])) last → (mid : State) × IsLegal s rs mid × Runs r mid last
+last_runs : (s : State) (rs : List Record) (r : Record) (last : State) → IsLegal s (rs ++ (r ∷ [])) last →
+    (mid : State) × IsLegal s rs mid × Runs r mid last
 last_runs s [] r last h = (s, refl, subst (λ (x : State). Runs r s x) h.2 h.1)
 last_runs s (x ∷ rs) r last h = let q = last_runs h.0 rs r last h.2 in (q.0, (h.0, h.1, q.1), q.2)
 
-leads_on : (region : RegionShown) (t : Task) (reply : Reply) (v v' : Client) → Adds region.renewal (code t reply) v v' → IsWhole region v' → (s : State) → IsHistory region v.records s →
+leads_on : (region : RegionShown) (t : Task) (reply : Reply) (v v' : Client) → Adds region.renewal (code t reply) v v' →
+    IsWhole region v' → (s : State) → IsHistory region v.records s →
     LeadsOn region t reply s v'
 leads_on region t reply v v' a w s h =
-    let q = last_runs (empty_state (capacity_of region)) v.records a.added w.0 (subst (λ (rs : List Record). IsHistory region rs w.0) a.records w.1) in
+    let q = last_runs (empty_state (capacity_of region)) v.records a.added w.0
+    (subst (λ (rs : List Record). IsHistory region rs w.0) a.records w.1) in
     let same = one_last (empty_state (capacity_of region)) v.records q.0 s q.1 h in
     let p : Runs a.added s w.0 = subst (λ (x : State). Runs a.added x w.0) same q.2 in
     let c = code_determines t p.task reply p.reply (sym a.tag_is ∙ p.told) in
-    let ran : run s t ≡ (w.0, reply) = ap (λ (u : Task). run s u) c.0 ∙ (p.runs ∙ ap (λ (r : Reply). (w.0, r)) (sym c.1)) in
+    let ran : run s t ≡ (w.0, reply) = ap (λ (u : Task). run s u) c.0 ∙
+    (p.runs ∙ ap (λ (r : Reply). (w.0, r)) (sym c.1)) in
     record {
       reply_is = sym (ap (λ (x : State × Reply). x.1) ran);
       history = subst (λ (x : State). IsHistory region v'.records x) (sym (ap (λ (x : State × Reply). x.0) ran)) w.1;
     }
 
-pub continues : {E : Type 0} (region : RegionShown) (t : Task) (result : Result Reply E) (v v' : Client) → Records region t result v v' → IfOk result (λ _. IsWhole region v') → Continues region t result v v'
+pub continues : {E : Type 0} (region : RegionShown) (t : Task) (result : Result Reply E) (v v' : Client) →
+    Records region t result v v' → IfOk result (λ _. IsWhole region v') → Continues region t result v v'
 continues region t (Ok reply) v v' a w = λ s h. leads_on region t reply v v' a w s h
 continues region t (Err e) v v' r w = λ s h. subst (λ (rs : List Record). IsHistory region rs s) (sym r) h
 
 -- the same at a result that was made of another
-pub whole_of : {E : Type 0} (region : RegionShown) (result : Result Reply E) (v v' : Client) → IfOk result (λ _. WasLegal region v') → v'.grants ≡ v.grants → HasAllGrants v → IfOk result (λ _. IsWhole region v')
+pub whole_of : {E : Type 0} (region : RegionShown) (result : Result Reply E) (v v' : Client) →
+    IfOk result (λ _. WasLegal region v') → v'.grants ≡ v.grants → HasAllGrants v → IfOk result (λ _. IsWhole region v')
 whole_of region (Ok reply) v v' h same all = whole region v' h (same ∙ all)
 whole_of region (Err e) v v' h same all = tt

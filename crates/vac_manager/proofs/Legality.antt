@@ -17,7 +17,8 @@ use Rattle.vac_manager.specs.Called.{IsOpened}
 same_shown : (image : List ℕ) (s s' : State) → Shows image s → Shows image s' → s ≡ s'
 same_shown image s s' h g = one_state (words_of image) (length image) [] [] s s' h.represents g.represents
 
-pub legal : (image : List ℕ) (s : State) (rs : List Record) → Shows image s → Serial image rs → ((r : Record) → In r rs → IsLawful r.tag r.reads r.writes) →
+pub legal : (image : List ℕ) (s : State) (rs : List Record) → Shows image s → Serial image rs →
+    ((r : Record) → In r rs → IsLawful r.tag r.reads r.writes) →
     (last : State) × (IsLegal s rs last × Shows (image_after image rs) last)
 legal image s [] h serial lawful = (s, (refl, h))
 legal image s (r ∷ rs) h serial lawful =
@@ -37,8 +38,10 @@ legal image s (r ∷ rs) h serial lawful =
     (rest.0, ((after, step, rest.1.0), rest.1.1))
 
 -- what was known at the deciding step, in the manager's words
-pub was_legal : (region : RegionShown) (r : Record) (earlier : List Record) (v : Client) → Shows region.first (empty_state (capacity_of region)) → v.is_gathered ≡ false → v.records ≡ earlier ++ (r ∷ []) →
-    WasDecided (λ (image : List ℕ). IsFitting image) (λ (tag : List ℕ) reads writes. IsLawful tag reads writes) region r v → WasLegal region v
+pub was_legal : (region : RegionShown) (r : Record) (earlier : List Record) (v : Client) →
+    Shows region.first (empty_state (capacity_of region)) → v.is_gathered ≡ false → v.records ≡ earlier ++ (r ∷ []) →
+    WasDecided (λ (image : List ℕ). IsFitting image) (λ (tag : List ℕ) reads writes. IsLawful tag reads writes) region r
+    v → WasLegal region v
 was_legal region r earlier v h out newest d =
     let k = d.decides in
     let all = all_records k.core.clients in
@@ -56,13 +59,20 @@ was_legal region r earlier v h out newest d =
     }
 
 -- the region of an attempt is the one that it began in
-pub committed_legal : (region region' : RegionShown) (r : Record) (earlier : List Record) (v v' : Client) → region' ≡ region → IsOpened region → v.is_gathered ≡ false → v.records ≡ earlier ++ (r ∷ []) →
-    WasDecided (λ (image : List ℕ). IsFitting image) (λ (tag : List ℕ) reads writes. IsLawful tag reads writes) region' r v → v' ≡ v → WasLegal region v'
+pub committed_legal : (region region' : RegionShown) (r : Record) (earlier : List Record) (v v' : Client) →
+    region' ≡ region → IsOpened region → v.is_gathered ≡ false → v.records ≡ earlier ++ (r ∷ []) →
+    WasDecided (λ (image : List ℕ). IsFitting image) (λ (tag : List ℕ) reads writes. IsLawful tag reads writes) region'
+    r v → v' ≡ v → WasLegal region v'
 committed_legal region region' r earlier v v' same h out newest d e =
     subst (λ (x : Client). WasLegal region x) (sym e)
-    (was_legal region r earlier v h.shown out newest (subst (λ (y : RegionShown). WasDecided (λ (image : List ℕ). IsFitting image) (λ (tag : List ℕ) reads writes. IsLawful tag reads writes) y r v) same d))
+    (was_legal region r earlier v h.shown out newest (subst (λ (y : RegionShown). WasDecided
+    (λ (image : List ℕ). IsFitting image) (λ (tag : List ℕ) reads writes. IsLawful tag reads writes) y r v) same d))
 
 -- the same of a task that only read
-pub finished_legal : (region region' : RegionShown) (r : Record) (earlier : List Record) (v v' : Client) → region' ≡ region → IsOpened region → v.is_gathered ≡ false → v.records ≡ earlier ++ (r ∷ []) →
-    DecidesWith (λ (image : List ℕ). IsFitting image) (λ (tag : List ℕ) reads writes. IsLawful tag reads writes) region' r v → v' ≡ v → WasLegal region v'
-finished_legal region region' r earlier v v' same h out newest k e = committed_legal region region' r earlier v v' same h out newest (record { then = v; same = refl; decides = k.0; made = k.1 }) e
+pub finished_legal : (region region' : RegionShown) (r : Record) (earlier : List Record) (v v' : Client) →
+    region' ≡ region → IsOpened region → v.is_gathered ≡ false → v.records ≡ earlier ++ (r ∷ []) →
+    DecidesWith (λ (image : List ℕ). IsFitting image) (λ (tag : List ℕ) reads writes. IsLawful tag reads writes) region'
+    r v → v' ≡ v → WasLegal region v'
+finished_legal region region' r earlier v v' same h out newest k e =
+    committed_legal region region' r earlier v v' same h out newest
+    (record { then = v; same = refl; decides = k.0; made = k.1 }) e

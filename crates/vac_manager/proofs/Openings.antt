@@ -39,18 +39,31 @@ fresh_size xs ys n size e h same = same ∙ (ap (λ (zs : List ℕ). length zs) 
 capacity_is : (region : RegionShown) (n : ℕ) → region.size ≡ 16 + 8 * n → capacity_of region ≡ n
 capacity_is region n e = omega (arith, e)
 
-pub opened_on : (region : RegionShown) (xs ys : List ℕ) (n : ℕ) → ys ≡ xs → IsFresh xs n → region.size ≡ length ys → region.first ≡ ys → length ys ≤ 4194304 → IsOpened region
+pub opened_on : (region : RegionShown) (xs ys : List ℕ) (n : ℕ) → ys ≡ xs → IsFresh xs n → region.size ≡ length ys →
+    region.first ≡ ys → length ys ≤ 4194304 → IsOpened region
 opened_on region xs ys n e h size first few =
     let all = fresh_size xs ys n region.size e h size in
     let capacity = capacity_is region n all in
     record {
       size = omega (arith, all, capacity);
       small = omega (arith, size, few);
-      shown = subst (λ (k : ℕ). Shows region.first (empty_state k)) (sym capacity) (subst (λ (zs : List ℕ). Shows zs (empty_state n)) (sym first) (fresh_shows xs ys n e h));
+      shown = subst (λ (k : ℕ). Shows region.first (empty_state k)) (sym capacity)
+          (subst (λ (zs : List ℕ). Shows zs (empty_state n)) (sym first) (fresh_shows xs ys n e h));
     }
 
-pub opens : (region : RegionShown) (client : ClientShown) (xs ys : List ℕ) (n last stripes : ℕ) → ys ≡ xs → IsFresh xs n → region ≡ record { table = region.table; size = length ys; last = last; stripes = stripes; opening = ys; first = ys; renewal = 0; start = opener } →
-    client ≡ record { table = region.table; value = opener } → Opens n last stripes region (record { table = client.table; value = client.value; start = 0; next = 1 })
+pub opens : (region : RegionShown) (client : ClientShown) (xs ys : List ℕ) (n last stripes : ℕ) → ys ≡ xs →
+    IsFresh xs n → region ≡ record {
+      table = region.table;
+      size = length ys;
+      last = last;
+      stripes = stripes;
+      opening = ys;
+      first = ys;
+      renewal = 0;
+      start = opener;
+    } →
+    client ≡ record { table = region.table; value = opener } →
+    Opens n last stripes region (record { table = client.table; value = client.value; start = 0; next = 1 })
 opens region client xs ys n last stripes e h is c =
     let all = fresh_size xs ys n region.size e h (ap (λ (r : RegionShown). r.size) is) in
     let opening : region.opening ≡ ys = ap (λ (r : RegionShown). r.opening) is in
@@ -66,7 +79,9 @@ opens region client xs ys n last stripes e h is c =
       client_is = ap (λ (x : ClientShown). record { table = x.table; value = x.value; start = 0; next = 1 }) c;
     }
 
-closes_in : (region : RegionShown) (v : Client) (words : List ℕ) (version : ℕ) → IsOpened region → Ends (λ (tag : List ℕ) reads writes. IsLawful tag reads writes) region v words version → Closes region v words version
+closes_in : (region : RegionShown) (v : Client) (words : List ℕ) (version : ℕ) → IsOpened region →
+    Ends (λ (tag : List ℕ) reads writes. IsLawful tag reads writes) region v words version →
+    Closes region v words version
 closes_in region v words version h k =
     let l = legal region.first (empty_state (capacity_of region)) v.records h.shown k.serial k.abides in
     record {
@@ -77,12 +92,15 @@ closes_in region v words version h k =
       versioned = versioned region v words version k;
     }
 
-pub closes : (region region' : RegionShown) (v v' : Client) (words : List ℕ) (version : ℕ) → IsOpened region → Ends (λ (tag : List ℕ) reads writes. IsLawful tag reads writes) region v words version → region' ≡ region → v' ≡ v → Closes region' v' words version
+pub closes : (region region' : RegionShown) (v v' : Client) (words : List ℕ) (version : ℕ) → IsOpened region →
+    Ends (λ (tag : List ℕ) reads writes. IsLawful tag reads writes) region v words version → region' ≡ region → v' ≡ v →
+    Closes region' v' words version
 closes region region' v v' words version h k e f =
     subst (λ (r : RegionShown). Closes r v' words version) (sym e)
     (subst (λ (x : Client). Closes region x words version) (sym f) (closes_in region v words version h k))
 
-pub only_of : (rs xs xs' ys ys' : List Record) → ((r : Record) → In r rs → In r xs ⊎ In r ys) → xs' ≡ xs → ys' ≡ ys → (r : Record) → In r rs → In r xs' ⊎ In r ys'
+pub only_of : (rs xs xs' ys ys' : List Record) → ((r : Record) → In r rs → In r xs ⊎ In r ys) → xs' ≡ xs → ys' ≡ ys →
+    (r : Record) → In r rs → In r xs' ⊎ In r ys'
 only_of rs xs xs' ys ys' h e f =
     subst (λ (zs : List Record). (r : Record) → In r rs → In r zs ⊎ In r ys') (sym e)
     (subst (λ (zs : List Record). (r : Record) → In r rs → In r xs ⊎ In r zs) (sym f) h)

@@ -1,5 +1,6 @@
 -- Plain memory of words that represent a state, and its report.
-use Rattle.std.proofs.Common.{◌≡◌, inl, inr, ℕ, List, Option, Some, None, length, slice_index, unwrap_or, refl, sym, ap, ◌∙◌, subst, arith}
+use Rattle.std.proofs.Common.{◌≡◌, inl, inr, ℕ, List, Option, Some, None, length, slice_index, unwrap_or, refl, sym, ap}
+use Rattle.std.proofs.Common.{◌∙◌, subst, arith}
 use Rattle.std.specs.FinMap.{get-empty}
 use Rattle.std.specs.Ordering.{nat_cmp}
 use Rattle.std.proofs.lemmas.List.{get_or_past}
@@ -20,7 +21,8 @@ none_some o v e f = cc
 flat_at : (xs image : List ℕ) (a : ℕ) → length image ≡ length xs → memory image (numbered 0 xs) a ≡ slice_index xs a
 flat_at xs image a e = elim (cases_lt a (length xs)) [
   | inl inside ↦ ap (λ (o : Option ℕ). unwrap_or o (slice_index image a)) (get_at xs a inside)
-  | inr behind ↦ ap (λ (o : Option ℕ). unwrap_or o (slice_index image a)) (get_behind xs 0 a (omega arith)) ∙ (get_or_past image a 0 (omega arith) ∙ sym (get_or_past xs a 0 behind))
+  | inr behind ↦ ap (λ (o : Option ℕ). unwrap_or o (slice_index image a)) (get_behind xs 0 a (omega arith)) ∙
+      (get_or_past image a 0 (omega arith) ∙ sym (get_or_past xs a 0 behind))
 ]
 
 flat_mem : (xs image : List ℕ) → length image ≡ length xs → mem (flat_view xs) image ≡ words_of xs
@@ -37,8 +39,13 @@ fitting_holds words xs same fitting =
     }
 
 -- the report over them is that of their state
-pub reports : (words xs xs' : List ℕ) (r : Report) → xs ≡ words → Reported (flat_view xs) (flat_view xs') r → (s : State) → Shows words s → report s ≡ r
+pub reports : (words xs xs' : List ℕ) (r : Report) → xs ≡ words → Reported (flat_view xs) (flat_view xs') r →
+    (s : State) → Shows words s → report s ≡ r
 reports words xs xs' r same h s shown =
     let long : length xs ≡ length xs' = sym h.reads.kept.size in
-    let i : Sees (flat_view xs') xs = record { fits = long; agrees = λ a v e. absurd (none_some _ v (get-empty nat_cmp a) e) } in
+    let i : Sees (flat_view xs') xs = record {
+      fits = long;
+      agrees = λ a v e. absurd (none_some _ v
+          (get-empty nat_cmp a) e);
+    } in
     h.is xs s i (rw (flat_mem xs xs refl, same) shown)

@@ -1,5 +1,6 @@
 -- The rows of what clap finds: where no step fails, each has a value that its rule accepts.
-use Rattle.std.proofs.Common.{◌≡◌, ◌<◌, ◌++◌, ◌||◌, ◌&&◌, ◌∙◌, ℕ, Bool, cond, true, false, List, [], ◌∷◌, length, Some, None, refl, sym, ap, subst, nat_lt, arith}
+use Rattle.std.proofs.Common.{◌≡◌, ◌<◌, ◌++◌, ◌||◌, ◌&&◌, ◌∙◌, ℕ, Bool, cond, true, false, List, [], ◌∷◌, length, Some}
+use Rattle.std.proofs.Common.{None, refl, sym, ap, subst, nat_lt, arith}
 use Rattle.std.specs.Prelude.{⊤, find, slice_get}
 use Rattle.std.specs.Str.{bytes_eq}
 use Rattle.std.proofs.lemmas.Bool.{ltb-true}
@@ -8,7 +9,8 @@ use Rattle.clap.specs.Facts.{parser_of_value, unwrap_or_range}
 use Rattle.clap.specs.Values.{is_request}
 use Rattle.clap.specs.ValueTests.{accepts}
 use Rattle.clap.specs.Takes.{value_passes}
-use Rattle.clap.specs.Walk.{Row, Rule, Text, action_of, arg_by_id, at_row, more_values, reading_by, used, used_as, values_or_missing, with_values, without}
+use Rattle.clap.specs.Walk.{Row, Rule, Text, action_of, arg_by_id, at_row, more_values, reading_by, used, used_as}
+use Rattle.clap.specs.Walk.{values_or_missing, with_values, without}
 use Rattle.clap.specs.Faults.{action_fault, use_fault, values_fault}
 use Rattle.clap.specs.declared.error.kind.ErrorKind.{ErrorKind}
 use Rattle.clap.specs.declared.error.kind.ErrorKind.TheVariants.{InvalidValue}
@@ -35,7 +37,8 @@ pub no_some : {X : Type 0} (x : X) → None ≡ Some x → ⊥
 no_some x e = cc
 
 -- what a search finds has the property
-pub found_each : {X : Type 0} (P : X → Type 0) (test : X → Bool) (xs : List X) (x : X) → Each P xs → find test xs ≡ Some x → P x
+pub found_each : {X : Type 0} (P : X → Type 0) (test : X → Bool) (xs : List X) (x : X) → Each P xs →
+    find test xs ≡ Some x → P x
 found_each P test [] x each found = absurd (no_some x found)
 found_each P test (y ∷ ys) x each found = go (test y) (found_each P test ys x each.1) found
   where
@@ -47,7 +50,8 @@ pub found_passes : {X : Type 0} (test : X → Bool) (xs : List X) (x : X) → fi
 found_passes test [] x found = absurd (no_some x found)
 found_passes test (y ∷ ys) x found = go (test y) refl (found_passes test ys x) found
   where
-    go : (b : Bool) → test y ≡ b → (find test ys ≡ Some x → test x ≡ true) → cond b (Some y) (find test ys) ≡ Some x → test x ≡ true
+    go : (b : Bool) → test y ≡ b → (find test ys ≡ Some x → test x ≡ true) → cond b (Some y) (find test ys) ≡ Some x →
+        test x ≡ true
     go true is more e = ap test (sym (same_some y x e)) ∙ is
     go false is more e = more e
 
@@ -81,7 +85,8 @@ is_counted _ = false
 pub record IsFit (c : List Rule) (a : Rule) : Type 0 where
   pub own : arg_by_id c a.id ≡ Some a
   pub plain : is_counted (action_of a) ≡ false
-  pub valued : (is_request (action_of a) || (nat_lt 0 (unwrap_or_range a.range).start_inclusive || nat_lt 0 (length a.missing))) ≡ true
+  pub valued : (is_request (action_of a) || (nat_lt 0 (unwrap_or_range a.range).start_inclusive || nat_lt 0
+      (length a.missing))) ≡ true
 
 -- the values that a use has: the first of them passes
 pub record FirstPasses (a : Rule) (values : List Text) : Type 0 where
@@ -93,7 +98,8 @@ if_none : (b : Bool) (k : ErrorKind) → cond b [] (k ∷ []) ≡ [] → b ≡ t
 if_none true k e = refl
 if_none false k e = absurd (no_fault k [] e)
 
-pub first_passes : (a : Rule) (values : List Text) → 0 < length values → values_fault a values ≡ [] → FirstPasses a values
+pub first_passes : (a : Rule) (values : List Text) → 0 < length values → values_fault a values ≡ [] →
+    FirstPasses a values
 first_passes a [] some e = absurd (omega (arith, some))
 first_passes a (v ∷ vs) some e = record {
   first = v;
@@ -107,24 +113,42 @@ first_stays (v ∷ vs) ws first e = e
 
 -- ---- rows that are changed
 
-row_each : (P : Row → Type 0) (id : Text) (change : Row → List Row) (missing : List Row) (rows : List Row) → ((r : Row) → P r → Each P (change r)) → Each P missing
+row_each : (P : Row → Type 0) (id : Text) (change : Row → List Row) (missing : List Row) (rows : List Row) →
+    ((r : Row) → P r → Each P (change r)) → Each P missing
     → Each P rows → Each P (at_row id change missing rows)
 row_each P id change missing [] changed added each = added
-row_each P id change missing (r ∷ rs) changed added each = go (bytes_eq r.id id) (row_each P id change missing rs changed added each.1)
+row_each P id change missing (r ∷ rs) changed added each = go (bytes_eq r.id id)
+    (row_each P id change missing rs changed added each.1)
   where
-    go : (b : Bool) → Each P (at_row id change missing rs) → Each P (cond b (change r ++ rs) (r ∷ at_row id change missing rs))
+    go : (b : Bool) → Each P (at_row id change missing rs) →
+        Each P (cond b (change r ++ rs) (r ∷ at_row id change missing rs))
     go true more = each_append P (change r) rs (changed r each.0) each.1
     go false more = (each.0, more)
 
-pub put_fits : (c : List Rule) (a : Rule) (s : ValueSource) (values : List Text) (rows : List Row) → arg_by_id c a.id ≡ Some a → FirstPasses a values → Each (Fits c) rows
+pub put_fits : (c : List Rule) (a : Rule) (s : ValueSource) (values : List Text) (rows : List Row) →
+    arg_by_id c a.id ≡ Some a → FirstPasses a values → Each (Fits c) rows
     → Each (Fits c) (with_values a.id (reading_by a) s values rows)
 put_fits c a s values rows own f each = row_each (Fits c) a.id (more_values s values) _ rows changed (made, tt) each
   where
     changed : (r : Row) → Fits c r → Each (Fits c) (more_values s values r)
-    changed r fits = (λ b found. let g = fits b found in record { first = g.first; at = first_stays r.values values g.first g.at; passes = g.passes; reads = g.reads }, tt)
+    changed r fits = (
+      λ b found. let g = fits b found in record {
+        first = g.first;
+        at = first_stays r.values values g.first g.at;
+        passes = g.passes;
+        reads = g.reads;
+      },
+      tt,
+    )
 
     made : Fits c (record { id = a.id; values = values; count = None; source = Some s; reading = reading_by a })
-    made b found = subst (λ (x : Rule). IsGood x (record { id = a.id; values = values; count = None; source = Some s; reading = reading_by a })) (same_some a b (sym own ∙ found))
+    made b found = subst (λ (x : Rule). IsGood x (record {
+      id = a.id;
+      values = values;
+      count = None;
+      source = Some s;
+      reading = reading_by a;
+    })) (same_some a b (sym own ∙ found))
         (record { first = f.first; at = f.at; passes = f.passes; reads = refl })
 
 without_fits : (c : List Rule) (id : Text) (rows : List Row) → Each (Fits c) rows → Each (Fits c) (without id rows)
@@ -132,32 +156,42 @@ without_fits c id rows each = row_each (Fits c) id (λ r. []) [] rows (λ r fits
 
 -- ---- one use of an argument
 
-used_as_fits : (x : ArgAction) (again : Bool) (c : List Rule) (a : Rule) (values : List Text) (rows : List Row) → is_counted x ≡ false → arg_by_id c a.id ≡ Some a
-    → (is_request x ≡ false → 0 < length values) → action_fault x again a values rows ≡ [] → Each (Fits c) rows → Each (Fits c) (used_as x a.id (reading_by a) values rows)
+used_as_fits : (x : ArgAction) (again : Bool) (c : List Rule) (a : Rule) (values : List Text) (rows : List Row) →
+    is_counted x ≡ false → arg_by_id c a.id ≡ Some a
+    → (is_request x ≡ false → 0 < length values) → action_fault x again a values rows ≡ [] → Each (Fits c) rows →
+    Each (Fits c) (used_as x a.id (reading_by a) values rows)
 used_as_fits action.Set again c a values rows plain own some e each =
-    put_fits c a CommandLine values _ own (first_passes a values (some refl) (both_none _ _ e).1) (without_fits c a.id rows each)
+    put_fits c a CommandLine values _ own (first_passes a values (some refl) (both_none _ _ e).1)
+    (without_fits c a.id rows each)
 used_as_fits action.SetTrue again c a values rows plain own some e each =
-    put_fits c a CommandLine values _ own (first_passes a values (some refl) (both_none _ _ e).1) (without_fits c a.id rows each)
+    put_fits c a CommandLine values _ own (first_passes a values (some refl) (both_none _ _ e).1)
+    (without_fits c a.id rows each)
 used_as_fits action.SetFalse again c a values rows plain own some e each =
-    put_fits c a CommandLine values _ own (first_passes a values (some refl) (both_none _ _ e).1) (without_fits c a.id rows each)
-used_as_fits action.Append again c a values rows plain own some e each = put_fits c a CommandLine values rows own (first_passes a values (some refl) e) each
+    put_fits c a CommandLine values _ own (first_passes a values (some refl) (both_none _ _ e).1)
+    (without_fits c a.id rows each)
+used_as_fits action.Append again c a values rows plain own some e each =
+    put_fits c a CommandLine values rows own (first_passes a values (some refl) e) each
 used_as_fits action.Count again c a values rows plain own some e each = let bad : true ≡ false = plain in cc
 used_as_fits action.Help again c a values rows plain own some e each = each
 used_as_fits action.HelpShort again c a values rows plain own some e each = each
 used_as_fits action.HelpLong again c a values rows plain own some e each = each
 used_as_fits action.Version again c a values rows plain own some e each = each
 
-value_there : (a : Rule) (values : List Text) (least most : ℕ) → (nat_lt 0 least || nat_lt 0 (length a.missing)) ≡ true → range_kinds least most (length values) ≡ []
+value_there : (a : Rule) (values : List Text) (least most : ℕ) →
+    (nat_lt 0 least || nat_lt 0 (length a.missing)) ≡ true → range_kinds least most (length values) ≡ []
     → 0 < length (values_or_missing a values)
 value_there a (v ∷ vs) least most some e = omega arith
 value_there a [] least most some e = go (nat_lt 0 least) _ some e
   where
-    go : (b : Bool) (others : Kinds) → (b || nat_lt 0 (length a.missing)) ≡ true → cond (b && true) (InvalidValue ∷ []) others ≡ [] → 0 < length a.missing
+    go : (b : Bool) (others : Kinds) → (b || nat_lt 0 (length a.missing)) ≡ true →
+        cond (b && true) (InvalidValue ∷ []) others ≡ [] → 0 < length a.missing
     go true others some e = absurd (no_fault InvalidValue [] e)
     go false others some e = ltb-true 0 (length a.missing) some
 
-pub used_fits : (again : Bool) (c : List Rule) (a : Rule) (values : List Text) (rows : List Row) → IsFit c a → use_fault again a values rows ≡ [] → Each (Fits c) rows
+pub used_fits : (again : Bool) (c : List Rule) (a : Rule) (values : List Text) (rows : List Row) → IsFit c a →
+    use_fault again a values rows ≡ [] → Each (Fits c) rows
     → Each (Fits c) (used a values rows)
 used_fits again c a values rows fit e each =
     let parts = both_none _ _ e in
-    used_as_fits (action_of a) again c a (values_or_missing a values) rows fit.plain fit.own (λ plain. value_there a values _ _ (rw plain at fit.valued) parts.0) parts.1 each
+    used_as_fits (action_of a) again c a (values_or_missing a values) rows fit.plain fit.own
+    (λ plain. value_there a values _ _ (rw plain at fit.valued) parts.0) parts.1 each

@@ -2,12 +2,15 @@
 use Rattle.std.proofs.Common.{◌≡◌, ◌∙◌, ◌++◌, ℕ, List, [], ◌∷◌, Bool, Some, false, refl, sym, ap, ap₂}
 use Rattle.std.specs.Prelude.{◌||◌, Option, Result, Ok, Err, IfOk, IsOkAnd}
 use Rattle.std.specs.declared.alloc.AllocError.{AllocError}
-use Rattle.clap.specs.Words.{App, Shape, Rule, Text, AddsArg, AddsSubcommand, app_of, rule_of, with_rule, with_subcommand}
+use Rattle.clap.specs.Words.{App, Shape, Rule, Text, AddsArg, AddsSubcommand, app_of, rule_of, with_rule}
+use Rattle.clap.specs.Words.{with_subcommand}
 use Rattle.clap.specs.declared.builder.command.Command.{Command}
 use Rattle.clap.specs.declared.builder.arg.Arg.{Arg}
 use Rattle.clap.specs.declared.builder.value_parser.ValueParser.{ValueParser}
 use Rattle.clap.specs.declared.builder.texts.Texts.TheVariants.{One}
-use Rattle.vac_options.specs.CommandLine.{short_option, IsOption, IsCommand, AddsOptions, AddsCommands, with_commands, with_rules, with_options, client_options, task_options, telling_options, load_options}
+use Rattle.vac_options.specs.CommandLine.{short_option, IsOption, IsCommand, AddsOptions, AddsCommands, with_commands}
+use Rattle.vac_options.specs.CommandLine.{with_rules, with_options, client_options, task_options, telling_options}
+use Rattle.vac_options.specs.CommandLine.{load_options}
 
 -- ---- options
 
@@ -16,27 +19,31 @@ pub parser_is : (o : Option ValueParser) (q p : ValueParser) {r : ValueParser} �
 parser_is o q p e f g = e ∙ ap (λ (x : ValueParser). Some x) (f ∙ g)
 
 -- an option with this parser
-pub parser_set : (a b : Arg) (p : ValueParser) (r : Rule) → b ≡ record a { value_parser = b.value_parser } → b.value_parser ≡ Some p → IsOption a r → IsOption b (record r { parser = Some p })
+pub parser_set : (a b : Arg) (p : ValueParser) (r : Rule) → b ≡ record a { value_parser = b.value_parser } →
+    b.value_parser ≡ Some p → IsOption a r → IsOption b (record r { parser = Some p })
 parser_set a b p r e given is = record {
   rule = ap rule_of e ∙ ap₂ (λ (s : Rule) (o : Option ValueParser). record s { parser = o }) is.rule given;
   own = ap (λ (x : Arg). x.global) e ∙ is.own;
 }
 
 -- an option with this short name
-pub short_set : (a b : Arg) (letter : ℕ) (r : Rule) → b ≡ record a { short = Some letter } → IsOption a r → IsOption b (short_option letter r)
+pub short_set : (a b : Arg) (letter : ℕ) (r : Rule) → b ≡ record a { short = Some letter } → IsOption a r →
+    IsOption b (short_option letter r)
 short_set a b letter r e is = record {
   rule = ap rule_of e ∙ ap (λ (s : Rule). record s { short = Some letter }) is.rule;
   own = ap (λ (x : Arg). x.global) e ∙ is.own;
 }
 
 -- an option with this default
-pub default_set : (a b : Arg) (text : _) (r : Rule) → b ≡ record a { default_vals = One text } → IsOption a r → IsOption b (record r { defaults = text.now ∷ [] })
+pub default_set : (a b : Arg) (text : _) (r : Rule) → b ≡ record a { default_vals = One text } → IsOption a r →
+    IsOption b (record r { defaults = text.now ∷ [] })
 default_set a b text r e is = record {
   rule = ap rule_of e ∙ ap (λ (s : Rule). record s { defaults = text.now ∷ [] }) is.rule;
   own = ap (λ (x : Arg). x.global) e ∙ is.own;
 }
 
-with_one_more : (a : App) (options : List Rule) (option : Rule) → with_rules a (options ++ option ∷ []) ≡ with_rule (with_rules a options) option
+with_one_more : (a : App) (options : List Rule) (option : Rule) →
+    with_rules a (options ++ option ∷ []) ≡ with_rule (with_rules a options) option
 with_one_more a [] option = refl
 with_one_more a (o ∷ options) option = with_one_more (with_rule a o) options option
 
@@ -44,7 +51,8 @@ or_false : (a b : Bool) → b ≡ false → (a || b) ≡ a
 or_false Bool.true b e = refl
 or_false Bool.false b e = e
 
-one_more : (first before after : Command) (a : Arg) (options : List Rule) (option : Rule) → AddsOptions first options before → AddsArg before a after → IsOption a option
+one_more : (first before after : Command) (a : Arg) (options : List Rule) (option : Rule) →
+    AddsOptions first options before → AddsArg before a after → IsOption a option
     → AddsOptions first (options ++ option ∷ []) after
 one_more first before after a options option s h is = record {
   app = h.shape is.own ∙ ap₂ with_rule s.app is.rule ∙ sym (with_one_more (app_of first) options option);
@@ -61,16 +69,21 @@ no_option (Ok c) = record { app = refl; own = refl }
 no_option (Err e) = tt
 
 -- an option was added behind others
-pub option_more : (given middle result : Result Command AllocError) (a : Arg) (options : List Rule) (option : Rule) → Gets given options middle
-    → IfOk result (λ after. IsOkAnd middle (λ before. AddsArg before a after)) → IsOption a option → Gets given (options ++ option ∷ []) result
+pub option_more : (given middle result : Result Command AllocError) (a : Arg) (options : List Rule) (option : Rule) →
+    Gets given options middle
+    → IfOk result (λ after. IsOkAnd middle (λ before. AddsArg before a after)) → IsOption a option →
+    Gets given (options ++ option ∷ []) result
 option_more given middle (Err e) a options option s h is = tt
 option_more given (Err e) (Ok after) a options option s h is = absurd h
 option_more (Err e) (Ok before) (Ok after) a options option s h is = absurd s
-option_more (Ok first) (Ok before) (Ok after) a options option s h is = one_more first before after a options option s h is
+option_more (Ok first) (Ok before) (Ok after) a options option s h is =
+    one_more first before after a options option s h is
 
 -- a command with one option more
-pub command_and : (given result : Result Command AllocError) (a : Arg) (name : Text) (options : List Rule) (option : Rule)
-    → IfOk given (λ c. IsCommand c (with_options name options)) → IfOk result (λ after. IsOkAnd given (λ before. AddsArg before a after)) → IsOption a option
+pub command_and : (given result : Result Command AllocError) (a : Arg) (name : Text) (options : List Rule)
+    (option : Rule)
+    → IfOk given (λ c. IsCommand c (with_options name options)) →
+    IfOk result (λ after. IsOkAnd given (λ before. AddsArg before a after)) → IsOption a option
     → IfOk result (λ c. IsCommand c (with_options name (options ++ option ∷ [])))
 command_and given (Err e) a name options option c h is = tt
 command_and (Err e) (Ok after) a name options option c h is = absurd h
@@ -80,7 +93,8 @@ command_and (Ok before) (Ok after) a name options option c h is = record {
 }
 
 -- a command that got options, as what it is then
-pub command_gets : (given result : Result Command AllocError) (first s : Shape) (more : List Rule) → with_rules (record { top = first; subs = [] }) more ≡ record { top = s; subs = [] }
+pub command_gets : (given result : Result Command AllocError) (first s : Shape) (more : List Rule) →
+    with_rules (record { top = first; subs = [] }) more ≡ record { top = s; subs = [] }
     → IfOk given (λ c. IsCommand c first) → Gets given more result → IfOk result (λ c. IsCommand c s)
 command_gets given (Err e) first s more same is gets = tt
 command_gets (Err e) (Ok after) first s more same is gets = absurd gets
@@ -90,26 +104,33 @@ command_gets (Ok before) (Ok after) first s more same is gets = record {
 }
 
 -- a command with these options
-pub command_with : (first : Command) (second third result : Result Command AllocError) (name : Text) → IsCommand first (with_options name []) → Gets (Ok first) client_options second
-    → Gets second task_options third → Gets third telling_options result → IfOk result (λ c. IsCommand c (with_options name load_options))
+pub command_with : (first : Command) (second third result : Result Command AllocError) (name : Text) →
+    IsCommand first (with_options name []) → Gets (Ok first) client_options second
+    → Gets second task_options third → Gets third telling_options result →
+    IfOk result (λ c. IsCommand c (with_options name load_options))
 command_with first second third (Err e) name is a b c = tt
 command_with first second (Err e) (Ok after) name is a b c = absurd c
 command_with first (Err e) (Ok before) (Ok after) name is a b c = absurd b
 command_with first (Ok middle) (Ok before) (Ok after) name is a b c = record {
-  app = c.app ∙ ap (λ (w : App). with_rules w telling_options) (b.app ∙ ap (λ (w : App). with_rules w task_options) (a.app ∙ ap (λ (w : App). with_rules w client_options) is.app));
+  app = c.app ∙ ap (λ (w : App). with_rules w telling_options)
+      (b.app ∙ ap (λ (w : App). with_rules w task_options) (a.app ∙
+      ap (λ (w : App). with_rules w client_options) is.app));
   own = c.own ∙ b.own ∙ a.own ∙ is.own;
 }
 
 -- ---- subcommands
 
-commands_one_more : (a : App) (subs : List Shape) (s : Shape) → with_commands a (subs ++ s ∷ []) ≡ with_subcommand (with_commands a subs) s
+commands_one_more : (a : App) (subs : List Shape) (s : Shape) →
+    with_commands a (subs ++ s ∷ []) ≡ with_subcommand (with_commands a subs) s
 commands_one_more a [] s = refl
 commands_one_more a (t ∷ subs) s = commands_one_more (with_subcommand a t) subs s
 
-one_command_more : (first before sub after : Command) (subs : List Shape) (s : Shape) → AddsCommands first subs before → AddsSubcommand before sub after → IsCommand sub s
+one_command_more : (first before sub after : Command) (subs : List Shape) (s : Shape) → AddsCommands first subs before →
+    AddsSubcommand before sub after → IsCommand sub s
     → AddsCommands first (subs ++ s ∷ []) after
 one_command_more first before sub after subs s e h is = record {
-  app = h.shape is.own ∙ ap₂ with_subcommand e.app (ap (λ (b : App). b.top) is.app) ∙ sym (commands_one_more (app_of first) subs s);
+  app = h.shape is.own ∙ ap₂ with_subcommand e.app (ap (λ (b : App). b.top) is.app) ∙
+      sym (commands_one_more (app_of first) subs s);
 }
 
 -- a command to which these subcommands were added, where no memory was refused
@@ -122,20 +143,25 @@ no_command (Ok c) = record { app = refl }
 no_command (Err e) = tt
 
 -- a subcommand was added behind others
-pub command_more : (given middle sub result : Result Command AllocError) (subs : List Shape) (s : Shape) → GetsCommands given subs middle
-    → IfOk result (λ after. IsOkAnd middle (λ before. IsOkAnd sub (λ added. AddsSubcommand before added after))) → IfOk sub (λ c. IsCommand c s)
+pub command_more : (given middle sub result : Result Command AllocError) (subs : List Shape) (s : Shape) →
+    GetsCommands given subs middle
+    → IfOk result (λ after. IsOkAnd middle (λ before. IsOkAnd sub (λ added. AddsSubcommand before added after))) →
+    IfOk sub (λ c. IsCommand c s)
     → GetsCommands given (subs ++ s ∷ []) result
 command_more given middle sub (Err e) subs s c h is = tt
 command_more given (Err e) sub (Ok after) subs s c h is = absurd h
 command_more given (Ok before) (Err e) (Ok after) subs s c h is = absurd h
 command_more (Err e) (Ok before) (Ok added) (Ok after) subs s c h is = absurd c
-command_more (Ok first) (Ok before) (Ok added) (Ok after) subs s c h is = one_command_more first before added after subs s c h is
+command_more (Ok first) (Ok before) (Ok added) (Ok after) subs s c h is =
+    one_command_more first before added after subs s c h is
 
 -- the app of a command to which subcommands were added in three turns
-pub all_commands : (top : Command) (first second third : Result Command AllocError) (a : App) (x y z : List Shape) → app_of top ≡ a → GetsCommands (Ok top) x first → GetsCommands first y second
+pub all_commands : (top : Command) (first second third : Result Command AllocError) (a : App) (x y z : List Shape) →
+    app_of top ≡ a → GetsCommands (Ok top) x first → GetsCommands first y second
     → GetsCommands second z third → IfOk third (λ c. app_of c ≡ with_commands (with_commands (with_commands a x) y) z)
 all_commands top first second (Err e) a x y z is f g h = tt
 all_commands top first (Err e) (Ok c) a x y z is f g h = absurd h
 all_commands top (Err e) (Ok b) (Ok c) a x y z is f g h = absurd g
 all_commands top (Ok d) (Ok b) (Ok c) a x y z is f g h =
-    h.app ∙ ap (λ (w : App). with_commands w z) (g.app ∙ ap (λ (w : App). with_commands w y) (f.app ∙ ap (λ (w : App). with_commands w x) is))
+    h.app ∙ ap (λ (w : App). with_commands w z) (g.app ∙ ap (λ (w : App). with_commands w y)
+    (f.app ∙ ap (λ (w : App). with_commands w x) is))

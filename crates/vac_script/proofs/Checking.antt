@@ -1,5 +1,6 @@
 -- What is said of words that were read.
-use Rattle.std.proofs.Common.{◌≡◌, ◌⊎◌, ◌+◌, ◌≤◌, ◌%◌, ℕ, Bool, List, [], ◌++◌, length, slice_index, sym, ap, ◌∙◌, subst, inl, inr, arith, Result, Ok, Err, IfOk, Option, Some, None}
+use Rattle.std.proofs.Common.{◌≡◌, ◌⊎◌, ◌+◌, ◌≤◌, ◌%◌, ℕ, Bool, List, [], ◌++◌, length, slice_index, sym, ap, ◌∙◌}
+use Rattle.std.proofs.Common.{subst, inl, inr, arith, Result, Ok, Err, IfOk, Option, Some, None}
 use Rattle.std.proofs.lemmas.Bool.{cases_lt}
 use Rattle.std.specs.Io.KnownBytes.{Appends}
 use Rattle.vac_model.specs.State.{State}
@@ -20,7 +21,8 @@ use Rattle.vac_script.specs.declared.check.Verdict.{Verdict}
 use Rattle.vac_script.specs.declared.check.Verdict.TheVariants.{Sound, Flawed, BadWords}
 use Rattle.vac_lines.specs.Writing.{AppendsPrefix}
 use Rattle.vac_script.specs.Reading.{NoneOrMany, ReadWords, ReadNone}
-use Rattle.vac_script.specs.Check.{verdict_text, IsNone, HasFlaw, IsNoHeap, Judged, NoHeapOf, NoWords, IsVerdict, is_sound, Checked, CheckStopped}
+use Rattle.vac_script.specs.Check.{verdict_text, IsNone, HasFlaw, IsNoHeap, Judged, NoHeapOf, NoWords, IsVerdict}
+use Rattle.vac_script.specs.Check.{is_sound, Checked, CheckStopped}
 
 -- whether so many words are those of a heap
 heap_or_not : (n : ℕ) → IsHeapSize n ⊎ (IsHeapSize n → ⊥)
@@ -50,7 +52,8 @@ not_size (Ok report) (inr e) = let q : err Size ≡ Ok report = e in cc
 not_size (Err flaw) (inr e) = let q : err Size ≡ err (HasOne flaw) = e in cc
 
 -- an answer other than a report and want of memory: the words represent no balanced state
-refused_none : (words : List ℕ) (fault : AuditFault) → (fault ≡ Memory → ⊥) → Recognised words (Err fault) → IsNone words
+refused_none : (words : List ℕ) (fault : AuditFault) → (fault ≡ Memory → ⊥) → Recognised words (Err fault) →
+    IsNone words
 refused_none words fault other r s h is =
     elim (r s h is) [
       | inl e ↦ other (let q : err fault ≡ err Memory = e in cc)
@@ -58,20 +61,24 @@ refused_none words fault other r s h is =
     ]
 
 -- words of another size
-pub no_heap : (words : List ℕ) → ((heap : IsHeapSize (length words)) → Audited (slice_index words) heap.0 (Err Size)) → Recognised words (Err Size) → IsNoHeap words
+pub no_heap : (words : List ℕ) → ((heap : IsHeapSize (length words)) → Audited (slice_index words) heap.0 (Err Size)) →
+    Recognised words (Err Size) → IsNoHeap words
 no_heap words a r = record {
   size = λ heap. not_size (audit (slice_index words) heap.0) (a heap);
   none = refused_none words Size (λ e. let q : Size ≡ Memory = e in cc) r;
 }
 
-first_is : (r : Result Report Flaw) (flaw : Flaw) → (err (HasOne flaw) ≡ err Memory) ⊎ (err (HasOne flaw) ≡ answer r) → r ≡ Err flaw
+first_is : (r : Result Report Flaw) (flaw : Flaw) → (err (HasOne flaw) ≡ err Memory) ⊎ (err (HasOne flaw) ≡ answer r) →
+    r ≡ Err flaw
 first_is r flaw (inl e) = absurd (let q : err (HasOne flaw) ≡ err Memory = e in cc)
 first_is (Ok report) flaw (inr e) = absurd (let q : err (HasOne flaw) ≡ Ok report = e in cc)
-first_is (Err other) flaw (inr e) = let q : err (HasOne flaw) ≡ err (HasOne other) = e in ap Err (let same : other ≡ flaw = cc in same)
+first_is (Err other) flaw (inr e) = let q : err (HasOne flaw) ≡ err (HasOne other) = e in
+    ap Err (let same : other ≡ flaw = cc in same)
 
 -- words with a flaw
 pub flawed : (words : List ℕ) (flaw : Flaw) → ((IsHeapSize (length words) → ⊥) → err (HasOne flaw) ≡ err Size)
-    → ((heap : IsHeapSize (length words)) → Audited (slice_index words) heap.0 (Err (HasOne flaw))) → Recognised words (Err (HasOne flaw)) → HasFlaw words flaw
+    → ((heap : IsHeapSize (length words)) → Audited (slice_index words) heap.0 (Err (HasOne flaw))) →
+    Recognised words (Err (HasOne flaw)) → HasFlaw words flaw
 flawed words flaw size a r =
     elim (heap_or_not (length words)) [
       | inl heap ↦ record {
@@ -83,7 +90,8 @@ flawed words flaw size a r =
     ]
 
 -- the words of a balanced state of one block or more are a heap's
-heap_of : (words : List ℕ) (s : State) → 1 ≤ s.capacity → IsState (slice_index words) (length words) s → IsHeapSize (length words)
+heap_of : (words : List ℕ) (s : State) → 1 ≤ s.capacity → IsState (slice_index words) (length words) s →
+    IsHeapSize (length words)
 heap_of words s h is = (s.capacity, (is.represents.size, h, is.small.small))
 
 many_words : (found : Option (List ℕ)) → NoneOrMany found → NoHeapOf found
@@ -104,36 +112,67 @@ no_words unread left r = record {
 }
 
 -- the verdict of words is that of what was read
-words_verdict : (unread left : Option (List ℕ)) (words : List ℕ) (verdict : Verdict) → ReadWords unread left words → Judged words verdict → IsVerdict unread left verdict
-words_verdict unread left words (Sound report) r j = record { bytes = r.bytes; consumed = r.consumed; ended = r.ended; words = words; words_are = r.words_are; judged = j }
-words_verdict unread left words (Flawed flaw) r j = record { bytes = r.bytes; consumed = r.consumed; ended = r.ended; words = words; words_are = r.words_are; judged = j }
-words_verdict unread left words BadWords r j = record { bytes = r.bytes; consumed = r.consumed; none = inl (r.ended, subst NoHeapOf (sym r.words_are) j) }
+words_verdict : (unread left : Option (List ℕ)) (words : List ℕ) (verdict : Verdict) → ReadWords unread left words →
+    Judged words verdict → IsVerdict unread left verdict
+words_verdict unread left words (Sound report) r j = record {
+  bytes = r.bytes;
+  consumed = r.consumed;
+  ended = r.ended;
+  words = words;
+  words_are = r.words_are;
+  judged = j;
+}
+words_verdict unread left words (Flawed flaw) r j = record {
+  bytes = r.bytes;
+  consumed = r.consumed;
+  ended = r.ended;
+  words = words;
+  words_are = r.words_are;
+  judged = j;
+}
+words_verdict unread left words BadWords r j = record {
+  bytes = r.bytes;
+  consumed = r.consumed;
+  none = inl (r.ended, subst NoHeapOf (sym r.words_are) j);
+}
 
-pub verdict_of : (unread left : Option (List ℕ)) (words given : List ℕ) (r : Result Verdict StreamFault) → ReadWords unread left words → given ≡ words
+pub verdict_of : (unread left : Option (List ℕ)) (words given : List ℕ) (r : Result Verdict StreamFault) →
+    ReadWords unread left words → given ≡ words
     → IfOk r (λ verdict. Judged given verdict) → IfOk r (λ verdict. IsVerdict unread left verdict)
 verdict_of unread left words given (Err fault) read e j = tt
-verdict_of unread left words given (Ok verdict) read e j = words_verdict unread left words verdict read (subst (λ w. Judged w verdict) e j)
+verdict_of unread left words given (Ok verdict) read e j = words_verdict unread left words verdict read
+    (subst (λ w. Judged w verdict) e j)
 
 -- the line of a verdict was written in part
-pub checked_in_part : (unread left held holds : Option (List ℕ)) (verdict : Verdict) (line : List ℕ) → IsVerdict unread left verdict → line ≡ as_line (verdict_text verdict)
+pub checked_in_part : (unread left held holds : Option (List ℕ)) (verdict : Verdict) (line : List ℕ) →
+    IsVerdict unread left verdict → line ≡ as_line (verdict_text verdict)
     → AppendsPrefix held holds line → CheckStopped unread left held holds
-checked_in_part unread left held holds verdict line is e w = inr (record { verdict = verdict; is = is; written = subst (AppendsPrefix held holds) e w })
+checked_in_part unread left held holds verdict line is e w =
+    inr (record { verdict = verdict; is = is; written = subst (AppendsPrefix held holds) e w })
 
 -- it was written
-pub checked : (sound : Bool) (unread left held holds : Option (List ℕ)) (verdict : Verdict) (line : List ℕ) → IsVerdict unread left verdict → line ≡ as_line (verdict_text verdict)
+pub checked : (sound : Bool) (unread left held holds : Option (List ℕ)) (verdict : Verdict) (line : List ℕ) →
+    IsVerdict unread left verdict → line ≡ as_line (verdict_text verdict)
     → Appends held holds line → sound ≡ is_sound verdict → Checked sound unread left held holds
-checked sound unread left held holds verdict line is e w a = record { verdict = verdict; is = is; answered = a; written = subst (Appends held holds) e w }
+checked sound unread left held holds verdict line is e w a =
+    record { verdict = verdict; is = is; answered = a; written = subst (Appends held holds) e w }
 
 -- the same, where the fault is known by an equation
-pub flawed_as : (words : List ℕ) (fault : AuditFault) (flaw : Flaw) → fault ≡ HasOne flaw → ((IsHeapSize (length words) → ⊥) → err fault ≡ err Size)
-    → ((heap : IsHeapSize (length words)) → Audited (slice_index words) heap.0 (Err fault)) → Recognised words (Err fault) → HasFlaw words flaw
+pub flawed_as : (words : List ℕ) (fault : AuditFault) (flaw : Flaw) → fault ≡ HasOne flaw →
+    ((IsHeapSize (length words) → ⊥) → err fault ≡ err Size)
+    → ((heap : IsHeapSize (length words)) → Audited (slice_index words) heap.0 (Err fault)) →
+    Recognised words (Err fault) → HasFlaw words flaw
 flawed_as words fault flaw e size a r =
     flawed words flaw (subst (λ f. (IsHeapSize (length words) → ⊥) → err f ≡ err Size) e size)
-    (subst (λ f. (heap : IsHeapSize (length words)) → Audited (slice_index words) heap.0 (Err f)) e a) (subst (λ f. Recognised words (Err f)) e r)
+    (subst (λ f. (heap : IsHeapSize (length words)) → Audited (slice_index words) heap.0 (Err f)) e a)
+    (subst (λ f. Recognised words (Err f)) e r)
 
-pub no_heap_as : (words : List ℕ) (fault : AuditFault) → fault ≡ Size → ((heap : IsHeapSize (length words)) → Audited (slice_index words) heap.0 (Err fault)) → Recognised words (Err fault) → IsNoHeap words
+pub no_heap_as : (words : List ℕ) (fault : AuditFault) → fault ≡ Size →
+    ((heap : IsHeapSize (length words)) → Audited (slice_index words) heap.0 (Err fault)) →
+    Recognised words (Err fault) → IsNoHeap words
 no_heap_as words fault e a r =
-    no_heap words (subst (λ f. (heap : IsHeapSize (length words)) → Audited (slice_index words) heap.0 (Err f)) e a) (subst (λ f. Recognised words (Err f)) e r)
+    no_heap words (subst (λ f. (heap : IsHeapSize (length words)) → Audited (slice_index words) heap.0 (Err f)) e a)
+    (subst (λ f. Recognised words (Err f)) e r)
 
 -- the text that is written is the line
 pub line_is : (old items given line : List ℕ) → old ≡ [] → items ≡ old ++ line → given ≡ items → given ≡ line

@@ -9,5 +9,7 @@ use Rattle.vac_manager.specs.Opening.{Closes}
 use Rattle.vac_manager.proofs.Histories.{one_last}
 
 -- the words represent the state at which the manager stands
-pub closed : (region : RegionShown) (v : Client) (words : List ℕ) (version : ℕ) → Closes region v words version → (s : State) → IsHistory region v.records s → Shows words s
-closed region v words version c s h = subst (Shows words) (one_last (empty_state (capacity_of region)) v.records c.last s c.legal h) c.shown
+pub closed : (region : RegionShown) (v : Client) (words : List ℕ) (version : ℕ) → Closes region v words version →
+    (s : State) → IsHistory region v.records s → Shows words s
+closed region v words version c s h = subst (Shows words) (one_last
+    (empty_state (capacity_of region)) v.records c.last s c.legal h) c.shown

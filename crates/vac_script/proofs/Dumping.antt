@@ -1,5 +1,6 @@
 -- A text that is written in pieces.
-use Rattle.std.proofs.Common.{◌≡◌, ◌<◌, ◌+◌, ℕ, List, [], ◌∷◌, ◌++◌, get_or, length, take, drop, sym, ap, ◌∙◌, subst, append-nil, take-append-drop, Option, inr}
+use Rattle.std.proofs.Common.{◌≡◌, ◌<◌, ◌+◌, ℕ, List, [], ◌∷◌, ◌++◌, get_or, length, take, drop, sym, ap, ◌∙◌, subst}
+use Rattle.std.proofs.Common.{append-nil, take-append-drop, Option, inr}
 use Rattle.std.proofs.lemmas.List.{take_more}
 use Rattle.std.proofs.lemmas.Grind.{flat_map-append}
 use Rattle.std.specs.Io.KnownBytes.{Appends}
@@ -11,7 +12,8 @@ use Rattle.vac_manager.specs.Session.{SessionShown}
 use Rattle.vac_script.specs.System.{StandsAt, RanAll}
 use Rattle.vac_script.specs.Dump.{Dumped, DumpStopped}
 use Rattle.vac_streams.specs.Sent.{Sent}
-use Rattle.vac_streams.proofs.Texts.{sent_both, sent_text, sent_end_in_part, prefix_is, prefix_longer, part_second, none_written}
+use Rattle.vac_streams.proofs.Texts.{sent_both, sent_text, sent_end_in_part, prefix_is, prefix_longer, part_second}
+use Rattle.vac_streams.proofs.Texts.{none_written}
 
 -- the text of words, cut between two of them
 dump_cut : (i : ℕ) (words : List ℕ) → dump_text (take i words) ++ dump_text (drop i words) ≡ dump_text words

@@ -7,7 +7,8 @@ use Rattle.vac_script.specs.declared.system.TheConstants.{LAST_VERSION}
 use Rattle.vac_script.specs.System.{OpensAlone}
 
 -- the client is alone, and the manager has no entry yet
-pub opened : (n stripes : ℕ) (region : RegionShown) (client : CallerShown) → Opens n LAST_VERSION stripes region client → OpensAlone n (record { manager = region; client = client })
+pub opened : (n stripes : ℕ) (region : RegionShown) (client : CallerShown) →
+    Opens n LAST_VERSION stripes region client → OpensAlone n (record { manager = region; client = client })
 opened n stripes region client o =
     subst (λ (x : CallerShown). OpensAlone n (record { manager = region; client = x })) (sym o.client_is) (record {
       own = refl;

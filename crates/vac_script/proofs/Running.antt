@@ -1,5 +1,7 @@
 -- A script that runs over a manager, line by line.
-use Rattle.std.proofs.Common.{◌≡◌, ℕ, false, List, [], ◌∷◌, ◌++◌, length, map, take, drop, refl, ap, sym, ◌∙◌, subst, append-nil, append_assoc, take-append-drop, Option, Some, None, IfSome, Result, Ok, Err, arith, lt-ltb, nat_lt, inl, inr}
+use Rattle.std.proofs.Common.{◌≡◌, ℕ, false, List, [], ◌∷◌, ◌++◌, length, map, take, drop, refl, ap, sym, ◌∙◌, subst}
+use Rattle.std.proofs.Common.{append-nil, append_assoc, take-append-drop, Option, Some, None, IfSome, Result, Ok, Err}
+use Rattle.std.proofs.Common.{arith, lt-ltb, nat_lt, inl, inr}
 use Rattle.std.proofs.lemmas.Bool.{cases_lt}
 use Rattle.std.specs.Io.KnownBytes.{Appends, Consumes}
 use Rattle.std.proofs.KnownBytes.{Consumes-nil, Appends-nil, Appends-trans}

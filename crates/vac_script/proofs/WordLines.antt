@@ -1,5 +1,7 @@
 -- How a text is read as the words of a memory, line by line.
-use Rattle.std.proofs.Common.{◌≡◌, ◌⊎◌, ℕ, ◌<◌, ◌≤◌, true, false, List, [], ◌∷◌, ◌++◌, length, map, refl, ap, sym, ◌∙◌, inl, inr, arith, append-nil, append_assoc, length-append, subst, Option, Some, None, option_map, nat_le, nat_lt, lt-ltb, Result, Ok}
+use Rattle.std.proofs.Common.{◌≡◌, ◌⊎◌, ℕ, ◌<◌, ◌≤◌, true, false, List, [], ◌∷◌, ◌++◌, length, map, refl, ap, sym, ◌∙◌}
+use Rattle.std.proofs.Common.{inl, inr, arith, append-nil, append_assoc, length-append, subst, Option, Some, None}
+use Rattle.std.proofs.Common.{option_map, nat_le, nat_lt, lt-ltb, Result, Ok}
 use Rattle.std.proofs.lemmas.Bool.{cases_lt}
 use Rattle.std.proofs.lemmas.Iterator.Adapters.{option_map_id}
 use Rattle.std.specs.Io.KnownBytes.{IsAtEnd}

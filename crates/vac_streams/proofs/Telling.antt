@@ -1,5 +1,7 @@
 -- What a sink was told, one thing after the other.
-use Rattle.std.proofs.Common.{◌≡◌, ℕ, true, false, cond, List, [], ◌∷◌, ◌++◌, Result, Ok, Err, refl, ap, sym, ◌∙◌, subst, append-nil, append_assoc, length, take, ◌+◌, ◌<◌, nat_lt, Option, Some, None, IfSome, inl, inr, ◌≢◌, IsErrAnd}
+use Rattle.std.proofs.Common.{◌≡◌, ℕ, true, false, cond, List, [], ◌∷◌, ◌++◌, Result, Ok, Err, refl, ap, sym, ◌∙◌}
+use Rattle.std.proofs.Common.{subst, append-nil, append_assoc, length, take, ◌+◌, ◌<◌, nat_lt, Option, Some, None}
+use Rattle.std.proofs.Common.{IfSome, inl, inr, ◌≢◌, IsErrAnd}
 use Rattle.std.specs.Io.KnownBytes.{Consumes, IsAtEnd, Keeps}
 use Rattle.std.proofs.KnownBytes.{Consumes-nil, Consumes-trans, Consumes-kept}
 use Rattle.vac_streams.specs.declared.fault.StreamFault.{StreamFault}
@@ -218,7 +220,8 @@ module _ {S O : Type 0} (hears : S → O → Told → Result Next StreamFault �
   ended_line longest line (Err fault) s o t p h n k = last_last longest line (Err fault) s o t p h n
       (subst (λ l. hears s o (told_of longest l) (Err fault) t p) (append-nil line) k)
 
-  -- so far the input was read: whatever follows, the lines are those that were told and those of the line that has begun
+  --  so far the input was read: whatever follows, the lines are those that were told and those of the line that has
+  -- begun
   pub record HeardTo (longest : ℕ) (unread left : Option (List ℕ)) (line : List ℕ) (s : S) (o : O) (t : S)
       (p : O) : Type 0 where
     pub bytes : List ℕ

@@ -1,5 +1,6 @@
 -- Texts that are gathered and sent.
-use Rattle.std.proofs.Common.{◌≡◌, ◌∙◌, sym, ap, subst, ℕ, List, [], ◌++◌, Option, length, take, drop, append_assoc, append-nil, take-append-drop, Result, Ok, Err, OnOk, OnErr}
+use Rattle.std.proofs.Common.{◌≡◌, ◌∙◌, sym, ap, subst, ℕ, List, [], ◌++◌, Option, length, take, drop, append_assoc}
+use Rattle.std.proofs.Common.{append-nil, take-append-drop, Result, Ok, Err, OnOk, OnErr}
 use Rattle.std.proofs.Math.Seq.{take-append_seam}
 use Rattle.std.specs.Io.KnownBytes.{Appends, Keeps}
 use Rattle.std.proofs.KnownBytes.{Appends-nil, Appends-trans, Appends-kept}

@@ -11,7 +11,8 @@ invariant-asks l = record {
   floor : l.fn.session.client.value.floor ≤ l.session.client.value.floor;
   records : l.session.client.value.records ≡ l.fn.session.client.value.records;
   began : l.fn.session.client.value.attempt.number ≤ l.session.client.value.attempt.number;
-  attempts : l.session.client.value.attempt.number + l.left * 16 ≡ l.fn.session.client.value.attempt.number + l.asks * 16;
+  attempts : l.session.client.value.attempt.number + l.left * 16 ≡ l.fn.session.client.value.attempt.number + l.asks *
+      16;
 }
 
 abbrev pub decreases-asks : goal.decreases-asks

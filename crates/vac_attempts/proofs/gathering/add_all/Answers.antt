@@ -7,7 +7,10 @@ pub clients-preserved : goal.clients-preserved
 clients-preserved g c =
     let ledger = c.index-clients-place.result in
     record {
-      added = client_more c.args.opening.now c.args.clients.now c.clients.place (c.clients.place + 1) ledger (map entry_of c.clients.lines.items) (map entry_of c.add_client-in-clients.new.lines.items)
-          (map entry_of c.args.lines.now.items) c.clients-test.true c.index-clients-place.is refl c.clients.invariant.added c.in_ok-add_client-2.ensures.added;
-      noted = noted_more c.args.opening.now c.args.clients.now c.clients.place ledger c.clients-test.true c.index-clients-place.is c.clients.invariant.noted c.in_ok-add_client-2.ensures.noted;
+      added = client_more c.args.opening.now c.args.clients.now c.clients.place (c.clients.place + 1) ledger
+          (map entry_of c.clients.lines.items) (map entry_of c.add_client-in-clients.new.lines.items)
+          (map entry_of c.args.lines.now.items) c.clients-test.true c.index-clients-place.is refl
+          c.clients.invariant.added c.in_ok-add_client-2.ensures.added;
+      noted = noted_more c.args.opening.now c.args.clients.now c.clients.place ledger c.clients-test.true
+          c.index-clients-place.is c.clients.invariant.noted c.in_ok-add_client-2.ensures.noted;
     }

@@ -6,6 +6,7 @@ use Rattle.vac_attempts.proofs.gathering.add_all.Given as goal
 -- the attempts of the clients so far
 abbrev pub invariant-clients : goal.invariant-clients
 invariant-clients g l = record {
-  added : map entry_of l.lines.items ≡ map entry_of l.fn.lines.items ++ entries_from 0 (pages_of l.opening (take l.place l.clients));
+  added : map entry_of l.lines.items ≡ map entry_of l.fn.lines.items ++ entries_from 0
+      (pages_of l.opening (take l.place l.clients));
   noted : are_noted (pages_of l.opening (take l.place l.clients)) ≡ true;
 }

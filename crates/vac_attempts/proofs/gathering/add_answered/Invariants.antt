@@ -6,6 +6,7 @@ use Rattle.vac_attempts.proofs.gathering.add_answered.Given as goal
 -- the attempts of the calls so far, each of which has one
 abbrev pub invariant-loop-call : goal.invariant-loop-call
 invariant-loop-call l = record {
-  added : map entry_of l.lines.items ≡ map entry_of l.initial.lines.items ++ entries_of l.client (attempts_of (take l.call-index l.calls));
+  added : map entry_of l.lines.items ≡ map entry_of l.initial.lines.items ++ entries_of l.client
+      (attempts_of (take l.call-index l.calls));
   noted : all_noted (take l.call-index l.calls) ≡ true;
 }

@@ -5,4 +5,5 @@ use Rattle.vac_attempts.proofs.writing.send_lines.Given as goal
 
 -- the lines so far
 abbrev pub invariant-loop-line : goal.invariant-loop-line
-invariant-loop-line g l = Sent (g.O.Write.contents l.fn.output) (g.O.Write.contents l.output) [] l.hand.items (lines_text (map entry_of (take l.line-index l.lines)))
+invariant-loop-line g l = Sent (g.O.Write.contents l.fn.output) (g.O.Write.contents l.output) [] l.hand.items
+    (lines_text (map entry_of (take l.line-index l.lines)))

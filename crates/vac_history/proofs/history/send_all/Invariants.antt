@@ -4,7 +4,8 @@ use Rattle.vac_history.proofs.Merges.{count}
 use Rattle.vac_history.proofs.history.send_all.Given as goal
 
 abbrev pub invariant-lines : goal.invariant-lines
-invariant-lines g l = SentPicked (left_of l.fn.rests) (left_of l.rests) (g.W.Write.contents l.fn.output) (g.W.Write.contents l.output) l.hand.items
+invariant-lines g l = SentPicked (left_of l.fn.rests) (left_of l.rests) (g.W.Write.contents l.fn.output)
+    (g.W.Write.contents l.output) l.hand.items
 
 abbrev pub decreases-lines : goal.decreases-lines
 decreases-lines g l = count (left_of l.rests)

@@ -9,21 +9,27 @@ pub returns-then-not-are_whole-clause-err : goal.returns-then-not-are_whole-clau
 returns-then-not-are_whole-clause-err g c = nothing_of_it (kept_by c.args.opening.now c.args.clients.now) _
 
 pub returns-in_err-rests-clause-err : goal.returns-in_err-rests-clause-err
-returns-in_err-rests-clause-err g c = on_err c.from_residual.result (nothing_of_it (kept_by c.args.opening.now c.args.clients.now) _)
+returns-in_err-rests-clause-err g c = on_err c.from_residual.result
+    (nothing_of_it (kept_by c.args.opening.now c.args.clients.now) _)
 
 pub returns-in_err-send_all-clause-err : goal.returns-in_err-send_all-clause-err
 returns-in_err-send_all-clause-err g c =
-    on_err c.from_residual-in_err-send_all.result (prefix_of_it (kept_by c.args.opening.now c.args.clients.now) _ _ (left_of c.as_mut_slice.result.now)
+    on_err c.from_residual-in_err-send_all.result (prefix_of_it (kept_by c.args.opening.now c.args.clients.now) _ _
+    (left_of c.as_mut_slice.result.now)
     (ap left_of c.as_mut_slice.ensures.value ∙ c.in_ok-rests.ensures) c.in_err-send_all.ensures.err)
 
 pub returns-in-Ok-clause-ok : goal.returns-in-Ok-clause-ok
 returns-in-Ok-clause-ok g c =
-    rest_of_it (kept_by c.args.opening.now c.args.clients.now) _ (g.W.Write.contents c.send_all.new.output) (left_of c.as_mut_slice.result.now)
-    (ap left_of c.as_mut_slice.ensures.value ∙ c.in_ok-rests.ensures) (g.W.Write.contents c.send_rest.new.output) c.send_all.new.hand.items c.in_ok-send_all.ensures.ok
+    rest_of_it (kept_by c.args.opening.now c.args.clients.now) _ (g.W.Write.contents c.send_all.new.output)
+    (left_of c.as_mut_slice.result.now)
+    (ap left_of c.as_mut_slice.ensures.value ∙ c.in_ok-rests.ensures)
+    (g.W.Write.contents c.send_rest.new.output) c.send_all.new.hand.items c.in_ok-send_all.ensures.ok
     (rw c.as_slice.ensures.value at c.in-Ok.ensures.ok)
 
 pub returns-clause-err : goal.returns-clause-err
 returns-clause-err g c =
-    rest_in_part (kept_by c.args.opening.now c.args.clients.now) _ (g.W.Write.contents c.send_all.new.output) (left_of c.as_mut_slice.result.now)
-    (ap left_of c.as_mut_slice.ensures.value ∙ c.in_ok-rests.ensures) (g.W.Write.contents c.send_rest.new.output) c.send_all.new.hand.items c.in_ok-send_all.ensures.ok
+    rest_in_part (kept_by c.args.opening.now c.args.clients.now) _ (g.W.Write.contents c.send_all.new.output)
+    (left_of c.as_mut_slice.result.now)
+    (ap left_of c.as_mut_slice.ensures.value ∙ c.in_ok-rests.ensures)
+    (g.W.Write.contents c.send_rest.new.output) c.send_all.new.hand.items c.in_ok-send_all.ensures.ok
     (rw c.as_slice.ensures.value at c.in-Err.ensures.err)

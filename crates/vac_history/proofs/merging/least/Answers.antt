@@ -4,7 +4,9 @@ use Rattle.vac_history.proofs.Left.{left_at}
 use Rattle.vac_history.proofs.merging.least.Goals as goal
 
 pub clients-preserved : goal.clients-preserved
-clients-preserved c = c.better-best.ensures (left_of c.args.rests.now) (left_at c.args.rests.now c.clients.place c.index-rests-place.result c.clients-test.true c.index-rests-place.is) c.clients.invariant
+clients-preserved c = c.better-best.ensures (left_of c.args.rests.now)
+    (left_at c.args.rests.now c.clients.place c.index-rests-place.result c.clients-test.true c.index-rests-place.is)
+    c.clients.invariant
 
 pub returns : goal.returns
 returns c =

@@ -27,5 +27,6 @@ returns c =
     let h4 = more r.bookings (r.used ∷ r.free ∷ r.total ∷ r.billed ∷ []) bookings h5 in
     let h3 = more r.customers (r.bookings ∷ r.used ∷ r.free ∷ r.total ∷ r.billed ∷ []) customers h4 in
     let h2 = more r.rooms (r.customers ∷ r.bookings ∷ r.used ∷ r.free ∷ r.total ∷ r.billed ∷ []) rooms h3 in
-    let h1 = more r.flights (r.rooms ∷ r.customers ∷ r.bookings ∷ r.used ∷ r.free ∷ r.total ∷ r.billed ∷ []) flights h2 in
+    let h1 = more r.flights (r.rooms ∷ r.customers ∷ r.bookings ∷ r.used ∷ r.free ∷ r.total ∷ r.billed ∷ []) flights h2
+    in
     more r.cars (r.flights ∷ r.rooms ∷ r.customers ∷ r.bookings ∷ r.used ∷ r.free ∷ r.total ∷ r.billed ∷ []) cars h1

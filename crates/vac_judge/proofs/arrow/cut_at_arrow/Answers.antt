@@ -7,7 +7,8 @@ use Rattle.vac_judge.proofs.Arrows.{Reached, reached_more, reached_rest, arrow_l
 use Rattle.vac_judge.proofs.arrow.cut_at_arrow.Goals as goal
 
 -- the rest of the line, as the code lends it
-lent : (line : List ℕ) (start : ℕ) → Reached line start (drop start line) → Reached line start (take (length line - start) (drop start line))
+lent : (line : List ℕ) (start : ℕ) → Reached line start (drop start line) →
+    Reached line start (take (length line - start) (drop start line))
 lent line start at = subst (Reached line start) (sym (taken_end line start)) at
 
 pub returns-then-eq : goal.returns-then-eq

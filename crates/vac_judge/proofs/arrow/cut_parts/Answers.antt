@@ -11,14 +11,16 @@ returns-in_err-client c =
 pub returns-in_err-begin : goal.returns-in_err-begin
 returns-in_err-begin c =
     let client = c.in_ok-client.ensures in
-    let none : call_parts c.args.line.now ≡ None = few_two _ _ _ _ _ c.in_ok-claim.ensures client.0 client.1 c.in_err-begin.ensures in
+    let none : call_parts c.args.line.now ≡ None = few_two _ _ _ _ _ c.in_ok-claim.ensures client.0 client.1
+    c.in_err-begin.ensures in
     search (rules, none)
 
 pub returns-in_err-end : goal.returns-in_err-end
 returns-in_err-end c =
     let client = c.in_ok-client.ensures in
     let begin = c.in_ok-begin.ensures in
-    let none : call_parts c.args.line.now ≡ None = few_three _ _ _ _ _ _ _ c.in_ok-claim.ensures client.0 client.1 begin.0 begin.1 c.in_err-end.ensures in
+    let none : call_parts c.args.line.now ≡ None = few_three _ _ _ _ _ _ _ c.in_ok-claim.ensures client.0 client.1
+    begin.0 begin.1 c.in_err-end.ensures in
     search (rules, none)
 
 pub returns : goal.returns

@@ -9,6 +9,7 @@ returns c =
     let out = c.args.out.now.items in
     let last = as_line (field_text (codes " ") c.args.number) in
     let same =
-    ap (λ t. t ++ last) (c.in_ok-append_counted.ensures ∙ ap (λ n. out ++ field_text (codes "illegal missing ") n) c.from.ensures)
+    ap (λ t. t ++ last) (c.in_ok-append_counted.ensures ∙ ap (λ n. out ++ field_text (codes "illegal missing ") n)
+    c.from.ensures)
     ∙ missing_text out (decimal c.args.client) (decimal c.args.number) in
     subst (λ t. OnOk c.append_line.result (c.append_line.new.out.items ≡ t)) same c.append_line.ensures

@@ -1,11 +1,14 @@
 use Rattle.std.proofs.Common.{◌≡◌, ◌≤◌, ◌+◌, ◌∷◌, ◌&&◌, not, nat_le, false, unwrap_or, rules}
 use Rattle.std.specs.FinMap.{get}
-use Rattle.vac_judge.proofs.Handed.{no_bytes, seen_first, seen_more, seen_missing, seen_all, found_open, closed_by_stop, closed_by_made}
+use Rattle.vac_judge.proofs.Handed.{no_bytes, seen_first, seen_more, seen_missing, seen_all, found_open, closed_by_stop}
+use Rattle.vac_judge.proofs.Handed.{closed_by_made}
 use Rattle.vac_judge.proofs.holding.first_missing.Goals as goal
-use Rattle.vac_judge.proofs.holding.first_missing.Goals.{else-progress-before-via-then-progress-before+else-not-progress, else-progress-before-via-else-progress-before}
+use Rattle.vac_judge.proofs.holding.first_missing.Goals.{else-progress-before-via-then-progress-before+else-not-progress}
+use Rattle.vac_judge.proofs.holding.first_missing.Goals.{else-progress-before-via-else-progress-before}
 
 pub loop-client-init : goal.loop-client-init
-loop-client-init c = seen_first c.args.work.now c.args.held.now c.new-seen.result c.clients-rest.result.now c.new-seen.ensures c.clients-rest.ensures
+loop-client-init c = seen_first c.args.work.now c.args.held.now c.new-seen.result c.clients-rest.result.now
+    c.new-seen.ensures c.clients-rest.ensures
 
 pub returns-then-not-progress-clause-missing : goal.returns-then-not-progress-clause-missing
 returns-then-not-progress-clause-missing c =
@@ -17,7 +20,8 @@ returns-then-not-progress-clause-missing c =
     let more : c.in_ok-number.number ≡ before + 1 = search rules in
     let few : p.made ≤ before = search rules in
     let goes : p.stopped ≡ false = search rules in
-    seen_missing c.args.work.now c.args.held.now at.seen c.in-Some.client.now before c.in_ok-number.number at.rest.now c.in-Some.behind.now p at.invariant cut seen more
+    seen_missing c.args.work.now c.args.held.now at.seen c.in-Some.client.now before c.in_ok-number.number at.rest.now
+    c.in-Some.behind.now p at.invariant cut seen more
     c.progress-progress.ensures (found_open p.made before p.stopped few goes)
 
 pub loop-client-preserved : goal.loop-client-preserved
@@ -32,12 +36,15 @@ loop-client-preserved c =
     elim c.else-progress-before.branch [
       | else-progress-before-via-then-progress-before+else-not-progress w ↦
           closed_by_stop p.made before p.stopped w.if-not-progress.false
-      | else-progress-before-via-else-progress-before w ↦ closed_by_made p.made before p.stopped w.if-progress-before.false
+      | else-progress-before-via-else-progress-before w ↦ closed_by_made p.made before p.stopped
+          w.if-progress-before.false
     ] in
-    seen_more c.args.work.now c.args.held.now at.seen c.insert.new.self c.in-Some.client.now before c.in_ok-number.number at.rest.now c.in-Some.behind.now p at.invariant
+    seen_more c.args.work.now c.args.held.now at.seen c.insert.new.self c.in-Some.client.now before
+    c.in_ok-number.number at.rest.now c.in-Some.behind.now p at.invariant
     cut seen more c.in_ok-insert.ensures c.progress-progress.ensures closed
 
 pub returns-clause-missing : goal.returns-clause-missing
 returns-clause-missing c =
     let at = c.loop-client in
-    seen_all c.args.work.now c.args.held.now at.seen at.rest.now at.invariant (no_bytes at.rest.now c.in_default.ensures.cases)
+    seen_all c.args.work.now c.args.held.now at.seen at.rest.now at.invariant
+    (no_bytes at.rest.now c.in_default.ensures.cases)

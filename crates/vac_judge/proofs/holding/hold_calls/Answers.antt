@@ -7,6 +7,8 @@ pub returns-then-not-branch-clause-line : goal.returns-then-not-branch-clause-li
 returns-then-not-branch-clause-line c =
     let at = c.loop-line in
     let more : c.in_ok-number.number ≡ at.held.count + 1 = search rules in
-    let other : IsTaken c.args.work.now at.held (shown_call c.in-Ok.call) false = λ asked calls w h. sym c.if-not-branch.true ∙ c.in_ok-take.ensures.next asked calls w h in
-    held_foreign c.args.work.now at.held c.in_ok-number.number _ at.rest.now c.in-Some.line.now c.in-Some.behind.now (shown_call c.in-Ok.call) at.invariant
+    let other : IsTaken c.args.work.now at.held (shown_call c.in-Ok.call) false =
+    λ asked calls w h. sym c.if-not-branch.true ∙ c.in_ok-take.ensures.next asked calls w h in
+    held_foreign c.args.work.now at.held c.in_ok-number.number _ at.rest.now c.in-Some.line.now c.in-Some.behind.now
+    (shown_call c.in-Ok.call) at.invariant
     c.in-Some.ensures.lines c.in-Ok.ensures.call other more

@@ -7,12 +7,14 @@ use Rattle.vac_judge.proofs.work.asked_at.Goals as goal
 
 pub returns-in-Some-clause-asked : goal.returns-in-Some-clause-asked
 returns-in-Some-clause-asked c =
-    let same = asked_cut c.args.line.now c.in-Some.client.now c.in-Some.rest.now c.in-Some.ensures.0 c.in-Some.ensures.1 in
+    let same = asked_cut c.args.line.now c.in-Some.client.now c.in-Some.rest.now c.in-Some.ensures.0 c.in-Some.ensures.1
+    in
     subst (λ r. IfOk c.text_asked.result (λ a. r ≡ Ok (asked_of a))) (sym same) c.text_asked.ensures.asked
 
 pub returns-in-Some-clause-fault : goal.returns-in-Some-clause-fault
 returns-in-Some-clause-fault c =
-    let same = asked_cut c.args.line.now c.in-Some.client.now c.in-Some.rest.now c.in-Some.ensures.0 c.in-Some.ensures.1 in
+    let same = asked_cut c.args.line.now c.in-Some.client.now c.in-Some.rest.now c.in-Some.ensures.0 c.in-Some.ensures.1
+    in
     subst (λ r. IfErr c.text_asked.result (λ f. f ≢ Line Memory → r ≡ Err f)) (sym same) c.text_asked.ensures.fault
 
 pub returns-clause-fault : goal.returns-clause-fault

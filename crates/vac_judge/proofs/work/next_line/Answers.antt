@@ -3,7 +3,8 @@ use Rattle.vac_judge.proofs.Handed.{first_line, only_line}
 use Rattle.vac_judge.proofs.work.next_line.Goals as goal
 
 pub returns-in-Some-clause-lines : goal.returns-in-Some-clause-lines
-returns-in-Some-clause-lines c = first_line c.args.text.now c.in-Some.line.now c.in-Some.behind.now c.in-Some.ensures.0 c.in-Some.ensures.1
+returns-in-Some-clause-lines c = first_line c.args.text.now c.in-Some.line.now c.in-Some.behind.now c.in-Some.ensures.0
+    c.in-Some.ensures.1
 
 pub returns-clause-lines : goal.returns-clause-lines
 returns-clause-lines c =

@@ -16,7 +16,8 @@ invariant-tries g l = record {
   trying : Trying l.initial.client.value l.client.value l.left l.tries;
   tries : l.tries ≤ 1048576;
   met : Met l.region l.initial.client.value l.client.value l.traced.effort;
-  traced : HasTraced {E = Stop} (Err stop.Memory) l.initial.client.value l.client.value (g.T.Tracer.ended l.initial.tracer) (g.T.Tracer.ended l.tracer);
+  traced : HasTraced {E = Stop} (Err stop.Memory) l.initial.client.value l.client.value
+      (g.T.Tracer.ended l.initial.tracer) (g.T.Tracer.ended l.tracer);
 }
 
 abbrev pub decreases-tries : goal.decreases-tries

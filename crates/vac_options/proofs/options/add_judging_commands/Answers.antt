@@ -4,7 +4,8 @@ use Rattle.vac_options.proofs.options.add_judging_commands.Goals as goal
 
 pub returns : goal.returns
 returns c =
-    let s1 = command_more _ _ (Ok c.plain_command-check.result) _ [] _ (no_command c.args.top) c.add_command.ensures c.plain_command-check.ensures in
+    let s1 = command_more _ _ (Ok c.plain_command-check.result) _ [] _
+    (no_command c.args.top) c.add_command.ensures c.plain_command-check.ensures in
     let s2 = command_more _ _ _ _ _ _ s1 c.add_command-top.ensures c.judge_command.ensures in
     let s3 = command_more _ _ _ _ _ _ s2 c.add_command-2.ensures c.order_command.ensures in
     command_more _ _ _ _ _ _ s3 c.add_command-3.ensures c.opaque_command.ensures

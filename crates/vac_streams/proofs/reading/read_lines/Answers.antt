@@ -1,7 +1,8 @@
 use Rattle.std.proofs.Common.{◌≡◌, ◌<◌, ◌∙◌, length, arith, refl, length-take}
 use Rattle.vac_streams.specs.declared.reading.TheConstants.{MOST_LINES}
 use Rattle.vac_streams.proofs.Cutting.{nothing_begun}
-use Rattle.vac_streams.proofs.Telling.{heard_nothing, heard_kept, heard_on, heard_last, heard_end, heard_err, heard_failed, heard_bound, fed_more, fed_enough}
+use Rattle.vac_streams.proofs.Telling.{heard_nothing, heard_kept, heard_on, heard_last, heard_end, heard_err}
+use Rattle.vac_streams.proofs.Telling.{heard_failed, heard_bound, fed_more, fed_enough}
 use Rattle.vac_streams.proofs.reading.read_lines.Goals as goal
 use Rattle.vac_streams.proofs.reading.read_lines.Goals.{in-Ok+in_ok-feed-in-Ok+in_default, in-Err+else-ne}
 

@@ -7,5 +7,6 @@ use Rattle.vac_judge.proofs.by_client.ByClient.insert.Goals as goal
 
 pub returns : goal.returns
 returns g c =
-    insert-tree nat_cmp_total nat_cmp-IsAntisymmetric c.self.inside.entries c.insert.new.self c.args.client c.args.value c.in_ok-insert.ensures.updates
+    insert-tree nat_cmp_total nat_cmp-IsAntisymmetric c.self.inside.entries c.insert.new.self c.args.client c.args.value
+    c.in_ok-insert.ensures.updates
     ∙ ap (λ m. map.insert m c.args.client c.args.value) c.self.view_is

@@ -7,9 +7,11 @@ use Rattle.vac_judge.proofs.by_client.ByClient.remove.Goals as goal
 
 pub returns-clause-removed : goal.returns-clause-removed
 returns-clause-removed g c =
-    remove-tree nat_cmp_total nat_cmp-IsAntisymmetric c.self.inside.entries c.remove.new.self c.args.client c.remove.ensures.updates
+    remove-tree nat_cmp_total nat_cmp-IsAntisymmetric c.self.inside.entries c.remove.new.self c.args.client
+    c.remove.ensures.updates
     ∙ ap (λ m. map.remove m c.args.client) c.self.view_is
 
 pub returns-clause-value : goal.returns-clause-value
 returns-clause-value g c =
-    c.remove.ensures.value ∙ sym (get-tree nat_cmp_total c.self.inside.entries c.args.client) ∙ ap (λ m. map.get m c.args.client) c.self.view_is
+    c.remove.ensures.value ∙ sym (get-tree nat_cmp_total c.self.inside.entries c.args.client) ∙
+    ap (λ m. map.get m c.args.client) c.self.view_is

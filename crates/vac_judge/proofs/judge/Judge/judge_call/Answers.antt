@@ -20,7 +20,8 @@ returns-then-not-branch c = λ s earlier f.
     let same : false ≡ is_right call.reply (run s call.task).1 =
     sym c.if-not-branch.true ∙ c.in_ok-is_right.ensures ∙ ap (is_right call.reply) (sym reply) in
     record {
-      found_is = wrong_reply s earlier call false (c.in_default.ensures s earlier f) same ∙ ap (λ r. Some (Reply r)) reply;
+      found_is = wrong_reply s earlier call false (c.in_default.ensures s earlier f) same ∙
+          ap (λ r. Some (Reply r)) reply;
       taken = λ e. absurd (no_wrong _ e);
     }
 
@@ -36,6 +37,7 @@ returns c = λ s earlier f.
       found_is = wrong_reply s earlier call true times same;
       taken = λ e. record {
         heap = c.run-reply.ensures.state s f.heap;
-        spans = subst (λ t. Keeps c.push.new.self (t ∷ map span_of earlier)) c.span.ensures (c.in_ok-push.ensures.kept (map span_of earlier) f.spans placed);
+        spans = subst (λ t. Keeps c.push.new.self (t ∷ map span_of earlier)) c.span.ensures
+            (c.in_ok-push.ensures.kept (map span_of earlier) f.spans placed);
       };
     }

@@ -16,4 +16,5 @@ returns-in-Some-Time c = λ s earlier f.
 
 pub returns-in-None : goal.returns-in-None
 returns-in-None c = λ s earlier f.
-    span_says earlier (shown_call c.args.call.now) c.span.result None c.span.ensures (c.find.ensures _ f.spans ∙ c.in-None.is)
+    span_says earlier (shown_call c.args.call.now) c.span.result None c.span.ensures
+    (c.find.ensures _ f.spans ∙ c.in-None.is)

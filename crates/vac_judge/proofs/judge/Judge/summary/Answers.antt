@@ -15,5 +15,6 @@ summary_same a b x y r q e f g = cc
 
 pub returns-clause-summary : goal.returns-clause-summary
 returns-clause-summary c = λ s earlier f.
-    summary_same _ _ _ _ _ _ (c.count.ensures ∙ f.spans.count_is ∙ length-map earlier span_of) (c.clients.ensures _ f.spans ∙ clients_mapped span_of earlier)
+    summary_same _ _ _ _ _ _ (c.count.ensures ∙ f.spans.count_is ∙ length-map earlier span_of)
+    (c.clients.ensures _ f.spans ∙ clients_mapped span_of earlier)
     (sym (c.report.ensures.report s f.heap))

@@ -15,10 +15,13 @@ returns-clause-called g c = record {
   once = search rules;
   next = search rules;
   legal = search rules;
-  whole = whole_of c.args.self.now c.match-answer.result c.args.client.now.value c.run_in_attempts-answer.new.client.value (search rules) (search rules);
+  whole = whole_of c.args.self.now c.match-answer.result c.args.client.now.value
+      c.run_in_attempts-answer.new.client.value (search rules) (search rules);
   history = λ all.
-      continues c.args.self.now c.args.task.now c.match-answer.result c.args.client.now.value c.run_in_attempts-answer.new.client.value (search rules)
-      (whole_of c.args.self.now c.match-answer.result c.args.client.now.value c.run_in_attempts-answer.new.client.value (search rules) (search rules) all);
+      continues c.args.self.now c.args.task.now c.match-answer.result c.args.client.now.value
+      c.run_in_attempts-answer.new.client.value (search rules)
+      (whole_of c.args.self.now c.match-answer.result c.args.client.now.value c.run_in_attempts-answer.new.client.value
+      (search rules) (search rules) all);
   fault = search rules;
   alone = search rules;
 }

@@ -10,5 +10,6 @@ returns-clause-only c = only_of _ _ _ _ _ c.gather.ensures.only (search rules) (
 pub invariant_of-client : goal.invariant_of-client
 invariant_of-client c =
     let free : IsFreeHanded c.gather.new.client.value = search rules in
-    let unplaced = unplaced_joined c.client.inside.client.value c.other.inside.client.value c.gather.new.client.value (search rules) (search rules) (search rules) in
+    let unplaced = unplaced_joined c.client.inside.client.value c.other.inside.client.value c.gather.new.client.value
+    (search rules) (search rules) (search rules) in
     (free, unplaced)
