@@ -1,5 +1,5 @@
 -- What calls took.
-use Rattle.std.proofs.Common.{◌≡◌, ◌+◌, ◌*◌, ◌≤◌, ℕ, List, [], ◌∷◌, Result, Ok, Err, refl, sym, ap, subst, arith}
+use Rattle.std.proofs.Common.{◌≡◌, ◌+◌, ◌*◌, ◌≤◌, ℕ, List, Result, Ok, Err, refl, sym, ap, subst, arith}
 use Rattle.std.proofs.Math.Nat.{add-mul}
 use Rattle.stm_attempt.specs.declared.conflict.Conflict.{Conflict}
 use Rattle.vac_model.specs.declared.replies.Reply.{Reply}
@@ -8,7 +8,7 @@ use Rattle.vac_manager.specs.declared.fault.Fault.TheVariants as fault
 use Rattle.vac_manager.specs.declared.placed.Placed.{Placed}
 use Rattle.vac_manager.specs.declared.placed.Effort.{Effort}
 use Rattle.vac_manager.specs.Called.{Attempts}
-use Rattle.vac_manager.specs.Placed.{replied, closed_by, effort_of, conflicts_of, locks_of, nothing_done}
+use Rattle.vac_manager.specs.Placed.{replied, closed_by, effort_of, nothing_done}
 use Rattle.vac_manager.proofs.Counting.{each_counted, each_located}
 use Rattle.vac_load.specs.declared.tally.Tally.{Tally}
 use Rattle.vac_load.specs.declared.efforts.Efforts.{Efforts}

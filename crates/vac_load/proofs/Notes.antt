@@ -1,13 +1,18 @@
 -- Calls that keepers keep.
-use Rattle.std.proofs.Common.{◌≡◌, ◌∙◌, ℕ, List, [], ◌∷◌, ◌++◌, Some, None, Result, Ok, Err, IfOk, refl, sym, ap, subst, append_assoc, append-nil}
+use Rattle.std.proofs.Common.{◌≡◌, ◌∙◌, ℕ, List, [], ◌∷◌, ◌++◌, Option, Some, None, Result, Ok, Err, IfOk, refl, sym, ap, subst, append_assoc, append-nil}
+use Rattle.std.specs.Prelude.{IfSome}
+use Rattle.std.specs.Global.{Box}
 use Rattle.stm_core.specs.Client.{Client, Record}
 use Rattle.vac_model.specs.declared.tasks.Task.{Task}
 use Rattle.vac_model.specs.Code.{code}
 use Rattle.vac_manager.specs.declared.placed.Placed.{Placed}
-use Rattle.vac_manager.specs.Placed.{AddsAt, IsPlaced}
+use Rattle.vac_model.specs.declared.replies.Reply.{Reply}
+use Rattle.vac_manager.specs.Placed.{AddsAt, IsPlaced, replied}
 use Rattle.vac_manager.specs.declared.fault.Fault.{Fault}
 use Rattle.stm_region.specs.Shown.{RegionShown}
 use Rattle.vac_manager.specs.declared.note.Note.{Note}
+use Rattle.vac_manager.specs.declared.note.AttemptNote.{AttemptNote}
+use Rattle.vac_manager.specs.Tracing.{Trace, trace_of, IsLast, IsTraceOf, IsOfAdded, HasTraced}
 use Rattle.vac_manager.specs.Keeping.{behind, HasKept, IsNoted}
 use Rattle.vac_load.specs.Lists.{Paired, none, both}
 use Rattle.vac_load.specs.Keeping.{Kept, AreKept, HasKeptAdded}
@@ -41,9 +46,40 @@ kept_none v v' a b same e = record {
   kept = record { notes = []; are_of = none; kept = e ∙ sym (behind_none a) };
 }
 
+-- the last of a list, or this
+abbrev last_or : {A : Type 0} → A → List A → A
+last_or d [] = d
+last_or d (x ∷ xs) = last_or x xs
+
+last_is : {A : Type 0} (d : A) (xs : List A) (x : A) → last_or d (xs ++ (x ∷ [])) ≡ x
+last_is d [] x = refl
+last_is d (y ∷ xs) x = last_is y xs x
+
+-- lists that are equal have the same last element
+same_last : {A : Type 0} (xs ys : List A) (x y : A) → xs ++ (x ∷ []) ≡ ys ++ (y ∷ []) → x ≡ y
+same_last xs ys x y e = sym (last_is x xs x) ∙ (ap (λ (l : List _). last_or x l) e ∙ last_is x ys y)
+
+-- the last attempt that was traced is the one that was answered
+is_of_answer : (reply : Reply) (v v' : Client) (before traced : Option (List Trace)) (t : Trace) → HasTraced {E = Fault} (Ok reply) v v' before traced → IsLast traced t → IsOfAdded v v' t
+is_of_answer reply v v' before traced t h last =
+    let k = h (last.0 ++ (t ∷ [])) last.1 in
+    let a = k.4 in
+    let e : last.0 ++ (t ∷ []) ≡ (k.0 ++ a.0) ++ (a.1 ∷ []) = k.3 ∙ (ap (λ (l : List Trace). k.0 ++ l) a.2 ∙ sym (append_assoc k.0 a.0 (a.1 ∷ []))) in
+    subst (λ (x : Trace). IsOfAdded v v' x) (sym (same_last last.0 (k.0 ++ a.0) t a.1 e)) a.4
+
+-- it made the record that was added
+is_of_record : (v v' : Client) (r : Record) (t : Trace) → v'.records ≡ v.records ++ (r ∷ []) → IsOfAdded v v' t → IsTraceOf t r
+is_of_record v v' r t e h = subst (λ (x : Record). IsTraceOf t x) (same_last v.records v.records h.added r (sym h.records ∙ e)) h.is
+
+-- so did the one that is noted, if any is
+noted_made : (o : Option (Box AttemptNote)) (reply : Reply) (v v' : Client) (r : Record) (before traced : Option (List Trace)) → v'.records ≡ v.records ++ (r ∷ []) → HasTraced {E = Fault} (Ok reply) v v' before traced →
+    IfSome o (λ a. IsLast traced (trace_of a.value)) → IfSome o (λ a. IsTraceOf (trace_of a.value) r)
+noted_made (Some a) reply v v' r before traced e h last = is_of_record v v' r (trace_of a.value) e (is_of_answer reply v v' before traced (trace_of a.value) h last)
+noted_made None reply v v' r before traced e h last = tt
+
 -- the call that added a record was kept
-pub kept_one : (renewal : ℕ) (t : Task) (p : Placed) (v v' : Client) (a b c : Kept) → AddsAt renewal (code t p.reply) p.place v v' → b ≡ a → HasKept t p b c → HasKeptAdded v v' a c
-kept_one renewal t p v v' a b c adds same h = record {
+pub kept_one : (renewal : ℕ) (t : Task) (p : Placed) (v v' : Client) (a b c : Kept) (before traced : Option (List Trace)) → AddsAt renewal (code t p.reply) p.place v v' → HasTraced {E = Fault} (Ok p.reply) v v' before traced → b ≡ a → HasKept t p traced b c → HasKeptAdded v v' a c
+kept_one renewal t p v v' a b c before traced adds attempts same h = record {
   added = adds.adds.added ∷ [];
   records = adds.adds.records;
   kept = record {
@@ -51,6 +87,7 @@ kept_one renewal t p v v' a b c adds same h = record {
     are_of = both (record {
       tag = rw h.task (rw h.reply adds.adds.tag_is);
       place = h.place ∙ adds.place_is;
+      attempt = noted_made h.note.attempt p.reply v v' adds.adds.added before traced adds.adds.records attempts h.attempt;
     }) none;
     kept = h.kept ∙ ap (λ (k : Kept). behind k (h.note ∷ [])) same;
   };
@@ -82,9 +119,10 @@ pub kept_added : (v v' : Client) (rs : List Record) (a b : Kept) → v'.records 
 kept_added v v' rs a b e h = subst (λ (l : List Record). AreKept l a b) (same_rest v.records h.added rs (sym h.records ∙ e)) h.kept
 
 -- a call that was answered was kept
-pub kept_answered : (region : RegionShown) (t : Task) (end : Result Placed Fault) (p : Placed) (v v' : Client) (a b c : Kept) → end ≡ Ok p → IsPlaced region t end v v' → b ≡ a → HasKept t p b c → HasKeptAdded v v' a c
-kept_answered region t end p v v' a b c is placed same h =
-    kept_one region.renewal t p v v' a b c (subst (λ (r : Result Placed Fault). IsPlaced region t r v v') is placed) same h
+pub kept_answered : (region : RegionShown) (t : Task) (end : Result Placed Fault) (p : Placed) (v v' : Client) (a b c : Kept) (before traced noted : Option (List Trace)) → end ≡ Ok p → IsPlaced region t end v v' → HasTraced (replied end) v v' before traced → b ≡ a → noted ≡ traced → HasKept t p noted b c → HasKeptAdded v v' a c
+kept_answered region t end p v v' a b c before traced noted is placed attempts same taken h =
+    kept_one region.renewal t p v v' a b c before traced (subst (λ (r : Result Placed Fault). IsPlaced region t r v v') is placed)
+    (subst (λ (r : Result Placed Fault). HasTraced (replied r) v v' before traced) is attempts) same (subst (λ (o : Option (List Trace)). HasKept t p o b c) taken h)
 
 -- a call that was refused was not
 pub kept_refused : (region : RegionShown) (t : Task) (end : Result Placed Fault) (e : Fault) (v v' : Client) (a b : Kept) → end ≡ Err e → IsPlaced region t end v v' → b ≡ a → HasKeptAdded v v' a b

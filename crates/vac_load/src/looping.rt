@@ -45,7 +45,9 @@ fn ask_for<G: Gate, K: Keep>(
     if keep.begin().is_err() {
         return (Err(Fault::Memory), Effort::new());
     }
-    let (end, effort) = session.call_placed(&task, tries, gate);
+    let mut tracer = keep.lend();
+    let (end, effort) = session.trace_call(&task, tries, gate, &mut tracer);
+    keep.take_back(tracer);
     match end {
         Ok(placed) => {
             keep.keep(task, placed);

@@ -43,7 +43,9 @@ fn ask_for<K: Keep>(session: &mut Session<'_>, command: Command, keep: &mut K) -
         return Err(Fault::Memory);
     }
     let task = Task::One(command);
-    let (end, _) = session.call_placed(&task, TRIES, &mut NoGate);
+    let mut tracer = keep.lend();
+    let (end, _) = session.trace_call(&task, TRIES, &mut NoGate, &mut tracer);
+    keep.take_back(tracer);
     match end {
         Ok(placed) => {
             keep.keep(task, placed);

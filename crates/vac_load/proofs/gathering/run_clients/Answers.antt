@@ -1,4 +1,6 @@
 use Rattle.std.proofs.Common.{◌≡◌, ◌∙◌, ◌≤◌, sym, ap, arith}
+use Rattle.std.proofs.Crossing.{crosses}
+use denote.Param.Send.{sendable}
 use Rattle.stm_region.specs.Shown.{RegionShown}
 use Rattle.vac_manager.specs.Session.{SessionShown}
 use Rattle.vac_load.specs.Keeping.{shown}
@@ -15,19 +17,36 @@ gather_all-requires g c =
     let same = paired_length _ _ _ c.in_ok-crew-2.ensures.worked.others in
     let all = c.in_ok-crew-2.ensures.worked.first.looped.all in
     let number = c.in_ok-crew.ensures.number in
-    let first = ap (λ (y : SessionShown). y.manager) c.in_ok-crew-2.ensures.worked.first.session ∙ c.in_ok-crew.ensures.crew.opening.manager_is in
-    record {
-      one = worked_with g.D.Draws.leads c.args.settings.now (λ w. w.session) (λ w. shown g.K.Keep.notes w.seat) (λ r. r.worker.session) (λ r. shown g.K.Keep.notes r.worker.seat) (λ r. r.tally) _ _ _
-          (paired_each _ (λ w. w.session.manager ≡ c.in_ok-crew-2.crew.first.worker.session.manager) (λ p w h. h.manager_is ∙ sym first) _ _ c.in_ok-crew.ensures.crew.others_are) c.in_ok-crew-2.ensures.worked.others;
-      grants = let held = c.in_ok-crew-2.ensures.worked.first.looped.answered.grants in omega (arith, held, same, c.in_ok-crew.ensures.grants);
-      others_grants = worked_grants g.D.Draws.leads c.args.settings.now (λ w. w.session) (λ w. shown g.K.Keep.notes w.seat) (λ r. r.worker.session) (λ r. shown g.K.Keep.notes r.worker.seat) (λ r. r.tally) _ _ c.in_ok-crew.ensures.others_grants c.in_ok-crew-2.ensures.worked.others;
-      few = omega (arith, number, same, m, c.requires.number);
-      room = omega (arith, number, same, c.in-Ok.ensures.capacity, c.len.ensures);
-      empty = c.in-Ok.ensures.items;
-      tasks = omega (arith, all, n);
-      others_tasks = worked_tasks g.D.Draws.leads c.args.settings.now (λ w. w.session) (λ w. shown g.K.Keep.notes w.seat) (λ r. r.worker.session) (λ r. shown g.K.Keep.notes r.worker.seat) (λ r. r.tally) _ _ _ n c.in_ok-crew-2.ensures.worked.others;
-      tries = worked_tries g.D.Draws.leads c.args.settings.now (λ w. w.session) (λ w. shown g.K.Keep.notes w.seat) (λ r. r.worker.session) (λ r. shown g.K.Keep.notes r.worker.seat) (λ r. r.tally) _ _ _ (sym c.in_ok-crew-2.ensures.worked.first.tries) c.in_ok-crew-2.ensures.worked.others;
-    }
+    let first = ap (λ (y : SessionShown). y.manager) c.in_ok-crew-2.ensures.worked.first.session ∙ c.in_ok-crew.ensures.crew.opening.manager_is in (
+      -- what traces the calls of a keeper may go to another thread
+      search (sendable, crosses) depth 40,
+      (
+        worked_with g.D.Draws.leads c.args.settings.now (λ w. w.session) (λ w. shown g.K.Keep.notes w.seat) (λ r. r.worker.session) (λ r. shown g.K.Keep.notes r.worker.seat) (λ r. r.tally) _ _ _
+            (paired_each _ (λ w. w.session.manager ≡ c.in_ok-crew-2.crew.first.worker.session.manager) (λ p w h. h.manager_is ∙ sym first) _ _ c.in_ok-crew.ensures.crew.others_are) c.in_ok-crew-2.ensures.worked.others,
+        (
+          let held = c.in_ok-crew-2.ensures.worked.first.looped.answered.grants in omega (arith, held, same, c.in_ok-crew.ensures.grants),
+          (
+            worked_grants g.D.Draws.leads c.args.settings.now (λ w. w.session) (λ w. shown g.K.Keep.notes w.seat) (λ r. r.worker.session) (λ r. shown g.K.Keep.notes r.worker.seat) (λ r. r.tally) _ _ c.in_ok-crew.ensures.others_grants c.in_ok-crew-2.ensures.worked.others,
+            (
+              omega (arith, number, same, m, c.requires.number),
+              (
+                omega (arith, number, same, c.in-Ok.ensures.capacity, c.len.ensures),
+                (
+                  c.in-Ok.ensures.items,
+                  (
+                    omega (arith, all, n),
+                    (
+                      worked_tasks g.D.Draws.leads c.args.settings.now (λ w. w.session) (λ w. shown g.K.Keep.notes w.seat) (λ r. r.worker.session) (λ r. shown g.K.Keep.notes r.worker.seat) (λ r. r.tally) _ _ _ n c.in_ok-crew-2.ensures.worked.others,
+                      worked_tries g.D.Draws.leads c.args.settings.now (λ w. w.session) (λ w. shown g.K.Keep.notes w.seat) (λ r. r.worker.session) (λ r. shown g.K.Keep.notes r.worker.seat) (λ r. r.tally) _ _ _ (sym c.in_ok-crew-2.ensures.worked.first.tries) c.in_ok-crew-2.ensures.worked.others,
+                    ),
+                  ),
+                ),
+              ),
+            ),
+          ),
+        ),
+      ),
+    )
 
 pub returns-clause-tries : goal.returns-clause-tries
 returns-clause-tries g c = c.gather_all.ensures.tries ∙ c.in_ok-crew-2.ensures.worked.first.tries
