@@ -1,5 +1,6 @@
 -- Tasks that were answered, and how they are counted.
-use Rattle.std.proofs.Common.{◌≡◌, refl, sym, ap, subst, IfOk, ◌∙◌, inl, inr, ◌⊎◌, arith, ℕ, zero, suc, ◌+◌, ◌*◌, ◌≤◌, List, [], ◌∷◌, ◌++◌, length, Result, Ok, Err, append_assoc, append-nil, length-append}
+use Rattle.std.proofs.Common.{◌≡◌, refl, sym, ap, subst, IfOk, ◌∙◌, inl, inr, ◌⊎◌, arith, ℕ, zero, suc, ◌+◌, ◌*◌, ◌≤◌}
+use Rattle.std.proofs.Common.{List, [], ◌∷◌, ◌++◌, length, Result, Ok, Err, append_assoc, append-nil, length-append}
 use mathlib.Core.Option.{some-injective, some-ne-none}
 use Rattle.tx_memory.specs.Image.{In}
 use Rattle.stm_core.specs.Client.{Client, Record, before}
@@ -14,7 +15,8 @@ use Rattle.vac_manager.specs.declared.fault.Fault.TheVariants as fault
 use Rattle.vac_draws.specs.declared.settings.Settings.{Settings}
 use Rattle.vac_load.specs.declared.tally.Tally.{Tally}
 use Rattle.vac_draws.specs.Tasks.{task_of, DrawnTask}
-use Rattle.vac_load.specs.Looping.{AreOf, IsAdded, Answered, total, nothing, counted, least_attempts, attempts_of, answered_by, RanOne, Looped}
+use Rattle.vac_load.specs.Looping.{AreOf, IsAdded, Answered, total, nothing, counted, least_attempts, attempts_of}
+use Rattle.vac_load.specs.Looping.{answered_by, RanOne, Looped}
 use Rattle.vac_draws.proofs.Drawing.{drawn_always, drawn_times}
 use Rattle.vac_load.proofs.Order.{added_known, added_later, known_first}
 
@@ -32,7 +34,8 @@ in_both [] qs r i = inr i
 in_both (x ∷ rs) qs r (zero, e) = inl (zero, e)
 in_both (x ∷ rs) qs r (suc j, e) = elim (in_both rs qs r (j, e)) [ inl k ↦ inl (suc k.0, k.1) | inr k ↦ inr k ]
 
-pub answered_quiet : (n : ℕ) (v v' : Client) → v'.records ≡ v.records → v.floor ≤ v'.floor → v'.grants ≡ v.grants → Answered n [] v v'
+pub answered_quiet : (n : ℕ) (v v' : Client) → v'.records ≡ v.records → v.floor ≤ v'.floor → v'.grants ≡ v.grants →
+    Answered n [] v v'
 answered_quiet n v v' same floor grants = record {
   added = [];
   records = same ∙ sym (append-nil v.records);
@@ -47,12 +50,19 @@ in_one : (n before now : ℕ) (x r : Record) → IsAdded n before now x → In r
 in_one n before now x r h (zero, e) = subst (λ (y : Record). IsAdded n before now y) (some-injective x r e) h
 in_one n before now x r h (suc j, e) = absurd (some-ne-none r (sym e))
 
-pub answered_one : (n : ℕ) (t : Task) (reply : Reply) (v v' : Client) → Adds n (code t reply) v v' → v.floor ≤ v'.floor → v'.grants ≡ v.grants → Answered n (t ∷ []) v v'
+pub answered_one : (n : ℕ) (t : Task) (reply : Reply) (v v' : Client) → Adds n (code t reply) v v' →
+    v.floor ≤ v'.floor → v'.grants ≡ v.grants → Answered n (t ∷ []) v v'
 answered_one n t reply v v' a floor grants = record {
   added = a.added ∷ [];
   records = a.records;
   are_of = ((reply, a.tag_is), tt);
-  each = λ r i. in_one n v.floor v'.floor a.added r (record { renewal_is = a.renewal_is; unplaced = a.unplaced; later = a.later; behind = a.behind; known = a.known }) i;
+  each = λ r i. in_one n v.floor v'.floor a.added r (record {
+    renewal_is = a.renewal_is;
+    unplaced = a.unplaced;
+    later = a.later;
+    behind = a.behind;
+    known = a.known;
+  }) i;
   sorted = ((λ r i. absurd (in_none r i)), tt);
   floor = floor;
   grants = grants;
@@ -67,7 +77,8 @@ added_wider n a b c d r l m h = record {
   known = omega (arith, m, h.known);
 }
 
-pub answered_both : (n : ℕ) (ts us : List Task) (v w u : Client) → Answered n ts v w → Answered n us w u → Answered n (ts ++ us) v u
+pub answered_both : (n : ℕ) (ts us : List Task) (v w u : Client) → Answered n ts v w → Answered n us w u →
+    Answered n (ts ++ us) v u
 answered_both n ts us v w u p q = record {
   added = p.added ++ q.added;
   records = rw q.records (rw p.records (append_assoc v.records p.added q.added));
@@ -76,7 +87,9 @@ answered_both n ts us v w u p q = record {
     | inl j ↦ added_wider n v.floor v.floor w.floor u.floor r (omega arith) q.floor (p.each r j)
     | inr j ↦ added_wider n v.floor w.floor u.floor u.floor r p.floor (omega arith) (q.each r j)
   ];
-  sorted = sorted_append p.added q.added p.sorted q.sorted (λ x y i j. known_first n w.floor x y (added_known n v.floor w.floor x (p.each x i)) (added_later n w.floor w.floor u.floor y (omega arith) (q.each y j)));
+  sorted = sorted_append p.added q.added p.sorted q.sorted (λ x y i j. known_first n w.floor x y
+      (added_known n v.floor w.floor x (p.each x i)) (added_later n w.floor w.floor u.floor y (omega arith)
+      (q.each y j)));
   floor = omega (arith, p.floor, q.floor);
   grants = q.grants ∙ p.grants;
 }
@@ -105,14 +118,16 @@ total_counted (Err (fault.Spent version)) t = omega arith
 one_more : (n k : ℕ) → (n + 1) * k ≡ n * k + 1 * k
 one_more n k = grind arith
 
-attempts_counted : {R : Type 0} (tries : ℕ) (end : Result R Fault) (t : Tally) → least_attempts tries (counted end t) ≡ least_attempts tries t + attempts_of tries end
+attempts_counted : {R : Type 0} (tries : ℕ) (end : Result R Fault) (t : Tally) →
+    least_attempts tries (counted end t) ≡ least_attempts tries t + attempts_of tries end
 attempts_counted tries (Ok reply) t = omega arith
 attempts_counted tries (Err fault.Arguments) t = omega arith
 attempts_counted tries (Err fault.Memory) t = omega arith
 attempts_counted tries (Err (fault.Busy conflict)) t = omega (arith, one_more t.busy tries)
 attempts_counted tries (Err (fault.Spent version)) t = omega arith
 
-busy_counted : {R : Type 0} (end : Result R Fault) (t : Tally) → (counted end t).busy ≡ t.busy + (counted end nothing).busy
+busy_counted : {R : Type 0} (end : Result R Fault) (t : Tally) →
+    (counted end t).busy ≡ t.busy + (counted end nothing).busy
 busy_counted (Ok reply) t = omega arith
 busy_counted (Err fault.Arguments) t = omega arith
 busy_counted (Err fault.Memory) t = omega arith
@@ -126,27 +141,35 @@ record Turn {R : Type 0} (n : ℕ) (t : Task) (end : Result R Fault) (tries : �
   pub alone : HasAllGrants v → (counted end nothing).busy ≡ 0
 
 -- what one task adds to a loop, also one that was not built
-turn_of : {R E : Type 0} (n : ℕ) (built : Result Task E) (t : Task) (end : Result R Fault) (tries : ℕ) (v v' : Client) → IfOk built (λ b. b ≡ t) → RanOne n built tries end v v' → Turn n t end tries v v'
+turn_of : {R E : Type 0} (n : ℕ) (built : Result Task E) (t : Task) (end : Result R Fault) (tries : ℕ) (v v' : Client) →
+    IfOk built (λ b. b ≡ t) → RanOne n built tries end v v' → Turn n t end tries v v'
 turn_of n (Ok b) t end tries v v' same ran =
-    record { answered = subst (λ (x : Task). Answered n (answered_by x end) v v') same ran.0; attempts = ran.1; alone = ran.2 }
+    record {
+      answered = subst (λ (x : Task). Answered n (answered_by x end) v v') same ran.0;
+      attempts = ran.1;
+      alone = ran.2;
+    }
 turn_of n (Err e) t end tries v v' same ran = rw ran.0 (rw ran.1 (record {
   answered = answered_quiet n v v refl (omega arith) refl;
   attempts = omega arith;
   alone = λ h. refl;
 }))
 
-among_more : {R : Type 0} (end : Result R Fault) (t : Task) (ts us : List Task) → Sub ts us → Sub (ts ++ answered_by t end) (us ++ (t ∷ []))
+among_more : {R : Type 0} (end : Result R Fault) (t : Task) (ts us : List Task) → Sub ts us →
+    Sub (ts ++ answered_by t end) (us ++ (t ∷ []))
 among_more (Ok reply) t ts us p = sub_keep ts us t p
 among_more (Err e) t ts us p = rw (append-nil ts) (sub_skip ts us t p)
 
-number_more : {R : Type 0} (end : Result R Fault) (t : Task) (n : ℕ) (k : Tally) → n ≡ k.answered → n + length (answered_by t end) ≡ (counted end k).answered
+number_more : {R : Type 0} (end : Result R Fault) (t : Task) (n : ℕ) (k : Tally) → n ≡ k.answered →
+    n + length (answered_by t end) ≡ (counted end k).answered
 number_more (Ok reply) t n k e = omega (arith, e)
 number_more (Err fault.Arguments) t n k e = omega (arith, e)
 number_more (Err fault.Memory) t n k e = omega (arith, e)
 number_more (Err (fault.Busy conflict)) t n k e = omega (arith, e)
 number_more (Err (fault.Spent version)) t n k e = omega (arith, e)
 
-pub looped_none : {D : Type 0} (leads : D → ℕ → D → Type 0) (s : Settings) (renewal : ℕ) (v : Client) (a : D) → Looped leads s renewal 0 v v a a nothing
+pub looped_none : {D : Type 0} (leads : D → ℕ → D → Type 0) (s : Settings) (renewal : ℕ) (v : Client) (a : D) →
+    Looped leads s renewal 0 v v a a nothing
 looped_none leads s renewal v a = record {
   tasks = [];
   drawn = drawn_always leads a [];
@@ -159,8 +182,10 @@ looped_none leads s renewal v a = record {
   alone = λ h. refl;
 }
 
-pub looped_more : {D R E : Type 0} (leads : D → ℕ → D → Type 0) (s : Settings) (renewal n : ℕ) (v w u : Client) (a b c : D) (k : Tally) (built : Result Task E) (end : Result R Fault) →
-    Looped leads s renewal n v w a b k → DrawnTask leads (task_of s) b built c → RanOne renewal built s.tries end w u → Looped leads s renewal (n + 1) v u a c (counted end k)
+pub looped_more : {D R E : Type 0} (leads : D → ℕ → D → Type 0) (s : Settings) (renewal n : ℕ) (v w u : Client)
+    (a b c : D) (k : Tally) (built : Result Task E) (end : Result R Fault) →
+    Looped leads s renewal n v w a b k → DrawnTask leads (task_of s) b built c → RanOne renewal built s.tries end w u →
+    Looped leads s renewal (n + 1) v u a c (counted end k)
 looped_more leads s renewal n v w u a b c k built end l d ran =
     let turn = turn_of renewal built d.task end s.tries w u d.built ran in
     record {
@@ -172,5 +197,6 @@ looped_more leads s renewal n v w u a b c k built end l d ran =
       answered = answered_both renewal l.done (answered_by d.task end) v w u l.answered turn.answered;
       all = total_counted end k ∙ ap (λ (m : ℕ). m + 1) l.all;
       attempts = rw (attempts_counted s.tries end k) (omega (arith, l.attempts, turn.attempts));
-      alone = λ h. (let none = l.alone h in let one = turn.alone (l.answered.grants ∙ h) in omega (arith, busy_counted end k, none, one));
+      alone = λ h. (let none = l.alone h in let one = turn.alone (l.answered.grants ∙ h) in
+          omega (arith, busy_counted end k, none, one));
     }

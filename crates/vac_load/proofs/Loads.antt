@@ -1,6 +1,7 @@
 -- A load as a whole: the opening, the clients, and the report.
 use Rattle.std.proofs.lemmas.Bool.Decides.{nat_tests}
-use Rattle.std.proofs.Common.{Bool, true, ◌≡◌, ◌∙◌, ◌≤◌, ◌⊎◌, ℕ, ◌+◌, ◌*◌, ◌-◌, ◌/◌, List, [], ◌∷◌, ◌++◌, length, length-append, map, refl, sym, inl, inr, ap, subst, arith}
+use Rattle.std.proofs.Common.{Bool, true, ◌≡◌, ◌∙◌, ◌≤◌, ◌⊎◌, ℕ, ◌+◌, ◌*◌, ◌-◌, ◌/◌, List, [], ◌∷◌, ◌++◌, length}
+use Rattle.std.proofs.Common.{length-append, map, refl, sym, inl, inr, ap, subst, arith}
 use Rattle.tx_memory.specs.Image.{In}
 use Rattle.stm_core.specs.Client.{Client, Record}
 use Rattle.stm_region.specs.Shown.{RegionShown}
@@ -27,7 +28,9 @@ use Rattle.vac_load.specs.Streams.{KeptBySeed}
 use Rattle.vac_load.specs.Lists.{Paired, none, both}
 use Rattle.vac_load.specs.Keeping.{Kept, AreKept, HasKeptAdded, AllKept, none_kept, one_kept, SeatShown}
 use Rattle.vac_load.specs.Sums.{sum_of, added_up}
-use Rattle.vac_load.specs.Load.{InterleavedAll, AreKnown, IsInRenewal, Share, drawn_share, HasShare, HasKeptShare, RanAll, is_load, LoadedKept, WasOpened, WasStopped, IsTooShort, IsStopOfLoad, IsLoadFault}
+use Rattle.vac_load.specs.Load.{InterleavedAll, AreKnown, IsInRenewal, Share, drawn_share, HasShare, HasKeptShare}
+use Rattle.vac_load.specs.Load.{RanAll, is_load, LoadedKept, WasOpened, WasStopped, IsTooShort, IsStopOfLoad}
+use Rattle.vac_load.specs.Load.{IsLoadFault}
 use Rattle.vac_load.proofs.Order.{added_known}
 use Rattle.vac_load.proofs.Eras.{all_versioned}
 use Rattle.vac_load.proofs.Notes.{kept_added}
@@ -35,14 +38,17 @@ use Rattle.vac_load.proofs.Joining.{ran_total}
 use Rattle.vac_load.proofs.Beginning.{long_opening}
 
 -- what an opening added is known to its client
-pub opened_known : {D : Type 0} (leads : D → ℕ → D → Type 0) (renewal : ℕ) (reader : Reader (List Command)) (v v' : Client) (state last : D) → v.records ≡ [] → Ran leads renewal reader v v' state last → AreKnown renewal v'.floor v'.records
+pub opened_known : {D : Type 0} (leads : D → ℕ → D → Type 0) (renewal : ℕ) (reader : Reader (List Command))
+    (v v' : Client) (state last : D) → v.records ≡ [] → Ran leads renewal reader v v' state last →
+    AreKnown renewal v'.floor v'.records
 opened_known leads renewal reader v v' state last empty ran = λ r i.
     (let a = ran.answered in
     let all : v'.records ≡ a.added = a.records ∙ ap (λ (l : List Record). l ++ a.added) empty in
     added_known renewal v.floor v'.floor r (a.each r (subst (λ (l : List Record). In r l) all i)))
 
 -- an opening takes the clock on by at most one for each of its commands
-pub opened_early : {D : Type 0} (leads : D → ℕ → D → Type 0) (s : Settings) (renewal : ℕ) (v v' : Client) (state last : D) → v.floor ≡ 0 → Ran leads renewal (opening s) v v' state last → v'.floor ≤ 4 * s.items
+pub opened_early : {D : Type 0} (leads : D → ℕ → D → Type 0) (s : Settings) (renewal : ℕ) (v v' : Client)
+    (state last : D) → v.floor ≡ 0 → Ran leads renewal (opening s) v v' state last → v'.floor ≤ 4 * s.items
 opened_early leads s renewal v v' state last first ran =
     let d = ran.drawn in
     let long = long_opening s (d.words ++ []) ran.commands [] (d.reads []) in
@@ -50,15 +56,19 @@ opened_early leads s renewal v v' state last first ran =
 
 -- shares without what was kept
 module _ {D : Type 0} where
-  once_drawn : (xs : List (Share (SeatShown D))) (l : List Record) → InterleavedAll (λ (x : Share (SeatShown D)). x.records) xs l → InterleavedAll (λ (x : Share D). x.records) (map drawn_share xs) l
+  once_drawn : (xs : List (Share (SeatShown D))) (l : List Record) →
+      InterleavedAll (λ (x : Share (SeatShown D)). x.records) xs l →
+      InterleavedAll (λ (x : Share D). x.records) (map drawn_share xs) l
   once_drawn [] l h = h
   once_drawn (x ∷ xs) l h = (h.0, h.1, once_drawn xs h.0 h.2)
 
-  sum_drawn : (f : Share D → ℕ) (xs : List (Share (SeatShown D))) → sum_of f (map drawn_share xs) ≡ sum_of (λ x. f (drawn_share x)) xs
+  sum_drawn : (f : Share D → ℕ) (xs : List (Share (SeatShown D))) →
+      sum_of f (map drawn_share xs) ≡ sum_of (λ x. f (drawn_share x)) xs
   sum_drawn f [] = refl
   sum_drawn f (x ∷ xs) = ap (λ n. f (drawn_share x) + n) (sum_drawn f xs)
 
-  tallies_drawn : (xs : List (Share (SeatShown D))) → added_up (λ (x : Share D). x.tally) (map drawn_share xs) ≡ added_up (λ (x : Share (SeatShown D)). x.tally) xs
+  tallies_drawn : (xs : List (Share (SeatShown D))) → added_up (λ (x : Share D). x.tally)
+      (map drawn_share xs) ≡ added_up (λ (x : Share (SeatShown D)). x.tally) xs
   tallies_drawn xs = λ i. record {
     answered = sum_drawn (λ x. x.tally.answered) xs i;
     busy = sum_drawn (λ x. x.tally.busy) xs i;
@@ -67,23 +77,31 @@ module _ {D : Type 0} where
   }
 
 module _ {D P : Type 0} (leads : D → ℕ → D → Type 0) (s : Settings) (shown_of : P → SeatShown D) (n : ℕ) where
-  each_drawn : (ps : List P) (xs : List (Share (SeatShown D))) → Paired (λ p x. HasKeptShare leads s n (shown_of p) x) ps xs → Paired (λ p x. HasShare leads s n (shown_of p).draws x) ps (map drawn_share xs)
+  each_drawn : (ps : List P) (xs : List (Share (SeatShown D))) →
+      Paired (λ p x. HasKeptShare leads s n (shown_of p) x) ps xs →
+      Paired (λ p x. HasShare leads s n (shown_of p).draws x) ps (map drawn_share xs)
   each_drawn [] [] none = none
   each_drawn (p ∷ ps) (x ∷ xs) (both h hs) = both h.has (each_drawn ps xs hs)
   each_drawn [] (x ∷ xs) hs = elim hs [ ]
   each_drawn (p ∷ ps) [] hs = elim hs [ ]
 
-  kept_drawn : (ps : List P) (xs : List (Share (SeatShown D))) (qs : List P) → Paired (λ p x. HasKeptShare leads s n (shown_of p) x) ps xs → Paired (λ x p. shown_of p ≡ x.left) xs qs →
-      AllKept (λ (x : Share D). x.records) (map drawn_share xs) (map (λ p. (shown_of p).kept) ps) (map (λ p. (shown_of p).kept) qs)
+  kept_drawn : (ps : List P) (xs : List (Share (SeatShown D))) (qs : List P) →
+      Paired (λ p x. HasKeptShare leads s n (shown_of p) x) ps xs → Paired (λ x p. shown_of p ≡ x.left) xs qs →
+      AllKept (λ (x : Share D). x.records) (map drawn_share xs) (map (λ p. (shown_of p).kept) ps)
+      (map (λ p. (shown_of p).kept) qs)
   kept_drawn [] [] [] none none = none_kept
   kept_drawn (p ∷ ps) (x ∷ xs) (q ∷ qs) (both h hs) (both k ks) =
-      one_kept (subst (λ (y : SeatShown D). AreKept x.records (shown_of p).kept y.kept) (sym k) h.kept) (kept_drawn ps xs qs hs ks)
+      one_kept (subst (λ (y : SeatShown D). AreKept x.records (shown_of p).kept y.kept) (sym k) h.kept)
+      (kept_drawn ps xs qs hs ks)
   kept_drawn [] (x ∷ xs) qs hs ks = elim hs [ ]
   kept_drawn (p ∷ ps) [] qs hs ks = elim hs [ ]
   kept_drawn [] [] (q ∷ qs) hs ks = elim ks [ ]
   kept_drawn (p ∷ ps) (x ∷ xs) [] hs ks = elim ks [ ]
 
-pub loaded_kept : {D P : Type 0} (leads : D → ℕ → D → Type 0) (s : Settings) (shown_of : P → SeatShown D) (state last : D) (seats left : List P) (stripes : ℕ) (region region' : RegionShown) (opener : CallerShown) (ready after : Client) (before kept : Kept) (t : Tally) (words : List ℕ) (version : ℕ) (r : Report) →
+pub loaded_kept : {D P : Type 0} (leads : D → ℕ → D → Type 0) (s : Settings) (shown_of : P →
+    SeatShown D) (state last : D) (seats left : List P) (stripes : ℕ) (region region' : RegionShown)
+    (opener : CallerShown) (ready after : Client) (before kept : Kept) (t : Tally) (words : List ℕ) (version : ℕ)
+    (r : Report) →
     length seats ≡ s.clients →
     Opens s.blocks s.last stripes region opener →
     Ran leads region.renewal (opening s) opener.value ready state last →
@@ -93,10 +111,13 @@ pub loaded_kept : {D P : Type 0} (leads : D → ℕ → D → Type 0) (s : Setti
     region'.size ≡ region.size →
     Closes region' after words version →
     ((x : State) → Shows words x → report x ≡ r) →
-    LoadedKept leads s (λ p. (shown_of p).draws) state seats t r before kept (map (λ p. (shown_of p).kept) seats) (map (λ p. (shown_of p).kept) left)
-loaded_kept leads s shown_of state last seats left stripes region region' opener ready after before kept t words version r n opens ran keeps all in_it size closes shows =
+    LoadedKept leads s (λ p. (shown_of p).draws) state seats t r before kept (map (λ p. (shown_of p).kept) seats)
+    (map (λ p. (shown_of p).kept) left)
+loaded_kept leads s shown_of state last seats left stripes region region' opener ready after before kept t words version
+    r n opens ran keeps all in_it size closes shows =
     let added = ran.answered.added in
-    let records : ready.records ≡ added = ran.answered.records ∙ ap (λ (c : CallerShown). c.value.records ++ added) opens.client_is in
+    let records : ready.records ≡ added = ran.answered.records ∙
+    ap (λ (c : CallerShown). c.value.records ++ added) opens.client_is in
     let capacity : capacity_of region' ≡ s.blocks = ap (λ (k : ℕ). (k - 16) / 8) size ∙ opens.capacity in
     let count : s.clients * (s.rounds * s.tasks) ≡ s.rounds * s.clients * s.tasks = grind arith in
     record {
@@ -118,7 +139,8 @@ loaded_kept leads s shown_of state last seats left stripes region region' opener
         each = each_drawn leads s shown_of (s.rounds * s.tasks) seats all.shares all.each;
         each_once = once_drawn all.shares all.rest all.each_once;
         tallies = all.tallies ∙ sym (tallies_drawn all.shares);
-        all = ran_total leads s shown_of (s.rounds * s.tasks) ready.records after.records seats left t all ∙ (ap (λ (k : ℕ). k * (s.rounds * s.tasks)) n ∙ count);
+        all = ran_total leads s shown_of (s.rounds * s.tasks) ready.records after.records seats left t all ∙
+            (ap (λ (k : ℕ). k * (s.rounds * s.tasks)) n ∙ count);
         alone = λ one. all.alone (n ∙ one);
         in_time = λ one time. all.in_time (n ∙ one) time;
       };
@@ -127,21 +149,26 @@ loaded_kept leads s shown_of state last seats left stripes region region' opener
     }
 
 -- what holds between images and elements holds between the list of images and the elements
-paired_map : {A B X : Type 0} (f : A → B) (related : B → X → Type 0) (ks : List A) (xs : List X) → Paired (λ a x. related (f a) x) ks xs → Paired related (map f ks) xs
+paired_map : {A B X : Type 0} (f : A → B) (related : B → X → Type 0) (ks : List A) (xs : List X) →
+    Paired (λ a x. related (f a) x) ks xs → Paired related (map f ks) xs
 paired_map f related [] [] none = none
 paired_map f related (a ∷ ks) (x ∷ xs) (both h hs) = both h (paired_map f related ks xs hs)
 paired_map f related [] (x ∷ xs) hs = elim hs [ ]
 paired_map f related (a ∷ ks) [] hs = elim hs [ ]
 
-paired_unmap : {A B X : Type 0} (f : A → B) (related : B → X → Type 0) (ks : List A) (xs : List X) → Paired related (map f ks) xs → Paired (λ a x. related (f a) x) ks xs
+paired_unmap : {A B X : Type 0} (f : A → B) (related : B → X → Type 0) (ks : List A) (xs : List X) →
+    Paired related (map f ks) xs → Paired (λ a x. related (f a) x) ks xs
 paired_unmap f related [] [] none = none
 paired_unmap f related (a ∷ ks) (x ∷ xs) (both h hs) = both h (paired_unmap f related ks xs hs)
 paired_unmap f related [] (x ∷ xs) hs = elim hs [ ]
 paired_unmap f related (a ∷ ks) [] hs = elim hs [ ]
 
 -- a load is one of whatever its clients' draws begin with
-pub kept_on : {D P Q : Type 0} (leads : D → ℕ → D → Type 0) (s : Settings) (draws_of : P → D) (drawing : Q → D) (state : D) (ps : List P) (qs : List Q) (t : Tally) (r : Report) (before after : Kept) (befores afters : List Kept) →
-    map draws_of ps ≡ map drawing qs → LoadedKept leads s draws_of state ps t r before after befores afters → LoadedKept leads s drawing state qs t r before after befores afters
+pub kept_on : {D P Q : Type 0} (leads : D → ℕ → D → Type 0) (s : Settings) (draws_of : P → D) (drawing : Q →
+    D) (state : D) (ps : List P) (qs : List Q) (t : Tally) (r : Report) (before after : Kept)
+    (befores afters : List Kept) →
+    map draws_of ps ≡ map drawing qs → LoadedKept leads s draws_of state ps t r before after befores afters →
+    LoadedKept leads s drawing state qs t r before after befores afters
 kept_on leads s draws_of drawing state ps qs t r before after befores afters e h = record {
   loaded = record {
     history = h.loaded.history;
@@ -159,7 +186,8 @@ kept_on leads s draws_of drawing state ps qs t r before after befores afters e h
     opened_are = h.loaded.opened_are;
     shares = h.loaded.shares;
     each = paired_unmap drawing (λ d x. HasShare leads s (s.rounds * s.tasks) d x) qs h.loaded.shares
-        (subst (λ ds. Paired (λ d x. HasShare leads s (s.rounds * s.tasks) d x) ds h.loaded.shares) e (paired_map draws_of (λ d x. HasShare leads s (s.rounds * s.tasks) d x) ps h.loaded.shares h.loaded.each));
+        (subst (λ ds. Paired (λ d x. HasShare leads s (s.rounds * s.tasks) d x) ds h.loaded.shares) e
+        (paired_map draws_of (λ d x. HasShare leads s (s.rounds * s.tasks) d x) ps h.loaded.shares h.loaded.each));
     each_once = h.loaded.each_once;
     tallies = h.loaded.tallies;
     all = h.loaded.all;
@@ -186,26 +214,47 @@ load_count s n m b same is holds =
     sym same ∙ here
 
 -- the same by the streams of a seed, with the keepers of the seats
-pub kept_by_seed : {P K : Type 0} (draws_of : P → Lcg) (keep_of : P → K) (notes : K → Kept) (s : Settings) (t : Tally) (r : Report) (state : Lcg) (n : ℕ) (seats left : List P) (before after : Keepers K) →
-    state ≡ stream_of s.seed 0 → map draws_of seats ≡ streams_of s.seed n → n ≡ s.clients → map keep_of seats ≡ before.clients.items → after.clients.items ≡ map keep_of left →
-    LoadedKept gives s draws_of state seats t r (notes before.opening) (notes after.opening) (map (λ p. notes (keep_of p)) seats) (map (λ p. notes (keep_of p)) left) →
+pub kept_by_seed : {P K : Type 0} (draws_of : P → Lcg) (keep_of : P → K) (notes : K →
+    Kept) (s : Settings) (t : Tally) (r : Report) (state : Lcg) (n : ℕ) (seats left : List P) (before after : Keepers K)
+    →
+    state ≡ stream_of s.seed 0 → map draws_of seats ≡ streams_of s.seed n → n ≡ s.clients →
+    map keep_of seats ≡ before.clients.items → after.clients.items ≡ map keep_of left →
+    LoadedKept gives s draws_of state seats t r (notes before.opening) (notes after.opening)
+    (map (λ p. notes (keep_of p)) seats) (map (λ p. notes (keep_of p)) left) →
     KeptBySeed notes s t r before after
 kept_by_seed draws_of keep_of notes s t r state n seats left before after begins are number come go h =
     let streams = streams_of s.seed s.clients in
-    let first : map (λ p. notes (keep_of p)) seats ≡ map notes before.clients.items = map_both keep_of notes seats ∙ ap (λ (l : List _). map notes l) come in
-    let last : map (λ p. notes (keep_of p)) left ≡ map notes after.clients.items = map_both keep_of notes left ∙ sym (ap (λ (l : List _). map notes l) go) in
+    let first : map (λ p. notes (keep_of p)) seats ≡ map notes before.clients.items =
+    map_both keep_of notes seats ∙ ap (λ (l : List _). map notes l) come in
+    let last : map (λ p. notes (keep_of p)) left ≡ map notes after.clients.items =
+    map_both keep_of notes left ∙ sym (ap (λ (l : List _). map notes l) go) in
     kept_on gives s draws_of (λ d. d) (stream_of s.seed 0) seats streams t r _ _ _ _
     (are ∙ (ap (λ (k : ℕ). streams_of s.seed k) number ∙ sym (map_same streams)))
-    (subst (λ (d : Lcg). LoadedKept gives s draws_of d seats t r (notes before.opening) (notes after.opening) (map notes before.clients.items) (map notes after.clients.items)) begins
-    (subst (λ (l : List Kept). LoadedKept gives s draws_of state seats t r (notes before.opening) (notes after.opening) l (map notes after.clients.items)) first
-    (subst (λ (l : List Kept). LoadedKept gives s draws_of state seats t r (notes before.opening) (notes after.opening) (map (λ p. notes (keep_of p)) seats) l) last h)))
+    (subst (λ (d : Lcg). LoadedKept gives s draws_of d seats t r (notes before.opening) (notes after.opening)
+    (map notes before.clients.items) (map notes after.clients.items)) begins
+    (subst (λ (l : List Kept). LoadedKept gives s draws_of state seats t r (notes before.opening)
+    (notes after.opening) l (map notes after.clients.items)) first
+    (subst (λ (l : List Kept). LoadedKept gives s draws_of state seats t r (notes before.opening) (notes after.opening)
+    (map (λ p. notes (keep_of p)) seats) l) last h)))
 
 -- the manager of a load was made, and its opening was answered whole
-pub was_opened : {D : Type 0} (leads : D → ℕ → D → Type 0) (s : Settings) (state left : D) (stripes : ℕ) (region : RegionShown) (opener : CallerShown) (ready : Client) →
-    Opens s.blocks s.last stripes region opener → Ran leads region.renewal (opening s) opener.value ready state left → IsAnswered region ready → WasOpened leads s state left
-was_opened leads s state left stripes region opener ready opens ran answered = record { stripes = stripes; region = region; opener = opener; opens = opens; ready = ready; ran = ran; answered = answered }
+pub was_opened : {D : Type 0} (leads : D → ℕ → D → Type 0) (s : Settings) (state left : D) (stripes : ℕ)
+    (region : RegionShown) (opener : CallerShown) (ready : Client) →
+    Opens s.blocks s.last stripes region opener → Ran leads region.renewal (opening s) opener.value ready state left →
+    IsAnswered region ready → WasOpened leads s state left
+was_opened leads s state left stripes region opener ready opens ran answered =
+    record {
+      stripes = stripes;
+      region = region;
+      opener = opener;
+      opens = opens;
+      ready = ready;
+      ran = ran;
+      answered = answered;
+    }
 
-too_short : {D : Type 0} (leads : D → ℕ → D → Type 0) (s : Settings) (renewal : ℕ) (e : Fault) (v v' : Client) (state left : D) → v.floor ≡ 0 → Stopped leads renewal s.last (opening s) e v v' state left → IsTooShort s e
+too_short : {D : Type 0} (leads : D → ℕ → D → Type 0) (s : Settings) (renewal : ℕ) (e : Fault) (v v' : Client)
+    (state left : D) → v.floor ≡ 0 → Stopped leads renewal s.last (opening s) e v v' state left → IsTooShort s e
 too_short leads s renewal fault.Arguments v v' state left first p = p.why
 too_short leads s renewal fault.Memory v v' state left first p = tt
 too_short leads s renewal (fault.Busy conflict) v v' state left first p = p.why
@@ -218,10 +267,14 @@ too_short leads s renewal (fault.Spent version) v v' state left first p =
     (p.why.0, omega (arith, long, some, asked, floor, first, p.near))
 
 -- the manager of a load was made, and its opening stopped
-pub was_stopped : {D : Type 0} (leads : D → ℕ → D → Type 0) (s : Settings) (e : Fault) (state left : D) (stripes : ℕ) (region : RegionShown) (opener : CallerShown) (after : Client) →
-    Opens s.blocks s.last stripes region opener → Stopped leads region.renewal region.last (opening s) e opener.value after state left → WasStopped leads s e state left
+pub was_stopped : {D : Type 0} (leads : D → ℕ → D → Type 0) (s : Settings) (e : Fault) (state left : D) (stripes : ℕ)
+    (region : RegionShown) (opener : CallerShown) (after : Client) →
+    Opens s.blocks s.last stripes region opener → Stopped leads region.renewal region.last
+    (opening s) e opener.value after state left → WasStopped leads s e state left
 was_stopped leads s e state left stripes region opener after opens stopped =
-    let at : Stopped leads region.renewal s.last (opening s) e opener.value after state left = subst (λ (n : ℕ). Stopped leads region.renewal n (opening s) e opener.value after state left) opens.last_is stopped in
+    let at : Stopped leads region.renewal s.last (opening s) e opener.value after state left =
+    subst (λ (n : ℕ). Stopped leads region.renewal n (opening s) e opener.value after state left) opens.last_is
+    stopped in
     record {
       stripes = stripes;
       region = region;
@@ -229,14 +282,19 @@ was_stopped leads s e state left stripes region opener after opens stopped =
       opens = opens;
       after = after;
       stopped = at;
-      short = too_short leads s region.renewal e opener.value after state left (ap (λ (c : CallerShown). c.value.floor) opens.client_is) at;
+      short = too_short leads s region.renewal e opener.value after state left
+          (ap (λ (c : CallerShown). c.value.floor) opens.client_is) at;
     }
 
 -- a load by a seed that stopped is one that was not run to its end
-pub stop_by_seed : (s : Settings) (state left : Lcg) (e : LoadFault) → state ≡ stream_of s.seed 0 → IsStopOfLoad gives s state left e → IsLoadFault gives s (stream_of s.seed 0) e
+pub stop_by_seed : (s : Settings) (state left : Lcg) (e : LoadFault) → state ≡ stream_of s.seed 0 →
+    IsStopOfLoad gives s state left e → IsLoadFault gives s (stream_of s.seed 0) e
 stop_by_seed s state left e begins h = inr (left, subst (λ (d : Lcg). IsStopOfLoad gives s d left e) begins h)
 
 -- where memory or a thread is wanting once the opening was answered
-pub stop_behind : {D : Type 0} (leads : D → ℕ → D → Type 0) (s : Settings) (state left : D) (e : LoadFault) → WasOpened leads s state left → (e ≡ load.Memory) ⊎ (e ≡ load.Spawn) → IsStopOfLoad leads s state left e
-stop_behind leads s state left e opened (inl memory) = subst (λ (f : LoadFault). IsStopOfLoad leads s state left f) (sym memory) (inr opened)
-stop_behind leads s state left e opened (inr spawn) = subst (λ (f : LoadFault). IsStopOfLoad leads s state left f) (sym spawn) opened
+pub stop_behind : {D : Type 0} (leads : D → ℕ → D → Type 0) (s : Settings) (state left : D) (e : LoadFault) →
+    WasOpened leads s state left → (e ≡ load.Memory) ⊎ (e ≡ load.Spawn) → IsStopOfLoad leads s state left e
+stop_behind leads s state left e opened (inl memory) = subst (λ (f : LoadFault). IsStopOfLoad leads s state left f)
+    (sym memory) (inr opened)
+stop_behind leads s state left e opened (inr spawn) = subst (λ (f : LoadFault). IsStopOfLoad leads s state left f)
+    (sym spawn) opened

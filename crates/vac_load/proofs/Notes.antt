@@ -1,5 +1,6 @@
 -- Calls that keepers keep.
-use Rattle.std.proofs.Common.{◌≡◌, ◌∙◌, ℕ, List, [], ◌∷◌, ◌++◌, Option, Some, None, Result, Ok, Err, IfOk, refl, sym, ap, subst, append_assoc, append-nil}
+use Rattle.std.proofs.Common.{◌≡◌, ◌∙◌, ℕ, List, [], ◌∷◌, ◌++◌, Option, Some, None, Result, Ok, Err, IfOk, refl, sym}
+use Rattle.std.proofs.Common.{ap, subst, append_assoc, append-nil}
 use Rattle.std.specs.Prelude.{IfSome}
 use Rattle.std.specs.Global.{Box}
 use Rattle.stm_core.specs.Client.{Client, Record}
@@ -17,7 +18,8 @@ use Rattle.vac_manager.specs.Keeping.{behind, HasKept, IsNoted}
 use Rattle.vac_load.specs.Lists.{Paired, none, both}
 use Rattle.vac_load.specs.Keeping.{Kept, AreKept, HasKeptAdded}
 
-paired_both : {A B : Type 0} (related : A → B → Type 0) (xs us : List A) (ys vs : List B) → Paired related xs ys → Paired related us vs → Paired related (xs ++ us) (ys ++ vs)
+paired_both : {A B : Type 0} (related : A → B → Type 0) (xs us : List A) (ys vs : List B) → Paired related xs ys →
+    Paired related us vs → Paired related (xs ++ us) (ys ++ vs)
 paired_both related [] us [] vs none q = q
 paired_both related (x ∷ xs) us (y ∷ ys) vs (both r p) q = both r (paired_both related xs us ys vs p q)
 paired_both related [] us (y ∷ ys) vs p q = elim p [ ]
@@ -60,25 +62,34 @@ same_last : {A : Type 0} (xs ys : List A) (x y : A) → xs ++ (x ∷ []) ≡ ys 
 same_last xs ys x y e = sym (last_is x xs x) ∙ (ap (λ (l : List _). last_or x l) e ∙ last_is x ys y)
 
 -- the last attempt that was traced is the one that was answered
-is_of_answer : (reply : Reply) (v v' : Client) (before traced : Option (List Trace)) (t : Trace) → HasTraced {E = Fault} (Ok reply) v v' before traced → IsLast traced t → IsOfAdded v v' t
+is_of_answer : (reply : Reply) (v v' : Client) (before traced : Option (List Trace)) (t : Trace) →
+    HasTraced {E = Fault} (Ok reply) v v' before traced → IsLast traced t → IsOfAdded v v' t
 is_of_answer reply v v' before traced t h last =
     let k = h (last.0 ++ (t ∷ [])) last.1 in
     let a = k.4 in
-    let e : last.0 ++ (t ∷ []) ≡ (k.0 ++ a.0) ++ (a.1 ∷ []) = k.3 ∙ (ap (λ (l : List Trace). k.0 ++ l) a.2 ∙ sym (append_assoc k.0 a.0 (a.1 ∷ []))) in
+    let e : last.0 ++ (t ∷ []) ≡ (k.0 ++ a.0) ++ (a.1 ∷ []) =
+    k.3 ∙ (ap (λ (l : List Trace). k.0 ++ l) a.2 ∙ sym (append_assoc k.0 a.0 (a.1 ∷ []))) in
     subst (λ (x : Trace). IsOfAdded v v' x) (sym (same_last last.0 (k.0 ++ a.0) t a.1 e)) a.4
 
 -- it made the record that was added
-is_of_record : (v v' : Client) (r : Record) (t : Trace) → v'.records ≡ v.records ++ (r ∷ []) → IsOfAdded v v' t → IsTraceOf t r
-is_of_record v v' r t e h = subst (λ (x : Record). IsTraceOf t x) (same_last v.records v.records h.added r (sym h.records ∙ e)) h.is
+is_of_record : (v v' : Client) (r : Record) (t : Trace) → v'.records ≡ v.records ++ (r ∷ []) → IsOfAdded v v' t →
+    IsTraceOf t r
+is_of_record v v' r t e h = subst (λ (x : Record). IsTraceOf t x)
+    (same_last v.records v.records h.added r (sym h.records ∙ e)) h.is
 
 -- so did the one that is noted, if any is
-noted_made : (o : Option (Box AttemptNote)) (reply : Reply) (v v' : Client) (r : Record) (before traced : Option (List Trace)) → v'.records ≡ v.records ++ (r ∷ []) → HasTraced {E = Fault} (Ok reply) v v' before traced →
+noted_made : (o : Option (Box AttemptNote)) (reply : Reply) (v v' : Client) (r : Record)
+    (before traced : Option (List Trace)) → v'.records ≡ v.records ++ (r ∷ []) →
+    HasTraced {E = Fault} (Ok reply) v v' before traced →
     IfSome o (λ a. IsLast traced (trace_of a.value)) → IfSome o (λ a. IsTraceOf (trace_of a.value) r)
-noted_made (Some a) reply v v' r before traced e h last = is_of_record v v' r (trace_of a.value) e (is_of_answer reply v v' before traced (trace_of a.value) h last)
+noted_made (Some a) reply v v' r before traced e h last = is_of_record v v' r (trace_of a.value) e
+    (is_of_answer reply v v' before traced (trace_of a.value) h last)
 noted_made None reply v v' r before traced e h last = tt
 
 -- the call that added a record was kept
-pub kept_one : (renewal : ℕ) (t : Task) (p : Placed) (v v' : Client) (a b c : Kept) (before traced : Option (List Trace)) → AddsAt renewal (code t p.reply) p.place v v' → HasTraced {E = Fault} (Ok p.reply) v v' before traced → b ≡ a → HasKept t p traced b c → HasKeptAdded v v' a c
+pub kept_one : (renewal : ℕ) (t : Task) (p : Placed) (v v' : Client) (a b c : Kept)
+    (before traced : Option (List Trace)) → AddsAt renewal (code t p.reply) p.place v v' →
+    HasTraced {E = Fault} (Ok p.reply) v v' before traced → b ≡ a → HasKept t p traced b c → HasKeptAdded v v' a c
 kept_one renewal t p v v' a b c before traced adds attempts same h = record {
   added = adds.adds.added ∷ [];
   records = adds.adds.records;
@@ -87,7 +98,8 @@ kept_one renewal t p v v' a b c before traced adds attempts same h = record {
     are_of = both (record {
       tag = rw h.task (rw h.reply adds.adds.tag_is);
       place = h.place ∙ adds.place_is;
-      attempt = noted_made h.note.attempt p.reply v v' adds.adds.added before traced adds.adds.records attempts h.attempt;
+      attempt = noted_made h.note.attempt p.reply v v' adds.adds.added before traced adds.adds.records attempts
+          h.attempt;
     }) none;
     kept = h.kept ∙ ap (λ (k : Kept). behind k (h.note ∷ [])) same;
   };
@@ -115,21 +127,29 @@ pub same_rest : {A : Type 0} (xs ys zs : List A) → xs ++ ys ≡ xs ++ zs → y
 same_rest xs ys zs e = sym (rest_is xs ys) ∙ (ap (λ (l : List _). rest_of xs l) e ∙ rest_is xs zs)
 
 -- the calls of exactly these records were kept
-pub kept_added : (v v' : Client) (rs : List Record) (a b : Kept) → v'.records ≡ v.records ++ rs → HasKeptAdded v v' a b → AreKept rs a b
-kept_added v v' rs a b e h = subst (λ (l : List Record). AreKept l a b) (same_rest v.records h.added rs (sym h.records ∙ e)) h.kept
+pub kept_added : (v v' : Client) (rs : List Record) (a b : Kept) → v'.records ≡ v.records ++ rs →
+    HasKeptAdded v v' a b → AreKept rs a b
+kept_added v v' rs a b e h = subst (λ (l : List Record). AreKept l a b)
+    (same_rest v.records h.added rs (sym h.records ∙ e)) h.kept
 
 -- a call that was answered was kept
-pub kept_answered : (region : RegionShown) (t : Task) (end : Result Placed Fault) (p : Placed) (v v' : Client) (a b c : Kept) (before traced noted : Option (List Trace)) → end ≡ Ok p → IsPlaced region t end v v' → HasTraced (replied end) v v' before traced → b ≡ a → noted ≡ traced → HasKept t p noted b c → HasKeptAdded v v' a c
+pub kept_answered : (region : RegionShown) (t : Task) (end : Result Placed Fault) (p : Placed) (v v' : Client)
+    (a b c : Kept) (before traced noted : Option (List Trace)) → end ≡ Ok p → IsPlaced region t end v v' →
+    HasTraced (replied end) v v' before traced → b ≡ a → noted ≡ traced → HasKept t p noted b c → HasKeptAdded v v' a c
 kept_answered region t end p v v' a b c before traced noted is placed attempts same taken h =
-    kept_one region.renewal t p v v' a b c before traced (subst (λ (r : Result Placed Fault). IsPlaced region t r v v') is placed)
-    (subst (λ (r : Result Placed Fault). HasTraced (replied r) v v' before traced) is attempts) same (subst (λ (o : Option (List Trace)). HasKept t p o b c) taken h)
+    kept_one region.renewal t p v v' a b c before traced (subst
+    (λ (r : Result Placed Fault). IsPlaced region t r v v') is placed)
+    (subst (λ (r : Result Placed Fault). HasTraced (replied r) v v' before traced) is attempts) same
+    (subst (λ (o : Option (List Trace)). HasKept t p o b c) taken h)
 
 -- a call that was refused was not
-pub kept_refused : (region : RegionShown) (t : Task) (end : Result Placed Fault) (e : Fault) (v v' : Client) (a b : Kept) → end ≡ Err e → IsPlaced region t end v v' → b ≡ a → HasKeptAdded v v' a b
+pub kept_refused : (region : RegionShown) (t : Task) (end : Result Placed Fault) (e : Fault) (v v' : Client)
+    (a b : Kept) → end ≡ Err e → IsPlaced region t end v v' → b ≡ a → HasKeptAdded v v' a b
 kept_refused region t end e v v' a b is placed same =
     kept_none v v' a b (subst (λ (r : Result Placed Fault). IsPlaced region t r v v') is placed) same
 
 -- where the last of two was answered, both were kept
-pub kept_then : {X E : Type 0} (v w u : Client) (a b c : Kept) (result : Result X E) → HasKeptAdded v w a b → IfOk result (λ _. HasKeptAdded w u b c) → IfOk result (λ _. HasKeptAdded v u a c)
+pub kept_then : {X E : Type 0} (v w u : Client) (a b c : Kept) (result : Result X E) → HasKeptAdded v w a b →
+    IfOk result (λ _. HasKeptAdded w u b c) → IfOk result (λ _. HasKeptAdded v u a c)
 kept_then v w u a b c (Ok x) p q = kept_both v w u a b c p q
 kept_then v w u a b c (Err e) p q = tt

@@ -13,12 +13,15 @@ invariant-loop-worked g l = record {
   manager : l.session.manager ≡ l.fn.crew.first.worker.session.manager;
   grants : l.session.client.value.grants + into_iter_len l.worked-iterator ≡ MOST_GRANTS;
   others_grants : All (λ w. w.worker.session.client.value.grants ≡ 0) (into_iter_items l.worked-iterator);
-  others : All (λ w. w.worker.session.manager ≡ l.fn.crew.first.worker.session.manager) (into_iter_items l.worked-iterator);
+  others : All (λ w. w.worker.session.manager ≡ l.fn.crew.first.worker.session.manager)
+      (into_iter_items l.worked-iterator);
   tasks : All (λ w. total w.tally.tally ≤ 1000000) (into_iter_items l.worked-iterator);
   tries : l.tally.tries ≡ l.fn.crew.first.tally.tries;
   others_tries : All (λ w. w.tally.tries ≡ l.fn.crew.first.tally.tries) (into_iter_items l.worked-iterator);
-  gathered : Gathered (λ w. w.worker.session.client.value.records) (λ w. w.tally.tally) l.fn.crew.first l.yielded l.session.client.value.records l.tally.tally;
-  handed : Paired (λ w seat. shown g.K.Keep.notes seat ≡ shown g.K.Keep.notes w.worker.seat) (l.fn.crew.first ∷ l.yielded) l.seats.items;
+  gathered : Gathered (λ w. w.worker.session.client.value.records)
+      (λ w. w.tally.tally) l.fn.crew.first l.yielded l.session.client.value.records l.tally.tally;
+  handed : Paired (λ w seat. shown g.K.Keep.notes seat ≡ shown g.K.Keep.notes w.worker.seat)
+      (l.fn.crew.first ∷ l.yielded) l.seats.items;
   room : vec_len l.seats + into_iter_len l.worked-iterator ≤ vec_capacity l.seats;
   bound : total l.tally.tally + into_iter_len l.worked-iterator * 1000000 ≤ 65000000;
 }

@@ -2,7 +2,8 @@ use Rattle.std.proofs.Common.{◌≡◌, ◌∙◌, sym, ℕ, ◌+◌, ◌≤◌
 use Rattle.std.specs.Vec.Iter.{into_iter_items, into_iter_len}
 use Rattle.vac_manager.specs.Called.{CallerShown}
 use Rattle.vac_load.specs.Keeping.{shown}
-use Rattle.vac_load.proofs.Pairs.{paired_none, paired_step, paired_all, one_on, all_more, all_none, room_taken, counted_on, handed_out, nothing_left}
+use Rattle.vac_load.proofs.Pairs.{paired_none, paired_step, paired_all, one_on, all_more, all_none, room_taken}
+use Rattle.vac_load.proofs.Pairs.{counted_on, handed_out, nothing_left}
 use Rattle.vac_load.proofs.Shares.{split_worker, split_keeps}
 use Rattle.vac_load.proofs.gathering.split_crew.Goals as goal
 
@@ -26,8 +27,13 @@ loop-another-init g c =
       records = refl;
       floor = refl;
       grants = none_out c.args.session.client.value.grants c.in-Ok.others.len c.requires.alone made.len;
-      count = counted_in c.in-Ok.others.len (into_iter_len c.into_iter-another-iterator.result) (into_iter_len c.next.new.self) (into_iter_len c.into_iter-seats.result) c.args.seats.len made.len (ap (λ it. into_iter_len it) same) c.in-Some.ensures.cases.1 c.into_iter-seats.ensures.len;
-      room = room_for c.in-Ok.others.len (into_iter_len c.into_iter-another-iterator.result) (into_iter_len c.next.new.self) (into_iter_len c.into_iter-seats.result) c.args.seats.len c.len.result c.in-Ok.others.cap made.len (ap (λ it. into_iter_len it) same) c.in-Some.ensures.cases.1 c.into_iter-seats.ensures.len c.len.ensures made.capacity;
+      count = counted_in c.in-Ok.others.len (into_iter_len c.into_iter-another-iterator.result)
+          (into_iter_len c.next.new.self) (into_iter_len c.into_iter-seats.result) c.args.seats.len made.len
+          (ap (λ it. into_iter_len it) same) c.in-Some.ensures.cases.1 c.into_iter-seats.ensures.len;
+      room = room_for c.in-Ok.others.len (into_iter_len c.into_iter-another-iterator.result)
+          (into_iter_len c.next.new.self) (into_iter_len c.into_iter-seats.result) c.args.seats.len c.len.result
+          c.in-Ok.others.cap made.len (ap (λ it. into_iter_len it) same) c.in-Some.ensures.cases.1
+          c.into_iter-seats.ensures.len c.len.ensures made.capacity;
       others_grants = all_none (λ w. w.session.client.value.grants ≡ 0) c.in-Ok.others.items made.items;
       crew = paired_none _ c.in-Ok.others.items made.items;
     }
@@ -44,12 +50,18 @@ loop-another-preserved g c =
       manager = c.split.ensures.manager ∙ i.manager;
       records = keeps.records ∙ i.records;
       floor = keeps.floor ∙ i.floor;
-      grants = handed_out c.loop-another.session.client.value.grants c.split.new.self.client.value.grants c.loop-another.others.len c.push_reserved.new.self.len keeps.grants p.len i.grants;
+      grants = handed_out c.loop-another.session.client.value.grants c.split.new.self.client.value.grants
+          c.loop-another.others.len c.push_reserved.new.self.len keeps.grants p.len i.grants;
       count = counted_on c.loop-another.others.len c.push_reserved.new.self.len _ _ c.args.seats.len t.1 p.len i.count;
-      room = room_taken c.loop-another.others.len c.push_reserved.new.self.len _ _ c.loop-another.others.cap c.push_reserved.new.self.cap t.1 p.len p.capacity i.room;
-      others_grants = all_more (λ w. w.session.client.value.grants ≡ 0) c.loop-another.others.items c.push_reserved.new.self.items (record { session = c.in-Ok-split.other; seat = c.in-Some-another.another }) p.items i.others_grants (ap (λ (x : CallerShown). x.value.grants) s.theirs);
-      crew = paired_step _ _ c.loop-another.others.items c.push_reserved.new.self.items c.in-Some-another.another (record { session = c.in-Ok-split.other; seat = c.in-Some-another.another }) p.items i.crew
-          (split_worker c.args.session c.loop-another.session c.split.new.self c.in-Ok-split.other (shown g.K.Keep.notes c.in-Some-another.another) s c.in-Ok-split.ensures.theirs i.manager i.floor);
+      room = room_taken c.loop-another.others.len c.push_reserved.new.self.len _ _ c.loop-another.others.cap
+          c.push_reserved.new.self.cap t.1 p.len p.capacity i.room;
+      others_grants = all_more (λ w. w.session.client.value.grants ≡ 0) c.loop-another.others.items
+          c.push_reserved.new.self.items (record { session = c.in-Ok-split.other; seat = c.in-Some-another.another })
+          p.items i.others_grants (ap (λ (x : CallerShown). x.value.grants) s.theirs);
+      crew = paired_step _ _ c.loop-another.others.items c.push_reserved.new.self.items c.in-Some-another.another
+          (record { session = c.in-Ok-split.other; seat = c.in-Some-another.another }) p.items i.crew
+          (split_worker c.args.session c.loop-another.session c.split.new.self c.in-Ok-split.other
+          (shown g.K.Keep.notes c.in-Some-another.another) s c.in-Ok-split.ensures.theirs i.manager i.floor);
     }
 
 pub returns-clause-crew : goal.returns-clause-crew
@@ -59,7 +71,8 @@ returns-clause-crew g c =
     record {
       pair = c.in-Some.seat;
       rest = into_iter_items c.into_iter-another-iterator.result;
-      pairs_are = sym c.into_iter-seats.ensures.rest ∙ (c.in-Some.ensures.items ∙ ap (λ it. c.in-Some.seat ∷ into_iter_items it) (sym c.into_iter-another-iterator.ensures.into_iter_gives));
+      pairs_are = sym c.into_iter-seats.ensures.rest ∙ (c.in-Some.ensures.items ∙
+          ap (λ it. c.in-Some.seat ∷ into_iter_items it) (sym c.into_iter-another-iterator.ensures.into_iter_gives));
       opening = record { manager_is = i.manager; records_are = i.records; knows = i.floor; draws_are = refl };
       others_are = paired_all _ _ _ _ _ i.all (nothing_left c.loop-another.another-iterator end.steps.0) i.crew;
     }

@@ -16,5 +16,6 @@ invariant-loop-another g l = record {
   others_grants : All (λ w. w.session.client.value.grants ≡ 0) l.others.items;
   count : vec_len l.others + into_iter_len l.another-iterator + 1 ≡ vec_len l.fn.seats;
   room : vec_len l.others + into_iter_len l.another-iterator ≤ vec_capacity l.others;
-  crew : Paired (λ p w. IsWorker l.fn.session.manager [] l.fn.session.client.value.floor (shown g.K.Keep.notes p) w.session (shown g.K.Keep.notes w.seat)) l.yielded l.others.items;
+  crew : Paired (λ p w. IsWorker l.fn.session.manager [] l.fn.session.client.value.floor
+      (shown g.K.Keep.notes p) w.session (shown g.K.Keep.notes w.seat)) l.yielded l.others.items;
 }

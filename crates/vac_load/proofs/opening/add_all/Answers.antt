@@ -19,8 +19,11 @@ pub items-preserved : goal.items-preserved
 items-preserved g c = record {
   session = search rules;
   grants = search rules;
-  ran = ran_more g.D.Draws.leads c.args.session.now.manager.renewal c.items.place stocks _ _ _ _ _ _ c.items.invariant.ran
-      (of_manager (λ m. Ran g.D.Draws.leads m.renewal (stocks (c.items.place + 1)) c.items.session.client.value c.add_items.new.session.client.value c.items.draws c.add_items.new.draws) c.args.session.now c.items.session c.items.invariant.session c.in_ok-add_items.ensures.ran);
+  ran = ran_more g.D.Draws.leads c.args.session.now.manager.renewal c.items.place stocks _ _ _ _ _ _
+      c.items.invariant.ran
+      (of_manager (λ m. Ran g.D.Draws.leads m.renewal (stocks (c.items.place + 1)) c.items.session.client.value
+      c.add_items.new.session.client.value c.items.draws c.add_items.new.draws) c.args.session.now c.items.session
+      c.items.invariant.session c.in_ok-add_items.ensures.ran);
   kept = kept_both _ _ _ _ _ _ c.items.invariant.kept c.in_ok-add_items.ensures.kept;
 }
 
@@ -30,6 +33,10 @@ returns-in_err-add_items-clause-stopped g c =
     let n = c.args.session.now.manager.renewal in
     let last = c.args.session.now.manager.last in
     let less : c.items.place + 1 ≤ c.args.items = search rules in
-    handed_on c.from_residual.result c.in_err-add_items.field-0.0 (λ e. Stopped leads n last (for_each c.args.items stocks) e c.args.session.now.client.value c.add_items.new.session.client.value c.args.draws.now c.add_items.new.draws) c.from_residual.ensures.1
+    handed_on c.from_residual.result c.in_err-add_items.field-0.0
+    (λ e. Stopped leads n last (for_each c.args.items stocks) e c.args.session.now.client.value
+    c.add_items.new.session.client.value c.args.draws.now c.add_items.new.draws) c.from_residual.ensures.1
     (stopped_items leads n last c.items.place c.args.items _ _ _ _ _ _ _ less c.items.invariant.ran
-    (of_manager (λ m. Stopped leads m.renewal m.last (stocks (c.items.place + 1)) c.in_err-add_items.field-0.0 c.items.session.client.value c.add_items.new.session.client.value c.items.draws c.add_items.new.draws) c.args.session.now c.items.session c.items.invariant.session c.in_err-add_items.ensures.stopped))
+    (of_manager (λ m. Stopped leads m.renewal m.last (stocks (c.items.place + 1)) c.in_err-add_items.field-0.0
+    c.items.session.client.value c.add_items.new.session.client.value c.items.draws c.add_items.new.draws)
+    c.args.session.now c.items.session c.items.invariant.session c.in_err-add_items.ensures.stopped))

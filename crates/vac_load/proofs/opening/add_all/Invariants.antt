@@ -10,6 +10,8 @@ abbrev pub invariant-items : goal.invariant-items
 invariant-items g l = record {
   session : GoesOn l.fn.session l.session;
   grants : HasAllGrants l.session.client.value;
-  ran : Ran g.D.Draws.leads l.fn.session.manager.renewal (for_each l.place stocks) l.fn.session.client.value l.session.client.value l.fn.draws l.draws;
-  kept : HasKeptAdded l.fn.session.client.value l.session.client.value (g.K.Keep.notes l.fn.keep) (g.K.Keep.notes l.keep);
+  ran : Ran g.D.Draws.leads l.fn.session.manager.renewal (for_each l.place stocks) l.fn.session.client.value
+      l.session.client.value l.fn.draws l.draws;
+  kept : HasKeptAdded l.fn.session.client.value l.session.client.value (g.K.Keep.notes l.fn.keep)
+      (g.K.Keep.notes l.keep);
 }

@@ -10,7 +10,9 @@ abbrev pub invariant-customers : goal.invariant-customers
 invariant-customers g l = record {
   session : GoesOn l.fn.session l.session;
   grants : HasAllGrants l.session.client.value;
-  opening : Opening g.D.Draws.leads l.fn.session.manager.renewal l.fn.settings.items l.place l.fn.session.client.value l.session.client.value l.fn.draws l.draws;
-  kept : HasKeptAdded l.fn.session.client.value l.session.client.value (g.K.Keep.notes l.fn.keep) (g.K.Keep.notes l.keep);
+  opening : Opening g.D.Draws.leads l.fn.session.manager.renewal l.fn.settings.items l.place l.fn.session.client.value
+      l.session.client.value l.fn.draws l.draws;
+  kept : HasKeptAdded l.fn.session.client.value l.session.client.value (g.K.Keep.notes l.fn.keep)
+      (g.K.Keep.notes l.keep);
   ready : (l.place ≡ 0) ⊎ IsAnswered l.fn.session.manager l.session.client.value;
 }

@@ -11,24 +11,31 @@ use Rattle.vac_load.proofs.Eras.{renewed_in}
 use Rattle.vac_load.proofs.rounds.go_on.Goals as goal
 
 pub run_clients-requires-clause-alone : goal.run_clients-requires-clause-alone
-run_clients-requires-clause-alone g c = λ _ _. rw c.of-session.ensures (ap (λ (x : CallerShown). x.value.grants) c.in-Ok.ensures.client ∙ c.requires.alone)
+run_clients-requires-clause-alone g c = λ _ _. rw c.of-session.ensures
+    (ap (λ (x : CallerShown). x.value.grants) c.in-Ok.ensures.client ∙ c.requires.alone)
 
 pub run_clients-requires-clause-known : goal.run_clients-requires-clause-known
 run_clients-requires-clause-known g c = λ _ _.
-    rw c.of-session.ensures (renewed_known c.args.progress.manager c.in-Ok.renewed.0 c.args.progress.round.client c.in-Ok.renewed.1 _ c.in-Ok.ensures.words
-    (ap (λ (r : RegionShown). r.renewal) c.in-Ok.ensures.manager) (ap (λ (x : CallerShown). x.value.records) c.in-Ok.ensures.client))
+    rw c.of-session.ensures (renewed_known c.args.progress.manager c.in-Ok.renewed.0 c.args.progress.round.client
+    c.in-Ok.renewed.1 _ c.in-Ok.ensures.words
+    (ap (λ (r : RegionShown). r.renewal) c.in-Ok.ensures.manager)
+    (ap (λ (x : CallerShown). x.value.records) c.in-Ok.ensures.client))
 
 pub run_clients-requires-clause-era : goal.run_clients-requires-clause-era
 run_clients-requires-clause-era g c = λ _ _.
-    rw c.of-session.ensures (renewed_in c.args.progress.manager c.in-Ok.renewed.0 c.args.progress.round.client c.in-Ok.renewed.1 _ c.in-Ok.ensures.words
-    (ap (λ (r : RegionShown). r.renewal) c.in-Ok.ensures.manager) (ap (λ (x : CallerShown). x.value.records) c.in-Ok.ensures.client) c.requires.era)
+    rw c.of-session.ensures (renewed_in c.args.progress.manager c.in-Ok.renewed.0 c.args.progress.round.client
+    c.in-Ok.renewed.1 _ c.in-Ok.ensures.words
+    (ap (λ (r : RegionShown). r.renewal) c.in-Ok.ensures.manager)
+    (ap (λ (x : CallerShown). x.value.records) c.in-Ok.ensures.client) c.requires.era)
 
 pub run_clients-requires-clause-last : goal.run_clients-requires-clause-last
-run_clients-requires-clause-last g c = λ _ _. rw c.of-session.ensures (ap (λ (r : RegionShown). r.last) c.in-Ok.ensures.manager)
+run_clients-requires-clause-last g c = λ _ _. rw c.of-session.ensures
+    (ap (λ (r : RegionShown). r.last) c.in-Ok.ensures.manager)
 
 pub run_clients-requires-clause-early : goal.run_clients-requires-clause-early
 run_clients-requires-clause-early g c = λ _ _.
-    rw c.of-session.ensures (let none : c.in-Ok.renewed.1.value.floor ≡ 0 = ap (λ (x : CallerShown). x.value.floor) c.in-Ok.ensures.client in omega (arith, none))
+    rw c.of-session.ensures (let none : c.in-Ok.renewed.1.value.floor ≡ 0 =
+    ap (λ (x : CallerShown). x.value.floor) c.in-Ok.ensures.client in omega (arith, none))
 
 pub plus-requires : goal.plus-requires
 plus-requires g c =
@@ -40,10 +47,14 @@ plus-requires g c =
 
 pub returns-clause-ran : goal.returns-clause-ran
 returns-clause-ran g c =
-    let same = ap (λ (y : SessionShown). y.client.value.records) c.of-session.ensures ∙ ap (λ (x : CallerShown). x.value.records) c.in-Ok.ensures.client in
+    let same = ap (λ (y : SessionShown). y.client.value.records) c.of-session.ensures ∙
+    ap (λ (x : CallerShown). x.value.records) c.in-Ok.ensures.client in
     record {
       more = c.in_ok-client.field-0.tally.tally;
-      ran = subst (λ (l : List Record). RanAll g.D.Draws.leads c.args.settings.now (shown g.K.Keep.notes) c.args.settings.now.tasks l c.args.progress.round.seats.items c.in_ok-client.field-0.client.value.records c.in_ok-client.field-0.seats.items c.in_ok-client.field-0.tally.tally) same c.in_ok-client.ensures.ran;
+      ran = subst (λ (l : List Record). RanAll g.D.Draws.leads c.args.settings.now
+          (shown g.K.Keep.notes) c.args.settings.now.tasks l c.args.progress.round.seats.items
+          c.in_ok-client.field-0.client.value.records c.in_ok-client.field-0.seats.items
+          c.in_ok-client.field-0.tally.tally) same c.in_ok-client.ensures.ran;
       tally_is = ap (λ (x : CountsShown). x.tally) c.plus.ensures;
     }
 

@@ -22,11 +22,17 @@ rounds-init g c =
       alone = c.in_ok-round.ensures.alone;
       renewals = omega (arith, c.requires.renewals);
       number = c.in_ok-round.ensures.number;
-      era = subst (λ (y : SessionShown). IsInRenewal y.manager.renewal c.in_ok-round.round.client.value.records) c.of-session.ensures c.in_ok-round.ensures.era;
+      era = subst (λ (y : SessionShown). IsInRenewal y.manager.renewal c.in_ok-round.round.client.value.records)
+          c.of-session.ensures c.in_ok-round.ensures.era;
       size = refl;
       tries = c.in_ok-round.ensures.tries;
-      ran = subst (λ (n : ℕ). RanAll g.D.Draws.leads c.args.settings.now (shown g.K.Keep.notes) n c.args.client.value.records c.args.seats.items c.in_ok-round.round.client.value.records c.in_ok-round.round.seats.items c.in_ok-round.round.tally.tally) one
-          (subst (λ (y : SessionShown). RanAll g.D.Draws.leads c.args.settings.now (shown g.K.Keep.notes) c.args.settings.now.tasks y.client.value.records c.args.seats.items c.in_ok-round.round.client.value.records c.in_ok-round.round.seats.items c.in_ok-round.round.tally.tally) c.of-session.ensures c.in_ok-round.ensures.ran);
+      ran = subst (λ (n : ℕ). RanAll g.D.Draws.leads c.args.settings.now
+          (shown g.K.Keep.notes) n c.args.client.value.records c.args.seats.items
+          c.in_ok-round.round.client.value.records c.in_ok-round.round.seats.items c.in_ok-round.round.tally.tally) one
+          (subst (λ (y : SessionShown). RanAll g.D.Draws.leads c.args.settings.now
+          (shown g.K.Keep.notes) c.args.settings.now.tasks y.client.value.records c.args.seats.items
+          c.in_ok-round.round.client.value.records c.in_ok-round.round.seats.items c.in_ok-round.round.tally.tally)
+          c.of-session.ensures c.in_ok-round.ensures.ran);
     }
 
 pub go_on-requires-clause-few : goal.go_on-requires-clause-few
@@ -46,11 +52,15 @@ rounds-preserved g c = record {
   era = c.in_ok-progress.ensures.era;
   size = c.in_ok-progress.ensures.size ∙ c.rounds.invariant.size;
   tries = c.in_ok-progress.ensures.tries;
-  ran = ran_more g.D.Draws.leads c.args.settings.now (shown g.K.Keep.notes) c.rounds.done _ _ _ _ _ _ _ _ c.rounds.invariant.ran c.in_ok-progress.ensures.ran;
+  ran = ran_more g.D.Draws.leads c.args.settings.now (shown g.K.Keep.notes) c.rounds.done _ _ _ _ _ _ _ _
+      c.rounds.invariant.ran c.in_ok-progress.ensures.ran;
 }
 
 pub returns-clause-ran : goal.returns-clause-ran
 returns-clause-ran g c =
     let most = few c.args.settings.now c.requires.settings in
     let all : c.rounds.done ≡ c.args.settings.now.rounds = omega (arith, most.some) in
-    subst (λ (n : ℕ). RanAll g.D.Draws.leads c.args.settings.now (shown g.K.Keep.notes) (n * c.args.settings.now.tasks) c.args.client.value.records c.args.seats.items c.rounds.progress.round.client.value.records c.rounds.progress.round.seats.items c.rounds.progress.round.tally.tally) all c.rounds.invariant.ran
+    subst (λ (n : ℕ). RanAll g.D.Draws.leads c.args.settings.now (shown g.K.Keep.notes)
+    (n * c.args.settings.now.tasks) c.args.client.value.records c.args.seats.items
+    c.rounds.progress.round.client.value.records c.rounds.progress.round.seats.items
+    c.rounds.progress.round.tally.tally) all c.rounds.invariant.ran

@@ -13,6 +13,7 @@ invariant-rounds g l = record {
   era : IsInRenewal l.progress.manager.renewal l.progress.round.client.value.records;
   tries : l.progress.round.tally.tries ≡ l.fn.settings.tries;
   size : l.progress.manager.size ≡ l.fn.manager.size;
-  ran : RanAll g.D.Draws.leads l.fn.settings (shown g.K.Keep.notes) (l.done * l.fn.settings.tasks) l.fn.client.value.records l.fn.seats.items
+  ran : RanAll g.D.Draws.leads l.fn.settings (shown g.K.Keep.notes)
+      (l.done * l.fn.settings.tasks) l.fn.client.value.records l.fn.seats.items
       l.progress.round.client.value.records l.progress.round.seats.items l.progress.round.tally.tally;
 }

@@ -21,4 +21,5 @@ loop-seat-preserved g c =
     }
 
 pub returns : goal.returns
-returns g c = c.loop-seat.invariant.kept ∙ ap (map (λ seat. seat.keep)) (all_met _ _ _ c.loop-seat.invariant.all (search rules))
+returns g c = c.loop-seat.invariant.kept ∙ ap (map (λ seat. seat.keep))
+    (all_met _ _ _ c.loop-seat.invariant.all (search rules))

@@ -12,13 +12,16 @@ loop-draws-init g c = record {
 pub loop-draws-preserved : goal.loop-draws-preserved
 loop-draws-preserved g c = record {
   all = one_on _ _ _ _ _ c.loop-draws.invariant.all (search rules);
-  draws = ap (map (λ seat. seat.draws)) c.in_ok-push.ensures.items ∙ map-append (λ seat. seat.draws) c.loop-draws.seats.items _
+  draws = ap (map (λ seat. seat.draws)) c.in_ok-push.ensures.items ∙
+      map-append (λ seat. seat.draws) c.loop-draws.seats.items _
       ∙ ap (λ (states : List _). states ++ (c.in-Some.draws ∷ [])) c.loop-draws.invariant.draws
       ∙ sym (map-append (λ pair. pair.0) _ _);
 }
 
 pub returns-clause-draws : goal.returns-clause-draws
-returns-clause-draws g c = c.loop-draws.invariant.draws ∙ ap (map (λ pair. pair.0)) (all_met _ _ _ c.loop-draws.invariant.all (search rules))
+returns-clause-draws g c = c.loop-draws.invariant.draws ∙ ap (map (λ pair. pair.0))
+    (all_met _ _ _ c.loop-draws.invariant.all (search rules))
 
 pub returns-clause-number : goal.returns-clause-number
-returns-clause-number g c = c.loop-draws.seats.ok.0 ∙ (same_length (λ seat. seat.draws) (λ pair. pair.0) c.loop-draws.seats.items c.args.clients.items (returns-clause-draws g c) ∙ sym c.args.clients.ok.0)
+returns-clause-number g c = c.loop-draws.seats.ok.0 ∙ (same_length (λ seat. seat.draws)
+    (λ pair. pair.0) c.loop-draws.seats.items c.args.clients.items (returns-clause-draws g c) ∙ sym c.args.clients.ok.0)

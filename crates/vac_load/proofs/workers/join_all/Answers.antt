@@ -12,9 +12,11 @@ loop-handle-init g c = record {
 pub loop-handle-preserved : goal.loop-handle-preserved
 loop-handle-preserved g c = record {
   all = one_on _ _ _ _ _ c.loop-handle.invariant.all c.in-Some.ensures.steps.0;
-  joined = paired_step _ _ c.loop-handle.done.items c.push_reserved.new.self.items _ c.join.result c.push_reserved.ensures.items c.loop-handle.invariant.joined c.join.ensures;
+  joined = paired_step _ _ c.loop-handle.done.items c.push_reserved.new.self.items _ c.join.result
+      c.push_reserved.ensures.items c.loop-handle.invariant.joined c.join.ensures;
   room = grind rules;
 }
 
 pub returns : goal.returns
-returns g c = paired_all _ _ _ _ _ c.loop-handle.invariant.all (nothing_left c.loop-handle.handle-iterator c.in-None.ensures.steps.0) c.loop-handle.invariant.joined
+returns g c = paired_all _ _ _ _ _ c.loop-handle.invariant.all
+    (nothing_left c.loop-handle.handle-iterator c.in-None.ensures.steps.0) c.loop-handle.invariant.joined

@@ -7,6 +7,7 @@ use Rattle.vac_load.proofs.workers.join_all.Given as goal
 abbrev pub invariant-loop-handle : goal.invariant-loop-handle
 invariant-loop-handle g l = record {
   all : l.fn.handles.items ≡ l.yielded ++ into_iter_items l.handle-iterator;
-  joined : Paired (λ h r. DidWork g.D.Draws.leads g.K.Keep.notes h.promise.settings h.promise.worker.value r) l.yielded l.done.items;
+  joined : Paired (λ h r. DidWork g.D.Draws.leads g.K.Keep.notes h.promise.settings h.promise.worker.value r) l.yielded
+      l.done.items;
   room : vec_len l.done + into_iter_len l.handle-iterator ≤ vec_capacity l.done;
 }

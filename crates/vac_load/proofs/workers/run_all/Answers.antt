@@ -8,6 +8,12 @@ pub scoped-requires : goal.scoped-requires
 scoped-requires g c = record {
   at = λ _. (
     c.requires.settings,
-    (search (sendable, crosses) depth 40, search (sendable, crosses) depth 40, search (sendable, crosses) depth 40, search (sendable, crosses) depth 40, search (sendable, crosses) depth 40),
+    (
+      search (sendable, crosses) depth 40,
+      search (sendable, crosses) depth 40,
+      search (sendable, crosses) depth 40,
+      search (sendable, crosses) depth 40,
+      search (sendable, crosses) depth 40,
+    ),
   );
 }

@@ -13,10 +13,12 @@ loop-worker-init g c = record {
 pub loop-worker-preserved : goal.loop-worker-preserved
 loop-worker-preserved g c = record {
   all = one_on _ _ _ _ _ c.loop-worker.invariant.all c.in-Some.ensures.steps.0;
-  started = paired_step _ _ c.loop-worker.handles.items c.push_reserved.new.self.items _ c.in_ok-handle.handle c.push_reserved.ensures.items c.loop-worker.invariant.started c.in_ok-handle.ensures.promise;
+  started = paired_step _ _ c.loop-worker.handles.items c.push_reserved.new.self.items _ c.in_ok-handle.handle
+      c.push_reserved.ensures.items c.loop-worker.invariant.started c.in_ok-handle.ensures.promise;
   count = grind rules;
   room = grind rules;
 }
 
 pub returns-clause-promises : goal.returns-clause-promises
-returns-clause-promises g c = paired_all _ _ _ _ _ c.loop-worker.invariant.all (nothing_left c.loop-worker.worker-iterator c.in-None.ensures.steps.0) c.loop-worker.invariant.started
+returns-clause-promises g c = paired_all _ _ _ _ _ c.loop-worker.invariant.all
+    (nothing_left c.loop-worker.worker-iterator c.in-None.ensures.steps.0) c.loop-worker.invariant.started
