@@ -1,12 +1,9 @@
 -- What the program does where its words ask for a judgement, of calls or of attempts.
-use Rattle.std.specs.Prelude.{◌≡◌, ◌≢◌, ◌⊎◌, ℕ, Bool, true, false, Option, Some, None, List}
+use Rattle.std.specs.Prelude.{◌⊎◌, ℕ, Bool, true, false, Option, Some, None, List}
 use Rattle.std.specs.Borrow.{Bor}
-use Rattle.vac_lines.specs.Writing.{AppendsPrefix}
-use Rattle.vac_streams.specs.declared.fault.StreamFault.{StreamFault}
-use Rattle.vac_streams.specs.declared.fault.StreamFault.TheVariants as stream
 use Rattle.vac_opaque.specs.Reading.{HasJudged, HasJudgedInPart}
-use Rattle.vac_cli.specs.Ending.{Ends, fault_line}
-use Rattle.vac_cli.specs.Judging.{Judges, JudgesWork}
+use Rattle.vac_cli.specs.Ending.{Ends}
+use Rattle.vac_cli.specs.Judging.{Judges, JudgesWork, NamedAlone}
 use Rattle.vac_cli.specs.Ordering.{JudgesAnyOrder, JudgesAnyWork}
 
 -- a history is judged in any order or in its own; where a file is named, it is held against the
@@ -28,8 +25,7 @@ JudgesAs files true (Some name) blocks steps status unread left held holds =
 abbrev pub AttemptsStopped : ℕ → Option (List ℕ) → Option (List ℕ) → Option (List ℕ)
     → Option (List ℕ) → Type 0
 AttemptsStopped words unread left held holds =
-    HasJudgedInPart words unread left held holds
-    ⊎ ((fault : StreamFault) × (fault ≢ stream.Write) × AppendsPrefix held holds (fault_line fault))
+    HasJudgedInPart words unread left held holds ⊎ NamedAlone held holds
 
 -- attempts at this many words are judged: 0 where they are opaque
 abbrev pub JudgesAttempts : ℕ → ℕ → Option (List ℕ) → Option (List ℕ) → Option (List ℕ)

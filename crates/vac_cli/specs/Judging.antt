@@ -7,8 +7,9 @@ use Rattle.vac_judge.specs.Reading.{HasJudged, HasJudgedInPart}
 use Rattle.vac_judge.specs.HeldReading.{HasHeld, HasHeldInPart}
 use Rattle.vac_cli.specs.Ending.{Ends, fault_line, unopened_line}
 
--- a fault other than one of the output ended a judgement: nothing was written but a prefix of the
--- line that names it
+-- a fault other than one of the output ended it: nothing was written but a prefix of the line that
+-- names it
+-- Not said: which fault stands for which cause.
 abbrev pub NamedAlone : Option (List ℕ) → Option (List ℕ) → Type 0
 NamedAlone held holds = (fault : StreamFault) × (fault ≢ Write)
     × AppendsPrefix held holds (fault_line fault)

@@ -1,13 +1,9 @@
 -- What the program does where it looks for an order: its status, and what it reads and writes.
 use Rattle.std.specs.Prelude.{◌≡◌, ◌≢◌, ◌⊎◌, ℕ, Option, Some, List}
-use Rattle.vac_lines.specs.Writing.{AppendsPrefix}
-use Rattle.vac_streams.specs.declared.fault.StreamFault.{StreamFault}
-use Rattle.vac_streams.specs.declared.fault.StreamFault.TheVariants as stream
 use Rattle.vac_order.specs.declared.ordering.Outcome.{Outcome}
 use Rattle.vac_order.specs.declared.ordering.Outcome.TheVariants as outcome
 use Rattle.vac_order.specs.Ordering.{HasText, HasOrdered, HasOrderedInPart}
-use Rattle.vac_cli.specs.Ending.{fault_line}
-use Rattle.vac_cli.specs.Judging.{Judges, JudgesHeld, NotOpened}
+use Rattle.vac_cli.specs.Judging.{Judges, JudgesHeld, NamedAlone, NotOpened}
 
 -- 0 where there is an order, 1 where there is none or a line is wrong, 3 where neither is known
 abbrev pub status_of : Outcome → ℕ
@@ -15,18 +11,12 @@ status_of outcome.Ordered = 0
 status_of outcome.Illegal = 1
 status_of outcome.Undecided = 3
 
--- a fault that is none of the output, and a prefix of the line that names it was written, no more
--- Not said: which fault stands for which cause.
-abbrev pub NamesFault : Option (List ℕ) → Option (List ℕ) → Type 0
-NamesFault held holds =
-    (fault : StreamFault) × (fault ≢ stream.Write) × AppendsPrefix held holds (fault_line fault)
-
 -- a fault ended it: one of the output, and a prefix of what was found was written; or another, and
 -- that is named
 abbrev pub OrderStopped : ℕ → ℕ → Option (List ℕ) → Option (List ℕ) → Option (List ℕ)
     → Option (List ℕ) → Type 0
 OrderStopped blocks steps unread left held holds =
-    HasOrderedInPart blocks steps unread left held holds ⊎ NamesFault held holds
+    HasOrderedInPart blocks steps unread left held holds ⊎ NamedAlone held holds
 
 -- an order of a history's calls is looked for, and what is found is written
 abbrev pub Orders : ℕ → ℕ → ℕ → Option (List ℕ) → Option (List ℕ) → Option (List ℕ)
@@ -51,7 +41,7 @@ FindsNone blocks steps status unread left held holds =
     ((found : Outcome) × (found ≢ outcome.Ordered) × (status ≡ status_of found)
     × HasOrdered blocks steps found unread left held holds)
     ⊎ ((status ≡ 1)
-    × (HasRefusedInPart blocks steps unread left held holds ⊎ NamesFault held holds))
+    × (HasRefusedInPart blocks steps unread left held holds ⊎ NamedAlone held holds))
 
 -- an order was found, and its lines are judged as a history
 pub record JudgesFound (blocks steps status : ℕ) (unread left held holds : Option (List ℕ)) :
