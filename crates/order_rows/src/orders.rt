@@ -2,7 +2,7 @@
 
 use std::alloc::Global;
 use std::test::Fail;
-use vac_order::{Outcome, order_history};
+use vac_order::{Outcome, Watcher, order_history};
 use vac_streams::StreamFault;
 
 /// The blocks of the system.
@@ -16,9 +16,16 @@ fn ordered(alloc: Global, steps: u64, history: &str) -> Result<(Outcome, Vec<u8>
     Ok((outcome, text))
 }
 
+/// Only before the first call does the last one give its reply, and each of two orders of the first
+/// two leads to one state.
+const GOES_BACK: &str = "1 0 9 newcust 1 -> true\n2 0 9 newcust 2 -> true\n3 0 9 leave 1 -> -1\n";
+
+/// Its lines in the order that is found.
+const GONE_BACK: &str = "2 0 9 newcust 2 -> true\n3 0 9 leave 1 -> -1\n1 0 9 newcust 1 -> true\n";
+
 #[test]
 fn histories_that_have_an_order(rt: HostRuntime) -> Result<(), Fail> {
-    let rows: [(&str, &str); 6] = [
+    let rows: [(&str, &str); 7] = [
         ("", ""),
         (
             "1 0 5 newcust 1 -> true\n1 6 9 reserve 1 car 1 -> true\n2 1 6 add car 1 2 5 -> true\n\
@@ -39,6 +46,7 @@ fn histories_that_have_an_order(rt: HostRuntime) -> Result<(), Fail> {
             "0 0 1 add car 1 1 5 -> true\n2 4 5 free car 1 -> 1\n",
         ),
         ("1 2 - add car 1 1 5 -> ?\n", ""),
+        (GOES_BACK, GONE_BACK),
     ];
     for (history, wanted) in rows {
         let (outcome, text) = ordered(rt.alloc(), 100, history)?;
@@ -59,9 +67,14 @@ const HALF_AN_UPDATE: &str = "0 0 1 add car 1 2 5 -> true\n\
     2 3 4 audit -> cars=1 flights=0 rooms=0 customers=0 bookings=0 used=0 free=3 total=3 \
     billed=0\n";
 
+/// Any order of the first three calls leads to one state, and in none does the last give its reply.
+const NEVER_RIGHT: &str = "0 0 9 newcust 1 -> true\n1 0 9 newcust 2 -> true\n\
+    2 0 9 newcust 3 -> true\n3 0 9 bill 1 -> 7\n";
+
 #[test]
 fn histories_that_have_no_order(rt: HostRuntime) -> Result<(), Fail> {
-    let rows: [(&str, &str); 6] = [
+    let rows: [(&str, &str); 7] = [
+        (NEVER_RIGHT, "illegal order 3\nstuck 4 0\n"),
         // a lost update
         (
             "0 0 1 add car 1 1 5 -> true\n1 2 5 add car 1 1 5 -> true\n\
@@ -126,17 +139,60 @@ fn lines_that_are_wrong(rt: HostRuntime) -> Result<(), Fail> {
 
 #[test]
 fn searches_that_are_cut_short(rt: HostRuntime) -> Result<(), Fail> {
-    let rows: [(u64, &str); 3] = [
-        (0, "undecided 0\n"),
-        (2, "undecided 2\n"),
-        (4, "undecided 3\n"),
+    let rows: [(&str, u64, &str); 4] = [
+        (NEVER_RIGHT, 0, "undecided 0\n"),
+        (NEVER_RIGHT, 2, "undecided 2\n"),
+        (NEVER_RIGHT, 4, "undecided 3\n"),
+        (GOES_BACK, 9, "undecided 2\n"),
     ];
-    let history = "0 0 9 newcust 1 -> true\n1 0 9 newcust 2 -> true\n2 0 9 newcust 3 -> true\n\
-        3 0 9 bill 1 -> 7\n";
-    for (steps, wanted) in rows {
+    for (history, steps, wanted) in rows {
         let (outcome, text) = ordered(rt.alloc(), steps, history)?;
         assert_eq!(rt; text.as_slice(), wanted.as_bytes());
         assert_eq!(rt; outcome, Outcome::Undecided);
+    }
+    Ok(())
+}
+
+/// Counts the searches that begin.
+#[derive(Drop)]
+struct Begun {
+    searches: u64,
+}
+
+impl Watcher for Begun {
+    fn tell(&mut self, _placed: u64, steps: u64) {
+        if steps == 0 {
+            self.searches = self.searches.wrapping_add(1);
+        }
+    }
+}
+
+/// How many searches are begun for a history, and what is returned.
+fn searches(alloc: Global, steps: u64, history: &str) -> Result<(u64, Outcome), StreamFault> {
+    let mut history = history.as_bytes();
+    let mut text = Vec::new(alloc);
+    let mut begun = Begun { searches: 0 };
+    let outcome = order_history(alloc, BLOCKS, steps, &mut history, &mut text, &mut begun)?;
+    Ok((begun.searches, outcome))
+}
+
+#[test]
+fn searches_that_decide(rt: HostRuntime) -> Result<(), Fail> {
+    let rows: [(&str, u64, u64, Outcome); 6] = [
+        // nothing is looked for
+        ("1 2 - add car 1 1 5 -> ?\n", 10, 0, Outcome::Ordered),
+        // the quick search finds an order, in just as many steps
+        (GOES_BACK, 10, 1, Outcome::Ordered),
+        // that there is none, only the exact one can tell
+        (NEVER_RIGHT, 100, 2, Outcome::Illegal),
+        (WRITE_SKEW, 100, 2, Outcome::Illegal),
+        (GOES_BACK, 9, 2, Outcome::Undecided),
+        (GOES_BACK, 0, 0, Outcome::Undecided),
+    ];
+    for (history, steps, wanted, told) in rows {
+        let (begun, outcome) = searches(rt.alloc(), steps, history)?;
+        assert_eq!(rt; begun, wanted);
+        assert_eq!(rt; outcome, told);
     }
     Ok(())
 }

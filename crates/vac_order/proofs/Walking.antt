@@ -20,7 +20,7 @@ use Rattle.vac_order.specs.Walking.{place_of, search_of, AreDistinct, AreMadeBy,
 use Rattle.vac_order.proofs.Placing.{made_none, made_one, made_all, made_push, made_pop}
 use Rattle.vac_order.proofs.Steps.{all_at, leads_reaches, walk_found, walk_dead, walk_back, walk_lost, walk_on, walk_start, back_less}
 
-map_more : {X Y : Type 0} (f : X → Y) (xs : List X) (x : X) → map f (xs ++ x ∷ []) ≡ map f xs ++ f x ∷ []
+pub map_more : {X Y : Type 0} (f : X → Y) (xs : List X) (x : X) → map f (xs ++ x ∷ []) ≡ map f xs ++ f x ∷ []
 map_more f [] x = refl
 map_more f (y ∷ ys) x = ap (λ l. f y ∷ l) (map_more f ys x)
 

@@ -15,6 +15,7 @@ mod order;
 mod ordering;
 mod path;
 mod point;
+mod quick;
 mod reading;
 mod sequential;
 mod sorting;

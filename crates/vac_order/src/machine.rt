@@ -12,6 +12,10 @@ use vac_model::{Reply, Task};
 pub trait Machine: Sized {
     ghost state: { Self → State };
 
+    /// Another machine in this state.
+    fn copy(&self) -> Result<Self, AllocError>
+        ensures { IfOk result (λ copy. state copy ≡ state self.now) };
+
     /// The machine after a task, and the reply.
     fn make(&self, task: &Task) -> Result<(Self, Reply), AllocError>
         requires { is_task task.now ≡ true }

@@ -12,12 +12,13 @@ use crate::calls::Calls;
 use crate::history::History;
 use crate::machine::Machine;
 use crate::point::Point;
+use crate::quick::find_quickly;
 use crate::walk::{Finding, find_order};
 use crate::watcher::Watcher;
 use std::alloc::{AllocError, Global};
 
-/// Looks for a linearization of these calls, from the state of a machine on, in at most `steps`
-/// steps.
+/// Looks for a linearization of these calls, from the state of a machine on: quickly, and where
+/// that finds none, by the search that misses none. Each makes at most `steps` steps.
 pub(crate) fn judge_order<M: Machine + Drop, P: Watcher>(
     alloc: Global,
     calls: &Calls,
@@ -29,6 +30,10 @@ pub(crate) fn judge_order<M: Machine + Drop, P: Watcher>(
     ensures { IfOk result (λ found. (n : ℕ) → M.state machine ≡ empty_state n →
         Judges (point_at M.state calls.now) n (calls_of calls.now.lines.items) steps found) }
 {
+    let quick = Point::new(alloc, machine.copy()?);
+    if let Some(places) = find_quickly(alloc, calls, quick, steps, watcher)? {
+        return Ok(Finding::Order(places));
+    }
     find_order(alloc, calls, Point::new(alloc, machine), steps, watcher)
 }
 

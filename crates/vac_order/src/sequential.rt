@@ -8,6 +8,10 @@ use vac_sequential::{Sequential, SequentialFault};
 impl Machine for Sequential {
     ghost state = { λ manager. manager };
 
+    fn copy(&self) -> Result<Sequential, AllocError> {
+        self.copy()
+    }
+
     fn make(&self, task: &Task) -> Result<(Sequential, Reply), AllocError> {
         let mut next = self.copy()?;
         match next.run(task) {

@@ -33,7 +33,11 @@ pub enum Finding<W> {
 }
 
 /// The places of the calls of a path, and a last one.
-fn places_of<W>(alloc: Global, path: &[Frame<W>], last: usize) -> Result<Vec<usize>, AllocError>
+pub(crate) fn places_of<W>(
+    alloc: Global,
+    path: &[Frame<W>],
+    last: usize,
+) -> Result<Vec<usize>, AllocError>
     ensures { IfOk result (λ places. places.items ≡ places_of path.now ++ last ∷ []) }
 {
     let mut places = Vec::new(alloc);
@@ -96,7 +100,7 @@ fn go_back<W: World + Drop>(
 }
 
 /// How many answered calls have a place after one more call has one.
-fn counted(placed: u64, answered: bool) -> Option<u64>
+pub(crate) fn counted(placed: u64, answered: bool) -> Option<u64>
     ensures { IfSome result (λ count. count ≡ placed + (if answered then 1 else 0)) }
 {
     if answered {

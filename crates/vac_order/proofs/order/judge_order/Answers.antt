@@ -3,6 +3,8 @@ use Rattle.vac_model.specs.State.{empty_state}
 use Rattle.vac_order.specs.Calls.{calls_of}
 use Rattle.vac_order.specs.Walk.{IsWhole}
 use Rattle.vac_order.specs.Walking.{Finds}
+use Rattle.vac_order.specs.Quick.{FindsAny}
+use Rattle.vac_order.specs.declared.walk.Finding.TheVariants as finding
 use Rattle.vac_order.specs.Point.{point_at, point_views}
 use Rattle.vac_order.specs.Judging.{Judges}
 use Rattle.vac_order.proofs.Judged.{all_left, judges}
@@ -15,6 +17,16 @@ if_ok P Q f (Err e) h = tt
 pub find_order-requires : goal.find_order-requires
 find_order-requires g c =
     subst IsWhole (sym (all_left c.new.result.low c.new.result.beyond.items (calls_of c.args.calls.now.lines.items) c.new.ensures.low c.new.ensures.beyond)) c.requires
+
+pub returns-in-Some : goal.returns-in-Some
+returns-in-Some g c =
+    let state = g.M.Machine.state in
+    let calls = c.args.calls.now in
+    let quick = c.new-quick.result in
+    let found = subst (FindsAny (point_views state calls) (point_at state calls quick)) c.in-Some.is c.in_ok-places.ensures in
+    λ n e.
+    judges state calls quick n c.args.steps c.requires c.new-quick.ensures.low c.new-quick.ensures.beyond
+    (ap state c.new-quick.ensures.machine ∙ c.in_ok-copy.ensures ∙ e) (finding.Order c.in-Some.places) found
 
 pub returns : goal.returns
 returns g c =
