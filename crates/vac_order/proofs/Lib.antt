@@ -6,7 +6,7 @@ pub mod Completing
 pub mod Steps
 pub mod Placing
 pub mod Walking
-pub mod Trails
+pub mod Checks
 pub mod Tries
 pub mod Sorted
 pub mod Marking

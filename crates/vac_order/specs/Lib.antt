@@ -4,7 +4,7 @@ pub mod Views
 pub mod Walk
 pub mod Searching
 pub mod Walking
-pub mod Quick
+pub mod Checking
 pub mod Marks
 pub mod Calls
 pub mod Point

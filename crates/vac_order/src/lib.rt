@@ -3,11 +3,13 @@
 #![tactic(auto)]
 
 mod calls;
+mod checking;
 mod ends;
 mod found;
 mod history;
 mod known;
 mod laws;
+mod layout;
 mod line;
 mod machine;
 mod marks;

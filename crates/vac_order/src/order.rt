@@ -1,14 +1,15 @@
 //! Whether some order of the calls of several clients is a linearization.
 
-ghost use Rattle.std.specs.Prelude.{◌≡◌, ℕ, IfOk};
+ghost use Rattle.std.specs.Prelude.{◌≡◌, ℕ, IfOk, IfSome};
 ghost use Rattle.vac_model.specs.State.{empty_state};
 ghost use Rattle.vac_order.specs.Calls.{calls_of};
-ghost use Rattle.vac_order.specs.Judging.{Judges};
+ghost use Rattle.vac_order.specs.Judging.{IsLinearizedBy, Judges};
 ghost use Rattle.vac_order.specs.Point.{point_at};
 ghost use Rattle.vac_order.specs.Walk.{IsWhole};
 ghost use Rattle.vac_order.specs.Reading.{IsHeld, AreKeptLines};
 
 use crate::calls::Calls;
+use crate::checking::completes;
 use crate::history::History;
 use crate::machine::Machine;
 use crate::point::Point;
@@ -17,8 +18,33 @@ use crate::walk::{Finding, find_order};
 use crate::watcher::Watcher;
 use std::alloc::{AllocError, Global};
 
+/// A linearization of these calls, from the state of a machine on, where one is found quickly.
+///
+/// Not said: that one is found where there is one.
+fn quick_order<M: Machine + Drop, P: Watcher>(
+    alloc: Global,
+    calls: &Calls,
+    machine: &M,
+    steps: u64,
+    watcher: &mut P,
+) -> Result<Option<Vec<usize>>, AllocError>
+    requires { IsWhole (calls_of calls.now.lines.items) }
+    ensures { IfOk result (λ found. IfSome found (λ places. (n : ℕ)
+        → M.state machine.now ≡ empty_state n
+        → IsLinearizedBy n (calls_of calls.now.lines.items) places.items)) }
+{
+    let Some(places) = find_quickly(alloc, calls, machine.copy()?, steps, watcher)? else {
+        return Ok(None);
+    };
+    let start = Point::new(alloc, machine.copy()?);
+    if completes(alloc, calls, start, places.as_slice())? {
+        return Ok(Some(places));
+    }
+    Ok(None)
+}
+
 /// Looks for a linearization of these calls, from the state of a machine on: quickly, and where
-/// that finds none, by the search that misses none. Each makes at most `steps` steps.
+/// that finds none that is right, by the search that misses none. Each makes at most `steps` steps.
 pub(crate) fn judge_order<M: Machine + Drop, P: Watcher>(
     alloc: Global,
     calls: &Calls,
@@ -30,8 +56,7 @@ pub(crate) fn judge_order<M: Machine + Drop, P: Watcher>(
     ensures { IfOk result (λ found. (n : ℕ) → M.state machine ≡ empty_state n →
         Judges (point_at M.state calls.now) n (calls_of calls.now.lines.items) steps found) }
 {
-    let quick = Point::new(alloc, machine.copy()?);
-    if let Some(places) = find_quickly(alloc, calls, quick, steps, watcher)? {
+    if let Some(places) = quick_order(alloc, calls, &machine, steps, watcher)? {
         return Ok(Finding::Order(places));
     }
     find_order(alloc, calls, Point::new(alloc, machine), steps, watcher)

@@ -115,7 +115,11 @@ pub(crate) fn next_call(low: usize, beyond: &[usize], lines: &[Line], from: usiz
 }
 
 /// Whether this reply may have been given, which is so where the call was never answered.
-fn is_right(alloc: Global, given: &Option<Vec<u8>>, reply: &Reply) -> Result<bool, AllocError>
+pub(crate) fn is_right(
+    alloc: Global,
+    given: &Option<Vec<u8>>,
+    reply: &Reply,
+) -> Result<bool, AllocError>
     ensures { IfOk result (λ right. right ≡ is_right (given_text given.now) reply.now) }
 {
     let Some(given) = given else {

@@ -1,164 +1,270 @@
-//! A quick search for an order. An order that it finds is one, but it may miss those there are: a
-//! world with the hash of one from which nothing is left to try is passed over unseen.
+//! A quick search for an order. It is not believed: it passes over what has the hash of a
+//! configuration from which nothing is left to try, forgets where it was long ago, and nothing is
+//! promised of it. What it finds is checked.
 
-ghost use Rattle.std.specs.Prelude.{◌≡◌, ◌<◌, ◌||◌, ◌==◌, ℕ, false, IfOk};
-ghost use Rattle.vac_order.specs.Configurations.{Configuration, Goes, after};
-ghost use Rattle.vac_order.specs.Quick.{Follows, LeadsTo, FindsAny};
+ghost use Rattle.std.specs.Prelude.{◌<◌, IfSome, length};
 
-use crate::path::Frame;
-use crate::walk::{counted, places_of};
+use crate::calls::Calls;
+use crate::layout::Layout;
+use crate::line::Line;
+use crate::machine::Machine;
+use crate::point::is_right;
 use crate::watcher::Watcher;
-use crate::world::World;
 use std::alloc::{AllocError, Global};
 use std::collections::BTreeSet;
+use std::mem::replace;
+
+/// How many calls the search goes back at most.
+const MOST_BACK: usize = 65_536;
+
+/// A call that was made: its place, the machine before it, unless that is forgotten, from which
+/// place on calls were left to try there, and the first place that had none.
+#[derive(Drop)]
+struct Turn<M> {
+    place: usize,
+    machine: Option<M>,
+    next: usize,
+    low: usize,
+}
 
 /// The state of a quick search.
 #[derive(Drop)]
-pub(crate) struct Trail<W> {
+struct Trail<M> {
     /// Where it is.
-    pub(crate) world: W,
+    machine: M,
     /// How many answered calls have a place there.
     placed: u64,
     /// From which place on calls are left to try.
-    pub(crate) next: usize,
+    next: usize,
+    /// The first place whose call has none in the order.
+    low: usize,
+    /// How many calls of each client have a place in the order.
+    counts: Vec<usize>,
+    /// A number made of the places of those calls.
+    mark: u64,
     /// What led there.
-    pub(crate) path: Vec<Frame<W>>,
-    /// The hashes of the worlds from which nothing is left to try.
+    path: Vec<Turn<M>>,
+    /// The hashes of the configurations from which nothing is left to try.
     left: BTreeSet<u64>,
 }
 
 /// What a step of a quick search leads to.
 #[derive(Drop)]
-pub(crate) enum Quick<W> {
-    On(Trail<W>),
-    Found(Vec<usize>),
+enum Quick {
+    On,
+    Found,
     Missed,
 }
 
-impl<W: World + Drop> Trail<W> {
-    /// Goes back from a world from which nothing is left to try.
-    fn go_back(self, ground: &W::Ground) -> Result<Quick<W>, AllocError>
-        ensures { IfOk result (λ step. (start : Configuration)
-            → Follows (W.view ground.now) start self
-            → LeadsTo (W.view ground.now) start step) }
-    {
-        let Trail {
-            world,
-            placed: _,
-            next: _,
-            mut path,
-            mut left,
-        } = self;
-        left.insert(world.hash(ground))?;
-        let Some(frame) = path.pop() else {
-            return Ok(Quick::Missed);
-        };
-        Ok(Quick::On(Trail {
-            world: frame.world,
-            placed: frame.placed,
-            next: frame.next,
-            path,
-            left,
-        }))
+/// A number for a place; those of several are put together by `^`.
+fn spread(place: usize) -> u64 {
+    let first = (place as u64)
+        .wrapping_add(1)
+        .wrapping_mul(0x9e37_79b9_7f4a_7c15);
+    let second = (first ^ (first >> 32)).wrapping_mul(0xbf58_476d_1ce4_e5b9);
+    second ^ (second >> 29)
+}
+
+/// The hash of a configuration.
+fn hash_of<M: Machine>(machine: &M, mark: u64) -> u64 {
+    machine.hash().wrapping_mul(0x9e37_79b9_7f4a_7c15) ^ mark
+}
+
+impl<M: Machine + Drop> Trail<M> {
+    /// Where a search begins.
+    fn new(alloc: Global, machine: M, layout: &Layout) -> Result<Trail<M>, AllocError> {
+        let mut counts = Vec::new(alloc);
+        'clients: for _ in 0..layout.sizes.len() {
+            counts.push(0)?;
+        }
+        Ok(Trail {
+            machine,
+            placed: 0,
+            next: 0,
+            low: 0,
+            counts,
+            mark: 0,
+            path: Vec::new(alloc),
+            left: BTreeSet::new(alloc),
+        })
     }
 
-    /// Makes the call at a place, which leads to the next world.
-    fn go_on(
-        self,
-        alloc: Global,
-        ground: &W::Ground,
-        place: usize,
-        next: W,
-    ) -> Result<Quick<W>, AllocError>
-        requires { place < (W.view ground.now).count }
-        ensures { IfOk result (λ step. (start : Configuration)
-            → Follows (W.view ground.now) start self
-            → Goes ((W.view ground.now).at self.world) ((W.view ground.now).call place)
-            → (W.view ground.now).made self.world place ≡ false
-            → (W.view ground.now).at next ≡
-            after ((W.view ground.now).at self.world) ((W.view ground.now).call place)
-            → ((p : ℕ) → (W.view ground.now).made next p ≡
-            ((W.view ground.now).made self.world p || p == place))
-            → LeadsTo (W.view ground.now) start step) }
+    /// How many calls of the client of this place have a place in the order.
+    fn count(&self, layout: &Layout, place: usize) -> usize {
+        let client = layout.client(place);
+        if client < self.counts.len() {
+            self.counts[client]
+        } else {
+            0
+        }
+    }
+
+    /// Sets how many calls of the client of this place have a place in the order.
+    fn set_count(&mut self, layout: &Layout, place: usize, count: usize) {
+        let client = layout.client(place);
+        if client < self.counts.len() {
+            self.counts.as_mut_slice()[client] = count;
+        }
+    }
+
+    /// The next call that may come next.
+    fn next_try(&self, lines: &[Line], layout: &Layout) -> Option<usize>
+        ensures { IfSome result (λ place. place < length lines.now) }
     {
-        if next.is_done(ground) {
-            return Ok(Quick::Found(places_of(alloc, self.path.as_slice(), place)?));
+        if lines.len() <= self.low {
+            return None;
         }
-        if self.left.contains(&next.hash(ground)) {
-            return Ok(Quick::On(self));
-        }
-        let Some(count) = counted(self.placed, next.is_answered(ground, place)) else {
-            return Err(AllocError);
+        let end = lines[self.low].end;
+        let mut place = if self.next < self.low {
+            self.low
+        } else {
+            self.next
         };
-        let Trail {
-            world,
-            placed,
-            next: others,
-            mut path,
-            left,
-        } = self;
-        path.push(Frame {
-            world,
-            placed,
+        'places: for _ in 0..lines.len() {
+            if lines.len() <= place {
+                return None;
+            }
+            if end < u128::from(lines[place].begin) {
+                place = layout.sooner(place);
+            } else if layout.rank(place) == self.count(layout, place) {
+                return Some(place);
+            } else {
+                place += 1;
+            }
+        }
+        None
+    }
+
+    /// Forgets the machine from which the search is too far.
+    fn forget(&mut self) {
+        let length = self.path.len();
+        if MOST_BACK < length {
+            self.path.as_mut_slice()[length - 1 - MOST_BACK].machine = None;
+        }
+    }
+
+    /// Goes back from where nothing is left to try.
+    fn go_back(&mut self, lines: &[Line], layout: &Layout) -> Result<Quick, AllocError> {
+        self.left.insert(hash_of(&self.machine, self.mark))?;
+        let Some(turn) = self.path.pop() else {
+            return Ok(Quick::Missed);
+        };
+        let Turn {
             place,
-            next: others,
+            machine,
+            next,
+            low,
+        } = turn;
+        let Some(machine) = machine else {
+            return Ok(Quick::Missed);
+        };
+        self.machine = machine;
+        self.next = next;
+        self.low = low;
+        self.mark ^= spread(place);
+        let count = self.count(layout, place);
+        self.set_count(layout, place, count.wrapping_sub(1));
+        if place < lines.len() && lines[place].reply.is_some() {
+            self.placed = self.placed.wrapping_sub(1);
+        }
+        Ok(Quick::On)
+    }
+
+    /// Finds the first place whose call has none in the order.
+    fn find_low(&mut self, lines: &[Line], layout: &Layout) {
+        'places: for place in self.low..lines.len() {
+            self.low = place;
+            if self.count(layout, place) <= layout.rank(place) {
+                return;
+            }
+        }
+    }
+
+    /// Makes the call at a place, which leads to the next machine.
+    fn go_on(
+        &mut self,
+        lines: &[Line],
+        layout: &Layout,
+        place: usize,
+        next: M,
+    ) -> Result<Quick, AllocError>
+        requires { place < length lines.now }
+    {
+        let mark = self.mark ^ spread(place);
+        if self.left.contains(&hash_of(&next, mark)) {
+            return Ok(Quick::On);
+        }
+        let machine = Some(replace(&mut self.machine, next));
+        self.path.push(Turn {
+            place,
+            machine,
+            next: self.next,
+            low: self.low,
         })?;
-        Ok(Quick::On(Trail {
-            world: next,
-            placed: count,
-            next: 0,
-            path,
-            left,
-        }))
+        self.forget();
+        self.mark = mark;
+        self.next = 0;
+        let count = self.count(layout, place);
+        self.set_count(layout, place, count.wrapping_add(1));
+        self.find_low(lines, layout);
+        if lines[place].reply.is_some() {
+            self.placed = self.placed.wrapping_add(1);
+        }
+        if self.placed == layout.answered {
+            return Ok(Quick::Found);
+        }
+        Ok(Quick::On)
     }
 
     /// One step of the search.
-    fn step(self, alloc: Global, ground: &W::Ground) -> Result<Quick<W>, AllocError>
-        ensures { IfOk result (λ step. (start : Configuration)
-            → Follows (W.view ground.now) start self
-            → LeadsTo (W.view ground.now) start step) }
-    {
-        let mut trail = self;
-        let Some(place) = trail.world.next_try(ground, trail.next) else {
-            return trail.go_back(ground);
+    fn step(
+        &mut self,
+        alloc: Global,
+        lines: &[Line],
+        layout: &Layout,
+    ) -> Result<Quick, AllocError> {
+        let Some(place) = self.next_try(lines, layout) else {
+            return self.go_back(lines, layout);
         };
-        trail.next = place + 1;
-        match trail.world.after(alloc, ground, place)? {
-            Some(next) => trail.go_on(alloc, ground, place, next),
-            None => Ok(Quick::On(trail)),
+        self.next = place + 1;
+        let (next, reply) = self.machine.make(&lines[place].task)?;
+        if !is_right(alloc, &lines[place].reply, &reply)? {
+            return Ok(Quick::On);
         }
+        self.go_on(lines, layout, place, next)
+    }
+
+    /// The places of the calls that were made.
+    fn places(&self, alloc: Global) -> Result<Vec<usize>, AllocError> {
+        let mut places = Vec::new(alloc);
+        'path: for number in 0..self.path.len() {
+            places.push(self.path[number].place)?;
+        }
+        Ok(places)
     }
 }
 
-/// Looks for an order of the calls that are left in a world, where any answered ones are, in at
-/// most `steps` steps.
+/// Looks for an order of calls, where any answered ones are, in at most `steps` steps.
 ///
-/// Not said: that it finds one where there is one.
-pub(crate) fn find_quickly<W: World + Drop, P: Watcher>(
+/// Not said: anything of what it finds, and that it finds anything.
+pub(crate) fn find_quickly<M: Machine + Drop, P: Watcher>(
     alloc: Global,
-    ground: &W::Ground,
-    start: W,
+    calls: &Calls,
+    machine: M,
     steps: u64,
     watcher: &mut P,
-) -> Result<Option<Vec<usize>>, AllocError>
-    ensures { IfOk result (λ found.
-        FindsAny (W.view ground.now) ((W.view ground.now).at start) found) }
-{
-    if start.is_done(ground) {
+) -> Result<Option<Vec<usize>>, AllocError> {
+    let lines = calls.as_slice();
+    let layout = Layout::new(alloc, lines)?;
+    if layout.answered == 0 {
         return Ok(None);
     }
-    let mut trail = Trail {
-        world: start,
-        placed: 0,
-        next: 0,
-        path: Vec::new(alloc),
-        left: BTreeSet::new(alloc),
-    };
-    'trail: for made in 0..steps {
+    let mut trail = Trail::new(alloc, machine, &layout)?;
+    'steps: for made in 0..steps {
         watcher.tell(trail.placed, made);
-        match trail.step(alloc, ground)? {
-            Quick::On(next) => trail = next,
-            Quick::Found(places) => return Ok(Some(places)),
+        match trail.step(alloc, lines, &layout)? {
+            Quick::On => {}
+            Quick::Found => return Ok(Some(trail.places(alloc)?)),
             Quick::Missed => return Ok(None),
         }
     }

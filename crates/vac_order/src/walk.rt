@@ -33,11 +33,7 @@ pub enum Finding<W> {
 }
 
 /// The places of the calls of a path, and a last one.
-pub(crate) fn places_of<W>(
-    alloc: Global,
-    path: &[Frame<W>],
-    last: usize,
-) -> Result<Vec<usize>, AllocError>
+fn places_of<W>(alloc: Global, path: &[Frame<W>], last: usize) -> Result<Vec<usize>, AllocError>
     ensures { IfOk result (λ places. places.items ≡ places_of path.now ++ last ∷ []) }
 {
     let mut places = Vec::new(alloc);
@@ -100,7 +96,7 @@ fn go_back<W: World + Drop>(
 }
 
 /// How many answered calls have a place after one more call has one.
-pub(crate) fn counted(placed: u64, answered: bool) -> Option<u64>
+fn counted(placed: u64, answered: bool) -> Option<u64>
     ensures { IfSome result (λ count. count ≡ placed + (if answered then 1 else 0)) }
 {
     if answered {

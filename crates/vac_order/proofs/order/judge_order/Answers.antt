@@ -1,12 +1,11 @@
 use Rattle.std.proofs.Common.{◌≡◌, ℕ, Result, Ok, Err, IfOk, sym, ap, ◌∙◌, subst}
+use Rattle.std.specs.Prelude.{IfSome}
 use Rattle.vac_model.specs.State.{empty_state}
 use Rattle.vac_order.specs.Calls.{calls_of}
 use Rattle.vac_order.specs.Walk.{IsWhole}
 use Rattle.vac_order.specs.Walking.{Finds}
-use Rattle.vac_order.specs.Quick.{FindsAny}
-use Rattle.vac_order.specs.declared.walk.Finding.TheVariants as finding
 use Rattle.vac_order.specs.Point.{point_at, point_views}
-use Rattle.vac_order.specs.Judging.{Judges}
+use Rattle.vac_order.specs.Judging.{IsLinearizedBy, Judges}
 use Rattle.vac_order.proofs.Judged.{all_left, judges}
 use Rattle.vac_order.proofs.order.judge_order.Goals as goal
 
@@ -20,13 +19,8 @@ find_order-requires g c =
 
 pub returns-in-Some : goal.returns-in-Some
 returns-in-Some g c =
-    let state = g.M.Machine.state in
-    let calls = c.args.calls.now in
-    let quick = c.new-quick.result in
-    let found = subst (FindsAny (point_views state calls) (point_at state calls quick)) c.in-Some.is c.in_ok-places.ensures in
-    λ n e.
-    judges state calls quick n c.args.steps c.requires c.new-quick.ensures.low c.new-quick.ensures.beyond
-    (ap state c.new-quick.ensures.machine ∙ c.in_ok-copy.ensures ∙ e) (finding.Order c.in-Some.places) found
+    subst (λ found. IfSome found (λ places. (n : ℕ) → g.M.Machine.state c.args.machine ≡ empty_state n
+    → IsLinearizedBy n (calls_of c.args.calls.now.lines.items) places.items)) c.in-Some.is c.in_ok-places.ensures
 
 pub returns : goal.returns
 returns g c =
