@@ -4,7 +4,6 @@ pub mod FirstWrong
 pub mod Arrows
 pub mod Keeping
 pub mod Lines
-pub mod Cutting
 pub mod Telling
 pub mod CallText
 pub mod Handed

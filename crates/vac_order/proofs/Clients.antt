@@ -16,7 +16,8 @@ each_clients P k (c ∷ cs) h =
       | inr t ↦ rw t.0 (each_clients P k cs h.1)
     ]
 
-each_rest : (P : Call → Type 0) (k : ℕ) (c : Call) (cs : List Call) → Each P (of_client k (c ∷ cs)) → Each P (of_client k cs)
+each_rest : (P : Call → Type 0) (k : ℕ) (c : Call) (cs : List Call) → Each P (of_client k (c ∷ cs)) →
+    Each P (of_client k cs)
 each_rest P k c cs h =
     elim (test c.client k) [
       | inl t ↦ (rw t.0 at h).1
@@ -84,7 +85,8 @@ without_other j k (c ∷ cs) n =
       | inr t ↦ rw t.0 (ap (λ l. cond (c.client == k) (c ∷ l) l) (without_other j k cs n))
     ]
 
-pub without_same : (j : ℕ) (cs : List Call) (c : Call) (tail : List Call) → of_client j cs ≡ c ∷ tail → of_client j (without_next j cs) ≡ tail
+pub without_same : (j : ℕ) (cs : List Call) (c : Call) (tail : List Call) → of_client j cs ≡ c ∷ tail →
+    of_client j (without_next j cs) ≡ tail
 without_same j [] c tail h = absurd (none_first c tail h)
 without_same j (d ∷ ds) c tail h =
     elim (test d.client j) [
@@ -96,7 +98,8 @@ without_same j (d ∷ ds) c tail h =
 pub order_first : (rest : List Call) (c : Call) (order : List Call) → IsMerge rest (c ∷ order) → IsFirst rest c
 order_first rest c order m = record { tail = of_client c.client order; is = sym (rw (self c.client) at (m c.client)) }
 
-pub order_rest : (rest : List Call) (c : Call) (order : List Call) → IsMerge rest (c ∷ order) → IsMerge (without_next c.client rest) order
+pub order_rest : (rest : List Call) (c : Call) (order : List Call) → IsMerge rest (c ∷ order) →
+    IsMerge (without_next c.client rest) order
 unfolding order_first
 order_rest rest c order m k =
     elim (test c.client k) [
@@ -107,7 +110,8 @@ order_rest rest c order m k =
     ]
 
 -- and the converse
-pub order_more : (rest : List Call) (c : Call) (order : List Call) → IsFirst rest c → IsMerge (without_next c.client rest) order → IsMerge rest (c ∷ order)
+pub order_more : (rest : List Call) (c : Call) (order : List Call) → IsFirst rest c →
+    IsMerge (without_next c.client rest) order → IsMerge rest (c ∷ order)
 order_more rest c order f m k =
     elim (test c.client k) [
       | inl t ↦

@@ -35,20 +35,28 @@ each_back P [] ys h = h
 each_back P (x ∷ xs) ys h = each_back P xs ys h.1
 
 -- what was never answered ends later than all begin
-ends_last : (last b : ℕ) (cs : List Call) → b ≤ last → Each (IsTimed last) cs → Each (λ c. is_answered c ≡ false) cs → Each (λ c. b ≤ c.end) cs
+ends_last : (last b : ℕ) (cs : List Call) → b ≤ last → Each (IsTimed last) cs → Each (λ c. is_answered c ≡ false) cs →
+    Each (λ c. b ≤ c.end) cs
 ends_last last b [] l h n = tt
 ends_last last b (c ∷ cs) l h n = (let e : last ≤ c.end = h.0.ends n.0 in omega arith, ends_last last b cs l h.1 n.1)
 
 -- an order begins with a call that goes, and goes on with an order of the others
-goes_first : (at : Configuration) (c : Call) (order : List Call) → IsWhole at.rest → Orders at (c ∷ order) → Goes at c × Orders (after at c) order
+goes_first : (at : Configuration) (c : Call) (order : List Call) → IsWhole at.rest → Orders at (c ∷ order) →
+    Goes at c × Orders (after at c) order
 goes_first at c order w h =
     let all = c ∷ (order ++ h.left) in
     let turn : InTurn all = turn_order at.rest all h.merges w.turn in
     let timed : Each (IsTimed w.last) all = each_order (IsTimed w.last) at.rest all h.merges w.timed in
-    let later : Each (λ d. c.begin ≤ d.end) all =
-    (turn.0, each_both (λ d. c.begin ≤ d.end) order h.left h.precedes.0 (ends_last w.last c.begin h.left timed.0.begins (each_back (IsTimed w.last) order h.left timed.1) h.never)) in (
+    let later : Each (λ d. c.begin ≤ d.end) all = (
+      turn.0,
+      each_both (λ d. c.begin ≤ d.end) order h.left h.precedes.0
+          (ends_last w.last c.begin h.left timed.0.begins (each_back (IsTimed w.last) order h.left timed.1) h.never),
+    ) in (
       record {
-        may = record { first = order_first at.rest c (order ++ h.left) h.merges; early = each_order (λ d. c.begin ≤ d.end) all at.rest (λ k. sym (h.merges k)) later };
+        may = record {
+          first = order_first at.rest c (order ++ h.left) h.merges;
+          early = each_order (λ d. c.begin ≤ d.end) all at.rest (λ k. sym (h.merges k)) later;
+        };
         fit = of_answer (run at.state c.task).1 c.reply h.replies.0;
       },
       record {
@@ -71,7 +79,8 @@ completes_of at (c ∷ order) w h =
     record { to = rest.to; reaches = (first.0, rest.reaches); done = rest.done }
 
 -- and the converse
-orders_of : (at to : Configuration) (order : List Call) → IsWhole at.rest → Reaches at order to → answered to.rest ≡ 0 → Orders at order
+orders_of : (at to : Configuration) (order : List Call) → IsWhole at.rest → Reaches at order to → answered to.rest ≡ 0 →
+    Orders at order
 orders_of at to [] w r d = record {
   left = at.rest;
   merges = λ k. refl;
@@ -99,7 +108,8 @@ turn_front [] ys h = tt
 turn_front (x ∷ xs) ys h = (h.0, each_front (λ d. IsBehind d x) xs ys h.1, turn_front xs ys h.2)
 
 -- what completes the start is a linearization
-pub linearization_of : (n : ℕ) (calls order : List Call) → IsWhole calls → Completes (start n calls) order → IsOrderOf calls order × IsLinearization n order
+pub linearization_of : (n : ℕ) (calls order : List Call) → IsWhole calls → Completes (start n calls) order →
+    IsOrderOf calls order × IsLinearization n order
 linearization_of n calls order w h =
     let o = orders_of (start n calls) h.to order w h.reaches h.done in
     let turn = turn_front order o.left (turn_order calls (order ++ o.left) o.merges w.turn) in (
@@ -113,7 +123,14 @@ linearization_of n calls order w h =
     )
 
 -- and a linearization completes it
-pub completes_start : (n : ℕ) (calls order : List Call) → IsWhole calls → IsOrderOf calls order → IsLinearization n order → Completes (start n calls) order
+pub completes_start : (n : ℕ) (calls order : List Call) → IsWhole calls → IsOrderOf calls order →
+    IsLinearization n order → Completes (start n calls) order
 completes_start n calls order w m l =
     completes_of (start n calls) order w
-    (record { left = m.left; merges = m.merges; never = m.never; replies = l.replies; precedes = precedes_from order l.precedence })
+    (record {
+      left = m.left;
+      merges = m.merges;
+      never = m.never;
+      replies = l.replies;
+      precedes = precedes_from order l.precedence;
+    })

@@ -1,5 +1,6 @@
 -- The lines as they are kept are those that were read.
-use Rattle.std.proofs.Common.{◌≡◌, ℕ, ◌+◌, ◌-◌, ◌<◌, ◌≤◌, ◌==◌, suc, zero, Bool, true, false, cond, List, [], ◌∷◌, ◌++◌, length, map, get_or, refl, sym, ap, ◌∙◌, subst, arith, append_assoc}
+use Rattle.std.proofs.Common.{◌≡◌, ℕ, ◌+◌, ◌-◌, ◌<◌, ◌≤◌, ◌==◌, suc, zero, Bool, true, false, cond, List, [], ◌∷◌, ◌++◌}
+use Rattle.std.proofs.Common.{length, map, get_or, refl, sym, ap, ◌∙◌, subst, arith, append_assoc}
 use Rattle.std.specs.Prelude.{All, IsPermutation}
 use Rattle.std.specs.List.{sum_by}
 use Rattle.std.proofs.lemmas.Bool.Decides.{nat_tests}
@@ -15,7 +16,8 @@ use Rattle.vac_order.specs.Reading.{texts_of, numbers_of, call_at, AreNumbered, 
 use Rattle.vac_order.proofs.Placing.{times}
 
 -- what stands behind a front
-get_behind : {X Y : Type 0} (f : X → Y) (front : List X) (x : X) (more : List X) (d : Y) → get_or (map f (front ++ x ∷ more)) (length front) d ≡ f x
+get_behind : {X Y : Type 0} (f : X → Y) (front : List X) (x : X) (more : List X) (d : Y) →
+    get_or (map f (front ++ x ∷ more)) (length front) d ≡ f x
 get_behind f [] x more d = refl
 get_behind f (y ∷ ys) x more d = get_behind f ys x more d
 
@@ -35,11 +37,13 @@ lines_behind front (l ∷ ls) h =
     All-cons (IsLineAt (front ++ l ∷ ls)) l ls (record {
       first = (let n = h.0 in omega arith);
       last = (let n = h.0 in let long = long_behind front l ls in omega arith);
-      text = ap (λ i. get_or (texts_of (front ++ l ∷ ls)) i []) at ∙ get_behind (λ (x : Line). x.text.items) front l ls [];
+      text = ap (λ i. get_or (texts_of (front ++ l ∷ ls)) i []) at ∙
+          get_behind (λ (x : Line). x.text.items) front l ls [];
       call = ap (λ i. get_or (calls_of (front ++ l ∷ ls)) i no_call) at ∙ get_behind call_of front l ls no_call;
     })
     (subst (λ whole. All (IsLineAt whole) ls) (append_assoc front (l ∷ []) ls)
-    (lines_behind (front ++ l ∷ []) ls (subst (λ n. AreNumbered n ls) (let long = one_longer front l in omega arith) h.1)))
+    (lines_behind (front ++ l ∷ []) ls (subst (λ n. AreNumbered n ls) (let long = one_longer front l in
+    omega arith) h.1)))
 
 each_read : (lines : List Line) → AreNumbered 1 lines → All (IsLineAt lines) lines
 each_read lines h = lines_behind [] lines h
@@ -49,7 +53,12 @@ at_soonest : (lines sorted : List Line) → All (IsLineAt lines) sorted → All 
 at_soonest lines [] h = h
 at_soonest lines (l ∷ ls) h =
     let own = All-head (IsLineAt lines) l ls h in
-    All-cons (IsLineAt lines) _ (soonest_of ls) (record { first = own.first; last = own.last; text = own.text; call = own.call })
+    All-cons (IsLineAt lines) _ (soonest_of ls) (record {
+      first = own.first;
+      last = own.last;
+      text = own.text;
+      call = own.call;
+    })
     (at_soonest lines ls (All-tail (IsLineAt lines) l ls h))
 
 numbers_soonest : (lines : List Line) → numbers_of (soonest_of lines) ≡ numbers_of lines
@@ -70,9 +79,11 @@ numbers_above x n (y ∷ ys) h l =
 
 numbers_once : (n : ℕ) (lines : List Line) → AreNumbered n lines → AreDistinct (numbers_of lines)
 numbers_once n [] h x = omega arith
-numbers_once n (y ∷ ys) h x = go (y.number == x) refl (numbers_once (n + 1) ys h.1 x) (λ e. numbers_above x (n + 1) ys h.1 (let m = h.0 in omega arith))
+numbers_once n (y ∷ ys) h x = go (y.number == x) refl (numbers_once (n + 1) ys h.1 x)
+    (λ e. numbers_above x (n + 1) ys h.1 (let m = h.0 in omega arith))
   where
-    go : (b : Bool) → (y.number == x) ≡ b → times x (numbers_of ys) ≤ 1 → (y.number ≡ x → times x (numbers_of ys) ≡ 0) → times x (y.number ∷ numbers_of ys) ≤ 1
+    go : (b : Bool) → (y.number == x) ≡ b → times x (numbers_of ys) ≤ 1 → (y.number ≡ x → times x (numbers_of ys) ≡ 0) →
+        times x (y.number ∷ numbers_of ys) ≤ 1
     go true e old none =
         let one : cond {A = ℕ} (y.number == x) 1 0 ≡ 1 = ap (λ (b : Bool). cond {A = ℕ} b 1 0) e in
         let rest = none (grind (arith, nat_tests)) in
@@ -85,11 +96,13 @@ distinct_sorted : (ns ms : List ℕ) → IsPermutation ns ms → AreDistinct ns 
 distinct_sorted ns ms p h x = subst (λ k. k ≤ 1) (sym (sum_by-IsPermutation (λ o. cond (o == x) 1 0) ns ms p)) (h x)
 
 -- lines that are sorted are kept
-pub kept_lines : (lines kept : List Line) → AreNumbered 1 lines → IsMerge (calls_of lines) (calls_of kept) → AreSortOf lines kept → AreKeptLines lines kept
+pub kept_lines : (lines kept : List Line) → AreNumbered 1 lines → IsMerge (calls_of lines) (calls_of kept) →
+    AreSortOf lines kept → AreKeptLines lines kept
 kept_lines lines kept n m s =
     subst (AreKeptLines lines) (sym s.2) (record {
       merges = subst (λ (k : List Line). IsMerge (calls_of lines) (calls_of k)) s.2 m;
       each = at_soonest lines s.0 (All-permutation (IsLineAt lines) lines s.0 s.1 (each_read lines n));
       distinct = subst AreDistinct (sym (numbers_soonest s.0))
-          (distinct_sorted (numbers_of lines) (numbers_of s.0) (IsPermutation-map (λ (l : Line). l.number) lines s.0 s.1) (numbers_once 1 lines n));
+          (distinct_sorted (numbers_of lines) (numbers_of s.0)
+          (IsPermutation-map (λ (l : Line). l.number) lines s.0 s.1) (numbers_once 1 lines n));
     })

@@ -5,7 +5,8 @@ use Rattle.vac_judge.specs.Call.{Call}
 use Rattle.vac_order.specs.Orders.{IsLinearizable}
 use Rattle.vac_order.specs.Laws.{OrderIsLinearization, NoOrderMeansNone}
 
-pub tail_same : (a b : Result Call CallFault) (xs ys : List (Result Call CallFault)) → a ∷ xs ≡ b ∷ ys → (a ≡ b) × (xs ≡ ys)
+pub tail_same : (a b : Result Call CallFault) (xs ys : List (Result Call CallFault)) → a ∷ xs ≡ b ∷ ys →
+    (a ≡ b) × (xs ≡ ys)
 tail_same a b xs ys e = (cc, cc)
 
 ok_same : (a b : Call) → ◌≡◌ {A = Result Call CallFault} (Ok a) (Ok b) → a ≡ b
@@ -22,7 +23,8 @@ calls_same (x ∷ xs) (y ∷ ys) e =
 
 pub order_is_linearization : OrderIsLinearization
 order_is_linearization n steps bytes numbers h calls l =
-    subst (IsLinearizable n) (calls_same h.calls calls (sym h.listed ∙ l)) (record { order = _; orders = h.orders; linearization = h.linearization })
+    subst (IsLinearizable n) (calls_same h.calls calls (sym h.listed ∙ l))
+    (record { order = _; orders = h.orders; linearization = h.linearization })
 
 pub no_order_means_none : NoOrderMeansNone
 no_order_means_none n steps bytes most stuck h calls l some =

@@ -38,26 +38,35 @@ whole_after at c h = record {
 }
 
 -- one call less is left
-pub answered_without : (cs : List Call) (c : Call) → IsFirst cs c → answered cs ≡ weight c + answered (without_next c.client cs)
+pub answered_without : (cs : List Call) (c : Call) → IsFirst cs c →
+    answered cs ≡ weight c + answered (without_next c.client cs)
 answered_without [] c f = absurd (no_first c f)
 answered_without (d ∷ ds) c f =
     elim (test d.client c.client) [
-      | inl t ↦ rw t.0 (ap (λ (x : Call). weight x + answered ds) (head_same d c (of_client c.client ds) f.tail (rw t.0 at f.is)))
+      | inl t ↦ rw t.0 (ap (λ (x : Call). weight x + answered ds)
+          (head_same d c (of_client c.client ds) f.tail (rw t.0 at f.is)))
       | inr t ↦ rw t.0 (let e = answered_without ds c (record { tail = f.tail; is = rw t.0 at f.is }) in omega arith)
     ]
 
-pub answered_after : (at : Configuration) (c : Call) → Goes at c → answered at.rest ≡ weight c + answered (after at c).rest
+pub answered_after : (at : Configuration) (c : Call) → Goes at c →
+    answered at.rest ≡ weight c + answered (after at c).rest
 answered_after at c goes = answered_without at.rest c goes.may.first
 
 -- calls that were never answered do not count
 pub none_answered : (cs : List Call) → Each (λ c. is_answered c ≡ false) cs → answered cs ≡ 0
 none_answered [] h = refl
-none_answered (c ∷ cs) h = let e = none_answered cs h.1 in let w : weight c ≡ 0 = ap (λ b. cond b 1 0) h.0 in omega arith
+none_answered (c ∷ cs) h = let e = none_answered cs h.1 in let w : weight c ≡ 0 = ap (λ b. cond b 1 0) h.0 in
+    omega arith
 
 pub never_answered : (cs : List Call) → answered cs ≡ 0 → Each (λ c. is_answered c ≡ false) cs
 never_answered [] h = tt
-never_answered (c ∷ cs) h = (go (is_answered c) refl, never_answered cs (let l : weight c + answered cs ≡ 0 = h in omega arith))
+never_answered (c ∷ cs) h = (
+  go (is_answered c) refl,
+  never_answered cs (let l : weight c + answered cs ≡ 0 = h in
+      omega arith),
+)
   where
     go : (b : Bool) → is_answered c ≡ b → is_answered c ≡ false
-    go true e = let w : weight c ≡ 1 = ap (λ b. cond b 1 0) e in let l : weight c + answered cs ≡ 0 = h in absurd (omega arith)
+    go true e = let w : weight c ≡ 1 = ap (λ b. cond b 1 0) e in let l : weight c + answered cs ≡ 0 = h in
+        absurd (omega arith)
     go false e = e

@@ -1,5 +1,6 @@
 -- Marks with one more.
-use Rattle.std.proofs.Common.{◌≡◌, ℕ, ◌+◌, ◌==◌, ◌||◌, suc, zero, Bool, true, false, List, [], ◌∷◌, ◌++◌, take, drop, refl, sym, ap, ◌∙◌, arith, nat_lt}
+use Rattle.std.proofs.Common.{◌≡◌, ℕ, ◌+◌, ◌==◌, ◌||◌, suc, zero, Bool, true, false, List, [], ◌∷◌, ◌++◌, take, drop}
+use Rattle.std.proofs.Common.{refl, sym, ap, ◌∙◌, arith, nat_lt}
 use Rattle.std.specs.List.{list_any}
 use Rattle.std.proofs.lemmas.Bool.Decides.{nat_tests}
 use Rattle.std.proofs.lemmas.List.Folds.{list_any-append}
@@ -35,7 +36,8 @@ or_assoc false b c = refl
 pub mark_first : (low : ℕ) (beyond : List ℕ) (p : ℕ) → is_made (low + 1) beyond p ≡ (is_made low beyond p || p == low)
 mark_first low beyond p =
     let any = list_any (λ o. o == p) beyond in
-    ap (λ b. b || any) (low_more p low) ∙ or_swap (nat_lt p low) (low == p) any ∙ ap (λ b. (nat_lt p low || any) || b) (turned low p)
+    ap (λ b. b || any) (low_more p low) ∙ or_swap (nat_lt p low) (low ==
+    p) any ∙ ap (λ b. (nat_lt p low || any) || b) (turned low p)
 
 -- a mark that follows
 pub mark_next : (next : ℕ) (beyond : List ℕ) (p : ℕ) → is_made (next + 1) beyond p ≡ is_made next (next ∷ beyond) p
@@ -57,10 +59,12 @@ or_in false false false true = refl
 or_in false false false false = refl
 
 -- a mark among the others
-pub mark_among : (low : ℕ) (beyond : List ℕ) (place n p : ℕ) → is_made low (take n beyond ++ place ∷ drop n beyond) p ≡ (is_made low beyond p || p == place)
+pub mark_among : (low : ℕ) (beyond : List ℕ) (place n p : ℕ) →
+    is_made low (take n beyond ++ place ∷ drop n beyond) p ≡ (is_made low beyond p || p == place)
 mark_among low beyond place n p =
     let any = λ (l : List ℕ). list_any (λ o. o == p) l in
     ap (λ b. nat_lt p low || b) (list_any-append (λ o. o == p) (take n beyond) (place ∷ drop n beyond))
     ∙ or_in (nat_lt p low) (any (take n beyond)) (place == p) (any (drop n beyond))
-    ∙ ap (λ b. (nat_lt p low || b) || (place == p)) (sym (list_any-append (λ o. o == p) (take n beyond) (drop n beyond)) ∙ ap any (cut beyond n))
+    ∙ ap (λ b. (nat_lt p low || b) || (place == p)) (sym (list_any-append (λ o. o == p) (take n beyond) (drop n beyond))
+    ∙ ap any (cut beyond n))
     ∙ ap (λ b. (nat_lt p low || any beyond) || b) (turned place p)

@@ -1,5 +1,6 @@
 -- What is said of the places of calls, as facts of each call and those behind it.
-use Rattle.std.proofs.Common.{◌≡◌, ℕ, ◌<◌, ◌≤◌, suc, zero, List, [], ◌∷◌, Some, None, refl, sym, ap, ◌∙◌, subst, inl, inr, arith}
+use Rattle.std.proofs.Common.{◌≡◌, ℕ, ◌<◌, ◌≤◌, suc, zero, List, [], ◌∷◌, Some, None, refl, sym, ap, ◌∙◌, subst, inl}
+use Rattle.std.proofs.Common.{inr, arith}
 use Rattle.std.specs.Prelude.{⊤, slice_get}
 use Rattle.std.proofs.lemmas.Bool.{cases_lt}
 use Rattle.vac_judge.specs.Call.{Call}
@@ -36,13 +37,16 @@ times_of (c ∷ cs) h (suc i) a e = times_of cs h.2 i a e
 pub turns_of : (cs : List Call) → InTurn cs → AreSequential cs
 turns_of [] h i j a b e f l = absurd (none_some a e)
 turns_of (c ∷ cs) h i zero a b e f l = absurd (omega arith)
-turns_of (c ∷ cs) h zero (suc j) a b e f l = subst (λ d. IsBehind b d) (some_same c a e) (each_at (λ d. IsBehind d c) cs j b h.1 f)
+turns_of (c ∷ cs) h zero (suc j) a b e f l = subst (λ d. IsBehind b d) (some_same c a e)
+    (each_at (λ d. IsBehind d c) cs j b h.1 f)
 turns_of (c ∷ cs) h (suc i) (suc j) a b e f l = turns_of cs h.2 i j a b e f (omega arith)
 
-began_before : (cs : List Call) → Precedes cs → (i j : ℕ) (a b : Call) → IsAt cs i a → IsAt cs j b → i < j → a.begin ≤ b.end
+began_before : (cs : List Call) → Precedes cs → (i j : ℕ) (a b : Call) → IsAt cs i a → IsAt cs j b → i < j →
+    a.begin ≤ b.end
 began_before [] h i j a b e f l = absurd (none_some a e)
 began_before (c ∷ cs) h i zero a b e f l = absurd (omega arith)
-began_before (c ∷ cs) h zero (suc j) a b e f l = subst (λ d. d.begin ≤ b.end) (some_same c a e) (each_at (λ d. c.begin ≤ d.end) cs j b h.0 f)
+began_before (c ∷ cs) h zero (suc j) a b e f l = subst (λ d. d.begin ≤ b.end) (some_same c a e)
+    (each_at (λ d. c.begin ≤ d.end) cs j b h.0 f)
 began_before (c ∷ cs) h (suc i) (suc j) a b e f l = began_before cs h.1 i j a b e f (omega arith)
 
 pub precedence_of : (cs : List Call) → InTurn cs → Precedes cs → KeepPrecedence cs
@@ -68,7 +72,8 @@ in_turn_from (c ∷ cs) t s = (
   in_turn_from cs (λ i a e. t (suc i) a e) (λ i j a b e f l. s (suc i) (suc j) a b e f (omega arith)),
 )
 
-not_before : (cs : List Call) → KeepPrecedence cs → (i j : ℕ) (a b : Call) → IsAt cs i a → IsAt cs j b → i < j → a.begin ≤ b.end
+not_before : (cs : List Call) → KeepPrecedence cs → (i j : ℕ) (a b : Call) → IsAt cs i a → IsAt cs j b → i < j →
+    a.begin ≤ b.end
 not_before cs k i j a b e f l =
     elim (cases_lt b.end a.begin) [
       | inl h ↦ let back = k j i b a f e h in absurd (omega arith)

@@ -1,5 +1,7 @@
 -- What a search among the calls of a history finds of a place.
-use Rattle.std.proofs.Common.{◌≡◌, ◌⊎◌, ℕ, ◌+◌, ◌<◌, ◌≤◌, ◌==◌, ◌||◌, ◌&&◌, suc, zero, Bool, true, false, not, is_some, cond, Option, Some, None, List, [], ◌∷◌, length, take, get_or, refl, sym, ap, ◌∙◌, inl, inr, arith, nat_lt, add-one, ◌-◌}
+use Rattle.std.proofs.Common.{◌≡◌, ◌⊎◌, ℕ, ◌+◌, ◌<◌, ◌≤◌, ◌==◌, ◌||◌, ◌&&◌, suc, zero, Bool, true, false, not, is_some}
+use Rattle.std.proofs.Common.{cond, Option, Some, None, List, [], ◌∷◌, length, take, get_or, refl, sym, ap, ◌∙◌, inl}
+use Rattle.std.proofs.Common.{inr, arith, nat_lt, add-one, ◌-◌}
 use Rattle.std.specs.List.{list_any}
 use Rattle.std.specs.Prelude.{IfSome, ◌^◌}
 use Rattle.std.proofs.lemmas.List.{length-map}
@@ -16,16 +18,21 @@ use Rattle.vac_order.specs.declared.calls.Calls.{Calls}
 use Rattle.vac_order.specs.declared.point.Point.{Point}
 use Rattle.vac_order.specs.Point.{made_of, point_views}
 use Rattle.vac_order.specs.Views.{TellsLeft, TellsNext}
-use Rattle.vac_order.specs.Calls.{call_of, calls_of, are_sorted, given_text, rest_of, can_come, tries_from, IsTry, TellsTry}
-use Rattle.vac_order.proofs.Tries.{at, may_begin, tries_step, tries_none, tries_skip, front_more, of_stands, stands_of, rest_made}
-use Rattle.vac_order.proofs.Sorted.{sorted_of, call_here, long_calls, begun_early, begun_late, none_later, all_made, never_left, some_left}
+use Rattle.vac_order.specs.Calls.{call_of, calls_of, are_sorted, given_text, rest_of, can_come, tries_from, IsTry}
+use Rattle.vac_order.specs.Calls.{TellsTry}
+use Rattle.vac_order.proofs.Tries.{at, may_begin, tries_step, tries_none, tries_skip, front_more, of_stands, stands_of}
+use Rattle.vac_order.proofs.Tries.{rest_made}
+use Rattle.vac_order.proofs.Sorted.{sorted_of, call_here, long_calls, begun_early, begun_late, none_later, all_made}
+use Rattle.vac_order.proofs.Sorted.{never_left, some_left}
 
 -- where all calls have a place, none is left to try
-pub tries_made_all : (made : ℕ → Bool) (cs : List Call) (from : ℕ) → ((p : ℕ) → p < length cs → made p ≡ true) → tries_from made cs from ≡ []
+pub tries_made_all : (made : ℕ → Bool) (cs : List Call) (from : ℕ) → ((p : ℕ) → p < length cs → made p ≡ true) →
+    tries_from made cs from ≡ []
 tries_made_all made cs from h =
     elim (cases_lt from (length cs)) [
       | inl l ↦
-          let more : (m : ℕ) × (length cs ≡ from + m) = rest_to from (length cs) (let g : from ≤ length cs = omega arith in g) in
+          let more : (m : ℕ) × (length cs ≡ from + m) = rest_to from (length cs) (let g : from ≤ length cs =
+          omega arith in g) in
           tries_skip made cs from more.0 (λ p g. h p (let e = more.1 in omega arith))
           ∙ tries_none made cs (from + more.0) (let e = more.1 in omega arith)
       | inr l ↦ tries_none made cs from l
@@ -62,7 +69,8 @@ front_less test made i (c ∷ cs) (suc p) (suc q) l h = go (made i) (front_less 
     both true b h = cc
     both false b h = (refl, h)
 
-    go : (b : Bool) → (list_any test (rest_of made (suc i) (take q cs)) ≡ false → list_any test (rest_of made (suc i) (take p cs)) ≡ false)
+    go : (b : Bool) → (list_any test (rest_of made (suc i) (take q cs)) ≡ false →
+        list_any test (rest_of made (suc i) (take p cs)) ≡ false)
         → list_any test (cond b (rest_of made (suc i) (take q cs)) (c ∷ rest_of made (suc i) (take q cs))) ≡ false
         → list_any test (cond b (rest_of made (suc i) (take p cs)) (c ∷ rest_of made (suc i) (take p cs))) ≡ false
     go true more h = more h
@@ -71,7 +79,8 @@ front_less test made i (c ∷ cs) (suc p) (suc q) l h = go (made i) (front_less 
         ap (λ t. t || list_any test (rest_of made (suc i) (take p cs))) two.0 ∙ more two.1
 
 -- one more call before a place does not pass the test, or has a place
-pub front_next : (test : Call → Bool) (made : ℕ → Bool) (cs : List Call) (p : ℕ) → p < length cs → (made p ≡ true) ⊎ (test (at cs p) ≡ false)
+pub front_next : (test : Call → Bool) (made : ℕ → Bool) (cs : List Call) (p : ℕ) → p < length cs →
+    (made p ≡ true) ⊎ (test (at cs p) ≡ false)
     → list_any test (rest_of made 0 (take p cs)) ≡ false → list_any test (rest_of made 0 (take (p + 1) cs)) ≡ false
 front_next test made cs p l e h =
     ap (λ n. list_any test (rest_of made 0 (take n cs))) (add-one p)
@@ -89,20 +98,24 @@ front_next test made cs p l e h =
     last (inr e) = out (made p) e
 
 -- a call before a place that passes the test and has none
-pub front_has : (test : Call → Bool) (made : ℕ → Bool) (i : ℕ) (cs : List Call) (e p j : ℕ) → j ≡ i + e → e < p → e < length cs → made j ≡ false → test (at cs e) ≡ true
+pub front_has : (test : Call → Bool) (made : ℕ → Bool) (i : ℕ) (cs : List Call) (e p j : ℕ) → j ≡ i + e → e < p →
+    e < length cs → made j ≡ false → test (at cs e) ≡ true
     → list_any test (rest_of made i (take p cs)) ≡ true
 front_has test made i [] e p j x l k f t = absurd (omega arith)
 front_has test made i (c ∷ cs) e zero j x l k f t = absurd (omega arith)
 front_has test made i (c ∷ cs) zero (suc p) j x l k f t =
-    ap (λ b. list_any test (cond b (rest_of made (suc i) (take p cs)) (c ∷ rest_of made (suc i) (take p cs)))) (ap made (let y : i ≡ j = omega arith in y) ∙ f)
+    ap (λ b. list_any test (cond b (rest_of made (suc i) (take p cs)) (c ∷ rest_of made (suc i) (take p cs))))
+    (ap made (let y : i ≡ j = omega arith in y) ∙ f)
     ∙ ap (λ b. b || list_any test (rest_of made (suc i) (take p cs))) t
-front_has test made i (c ∷ cs) (suc e) (suc p) j x l k f t = go (made i) (front_has test made (suc i) cs e p j (omega arith) (omega arith) (omega arith) f t)
+front_has test made i (c ∷ cs) (suc e) (suc p) j x l k f t =
+    go (made i) (front_has test made (suc i) cs e p j (omega arith) (omega arith) (omega arith) f t)
   where
     or_true : (b : Bool) → (b || true) ≡ true
     or_true true = refl
     or_true false = refl
 
-    go : (b : Bool) → list_any test (rest_of made (suc i) (take p cs)) ≡ true → list_any test (cond b (rest_of made (suc i) (take p cs)) (c ∷ rest_of made (suc i) (take p cs))) ≡ true
+    go : (b : Bool) → list_any test (rest_of made (suc i) (take p cs)) ≡ true →
+        list_any test (cond b (rest_of made (suc i) (take p cs)) (c ∷ rest_of made (suc i) (take p cs))) ≡ true
     go true h = h
     go false h = ap (λ t. test c || t) h ∙ or_true (test c)
 
@@ -114,16 +127,21 @@ pub record IsFirstLeft (made : ℕ → Bool) (lines : List Line) (first : ℕ) (
   pub below : (p : ℕ) → p < first → made p ≡ true
   pub left : made first ≡ false
 
-cannot : (made : ℕ → Bool) (cs : List Call) (p : ℕ) → (made p ≡ true) ⊎ (list_any (λ (o : Call). nat_lt o.end (at cs p).begin) (rest_of made 0 cs) ≡ true)
-    ⊎ (list_any (λ (o : Call). o.client == (at cs p).client) (rest_of made 0 (take p cs)) ≡ true) → can_come made cs p ≡ false
+cannot : (made : ℕ → Bool) (cs : List Call) (p : ℕ) → (made p ≡ true) ⊎
+    (list_any (λ (o : Call). nat_lt o.end (at cs p).begin) (rest_of made 0 cs) ≡ true)
+    ⊎ (list_any (λ (o : Call). o.client == (at cs p).client) (rest_of made 0 (take p cs)) ≡ true) →
+    can_come made cs p ≡ false
 cannot made cs p (inl e) = rw e refl
-cannot made cs p (inr (inl e)) = ap (λ m. not (made p) && m) (ap (λ b. not b && not (list_any (λ (o : Call). o.client == (at cs p).client) (rest_of made 0 (take p cs)))) e) ∙ and_false (made p)
+cannot made cs p (inr (inl e)) = ap (λ m. not (made p) && m)
+    (ap (λ b. not b && not (list_any (λ (o : Call). o.client == (at cs p).client) (rest_of made 0 (take p cs)))) e) ∙
+    and_false (made p)
   where
     and_false : (b : Bool) → (not b && false) ≡ false
     and_false true = refl
     and_false false = refl
 cannot made cs p (inr (inr e)) =
-    ap (λ b. not (made p) && (not (list_any (λ (o : Call). nat_lt o.end (at cs p).begin) (rest_of made 0 cs)) && not b)) e
+    ap (λ b. not (made p) && (not (list_any (λ (o : Call). nat_lt o.end (at cs p).begin) (rest_of made 0 cs)) && not b))
+    e
     ∙ none (made p) (list_any (λ (o : Call). nat_lt o.end (at cs p).begin) (rest_of made 0 cs))
   where
     none : (a b : Bool) → (not a && (not b && false)) ≡ false
@@ -132,8 +150,10 @@ cannot made cs p (inr (inr e)) =
     none false false = refl
 
 -- a call that cannot come is passed over
-pub tries_pass : (made : ℕ → Bool) (lines : List Line) (first : ℕ) (line : Line) (p : ℕ) (next : Line) → IsFirstLeft made lines first line → p < length lines → next ≡ get_or lines p next
-    → (made p ≡ true) ⊎ (line.end < next.begin) ⊎ (list_any (λ (o : Call). o.client == next.client) (rest_of made 0 (take p (calls_of lines))) ≡ true)
+pub tries_pass : (made : ℕ → Bool) (lines : List Line) (first : ℕ) (line : Line) (p : ℕ) (next : Line) →
+    IsFirstLeft made lines first line → p < length lines → next ≡ get_or lines p next
+    → (made p ≡ true) ⊎ (line.end < next.begin) ⊎ (list_any (λ (o : Call). o.client ==
+    next.client) (rest_of made 0 (take p (calls_of lines))) ≡ true)
     → tries_from made (calls_of lines) p ≡ tries_from made (calls_of lines) (p + 1)
 tries_pass made lines first line p next f l e why =
     let cs = calls_of lines in
@@ -141,18 +161,26 @@ tries_pass made lines first line p next f l e why =
     ∙ ap (λ b. cond b (at cs p ∷ tries_from made cs (suc p)) (tries_from made cs (suc p))) (cannot made cs p (told why))
     ∙ ap (tries_from made cs) (sym (add-one p))
   where
-    told : (made p ≡ true) ⊎ (line.end < next.begin) ⊎ (list_any (λ (o : Call). o.client == next.client) (rest_of made 0 (take p (calls_of lines))) ≡ true)
-        → (made p ≡ true) ⊎ (list_any (λ (o : Call). nat_lt o.end (at (calls_of lines) p).begin) (rest_of made 0 (calls_of lines)) ≡ true)
-        ⊎ (list_any (λ (o : Call). o.client == (at (calls_of lines) p).client) (rest_of made 0 (take p (calls_of lines))) ≡ true)
+    told : (made p ≡ true) ⊎ (line.end < next.begin) ⊎ (list_any (λ (o : Call). o.client ==
+        next.client) (rest_of made 0 (take p (calls_of lines))) ≡ true)
+        → (made p ≡ true) ⊎ (list_any (λ (o : Call). nat_lt o.end (at (calls_of lines) p).begin)
+        (rest_of made 0 (calls_of lines)) ≡ true)
+        ⊎ (list_any (λ (o : Call). o.client == (at (calls_of lines) p).client)
+        (rest_of made 0 (take p (calls_of lines))) ≡ true)
     told (inl h) = inl h
-    told (inr (inl h)) = inr (inl (ap (λ (c : Call). list_any (λ (o : Call). nat_lt o.end c.begin) (rest_of made 0 (calls_of lines))) (call_here lines p next l e)
+    told (inr (inl h)) = inr (inl (ap (λ (c : Call). list_any (λ (o : Call). nat_lt o.end c.begin)
+        (rest_of made 0 (calls_of lines))) (call_here lines p next l e)
         ∙ begun_late made lines first line next.begin (sorted_of lines f.sorted) f.within f.is f.below f.left h))
-    told (inr (inr h)) = inr (inr (ap (λ (c : Call). list_any (λ (o : Call). o.client == c.client) (rest_of made 0 (take p (calls_of lines)))) (call_here lines p next l e) ∙ h))
+    told (inr (inr h)) = inr (inr (ap (λ (c : Call). list_any (λ (o : Call). o.client ==
+        c.client) (rest_of made 0 (take p (calls_of lines)))) (call_here lines p next l e) ∙ h))
 
 -- and one that can is the next try
-pub tries_found : (made : ℕ → Bool) (lines : List Line) (first : ℕ) (line : Line) (from p : ℕ) (next : Line) → IsFirstLeft made lines first line → p < length lines → next ≡ get_or lines p next
-    → tries_from made (calls_of lines) from ≡ tries_from made (calls_of lines) p → made p ≡ false → next.begin ≤ line.end
-    → list_any (λ (o : Call). o.client == next.client) (rest_of made 0 (take p (calls_of lines))) ≡ false → IsTry made (calls_of lines) from p
+pub tries_found : (made : ℕ → Bool) (lines : List Line) (first : ℕ) (line : Line) (from p : ℕ) (next : Line) →
+    IsFirstLeft made lines first line → p < length lines → next ≡ get_or lines p next
+    → tries_from made (calls_of lines) from ≡ tries_from made (calls_of lines) p → made p ≡ false →
+    next.begin ≤ line.end
+    → list_any (λ (o : Call). o.client == next.client) (rest_of made 0 (take p (calls_of lines))) ≡ false →
+    IsTry made (calls_of lines) from p
 tries_found made lines first line from p next f l e same free early none =
     let cs = calls_of lines in
     let here = call_here lines p next l e in
@@ -170,18 +198,22 @@ tries_found made lines first line from p next f l e same free early none =
       within = long_calls lines p l;
     }
 
-pub tries_end : (made : ℕ → Bool) (lines : List Line) (first : ℕ) (line : Line) (p : ℕ) (next : Line) → IsFirstLeft made lines first line → p < length lines → next ≡ get_or lines p next
+pub tries_end : (made : ℕ → Bool) (lines : List Line) (first : ℕ) (line : Line) (p : ℕ) (next : Line) →
+    IsFirstLeft made lines first line → p < length lines → next ≡ get_or lines p next
     → line.end < next.soonest → tries_from made (calls_of lines) p ≡ []
-tries_end made lines first line p next f l e far = none_later made lines first p line next (sorted_of lines f.sorted) f.within f.is f.below f.left l e far
+tries_end made lines first line p next f l e far = none_later made lines first p line next
+    (sorted_of lines f.sorted) f.within f.is f.below f.left l e far
 
 -- whether an answered call is left
-pub tells_all : (made : ℕ → Bool) (cs : List Call) → ((p : ℕ) → p < length cs → made p ≡ true) → TellsLeft (answered (rest_of made 0 cs)) true
+pub tells_all : (made : ℕ → Bool) (cs : List Call) → ((p : ℕ) → p < length cs → made p ≡ true) →
+    TellsLeft (answered (rest_of made 0 cs)) true
 tells_all made cs h = ((λ e. ap answered (all_made made 0 cs (λ p l. h p (omega arith)))), (λ e. absurd (true_false e)))
   where
     true_false : true ≡ false → ⊥
     true_false e = cc
 
-pub tells_first : (made : ℕ → Bool) (lines : List Line) (first : ℕ) (line : Line) (some : Bool) → IsFirstLeft made lines first line → some ≡ is_some line.reply
+pub tells_first : (made : ℕ → Bool) (lines : List Line) (first : ℕ) (line : Line) (some : Bool) →
+    IsFirstLeft made lines first line → some ≡ is_some line.reply
     → TellsLeft (answered (rest_of made 0 (calls_of lines))) (not some)
 tells_first made lines first line true f e = (
   (λ x. absurd (false_true x)),
@@ -199,13 +231,17 @@ tells_first made lines first line false f e = (
     true_false e = cc
 
 -- what making the call at a place leads to
-pub led_not : (s : State) (lines : List Line) (p : ℕ) (line : Line) (next : State) (reply : Reply) → p < length lines → line ≡ get_or lines p line
-    → run s line.task ≡ (next, reply) → is_right (given_text line.reply) reply ≡ false → fits s (at (calls_of lines) p) ≡ false
+pub led_not : (s : State) (lines : List Line) (p : ℕ) (line : Line) (next : State) (reply : Reply) → p < length lines →
+    line ≡ get_or lines p line
+    → run s line.task ≡ (next, reply) → is_right (given_text line.reply) reply ≡ false →
+    fits s (at (calls_of lines) p) ≡ false
 led_not s lines p line next reply l e r w =
     ap (fits s) (call_here lines p line l e) ∙ ap (λ (x : State × Reply). is_right (given_text line.reply) x.1) r ∙ w
 
-pub led_on : (made more : ℕ → Bool) (s : State) (lines : List Line) (p : ℕ) (line : Line) (next : State) (reply : Reply) → p < length lines → line ≡ get_or lines p line
-    → run s line.task ≡ (next, reply) → is_right (given_text line.reply) reply ≡ true → can_come made (calls_of lines) p ≡ true
+pub led_on : (made more : ℕ → Bool) (s : State) (lines : List Line) (p : ℕ) (line : Line) (next : State) (reply : Reply)
+    → p < length lines → line ≡ get_or lines p line
+    → run s line.task ≡ (next, reply) → is_right (given_text line.reply) reply ≡ true →
+    can_come made (calls_of lines) p ≡ true
     → ((j : ℕ) → more j ≡ (made j || j == p))
     → (fits s (at (calls_of lines) p) ≡ true)
     × (◌≡◌ {A = Configuration} (record { rest = rest_of more 0 (calls_of lines); state = next })
@@ -213,7 +249,8 @@ pub led_on : (made more : ℕ → Bool) (s : State) (lines : List Line) (p : ℕ
     × ((j : ℕ) → more j ≡ (made j || j == p))
 led_on made more s lines p line next reply l e r w can m =
     let cs = calls_of lines in
-    let state : next ≡ (run s (at cs p).task).0 = sym (ap (λ (c : Call). (run s c.task).0) (call_here lines p line l e) ∙ ap (λ (x : State × Reply). x.0) r) in (
+    let state : next ≡ (run s (at cs p).task).0 = sym (ap (λ (c : Call). (run s c.task).0) (call_here lines p line l e)
+    ∙ ap (λ (x : State × Reply). x.0) r) in (
       ap (fits s) (call_here lines p line l e) ∙ ap (λ (x : State × Reply). is_right (given_text line.reply) x.1) r ∙ w,
       ap (λ x. record { rest = x; state = next }) (rest_made made more cs p (long_calls lines p l) can m)
           ∙ ap (λ x. record { rest = without_next (at cs p).client (rest_of made 0 cs); state = x }) state,
@@ -221,7 +258,8 @@ led_on made more s lines p line next reply l e r w can m =
     )
 
 -- what is next for a search, from what is next among the calls
-pub told_next : {M : Type 0} (state : M → State) (calls : Calls) (point : Point M) (from : ℕ) (r : Option ℕ) → TellsTry (made_of point) (calls_of calls.lines.items) from r
+pub told_next : {M : Type 0} (state : M → State) (calls : Calls) (point : Point M) (from : ℕ) (r : Option ℕ) →
+    TellsTry (made_of point) (calls_of calls.lines.items) from r
     → IfSome r (λ p. p < 2 ^ 64 - 1) → TellsNext (point_views state calls) point from r
 told_next state calls point from None t s = t
 told_next state calls point from (Some p) t s = record {
@@ -229,6 +267,8 @@ told_next state calls point from (Some p) t s = record {
   may = may_begin (made_of point) (calls_of calls.lines.items) p t.within t.can;
   can = t.can;
   left = (stands_of (made_of point) (calls_of calls.lines.items) p t.can).free;
-  within = (let l : p < length (calls_of calls.lines.items) = t.within in let e : length (calls_of calls.lines.items) ≡ length calls.lines.items = length-map calls.lines.items call_of in omega arith);
+  within = (let l : p < length (calls_of calls.lines.items) = t.within in
+      let e : length (calls_of calls.lines.items) ≡ length calls.lines.items = length-map calls.lines.items call_of in
+      omega arith);
   small = (let l : p < 2 ^ 64 - 1 = s in omega arith);
 }

@@ -1,5 +1,7 @@
 -- Which calls may come next, by their places.
-use Rattle.std.proofs.Common.{◌≡◌, ◌≢◌, ℕ, ◌+◌, ◌<◌, ◌≤◌, ◌==◌, ◌||◌, ◌&&◌, suc, zero, Bool, true, false, not, cond, List, [], ◌∷◌, ◌++◌, length, take, drop, get_or, refl, sym, ap, ◌∙◌, subst, inl, inr, arith, nat_lt, drop-cons}
+use Rattle.std.proofs.Common.{◌≡◌, ◌≢◌, ℕ, ◌+◌, ◌<◌, ◌≤◌, ◌==◌, ◌||◌, ◌&&◌, suc, zero, Bool, true, false, not, cond}
+use Rattle.std.proofs.Common.{List, [], ◌∷◌, ◌++◌, length, take, drop, get_or, refl, sym, ap, ◌∙◌, subst, inl, inr}
+use Rattle.std.proofs.Common.{arith, nat_lt, drop-cons}
 use Rattle.std.specs.List.{Contains, list_any}
 use Rattle.std.proofs.lemmas.Bool.Decides.{nat_tests}
 use Rattle.vac_judge.specs.Call.{Call}
@@ -23,7 +25,8 @@ rest_split made i (c ∷ cs) zero j e l f =
     let same : j ≡ i = omega arith in
     subst (λ k. rest_of made i (c ∷ cs) ≡ c ∷ rest_of made (suc k) cs) (sym same) (go (made i) (ap made (sym same) ∙ f))
   where
-    go : (b : Bool) → b ≡ false → cond b (rest_of made (suc i) cs) (c ∷ rest_of made (suc i) cs) ≡ c ∷ rest_of made (suc i) cs
+    go : (b : Bool) → b ≡ false → cond b (rest_of made (suc i) cs) (c ∷ rest_of made (suc i) cs) ≡ c ∷ rest_of made
+        (suc i) cs
     go true h = absurd (true_false h)
       where
         true_false : true ≡ false → ⊥
@@ -34,9 +37,11 @@ rest_split made i (c ∷ cs) (suc p) j e l f = go (made i) (rest_split made (suc
     tail : List Call
     tail = at cs p ∷ rest_of made (suc j) (drop (suc p) cs)
 
-    go : (b : Bool) → rest_of made (suc i) cs ≡ rest_of made (suc i) (take p cs) ++ at cs p ∷ rest_of made (suc j) (drop (suc p) cs)
+    go : (b : Bool) → rest_of made (suc i) cs ≡ rest_of made (suc i) (take p cs) ++ at cs p ∷ rest_of made (suc j)
+        (drop (suc p) cs)
         → cond b (rest_of made (suc i) cs) (c ∷ rest_of made (suc i) cs)
-        ≡ cond b (rest_of made (suc i) (take p cs)) (c ∷ rest_of made (suc i) (take p cs)) ++ at cs p ∷ rest_of made (suc j) (drop (suc p) cs)
+        ≡ cond b (rest_of made (suc i) (take p cs)) (c ∷ rest_of made (suc i) (take p cs)) ++ at cs p ∷ rest_of made
+        (suc j) (drop (suc p) cs)
     go true h = h
     go false h = ap (λ l. c ∷ l) h
 
@@ -44,12 +49,15 @@ rest_split made i (c ∷ cs) (suc p) j e l f = go (made i) (rest_split made (suc
 pub front_more : (made : ℕ → Bool) (i : ℕ) (cs : List Call) (p j : ℕ) → j ≡ i + p → p < length cs
     → rest_of made i (take (suc p) cs) ≡ rest_of made i (take p cs) ++ cond (made j) [] (at cs p ∷ [])
 front_more made i [] p j e l = absurd (omega arith)
-front_more made i (c ∷ cs) zero j e l = subst (λ k. cond (made i) [] (c ∷ []) ≡ cond (made k) [] (c ∷ [])) (let same : i ≡ j = omega arith in same) refl
+front_more made i (c ∷ cs) zero j e l = subst (λ k. cond (made i) [] (c ∷ []) ≡ cond (made k) [] (c ∷ []))
+    (let same : i ≡ j = omega arith in same) refl
 front_more made i (c ∷ cs) (suc p) j e l = go (made i) (front_more made (suc i) cs p j (omega arith) (omega arith))
   where
-    go : (b : Bool) → rest_of made (suc i) (take (suc p) cs) ≡ rest_of made (suc i) (take p cs) ++ cond (made j) [] (at cs p ∷ [])
+    go : (b : Bool) → rest_of made (suc i) (take (suc p) cs) ≡ rest_of made (suc i) (take p cs) ++ cond (made j) []
+        (at cs p ∷ [])
         → cond b (rest_of made (suc i) (take (suc p) cs)) (c ∷ rest_of made (suc i) (take (suc p) cs))
-        ≡ cond b (rest_of made (suc i) (take p cs)) (c ∷ rest_of made (suc i) (take p cs)) ++ cond (made j) [] (at cs p ∷ [])
+        ≡ cond b (rest_of made (suc i) (take p cs)) (c ∷ rest_of made (suc i) (take p cs)) ++ cond (made j) []
+        (at cs p ∷ [])
     go true h = h
     go false h = ap (λ l. c ∷ l) h
 
@@ -59,7 +67,8 @@ nothing_more (x ∷ xs) = ap (λ l. x ∷ l) (nothing_more xs)
 
 -- the tries from a place on are that at it, if it may come next, and those after it
 pub tries_step : (made : ℕ → Bool) (cs : List Call) (p : ℕ) → p < length cs
-    → tries_from made cs p ≡ cond (can_come made cs p) (at cs p ∷ tries_from made cs (suc p)) (tries_from made cs (suc p))
+    → tries_from made cs p ≡ cond (can_come made cs p) (at cs p ∷ tries_from made cs (suc p))
+    (tries_from made cs (suc p))
 tries_step made cs p l =
     ap (λ d. tries_of made rest before p d) (drop-cons cs p no_call l)
     ∙ go (made p) refl (may_next rest before (at cs p))
@@ -73,15 +82,19 @@ tries_step made cs p l =
 
     go : (b : Bool) → made p ≡ b → (m : Bool)
         → cond b (tries_of made (rest_of made 0 cs) (rest_of made 0 (take p cs)) (suc p) (drop (suc p) cs))
-        (cond m (at cs p ∷ tries_of made (rest_of made 0 cs) (rest_of made 0 (take p cs) ++ at cs p ∷ []) (suc p) (drop (suc p) cs))
+        (cond m (at cs p ∷ tries_of made (rest_of made 0 cs) (rest_of made 0 (take p cs) ++ at cs p ∷ []) (suc p)
+        (drop (suc p) cs))
         (tries_of made (rest_of made 0 cs) (rest_of made 0 (take p cs) ++ at cs p ∷ []) (suc p) (drop (suc p) cs)))
         ≡ cond (not b && m) (at cs p ∷ tries_from made cs (suc p)) (tries_from made cs (suc p))
     go true e m =
         ap (λ f. tries_of made (rest_of made 0 cs) f (suc p) (drop (suc p) cs))
-        (sym (front_more made 0 cs p p (omega arith) l ∙ ap (λ b. rest_of made 0 (take p cs) ++ cond b [] (at cs p ∷ [])) e ∙ nothing_more (rest_of made 0 (take p cs))))
+        (sym (front_more made 0 cs p p (omega arith) l ∙ ap (λ b. rest_of made 0 (take p cs) ++ cond b []
+        (at cs p ∷ [])) e ∙ nothing_more (rest_of made 0 (take p cs))))
     go false e m =
-        ap (λ f. cond m (at cs p ∷ tries_of made (rest_of made 0 cs) f (suc p) (drop (suc p) cs)) (tries_of made (rest_of made 0 cs) f (suc p) (drop (suc p) cs)))
-        (sym (front_more made 0 cs p p (omega arith) l ∙ ap (λ b. rest_of made 0 (take p cs) ++ cond b [] (at cs p ∷ [])) e))
+        ap (λ f. cond m (at cs p ∷ tries_of made (rest_of made 0 cs) f (suc p) (drop (suc p) cs))
+        (tries_of made (rest_of made 0 cs) f (suc p) (drop (suc p) cs)))
+        (sym (front_more made 0 cs p p (omega arith) l ∙ ap (λ b. rest_of made 0 (take p cs) ++ cond b []
+        (at cs p ∷ [])) e))
 
 pub tries_none : (made : ℕ → Bool) (cs : List Call) (p : ℕ) → length cs ≤ p → tries_from made cs p ≡ []
 tries_none made cs p l = ap (λ d. tries_of made (rest_of made 0 cs) (rest_of made 0 (take p cs)) p d) (drop_all cs p l)
@@ -93,18 +106,21 @@ tries_none made cs p l = ap (λ d. tries_of made (rest_of made 0 cs) (rest_of ma
     drop_all (x ∷ xs) (suc p) l = drop_all xs p (omega arith)
 
 -- a call that has a place is passed over
-pub tries_made : (made : ℕ → Bool) (cs : List Call) (p : ℕ) → made p ≡ true → tries_from made cs p ≡ tries_from made cs (suc p)
+pub tries_made : (made : ℕ → Bool) (cs : List Call) (p : ℕ) → made p ≡ true →
+    tries_from made cs p ≡ tries_from made cs (suc p)
 tries_made made cs p e = go (nat_lt p (length cs)) refl
   where
     go : (b : Bool) → nat_lt p (length cs) ≡ b → tries_from made cs p ≡ tries_from made cs (suc p)
     go true h =
         tries_step made cs p (let l : p < length cs = grind (arith, nat_tests) in l)
-        ∙ ap (λ b. cond (not b && may_next (rest_of made 0 cs) (rest_of made 0 (take p cs)) (at cs p)) (at cs p ∷ tries_from made cs (suc p)) (tries_from made cs (suc p))) e
+        ∙ ap (λ b. cond (not b && may_next (rest_of made 0 cs) (rest_of made 0 (take p cs)) (at cs p))
+        (at cs p ∷ tries_from made cs (suc p)) (tries_from made cs (suc p))) e
     go false h =
         let l : length cs ≤ p = grind (arith, nat_tests) in
         tries_none made cs p l ∙ sym (tries_none made cs (suc p) (omega arith))
 
-pub tries_skip : (made : ℕ → Bool) (cs : List Call) (from more : ℕ) → ((p : ℕ) → p < from + more → made p ≡ true) → tries_from made cs from ≡ tries_from made cs (from + more)
+pub tries_skip : (made : ℕ → Bool) (cs : List Call) (from more : ℕ) → ((p : ℕ) → p < from + more → made p ≡ true) →
+    tries_from made cs from ≡ tries_from made cs (from + more)
 tries_skip made cs from zero h = ap (tries_from made cs) (let e : from ≡ from + 0 = omega arith in e)
 tries_skip made cs from (suc more) h =
     tries_skip made cs from more (λ p l. h p (omega arith))
@@ -112,7 +128,8 @@ tries_skip made cs from (suc more) h =
     ∙ ap (tries_from made cs) (let e : suc (from + more) ≡ from + suc more = omega arith in e)
 
 -- the calls before a place of which all have one
-pub front_made : (made : ℕ → Bool) (i : ℕ) (cs : List Call) (p : ℕ) → ((j : ℕ) → j < i + p → made j ≡ true) → rest_of made i (take p cs) ≡ []
+pub front_made : (made : ℕ → Bool) (i : ℕ) (cs : List Call) (p : ℕ) → ((j : ℕ) → j < i + p → made j ≡ true) →
+    rest_of made i (take p cs) ≡ []
 front_made made i [] p h = go p
   where
     go : (p : ℕ) → rest_of made i (take p []) ≡ []
@@ -187,7 +204,8 @@ of_stands made cs p h =
     rw (h.free, h.none, h.early) refl
 
 -- such a call may begin
-pub may_begin : (made : ℕ → Bool) (cs : List Call) (p : ℕ) → p < length cs → can_come made cs p ≡ true → MayBegin (rest_of made 0 cs) (at cs p)
+pub may_begin : (made : ℕ → Bool) (cs : List Call) (p : ℕ) → p < length cs → can_come made cs p ≡ true →
+    MayBegin (rest_of made 0 cs) (at cs p)
 may_begin made cs p l h =
     let s = stands_of made cs p h in
     let c = at cs p in
@@ -204,7 +222,8 @@ may_begin made cs p l h =
       early = ended_late c.begin (rest_of made 0 cs) s.early;
     }
 
-without_behind : (k : ℕ) (xs : List Call) (c : Call) (ys : List Call) → list_any (λ (o : Call). o.client == k) xs ≡ false → c.client ≡ k → without_next k (xs ++ c ∷ ys) ≡ xs ++ ys
+without_behind : (k : ℕ) (xs : List Call) (c : Call) (ys : List Call) →
+    list_any (λ (o : Call). o.client == k) xs ≡ false → c.client ≡ k → without_next k (xs ++ c ∷ ys) ≡ xs ++ ys
 without_behind k [] c ys h e =
     elim (test c.client k) [
       | inl t ↦ rw t.0 refl
@@ -215,13 +234,15 @@ without_behind k (x ∷ xs) c ys h e =
     rw both.0 (ap (λ l. x ∷ l) (without_behind k xs c ys both.1 e))
 
 -- calls behind a place that gets one
-rest_behind : (made more : ℕ → Bool) (p i : ℕ) (cs : List Call) → ((j : ℕ) → j ≢ p → more j ≡ made j) → p < i → rest_of more i cs ≡ rest_of made i cs
+rest_behind : (made more : ℕ → Bool) (p i : ℕ) (cs : List Call) → ((j : ℕ) → j ≢ p → more j ≡ made j) → p < i →
+    rest_of more i cs ≡ rest_of made i cs
 rest_behind made more p i [] h l = refl
 rest_behind made more p i (c ∷ cs) h l =
     ap (λ b. cond b (rest_of more (suc i) cs) (c ∷ rest_of more (suc i) cs)) (h i (λ e. omega arith))
     ∙ ap (λ r. cond (made i) r (c ∷ r)) (rest_behind made more p (suc i) cs h (omega arith))
 
-rest_less : (made more : ℕ → Bool) (p i : ℕ) (cs : List Call) (q : ℕ) → ((j : ℕ) → j ≢ p → more j ≡ made j) → more p ≡ true → p ≡ i + q → q < length cs
+rest_less : (made more : ℕ → Bool) (p i : ℕ) (cs : List Call) (q : ℕ) → ((j : ℕ) → j ≢ p → more j ≡ made j) →
+    more p ≡ true → p ≡ i + q → q < length cs
     → rest_of more i cs ≡ rest_of made i (take q cs) ++ rest_of made (suc p) (drop (suc q) cs)
 rest_less made more p i [] q h m e l = absurd (omega arith)
 rest_less made more p i (c ∷ cs) zero h m e l =
@@ -233,9 +254,11 @@ rest_less made more p i (c ∷ cs) (suc q) h m e l =
     ap (λ b. cond b (rest_of more (suc i) cs) (c ∷ rest_of more (suc i) cs)) (h i (λ x. omega arith))
     ∙ go (made i) (rest_less made more p (suc i) cs q h m (omega arith) (omega arith))
   where
-    go : (b : Bool) → rest_of more (suc i) cs ≡ rest_of made (suc i) (take q cs) ++ rest_of made (suc p) (drop (suc q) cs)
+    go : (b : Bool) → rest_of more (suc i) cs ≡ rest_of made (suc i) (take q cs) ++ rest_of made (suc p)
+        (drop (suc q) cs)
         → cond b (rest_of more (suc i) cs) (c ∷ rest_of more (suc i) cs)
-        ≡ cond b (rest_of made (suc i) (take q cs)) (c ∷ rest_of made (suc i) (take q cs)) ++ rest_of made (suc p) (drop (suc q) cs)
+        ≡ cond b (rest_of made (suc i) (take q cs)) (c ∷ rest_of made (suc i) (take q cs)) ++ rest_of made (suc p)
+        (drop (suc q) cs)
     go true x = x
     go false x = ap (λ l. c ∷ l) x
 
@@ -247,7 +270,8 @@ rest_made made more cs p l h m =
     rest_less made more p 0 cs p
     (λ j n. m j ∙ ap (λ b. made j || b) (let t : (j == p) ≡ false = grind (arith, nat_tests) in t) ∙ or_false (made j))
     (m p ∙ ap (λ b. made p || b) (self p) ∙ or_true (made p)) (omega arith) l
-    ∙ sym (without_behind (at cs p).client (rest_of made 0 (take p cs)) (at cs p) (rest_of made (suc p) (drop (suc p) cs)) s.none refl)
+    ∙ sym (without_behind (at cs p).client (rest_of made 0 (take p cs)) (at cs p)
+    (rest_of made (suc p) (drop (suc p) cs)) s.none refl)
     ∙ ap (without_next (at cs p).client) (sym (rest_split made 0 cs p p (omega arith) l s.free))
   where
     or_false : (b : Bool) → (b || false) ≡ b
@@ -267,38 +291,49 @@ none_first c f = let e : ◌≡◌ {A = List Call} [] (c ∷ f.tail) = f.is in c
 false_both : (a b : Bool) → a ≡ false → b ≡ false → (a || b) ≡ false
 false_both a b h g = rw (h, g) refl
 
-none_more : (k : ℕ) (xs : List Call) (x : Call) → list_any (λ (o : Call). o.client == k) xs ≡ false → (x.client == k) ≡ false → list_any (λ (o : Call). o.client == k) (xs ++ x ∷ []) ≡ false
+none_more : (k : ℕ) (xs : List Call) (x : Call) → list_any (λ (o : Call). o.client == k) xs ≡ false →
+    (x.client == k) ≡ false → list_any (λ (o : Call). o.client == k) (xs ++ x ∷ []) ≡ false
 none_more k [] x h e = false_both (x.client == k) false e refl
 none_more k (y ∷ ys) x h e =
     let both = both_false (y.client == k) (list_any (λ (o : Call). o.client == k) ys) h in
-    false_both (y.client == k) (list_any (λ (o : Call). o.client == k) (ys ++ x ∷ [])) both.0 (none_more k ys x both.1 e)
+    false_both (y.client == k) (list_any (λ (o : Call). o.client == k) (ys ++ x ∷ [])) both.0
+    (none_more k ys x both.1 e)
 
 -- each call that may begin is among the tries
 covers : (made : ℕ → Bool) (rest before : List Call) (i : ℕ) (cs : List Call) (c : Call) → IsFirst (rest_of made i cs) c
-    → list_any (λ (o : Call). o.client == c.client) before ≡ false → list_any (λ (o : Call). nat_lt o.end c.begin) rest ≡ false
+    → list_any (λ (o : Call). o.client == c.client) before ≡ false →
+    list_any (λ (o : Call). nat_lt o.end c.begin) rest ≡ false
     → Contains (tries_of made rest before i cs) c
 covers made rest before i [] c f n e = absurd (none_first c f)
 covers made rest before i (x ∷ xs) c f n e = go (made i) f (λ b g m. covers made rest b (suc i) xs c g m e)
   where
     go : (b : Bool) → IsFirst (cond b (rest_of made (suc i) xs) (x ∷ rest_of made (suc i) xs)) c
-        → ((b : List Call) → IsFirst (rest_of made (suc i) xs) c → list_any (λ (o : Call). o.client == c.client) b ≡ false → Contains (tries_of made rest b (suc i) xs) c)
-        → Contains (cond b (tries_of made rest before (suc i) xs) (cond (may_next rest before x) (x ∷ tries_of made rest (before ++ x ∷ []) (suc i) xs) (tries_of made rest (before ++ x ∷ []) (suc i) xs))) c
+        → ((b : List Call) → IsFirst (rest_of made (suc i) xs) c →
+        list_any (λ (o : Call). o.client == c.client) b ≡ false → Contains (tries_of made rest b (suc i) xs) c)
+        → Contains (cond b (tries_of made rest before (suc i) xs)
+        (cond (may_next rest before x) (x ∷ tries_of made rest (before ++ x ∷ []) (suc i) xs)
+        (tries_of made rest (before ++ x ∷ []) (suc i) xs))) c
     go true f more = more before f n
     go false f more =
         elim (test x.client c.client) [
           | inl t ↦
               let same : x ≡ c = head_same x c (of_client c.client (rest_of made (suc i) xs)) f.tail (rw t.0 at f.is) in
               let may : may_next rest before x ≡ true =
-              subst (λ (y : Call). may_next rest before y ≡ true) (sym same) (true_both (list_any (λ (o : Call). nat_lt o.end c.begin) rest) (list_any (λ (o : Call). o.client == c.client) before) e n) in
-              subst (λ m. Contains (cond m (x ∷ tries_of made rest (before ++ x ∷ []) (suc i) xs) (tries_of made rest (before ++ x ∷ []) (suc i) xs)) c) (sym may)
+              subst (λ (y : Call). may_next rest before y ≡ true) (sym same)
+              (true_both (list_any (λ (o : Call). nat_lt o.end c.begin) rest) (list_any (λ (o : Call). o.client ==
+              c.client) before) e n) in
+              subst (λ m. Contains (cond m (x ∷ tries_of made rest (before ++ x ∷ []) (suc i) xs)
+              (tries_of made rest (before ++ x ∷ []) (suc i) xs)) c) (sym may)
               (0, omega arith, same)
           | inr t ↦
-              let there = more (before ++ x ∷ []) (record { tail = f.tail; is = rw t.0 at f.is }) (none_more c.client before x n t.0) in
+              let there = more (before ++ x ∷ []) (record { tail = f.tail; is = rw t.0 at f.is })
+              (none_more c.client before x n t.0) in
               put (may_next rest before x) there
         ]
       where
         put : (m : Bool) → Contains (tries_of made rest (before ++ x ∷ []) (suc i) xs) c
-            → Contains (cond m (x ∷ tries_of made rest (before ++ x ∷ []) (suc i) xs) (tries_of made rest (before ++ x ∷ []) (suc i) xs)) c
+            → Contains (cond m (x ∷ tries_of made rest (before ++ x ∷ []) (suc i) xs)
+            (tries_of made rest (before ++ x ∷ []) (suc i) xs)) c
         put true h = contains_more c x (tries_of made rest (before ++ x ∷ []) (suc i) xs) h
         put false h = h
 
@@ -307,7 +342,8 @@ all_choices made cs c may =
     covers made (rest_of made 0 cs) [] 0 cs c may.first refl (late_ended c.begin (rest_of made 0 cs) may.early)
 
 -- where one of these is of the client, so it is with one more
-some_more : (k : ℕ) (xs : List Call) (x : Call) → list_any (λ (o : Call). o.client == k) xs ≡ true → list_any (λ (o : Call). o.client == k) (xs ++ x ∷ []) ≡ true
+some_more : (k : ℕ) (xs : List Call) (x : Call) → list_any (λ (o : Call). o.client == k) xs ≡ true →
+    list_any (λ (o : Call). o.client == k) (xs ++ x ∷ []) ≡ true
 some_more k [] x h = absurd (false_true h)
   where
     false_true : false ≡ true → ⊥
@@ -315,7 +351,8 @@ some_more k [] x h = absurd (false_true h)
 some_more k (y ∷ ys) x h = go (y.client == k) h (λ g. some_more k ys x g)
   where
     go : (b : Bool) → (b || list_any (λ (o : Call). o.client == k) ys) ≡ true
-        → (list_any (λ (o : Call). o.client == k) ys ≡ true → list_any (λ (o : Call). o.client == k) (ys ++ x ∷ []) ≡ true)
+        → (list_any (λ (o : Call). o.client == k) ys ≡ true →
+        list_any (λ (o : Call). o.client == k) (ys ++ x ∷ []) ≡ true)
         → (b || list_any (λ (o : Call). o.client == k) (ys ++ x ∷ [])) ≡ true
     go true e more = refl
     go false e more = more e
@@ -324,12 +361,14 @@ some_last : (xs : List Call) (x : Call) → list_any (λ (o : Call). o.client ==
 some_last [] x = rw (self x.client) refl
 some_last (y ∷ ys) x = go (y.client == x.client) (some_last ys x)
   where
-    go : (b : Bool) → list_any (λ (o : Call). o.client == x.client) (ys ++ x ∷ []) ≡ true → (b || list_any (λ (o : Call). o.client == x.client) (ys ++ x ∷ [])) ≡ true
+    go : (b : Bool) → list_any (λ (o : Call). o.client == x.client) (ys ++ x ∷ []) ≡ true →
+        (b || list_any (λ (o : Call). o.client == x.client) (ys ++ x ∷ [])) ≡ true
     go true h = refl
     go false h = h
 
 -- a client of whom a call stands before has none among the tries
-other_clients : (made : ℕ → Bool) (rest before : List Call) (i : ℕ) (cs : List Call) (k : ℕ) → list_any (λ (o : Call). o.client == k) before ≡ true
+other_clients : (made : ℕ → Bool) (rest before : List Call) (i : ℕ) (cs : List Call) (k : ℕ) →
+    list_any (λ (o : Call). o.client == k) before ≡ true
     → Each (λ o. o.client ≢ k) (tries_of made rest before i cs)
 other_clients made rest before i [] k h = tt
 other_clients made rest before i (x ∷ xs) k h =
@@ -342,10 +381,12 @@ other_clients made rest before i (x ∷ xs) k h =
     go : (b m : Bool) → may_next rest before x ≡ m → Each (λ o. o.client ≢ k) (tries_of made rest before (suc i) xs)
         → Each (λ o. o.client ≢ k) (tries_of made rest (before ++ x ∷ []) (suc i) xs)
         → Each (λ o. o.client ≢ k)
-        (cond b (tries_of made rest before (suc i) xs) (cond m (x ∷ tries_of made rest (before ++ x ∷ []) (suc i) xs) (tries_of made rest (before ++ x ∷ []) (suc i) xs)))
+        (cond b (tries_of made rest before (suc i) xs) (cond m (x ∷ tries_of made rest (before ++ x ∷ []) (suc i) xs)
+        (tries_of made rest (before ++ x ∷ []) (suc i) xs)))
     go true m e same more = same
     go false true e same more =
-        let both = both_true (not (list_any (λ (o : Call). nat_lt o.end x.begin) rest)) (not (list_any (λ (o : Call). o.client == x.client) before)) e in
+        let both = both_true (not (list_any (λ (o : Call). nat_lt o.end x.begin) rest))
+        (not (list_any (λ (o : Call). o.client == x.client) before)) e in
         let none = not_true (list_any (λ (o : Call). o.client == x.client) before) both.1 in
         (λ own. true_false (sym h ∙ subst (λ n. list_any (λ (o : Call). o.client == n) before ≡ false) own none), more)
     go false false e same more = more
@@ -354,12 +395,19 @@ other_clients made rest before i (x ∷ xs) k h =
 apart : (made : ℕ → Bool) (rest before : List Call) (i : ℕ) (cs : List Call) → AreApart (tries_of made rest before i cs)
 apart made rest before i [] = tt
 apart made rest before i (x ∷ xs) =
-    go (made i) (may_next rest before x) (apart made rest before (suc i) xs) (apart made rest (before ++ x ∷ []) (suc i) xs)
+    go (made i) (may_next rest before x) (apart made rest before (suc i) xs)
+    (apart made rest (before ++ x ∷ []) (suc i) xs)
   where
-    go : (b m : Bool) → AreApart (tries_of made rest before (suc i) xs) → AreApart (tries_of made rest (before ++ x ∷ []) (suc i) xs)
-        → AreApart (cond b (tries_of made rest before (suc i) xs) (cond m (x ∷ tries_of made rest (before ++ x ∷ []) (suc i) xs) (tries_of made rest (before ++ x ∷ []) (suc i) xs)))
+    go : (b m : Bool) → AreApart (tries_of made rest before (suc i) xs) →
+        AreApart (tries_of made rest (before ++ x ∷ []) (suc i) xs)
+        → AreApart (cond b (tries_of made rest before (suc i) xs)
+        (cond m (x ∷ tries_of made rest (before ++ x ∷ []) (suc i) xs)
+        (tries_of made rest (before ++ x ∷ []) (suc i) xs)))
     go true m same more = same
-    go false true same more = (other_clients made rest (before ++ x ∷ []) (suc i) xs x.client (some_last before x), more)
+    go false true same more = (
+      other_clients made rest (before ++ x ∷ []) (suc i) xs x.client (some_last before x),
+      more,
+    )
     go false false same more = more
 
 pub tries_apart : (made : ℕ → Bool) (cs : List Call) → AreApart (tries_from made cs 0)

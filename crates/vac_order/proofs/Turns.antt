@@ -1,5 +1,7 @@
 -- What the last end of each client says of a further call.
-use Rattle.std.proofs.Common.{◌≡◌, ◌≢◌, ℕ, ◌+◌, ◌==◌, ◌&&◌, ◌||◌, ◌<◌, ◌≤◌, suc, Bool, true, false, not, cond, List, [], ◌∷◌, ◌++◌, length, Option, Some, None, is_some, refl, sym, ap, ◌∙◌, subst, inl, inr, arith, nat_lt, nat_le}
+use Rattle.std.proofs.Common.{◌≡◌, ◌≢◌, ℕ, ◌+◌, ◌==◌, ◌&&◌, ◌||◌, ◌<◌, ◌≤◌, suc, Bool, true, false, not, cond, List, []}
+use Rattle.std.proofs.Common.{◌∷◌, ◌++◌, length, Option, Some, None, is_some, refl, sym, ap, ◌∙◌, subst, inl, inr}
+use Rattle.std.proofs.Common.{arith, nat_lt, nat_le}
 use Rattle.std.specs.Prelude.{⊤}
 use Rattle.std.specs.List.{list_any}
 use Rattle.std.specs.Ordering.{nat_cmp, eq_by_cmp}
@@ -44,7 +46,8 @@ keeps_none ends calls e f call =
     ∙ ap (λ o. began_before o call.begin) (get-empty nat_cmp call.client))
 
 -- the last end of the client and that of a later call
-later : (o : Option ℕ) (begin end b : ℕ) → began_before o begin ≡ false → begin ≤ end → (began_before o b || (nat_lt b end || false)) ≡ nat_lt b end
+later : (o : Option ℕ) (begin end b : ℕ) → began_before o begin ≡ false → begin ≤ end →
+    (began_before o b || (nat_lt b end || false)) ≡ nat_lt b end
 later None begin end b h l = or_false (nat_lt b end)
   where
     or_false : (x : Bool) → (x || false) ≡ x
@@ -63,16 +66,20 @@ later (Some e) begin end b h l = go (nat_lt b e) refl (nat_lt b end) refl
     go false p false q = refl
 
 -- one call more
-pub keeps_more : (ends : FinMap nat_cmp ℕ) (calls : List Call) (c : Call) → KeepsEnds ends calls → breaks_client calls c ≡ false
+pub keeps_more : (ends : FinMap nat_cmp ℕ) (calls : List Call) (c : Call) → KeepsEnds ends calls →
+    breaks_client calls c ≡ false
     → KeepsEnds (insert ends c.client c.end) (calls ++ c ∷ [])
 keeps_more ends calls c k n d =
     let none = both_false (nat_lt c.end c.begin) (list_any (overlaps c) calls) n in
     let own : c.begin ≤ c.end = (let f = none.0 in grind (arith, nat_tests)) in
-    let all : list_any (overlaps d) (calls ++ c ∷ []) ≡ (began_before (get ends d.client) d.begin || ((c.client == d.client && nat_lt d.begin c.end) || false)) =
-    list_any-append (overlaps d) calls (c ∷ []) ∙ ap (λ b. b || ((c.client == d.client && nat_lt d.begin c.end) || false)) (k d) in
+    let all : list_any (overlaps d) (calls ++ c ∷ []) ≡ (began_before (get ends d.client) d.begin || ((c.client ==
+    d.client && nat_lt d.begin c.end) || false)) =
+    list_any-append (overlaps d) calls (c ∷ []) ∙ ap (λ b. b || ((c.client ==
+    d.client && nat_lt d.begin c.end) || false)) (k d) in
     elim (test c.client d.client) [
       | inl s ↦
-          let over : began_before (get ends d.client) c.begin ≡ false = subst (λ q. began_before (get ends q) c.begin ≡ false) s.1 (sym (k c) ∙ none.1) in
+          let over : began_before (get ends d.client) c.begin ≡ false =
+          subst (λ q. began_before (get ends q) c.begin ≡ false) s.1 (sym (k c) ∙ none.1) in
           all ∙ ap (λ b. began_before (get ends d.client) d.begin || ((b && nat_lt d.begin c.end) || false)) s.0
           ∙ later (get ends d.client) c.begin c.end d.begin over own
           ∙ sym (ap (λ o. began_before o d.begin) (get_here ends c.client c.end d.client (sym s.1)))
@@ -86,7 +93,8 @@ keeps_more ends calls c k n d =
     or_none true = refl
     or_none false = refl
 
-pub each_more : (P : Call → Type 0) (calls : List Call) (c : Call) → EachCall P calls → P c → EachCall P (calls ++ c ∷ [])
+pub each_more : (P : Call → Type 0) (calls : List Call) (c : Call) → EachCall P calls → P c →
+    EachCall P (calls ++ c ∷ [])
 each_more P [] c h p = (p, tt)
 each_more P (x ∷ xs) c h p = (h.0, each_more P xs c h.1 p)
 
@@ -94,18 +102,23 @@ behind_from : (a b x y : ℕ) → (a == b && nat_lt x y) ≡ false → a ≡ b �
 behind_from a b x y h e = grind (arith, nat_tests)
 
 -- the calls are in turn with one more
-turn_on : (calls : List Call) (c : Call) → InTurn calls → c.begin ≤ c.end → list_any (overlaps c) calls ≡ false → InTurn (calls ++ c ∷ [])
+turn_on : (calls : List Call) (c : Call) → InTurn calls → c.begin ≤ c.end → list_any (overlaps c) calls ≡ false →
+    InTurn (calls ++ c ∷ [])
 turn_on [] c t own h = (own, tt, tt)
 turn_on (x ∷ xs) c t own h =
-    let two = both_false (overlaps c x) (list_any (overlaps c) xs) h in
-    (t.0, each_more (λ later. IsBehind later x) xs c t.1 (behind_from x.client c.client c.begin x.end two.0), turn_on xs c t.2 own two.1)
+    let two = both_false (overlaps c x) (list_any (overlaps c) xs) h in (
+      t.0,
+      each_more (λ later. IsBehind later x) xs c t.1 (behind_from x.client c.client c.begin x.end two.0),
+      turn_on xs c t.2 own two.1,
+    )
 
 pub turn_more : (calls : List Call) (c : Call) → InTurn calls → breaks_client calls c ≡ false → InTurn (calls ++ c ∷ [])
 turn_more calls c t n =
     let none = both_false (nat_lt c.end c.begin) (list_any (overlaps c) calls) n in
     turn_on calls c t (let f = none.0 in grind (arith, nat_tests)) none.1
 
-pub numbered_more : (n : ℕ) (lines : List Line) (l : Line) → AreNumbered n lines → l.number ≡ n + length lines → AreNumbered n (lines ++ l ∷ [])
+pub numbered_more : (n : ℕ) (lines : List Line) (l : Line) → AreNumbered n lines → l.number ≡ n + length lines →
+    AreNumbered n (lines ++ l ∷ [])
 numbered_more n [] l h e = (omega arith, tt)
 numbered_more n (x ∷ xs) l h e = (h.0, numbered_more (n + 1) xs l h.1 (omega arith))
 
@@ -119,43 +132,56 @@ said None begin = refl
 said (Some end) begin = go (nat_lt begin end) refl (nat_le end begin) refl
   where
     go : (x : Bool) → nat_lt begin end ≡ x → (y : Bool) → nat_le end begin ≡ y → not x ≡ y
-    go true p true q = absurd (let one : begin < end = grind (arith, nat_tests) in let two : end ≤ begin = grind (arith, nat_tests) in omega arith)
+    go true p true q = absurd (let one : begin < end = grind (arith, nat_tests) in let two : end ≤ begin =
+        grind (arith, nat_tests) in omega arith)
     go true p false q = refl
     go false p true q = refl
-    go false p false q = absurd (let one : end ≤ begin = grind (arith, nat_tests) in let two : begin < end = grind (arith, nat_tests) in omega arith)
+    go false p false q = absurd (let one : end ≤ begin = grind (arith, nat_tests) in let two : begin < end =
+        grind (arith, nat_tests) in omega arith)
 
 pub too_early : (calls : List Call) (c : Call) → c.end < c.begin → false ≡ not (breaks_client calls c)
-too_early calls c l = let t : nat_lt c.end c.begin ≡ true = grind (arith, nat_tests) in sym (ap (λ b. not (b || list_any (overlaps c) calls)) t)
+too_early calls c l = let t : nat_lt c.end c.begin ≡ true = grind (arith, nat_tests) in
+    sym (ap (λ b. not (b || list_any (overlaps c) calls)) t)
 
-said_of : (ends : FinMap nat_cmp ℕ) (calls : List Call) (c : Call) → KeepsEnds ends calls → c.begin ≤ c.end → not (breaks_client calls c) ≡ fits_behind (get ends c.client) c.begin
+said_of : (ends : FinMap nat_cmp ℕ) (calls : List Call) (c : Call) → KeepsEnds ends calls → c.begin ≤ c.end →
+    not (breaks_client calls c) ≡ fits_behind (get ends c.client) c.begin
 said_of ends calls c k l =
     let t : nat_lt c.end c.begin ≡ false = grind (arith, nat_tests) in
     ap (λ b. not (b || list_any (overlaps c) calls)) t ∙ ap not (k c) ∙ said (get ends c.client) c.begin
 
-pub said_some : (ends : FinMap nat_cmp ℕ) (calls : List Call) (c : Call) (last : ℕ) → KeepsEnds ends calls → c.begin ≤ c.end → get ends c.client ≡ Some last
+pub said_some : (ends : FinMap nat_cmp ℕ) (calls : List Call) (c : Call) (last : ℕ) → KeepsEnds ends calls →
+    c.begin ≤ c.end → get ends c.client ≡ Some last
     → nat_le last c.begin ≡ not (breaks_client calls c)
 said_some ends calls c last k l e = sym (said_of ends calls c k l ∙ ap (λ o. fits_behind o c.begin) e)
 
-pub said_none : (ends : FinMap nat_cmp ℕ) (calls : List Call) (c : Call) → KeepsEnds ends calls → c.begin ≤ c.end → get ends c.client ≡ None → true ≡ not (breaks_client calls c)
+pub said_none : (ends : FinMap nat_cmp ℕ) (calls : List Call) (c : Call) → KeepsEnds ends calls → c.begin ≤ c.end →
+    get ends c.client ≡ None → true ≡ not (breaks_client calls c)
 said_none ends calls c k l e = sym (said_of ends calls c k l ∙ ap (λ o. fits_behind o c.begin) e)
 
 -- a call that is in turn was taken
-pub took : (before after : History) (text : List ℕ) (c : Call) (l : Line) (n : ℕ) → IsHeld before → after.ends ≡ insert before.ends c.client c.end
-    → n ≡ length before.lines.items + 1 → IsLineOf n text c l → after.lines.items ≡ before.lines.items ++ l ∷ [] → breaks_client (calls_of before.lines.items) c ≡ false
+pub took : (before after : History) (text : List ℕ) (c : Call) (l : Line) (n : ℕ) → IsHeld before →
+    after.ends ≡ insert before.ends c.client c.end
+    → n ≡ length before.lines.items + 1 → IsLineOf n text c l → after.lines.items ≡ before.lines.items ++ l ∷ [] →
+    breaks_client (calls_of before.lines.items) c ≡ false
     → IsTimed (2 ^ 64 - 1) c → Took before after text c
 took before after text c l n h e m i p f t =
     let calls : calls_of after.lines.items ≡ calls_of before.lines.items ++ c ∷ [] =
-    ap calls_of p ∙ map-append call_of before.lines.items (l ∷ []) ∙ ap (λ d. calls_of before.lines.items ++ d ∷ []) i.call_is in
+    ap calls_of p ∙ map-append call_of before.lines.items (l ∷ []) ∙
+    ap (λ d. calls_of before.lines.items ++ d ∷ []) i.call_is in
     record {
       fits = f;
       held = record {
-        ends = subst (λ cs. KeepsEnds after.ends cs) (sym calls) (subst (λ (m : FinMap nat_cmp ℕ). KeepsEnds m (calls_of before.lines.items ++ c ∷ [])) (sym e)
+        ends = subst (λ cs. KeepsEnds after.ends cs) (sym calls)
+            (subst (λ (m : FinMap nat_cmp ℕ). KeepsEnds m (calls_of before.lines.items ++ c ∷ [])) (sym e)
             (keeps_more before.ends (calls_of before.lines.items) c h.ends f));
         turn = subst InTurn (sym calls) (turn_more (calls_of before.lines.items) c h.turn f);
-        timed = subst (EachCall (IsTimed (2 ^ 64 - 1))) (sym calls) (each_more (IsTimed (2 ^ 64 - 1)) (calls_of before.lines.items) c h.timed t);
-        numbered = subst (AreNumbered 1) (sym p) (numbered_more 1 before.lines.items l h.numbered (let own = i.number_is in omega arith));
+        timed = subst (EachCall (IsTimed (2 ^ 64 - 1))) (sym calls)
+            (each_more (IsTimed (2 ^ 64 - 1)) (calls_of before.lines.items) c h.timed t);
+        numbered = subst (AreNumbered 1) (sym p) (numbered_more 1 before.lines.items l h.numbered (let own =
+            i.number_is in omega arith));
       };
-      texts = ap texts_of p ∙ map-append (λ (x : Line). x.text.items) before.lines.items (l ∷ []) ∙ ap (λ u. texts_of before.lines.items ++ u ∷ []) i.text_is;
+      texts = ap texts_of p ∙ map-append (λ (x : Line). x.text.items) before.lines.items (l ∷ []) ∙
+          ap (λ u. texts_of before.lines.items ++ u ∷ []) i.text_is;
       calls = calls;
     }
 

@@ -1,5 +1,7 @@
 -- What a running search does is a step of a search.
-use Rattle.std.proofs.Common.{◌≡◌, ◌⊎◌, ℕ, ◌+◌, ◌<◌, ◌≤◌, ◌==◌, ◌||◌, max, suc, zero, Bool, true, false, cond, Some, None, nat_lt, inl, inr, List, [], ◌∷◌, ◌++◌, map, length, slice_get, refl, sym, ap, ◌∙◌, subst, arith}
+use Rattle.std.proofs.Common.{◌≡◌, ◌⊎◌, ℕ, ◌+◌, ◌<◌, ◌≤◌, ◌==◌, ◌||◌, max, suc, zero, Bool, true, false, cond, Some}
+use Rattle.std.proofs.Common.{None, nat_lt, inl, inr, List, [], ◌∷◌, ◌++◌, map, length, slice_get, refl, sym, ap, ◌∙◌}
+use Rattle.std.proofs.Common.{subst, arith}
 use Rattle.std.specs.List.{Contains}
 use Rattle.std.specs.Option.{option_map}
 use Rattle.std.proofs.lemmas.List.{length-map}
@@ -10,21 +12,25 @@ use Rattle.std.specs.Prelude.{All}
 use Rattle.vac_judge.specs.Call.{Call}
 use Rattle.vac_order.specs.declared.path.Frame.{Frame}
 use Rattle.vac_order.specs.declared.path.Walk.{Walk}
-use Rattle.vac_order.specs.Configurations.{Configuration, MayBegin, after, fits, answered, weight, PlacesAtMost, Deepest}
+use Rattle.vac_order.specs.Configurations.{Configuration, MayBegin, after, fits, answered, weight, PlacesAtMost}
+use Rattle.vac_order.specs.Configurations.{Deepest}
 use Rattle.vac_order.specs.Walk.{IsWhole, AreChoices, AreApart, Place, IsWalk, IsDeepest, KeepsDeepest, Completes}
 use Rattle.vac_order.specs.Views.{Views, TellsLeft}
 use Rattle.std.specs.Global.{Vec}
 use Rattle.vac_order.specs.declared.known.Known.{Known}
 use Rattle.vac_order.specs.Searching.{HasMade, MakesStep, IsUndecided, Places}
-use Rattle.vac_order.specs.Walking.{place_of, search_of, AreDistinct, AreMadeBy, WalksWith, Walks, Tries, places_of, best_of, CompletesBy, FailsBy}
+use Rattle.vac_order.specs.Walking.{place_of, search_of, AreDistinct, AreMadeBy, WalksWith, Walks, Tries, places_of}
+use Rattle.vac_order.specs.Walking.{best_of, CompletesBy, FailsBy}
 use Rattle.vac_order.proofs.Placing.{made_none, made_one, made_all, made_push, made_pop}
-use Rattle.vac_order.proofs.Steps.{all_at, leads_reaches, walk_found, walk_dead, walk_back, walk_lost, walk_on, walk_start, back_less}
+use Rattle.vac_order.proofs.Steps.{all_at, leads_reaches, walk_found, walk_dead, walk_back, walk_lost, walk_on}
+use Rattle.vac_order.proofs.Steps.{walk_start, back_less}
 
 pub map_more : {X Y : Type 0} (f : X → Y) (xs : List X) (x : X) → map f (xs ++ x ∷ []) ≡ map f xs ++ f x ∷ []
 map_more f [] x = refl
 map_more f (y ∷ ys) x = ap (λ l. f y ∷ l) (map_more f ys x)
 
-places_calls : {W : Type 0} (views : Views W) (path : List (Frame W)) → map (λ (p : Place). p.call) (map (place_of views) path) ≡ map views.call (places_of path)
+places_calls : {W : Type 0} (views : Views W) (path : List (Frame W)) →
+    map (λ (p : Place). p.call) (map (place_of views) path) ≡ map views.call (places_of path)
 places_calls views [] = refl
 places_calls views (f ∷ fs) = ap (λ l. views.call f.place ∷ l) (places_calls views fs)
 
@@ -44,7 +50,8 @@ get_last [] x = refl
 get_last (y ∷ ys) x = get_last ys x
 
 -- what is deepest where one more is known
-deepest_more : (start at : Configuration) (n b : ℕ) (known : List Configuration) → IsDeepest start n b (known ++ at ∷ []) → KeepsDeepest start n b (known ++ at ∷ [])
+deepest_more : (start at : Configuration) (n b : ℕ) (known : List Configuration) →
+    IsDeepest start n b (known ++ at ∷ []) → KeepsDeepest start n b (known ++ at ∷ [])
 deepest_more start at n b [] h = h
 deepest_more start at n b (k ∷ ks) h = h
 
@@ -57,22 +64,26 @@ record Better (start at : Configuration) (most placed : ℕ) (known : List Confi
   own : placed ≤ pair.1
   deepest : IsDeepest start pair.1 pair.0 (known ++ at ∷ [])
 
-none_most : (start : Configuration) (most best : ℕ) (known : List Configuration) → KeepsDeepest start most best known → (length known == 0) ≡ true → most ≡ 0
+none_most : (start : Configuration) (most best : ℕ) (known : List Configuration) → KeepsDeepest start most best known →
+    (length known == 0) ≡ true → most ≡ 0
 none_most start most best [] h e = h
 none_most start most best (k ∷ ks) h e = absurd (false_true e)
   where
     false_true : (length (k ∷ ks) == 0) ≡ true → ⊥
     false_true e = grind (arith, nat_tests)
 
-some_deepest : (start : Configuration) (most best : ℕ) (known : List Configuration) → KeepsDeepest start most best known → (length known == 0) ≡ false → IsDeepest start most best known
+some_deepest : (start : Configuration) (most best : ℕ) (known : List Configuration) →
+    KeepsDeepest start most best known → (length known == 0) ≡ false → IsDeepest start most best known
 some_deepest start most best [] h e = absurd (true_false e)
   where
     true_false : true ≡ false → ⊥
     true_false e = cc
 some_deepest start most best (k ∷ ks) h e = h
 
-better : (start at : Configuration) (most placed best : ℕ) (tries : List Call) (path : List Place) (known : List Configuration)
-    → IsWalk start most at placed tries path known → KeepsDeepest start most best known → Better start at most placed known (best_of (length known) placed best most)
+better : (start at : Configuration) (most placed best : ℕ) (tries : List Call) (path : List Place)
+    (known : List Configuration)
+    → IsWalk start most at placed tries path known → KeepsDeepest start most best known →
+    Better start at most placed known (best_of (length known) placed best most)
 better start at most placed best tries path known w k = go (length known == 0) refl (nat_lt most placed) refl
   where
     last : most ≤ placed → Better start at most placed known (length known, placed)
@@ -82,11 +93,18 @@ better start at most placed best tries path known w k = go (length known == 0) r
       deepest = record {
         at = at;
         is = get_last known at;
-        deepest = record { calls = calls_of path; reaches = leads_reaches (answered start.rest) most start path at w.leads; count = w.count; some = w.some };
+        deepest = record {
+          calls = calls_of path;
+          reaches = leads_reaches (answered
+              start.rest) most start path at w.leads;
+          count = w.count;
+          some = w.some;
+        };
       };
     }
 
-    go : (x : Bool) → (length known == 0) ≡ x → (y : Bool) → nat_lt most placed ≡ y → Better start at most placed known (cond (x || y) (length known, placed) (best, most))
+    go : (x : Bool) → (length known == 0) ≡ x → (y : Bool) → nat_lt most placed ≡ y →
+        Better start at most placed known (cond (x || y) (length known, placed) (best, most))
     go true e y f = last (let z : most ≡ 0 = none_most start most best known k e in omega arith)
     go false e true f = last (let z : most < placed = grind (arith, nat_tests) in omega arith)
     go false e false f =
@@ -96,15 +114,20 @@ better start at most placed best tries path known w k = go (length known == 0) r
           deepest = record { at = d.at; is = get_front known (at ∷ []) best d.at d.is; deepest = d.deepest };
         }
 
-better_of : {W : Type 0} (views : Views W) (start : Configuration) (steps : ℕ) (walk : Walk W) → WalksWith views start steps walk []
-    → Better start (views.at walk.world) walk.most walk.placed (map views.at walk.known.worlds.items) (best_of (length walk.known.worlds.items) walk.placed walk.best walk.most)
+better_of : {W : Type 0} (views : Views W) (start : Configuration) (steps : ℕ) (walk : Walk W) →
+    WalksWith views start steps walk []
+    → Better start (views.at walk.world) walk.most walk.placed (map views.at walk.known.worlds.items)
+    (best_of (length walk.known.worlds.items) walk.placed walk.best walk.most)
 better_of views start steps walk w =
-    subst (λ n. Better start (views.at walk.world) walk.most walk.placed (map views.at walk.known.worlds.items) (best_of n walk.placed walk.best walk.most))
+    subst (λ n. Better start (views.at walk.world) walk.most walk.placed (map views.at walk.known.worlds.items)
+    (best_of n walk.placed walk.best walk.most))
     (length-map walk.known.worlds.items views.at)
-    (better start (views.at walk.world) walk.most walk.placed walk.best [] (map (place_of views) walk.path.items) (map views.at walk.known.worlds.items) w.is w.deepest)
+    (better start (views.at walk.world) walk.most walk.placed walk.best [] (map (place_of views) walk.path.items)
+    (map views.at walk.known.worlds.items) w.is w.deepest)
 
 -- the most that had a place where one more is known, and the world that is gone back to has less
-best_most : (start at : Configuration) (most placed best : ℕ) (tries : List Call) (path : List Place) (known : List Configuration)
+best_most : (start at : Configuration) (most placed best : ℕ) (tries : List Call) (path : List Place)
+    (known : List Configuration)
     → IsWalk start most at placed tries path known → KeepsDeepest start most best known → (back : ℕ) → back ≤ placed
     → max (best_of (length known) placed best most).1 back ≡ max most placed
 best_most start at most placed best tries path known w k back l = go (length known == 0) refl (nat_lt most placed) refl
@@ -112,37 +135,66 @@ best_most start at most placed best tries path known w k back l = go (length kno
     Back : ℕ × ℕ → Type 0
     Back pair = max pair.1 back ≡ max most placed
 
-    go : (x : Bool) → (length known == 0) ≡ x → (y : Bool) → nat_lt most placed ≡ y → Back (cond (x || y) (length known, placed) (best, most))
+    go : (x : Bool) → (length known == 0) ≡ x → (y : Bool) → nat_lt most placed ≡ y →
+        Back (cond (x || y) (length known, placed) (best, most))
     go true e y f = let z : most ≡ 0 = none_most start most best known k e in omega arith
     go false e true f = let z : most < placed = grind (arith, nat_tests) in omega arith
     go false e false f = let z : placed ≤ most = grind (arith, nat_tests) in omega arith
 
 -- a walk whose world goes to those that are known
-pub steps_back : {W : Type 0} (views : Views W) (start : Configuration) (steps : ℕ) (walk : Walk W) (frame : Frame W) (path : Vec (Frame W)) (known : Known W) (pair : ℕ × ℕ)
+pub steps_back : {W : Type 0} (views : Views W) (start : Configuration) (steps : ℕ) (walk : Walk W) (frame : Frame W)
+    (path : Vec (Frame W)) (known : Known W) (pair : ℕ × ℕ)
     → walk.path.items ≡ path.items ++ frame ∷ [] → known.worlds.items ≡ walk.known.worlds.items ++ walk.world ∷ []
-    → pair ≡ best_of (length walk.known.worlds.items) walk.placed walk.best walk.most → WalksWith views start steps walk []
-    → Walks views start (suc steps) (record { world = frame.world; placed = frame.placed; next = frame.next; path = path; known = known; best = pair.0; most = pair.1 })
+    → pair ≡ best_of (length walk.known.worlds.items) walk.placed walk.best walk.most →
+    WalksWith views start steps walk []
+    → Walks views start (suc steps) (record {
+      world = frame.world;
+      placed = frame.placed;
+      next = frame.next;
+      path = path;
+      known = known;
+      best = pair.0;
+      most = pair.1;
+    })
 steps_back {W = W} views start steps walk frame path known pair p k b w =
     let worlds = map views.at walk.known.worlds.items in
     let at = views.at walk.world in
-    let to : Walk W = record { world = frame.world; placed = frame.placed; next = frame.next; path = path; known = known; best = pair.0; most = pair.1 } in
+    let to : Walk W = record {
+      world = frame.world;
+      placed = frame.placed;
+      next = frame.next;
+      path = path;
+      known = known;
+      best = pair.0;
+      most = pair.1;
+    } in
     let tries = views.tries frame.world frame.next in
     let best = best_of (length walk.known.worlds.items) walk.placed walk.best walk.most in
     let one = better_of views start steps walk w in
-    let places : map (place_of views) walk.path.items ≡ map (place_of views) path.items ++ place_of views frame ∷ [] = ap (map (place_of views)) p ∙ map_more (place_of views) path.items frame in
-    let gone : IsWalk start walk.most at walk.placed [] (map (place_of views) path.items ++ place_of views frame ∷ []) worlds =
+    let places : map (place_of views) walk.path.items ≡ map (place_of views) path.items ++ place_of views frame ∷ [] =
+    ap (map (place_of views)) p ∙ map_more (place_of views) path.items frame in
+    let gone : IsWalk start walk.most at walk.placed [] (map (place_of views) path.items ++ place_of views frame ∷ [])
+    worlds =
     subst (λ ps. IsWalk start walk.most at walk.placed [] ps worlds) places w.is in
-    let all : map views.at known.worlds.items ≡ worlds ++ at ∷ [] = ap (map views.at) k ∙ map_more views.at walk.known.worlds.items walk.world in
-    let less : frame.placed ≤ walk.placed = back_less start at walk.most walk.placed (map (place_of views) path.items) (place_of views frame) worlds gone in
+    let all : map views.at known.worlds.items ≡ worlds ++ at ∷ [] =
+    ap (map views.at) k ∙ map_more views.at walk.known.worlds.items walk.world in
+    let less : frame.placed ≤ walk.placed = back_less start at walk.most walk.placed (map (place_of views) path.items)
+    (place_of views frame) worlds gone in
     let same : max best.1 frame.placed ≡ max walk.most walk.placed =
-    ap (λ n. max (best_of n walk.placed walk.best walk.most).1 frame.placed) (sym (length-map walk.known.worlds.items views.at))
-    ∙ best_most start at walk.most walk.placed walk.best [] (map (place_of views) walk.path.items) worlds w.is w.deepest frame.placed less in
+    ap (λ n. max (best_of n walk.placed walk.best walk.most).1 frame.placed)
+    (sym (length-map walk.known.worlds.items views.at))
+    ∙ best_most start at walk.most walk.placed walk.best [] (map (place_of views) walk.path.items) worlds w.is w.deepest
+    frame.placed less in
     record {
-      is = subst (λ ks. IsWalk start pair.1 (views.at frame.world) frame.placed tries (map (place_of views) path.items) ks) (sym all)
-          (subst (λ q. IsWalk start q.1 (views.at frame.world) frame.placed tries (map (place_of views) path.items) (worlds ++ at ∷ [])) (sym b)
-          (walk_back start at walk.most walk.placed best.1 (map (place_of views) path.items) (place_of views frame) worlds gone one.more one.own));
+      is = subst (λ ks. IsWalk start pair.1 (views.at frame.world) frame.placed tries
+          (map (place_of views) path.items) ks) (sym all)
+          (subst (λ q. IsWalk start q.1 (views.at frame.world) frame.placed tries (map (place_of views) path.items)
+          (worlds ++ at ∷ [])) (sym b)
+          (walk_back start at walk.most walk.placed best.1 (map (place_of views) path.items)
+          (place_of views frame) worlds gone one.more one.own));
       deepest = subst (λ ks. KeepsDeepest start pair.1 pair.0 ks) (sym all)
-          (subst (λ q. KeepsDeepest start q.1 q.0 (worlds ++ at ∷ [])) (sym b) (deepest_more start at best.1 best.0 worlds one.deepest));
+          (subst (λ q. KeepsDeepest start q.1 q.0 (worlds ++ at ∷ [])) (sym b)
+          (deepest_more start at best.1 best.0 worlds one.deepest));
       made = (
         search_of views walk.world walk.placed walk.path.items walk.known.worlds.items [],
         max walk.most walk.placed,
@@ -152,45 +204,64 @@ steps_back {W = W} views start steps walk frame path known pair p k b w =
           place = place_of views frame;
           none = refl;
           led = places;
-          is = ap (λ ks. record { at = views.at frame.world; placed = frame.placed; tries = tries; path = map (place_of views) path.items; known = ks }) all;
+          is = ap (λ ks. record {
+            at = views.at frame.world;
+            placed = frame.placed;
+            tries = tries;
+            path = map (place_of views) path.items;
+            known = ks;
+          }) all;
         })),
-        ap (λ (q : ℕ × ℕ). max q.1 frame.placed) b ∙ same ∙ (let l : frame.placed ≤ max walk.most walk.placed = omega arith in omega arith),
+        ap (λ (q : ℕ × ℕ). max q.1 frame.placed) b ∙ same ∙ (let l : frame.placed ≤ max walk.most walk.placed =
+            omega arith in omega arith),
       );
       first = w.first;
-      places = made_pop views w.first [] path.items frame walk.world (subst (λ fs. AreMadeBy views w.first [] fs walk.world) p w.places);
+      places = made_pop views w.first [] path.items frame walk.world
+          (subst (λ fs. AreMadeBy views w.first [] fs walk.world) p w.places);
     }
 
 -- at the start that says how many have a place at most
-pub steps_none : {W : Type 0} (views : Views W) (start : Configuration) (steps : ℕ) (walk : Walk W) (known : List W) (pair : ℕ × ℕ) (deepest : W)
+pub steps_none : {W : Type 0} (views : Views W) (start : Configuration) (steps : ℕ) (walk : Walk W) (known : List W)
+    (pair : ℕ × ℕ) (deepest : W)
     → walk.path.items ≡ [] → known ≡ walk.known.worlds.items ++ walk.world ∷ []
-    → pair ≡ best_of (length walk.known.worlds.items) walk.placed walk.best walk.most → WalksWith views start steps walk []
+    → pair ≡ best_of (length walk.known.worlds.items) walk.placed walk.best walk.most →
+    WalksWith views start steps walk []
     → slice_get known pair.0 ≡ Some deepest → FailsBy views start pair.1 deepest
 steps_none views start steps walk known pair deepest p k b w got =
     let worlds = map views.at walk.known.worlds.items in
     let at = views.at walk.world in
-    let one = subst (λ q. Better start at walk.most walk.placed worlds q) (sym b) (better_of views start steps walk w) in
-    let all : map views.at known ≡ worlds ++ at ∷ [] = ap (map views.at) k ∙ map_more views.at walk.known.worlds.items walk.world in
+    let one = subst (λ q. Better start at walk.most walk.placed worlds q) (sym b)
+    (better_of views start steps walk w) in
+    let all : map views.at known ≡ worlds ++ at ∷ [] = ap (map views.at) k ∙
+    map_more views.at walk.known.worlds.items walk.world in
     let same : one.deepest.at ≡ views.at deepest =
-    some_same one.deepest.at (views.at deepest) (sym one.deepest.is ∙ ap (λ l. slice_get l pair.0) (sym all) ∙ slice_get-map views.at known pair.0 ∙ ap (option_map views.at) got) in
+    some_same one.deepest.at (views.at deepest) (sym one.deepest.is ∙ ap (λ l. slice_get l pair.0) (sym all) ∙
+    slice_get-map views.at known pair.0 ∙ ap (option_map views.at) got) in
     let none : IsWalk start walk.most at walk.placed [] [] worlds =
     subst (λ ps. IsWalk start walk.most at walk.placed [] ps worlds) (ap (map (place_of views)) p) w.is in (
       subst (Deepest start pair.1) same one.deepest.deepest,
-      subst (PlacesAtMost (answered start.rest) pair.1) (sym none.leads) (walk_dead start at walk.most walk.placed pair.1 [] worlds none one.more one.own),
+      subst (PlacesAtMost (answered start.rest) pair.1) (sym none.leads)
+          (walk_dead start at walk.most walk.placed pair.1 [] worlds none one.more one.own),
     )
 
 -- the first call that is left to try
-pub tried : {W : Type 0} (views : Views W) (start : Configuration) (steps : ℕ) (walk : Walk W) (call : Call) (tries : List Call)
-    → views.tries walk.world walk.next ≡ call ∷ tries → Walks views start steps walk → WalksWith views start steps walk (call ∷ tries)
+pub tried : {W : Type 0} (views : Views W) (start : Configuration) (steps : ℕ) (walk : Walk W) (call : Call)
+    (tries : List Call)
+    → views.tries walk.world walk.next ≡ call ∷ tries → Walks views start steps walk →
+    WalksWith views start steps walk (call ∷ tries)
 tried views start steps walk call tries e w = subst (WalksWith views start steps walk) e w
 
 max_same : (m p : ℕ) → max m p ≡ max (max m p) p
 max_same m p = omega arith
 
-pub steps_lost : {W : Type 0} (views : Views W) (start : Configuration) (steps : ℕ) (walk : Walk W) (call : Call) (tries : List Call)
-    → WalksWith views start steps walk (call ∷ tries) → MayBegin (views.at walk.world).rest call → fits (views.at walk.world).state call ≡ false
+pub steps_lost : {W : Type 0} (views : Views W) (start : Configuration) (steps : ℕ) (walk : Walk W) (call : Call)
+    (tries : List Call)
+    → WalksWith views start steps walk (call ∷ tries) → MayBegin (views.at walk.world).rest call →
+    fits (views.at walk.world).state call ≡ false
     → WalksWith views start (suc steps) walk tries
 steps_lost views start steps walk call tries w may f = record {
-  is = walk_lost start (views.at walk.world) walk.most walk.placed call tries (map (place_of views) walk.path.items) (map views.at walk.known.worlds.items) w.is
+  is = walk_lost start (views.at walk.world) walk.most walk.placed call tries (map (place_of views) walk.path.items)
+      (map views.at walk.known.worlds.items) w.is
       (λ goes. absurd (false_true (sym f ∙ goes.fit)));
   deepest = w.deepest;
   made = (
@@ -207,22 +278,29 @@ steps_lost views start steps walk call tries w may f = record {
     false_true : false ≡ true → ⊥
     false_true e = cc
 
-pub steps_found : {W : Type 0} (views : Views W) (start : Configuration) (steps : ℕ) (walk : Walk W) (place : ℕ) (next : W) (places : List ℕ)
-    → Tries views start steps walk place → place < views.count → views.at next ≡ after (views.at walk.world) (views.call place) → TellsLeft (answered (views.at next).rest) true
+pub steps_found : {W : Type 0} (views : Views W) (start : Configuration) (steps : ℕ) (walk : Walk W) (place : ℕ)
+    (next : W) (places : List ℕ)
+    → Tries views start steps walk place → place < views.count →
+    views.at next ≡ after (views.at walk.world) (views.call place) → TellsLeft (answered (views.at next).rest) true
     → ((p : ℕ) → views.made next p ≡ (views.made walk.world p || p == place))
     → places ≡ places_of walk.path.items ++ place ∷ [] → CompletesBy views start places
 steps_found views start steps walk place next places w within e l more p =
-    let all = made_one views w.walks.first (places_of walk.path.items) walk.world next place (made_all views w.walks.first [] walk.path.items walk.world w.walks.places) w.left within more in
+    let all = made_one views w.walks.first (places_of walk.path.items) walk.world next place
+    (made_all views w.walks.first [] walk.path.items walk.world w.walks.places) w.left within more in
     record {
       completes = subst (Completes start)
-          (ap (λ l. l ++ views.call place ∷ []) (places_calls views walk.path.items) ∙ sym (map_more views.call (places_of walk.path.items) place) ∙ sym (ap (map views.call) p))
-          (walk_found start (views.at walk.world) walk.most walk.placed (views.call place ∷ views.tries walk.world walk.next) (map (place_of views) walk.path.items)
-          (map views.at walk.known.worlds.items) (views.call place) w.walks.is w.goes (ap (λ (x : Configuration). answered x.rest) (sym e) ∙ l.0 refl));
+          (ap (λ l. l ++ views.call place ∷ []) (places_calls views walk.path.items) ∙
+          sym (map_more views.call (places_of walk.path.items) place) ∙ sym (ap (map views.call) p))
+          (walk_found start (views.at walk.world) walk.most walk.placed
+          (views.call place ∷ views.tries walk.world walk.next) (map (place_of views) walk.path.items)
+          (map views.at walk.known.worlds.items) (views.call place) w.walks.is w.goes
+          (ap (λ (x : Configuration). answered x.rest) (sym e) ∙ l.0 refl));
       distinct = subst AreDistinct (sym p) all.distinct;
       within = subst (λ ps. All (λ place. place < views.count) ps) (sym p) all.within;
     }
 
-pub steps_known : {W : Type 0} (views : Views W) (start : Configuration) (steps : ℕ) (walk : Walk W) (place : ℕ) (next : Configuration)
+pub steps_known : {W : Type 0} (views : Views W) (start : Configuration) (steps : ℕ) (walk : Walk W) (place : ℕ)
+    (next : Configuration)
     → Tries views start steps walk place → next ≡ after (views.at walk.world) (views.call place)
     → Contains (map views.at walk.known.worlds.items) next → Walks views start (suc steps) walk
 steps_known views start steps walk place next w e k =
@@ -232,7 +310,8 @@ steps_known views start steps walk place next w e k =
     record {
       is = walk_lost start (views.at walk.world) walk.most walk.placed call tries (map (place_of views) walk.path.items)
           (map views.at walk.known.worlds.items) w.walks.is
-          (λ goes. subst (PlacesAtMost total walk.most) e (all_at (PlacesAtMost total walk.most) (map views.at walk.known.worlds.items) next w.walks.is.dead k));
+          (λ goes. subst (PlacesAtMost total walk.most) e (all_at (PlacesAtMost total walk.most)
+          (map views.at walk.known.worlds.items) next w.walks.is.dead k));
       deepest = w.walks.deepest;
       made = (
         search_of views walk.world walk.placed walk.path.items walk.known.worlds.items (call ∷ tries),
@@ -254,25 +333,46 @@ steps_known views start steps walk place next w e k =
 max_more : (m p q : ℕ) → p ≤ q → max m q ≡ max (max m p) q
 max_more m p q l = omega arith
 
-pub steps_on : {W : Type 0} (views : Views W) (start : Configuration) (steps : ℕ) (walk : Walk W) (place count : ℕ) (next : W) (path : Vec (Frame W))
-    → Tries views start steps walk place → place < views.count → views.at next ≡ after (views.at walk.world) (views.call place)
+pub steps_on : {W : Type 0} (views : Views W) (start : Configuration) (steps : ℕ) (walk : Walk W) (place count : ℕ)
+    (next : W) (path : Vec (Frame W))
+    → Tries views start steps walk place → place < views.count →
+    views.at next ≡ after (views.at walk.world) (views.call place)
     → TellsLeft (answered (views.at next).rest) false
     → ((p : ℕ) → views.made next p ≡ (views.made walk.world p || p == place))
-    → AreChoices (views.at next).rest (views.tries next 0) → AreApart (views.tries next 0) → count ≡ walk.placed + weight (views.call place)
-    → path.items ≡ walk.path.items ++ (record { world = walk.world; placed = walk.placed; place = place; next = walk.next }) ∷ []
-    → Walks views start (suc steps) (record { world = next; placed = count; next = 0; path = path; known = walk.known; best = walk.best; most = walk.most })
+    → AreChoices (views.at next).rest (views.tries next 0) → AreApart (views.tries next 0) →
+    count ≡ walk.placed + weight (views.call place)
+    → path.items ≡ walk.path.items ++ (record {
+      world = walk.world;
+      placed = walk.placed;
+      place = place;
+      next = walk.next;
+    }) ∷ []
+    → Walks views start (suc steps) (record {
+      world = next;
+      placed = count;
+      next = 0;
+      path = path;
+      known = walk.known;
+      best = walk.best;
+      most = walk.most;
+    })
 steps_on {W = W} views start steps walk place count next path w within e l more choices apart c p =
     let frame : Frame W = record { world = walk.world; placed = walk.placed; place = place; next = walk.next } in
     let known = map views.at walk.known.worlds.items in
     let call = views.call place in
     let tries = views.tries walk.world walk.next in
-    let some : 1 ≤ answered (after (views.at walk.world) call).rest = subst (λ (x : Configuration). 1 ≤ answered x.rest) e (l.1 refl) in
+    let some : 1 ≤ answered (after (views.at walk.world) call).rest =
+    subst (λ (x : Configuration). 1 ≤ answered x.rest) e (l.1 refl) in
     let on = walk_on start (views.at walk.world) walk.most walk.placed count call tries (views.tries next 0)
-    (map (place_of views) walk.path.items) known w.walks.is w.goes c some (subst (λ (x : Configuration). AreChoices x.rest (views.tries next 0)) e choices) in
-    let places : map (place_of views) path.items ≡ map (place_of views) walk.path.items ++ place_of views frame ∷ [] = ap (map (place_of views)) p ∙ map_more (place_of views) walk.path.items frame in
+    (map (place_of views) walk.path.items) known w.walks.is w.goes c some
+    (subst (λ (x : Configuration). AreChoices x.rest (views.tries next 0)) e choices) in
+    let places : map (place_of views) path.items ≡ map (place_of views) walk.path.items ++ place_of views frame ∷ [] =
+    ap (map (place_of views)) p ∙ map_more (place_of views) walk.path.items frame in
     record {
-      is = subst (λ x. IsWalk start walk.most x count (views.tries next 0) (map (place_of views) path.items) known) (sym e)
-          (subst (λ ps. IsWalk start walk.most (after (views.at walk.world) call) count (views.tries next 0) ps known) (sym places) on);
+      is = subst (λ x. IsWalk start walk.most x count (views.tries next 0) (map (place_of views) path.items) known)
+          (sym e)
+          (subst (λ ps. IsWalk start walk.most (after (views.at walk.world) call) count (views.tries next 0) ps known)
+          (sym places) on);
       deepest = w.walks.deepest;
       made = (
         search_of views walk.world walk.placed walk.path.items walk.known.worlds.items (call ∷ tries),
@@ -294,18 +394,42 @@ steps_on {W = W} views start steps walk place count next path w within e l more 
         max_more walk.most walk.placed count (omega arith),
       );
       first = w.walks.first;
-      places = subst (λ fs. AreMadeBy views w.walks.first [] fs next) (sym p) (made_push views w.walks.first [] walk.path.items frame next w.walks.places w.left within more);
+      places = subst (λ fs. AreMadeBy views w.walks.first [] fs next) (sym p)
+          (made_push views w.walks.first [] walk.path.items frame next w.walks.places w.left within more);
     }
 
-pub starts : {W : Type 0} (views : Views W) (world : W) (path : Vec (Frame W)) (known : Known W) → path.items ≡ [] → known.worlds.items ≡ []
-    → IsWhole (views.at world).rest → TellsLeft (answered (views.at world).rest) false → AreChoices (views.at world).rest (views.tries world 0) → AreApart (views.tries world 0)
-    → Walks views (views.at world) 0 (record { world = world; placed = 0; next = 0; path = path; known = known; best = 0; most = 0 })
+pub starts : {W : Type 0} (views : Views W) (world : W) (path : Vec (Frame W)) (known : Known W) → path.items ≡ [] →
+    known.worlds.items ≡ []
+    → IsWhole (views.at world).rest → TellsLeft (answered (views.at world).rest) false →
+    AreChoices (views.at world).rest (views.tries world 0) → AreApart (views.tries world 0)
+    → Walks views (views.at world) 0 (record {
+      world = world;
+      placed = 0;
+      next = 0;
+      path = path;
+      known = known;
+      best = 0;
+      most = 0;
+    })
 starts views world path known p k whole l choices apart = record {
-  is = subst (λ ks. IsWalk (views.at world) 0 (views.at world) 0 (views.tries world 0) (map (place_of views) path.items) ks) (ap (map views.at) (sym k))
-      (subst (λ ps. IsWalk (views.at world) 0 (views.at world) 0 (views.tries world 0) ps []) (ap (map (place_of views)) (sym p))
+  is = subst (λ ks. IsWalk (views.at world) 0 (views.at world) 0 (views.tries world 0)
+      (map (place_of views) path.items) ks) (ap (map views.at) (sym k))
+      (subst (λ ps. IsWalk (views.at world) 0 (views.at world) 0 (views.tries world 0) ps [])
+      (ap (map (place_of views)) (sym p))
       (walk_start (views.at world) (views.tries world 0) whole (l.1 refl) choices));
   deepest = subst (λ ks. KeepsDeepest (views.at world) 0 0 ks) (ap (map views.at) (sym k)) refl;
-  made = (record { at = refl; placed = refl; path = ap (map (place_of views)) p; known = ap (map views.at) k; some = l.1 refl; choices = choices; apart = apart }, refl);
+  made = (
+    record {
+      at = refl;
+      placed = refl;
+      path = ap (map (place_of views)) p;
+      known = ap (map views.at) k;
+      some = l.1 refl;
+      choices = choices;
+      apart = apart;
+    },
+    refl,
+  );
   first = views.made world;
   places = subst (λ fs. AreMadeBy views (views.made world) [] fs world) (sym p) (made_none views world);
 }
@@ -315,26 +439,36 @@ pub no_calls : (start : Configuration) → TellsLeft (answered start.rest) true 
 no_calls start l = record { to = start; reaches = refl; done = l.0 refl }
 
 -- the deeper of two places
-places_max : {W : Type 0} (views : Views W) (start : Configuration) (steps : ℕ) (walk : Walk W) (tries : List Call) (n : ℕ) → WalksWith views start steps walk tries
+places_max : {W : Type 0} (views : Views W) (start : Configuration) (steps : ℕ) (walk : Walk W) (tries : List Call)
+    (n : ℕ) → WalksWith views start steps walk tries
     → (n ≡ walk.placed) ⊎ ((n ≡ walk.most) × (walk.placed ≤ walk.most)) → Places start n
 places_max views start steps walk tries n w (inl e) = record {
   calls = calls_of (map (place_of views) walk.path.items);
   at = views.at walk.world;
-  reaches = leads_reaches (answered start.rest) walk.most start (map (place_of views) walk.path.items) (views.at walk.world) w.is.leads;
+  reaches = leads_reaches (answered start.rest) walk.most start (map (place_of views) walk.path.items)
+      (views.at walk.world) w.is.leads;
   count = (let c = w.is.count in omega arith);
 }
 places_max views start steps walk tries n w (inr e) = go (map views.at walk.known.worlds.items) w.deepest
   where
     go : (known : List Configuration) → KeepsDeepest start walk.most walk.best known → Places start n
     go [] z = record { calls = []; at = start; reaches = refl; count = (let m = e.0 in omega arith) }
-    go (k ∷ ks) d = record { calls = d.deepest.calls; at = d.at; reaches = d.deepest.reaches; count = (let c = d.deepest.count in let m = e.0 in omega arith) }
+    go (k ∷ ks) d = record {
+      calls = d.deepest.calls;
+      at = d.at;
+      reaches = d.deepest.reaches;
+      count = (let c =
+          d.deepest.count in let m = e.0 in omega arith);
+    }
 
 -- what is said of a search that has made its steps
-pub undecided : {W : Type 0} (views : Views W) (start : Configuration) (steps : ℕ) (walk : Walk W) (tries : List Call) (n : ℕ) → WalksWith views start steps walk tries
+pub undecided : {W : Type 0} (views : Views W) (start : Configuration) (steps : ℕ) (walk : Walk W) (tries : List Call)
+    (n : ℕ) → WalksWith views start steps walk tries
     → (n ≡ max walk.most walk.placed) → IsUndecided start steps n
 undecided views start steps walk tries n w e = record {
   search = search_of views walk.world walk.placed walk.path.items walk.known.worlds.items tries;
-  made = subst (HasMade steps start (search_of views walk.world walk.placed walk.path.items walk.known.worlds.items tries)) (sym e) w.made;
+  made = subst (HasMade steps start (search_of views walk.world walk.placed walk.path.items walk.known.worlds.items
+      tries)) (sym e) w.made;
   placed = places_max views start steps walk tries n w (elim (cases_lt walk.most walk.placed) [
     | inl l ↦ inl (omega arith)
     | inr l ↦ inr ((let x : n ≡ walk.most = omega arith in x), l)

@@ -1,5 +1,7 @@
 -- What is written of an order is a history that the judge calls legal.
-use Rattle.std.proofs.Common.{◌≡◌, ◌≢◌, ◌⊎◌, ◌||◌, ◌-◌, ◌<◌, ◌≤◌, ℕ, suc, zero, Bool, true, false, cond, Option, Some, None, Result, Ok, Err, inl, inr, List, [], ◌∷◌, ◌++◌, map, length, get_or, refl, sym, ap, ◌∙◌, subst, arith, append_assoc, append-nil, nat_lt}
+use Rattle.std.proofs.Common.{◌≡◌, ◌≢◌, ◌⊎◌, ◌||◌, ◌-◌, ◌<◌, ◌≤◌, ℕ, suc, zero, Bool, true, false, cond, Option, Some}
+use Rattle.std.proofs.Common.{None, Result, Ok, Err, inl, inr, List, [], ◌∷◌, ◌++◌, map, length, get_or, refl, sym, ap}
+use Rattle.std.proofs.Common.{◌∙◌, subst, arith, append_assoc, append-nil, nat_lt}
 use Rattle.std.specs.Prelude.{All, IfSome}
 use Rattle.std.specs.List.{list_any}
 use Rattle.std.specs.Option.{ok_or}
@@ -8,17 +10,18 @@ use Rattle.std.proofs.lemmas.List.Elements.{All-head, All-tail, All-nil, All-con
 use Rattle.vac_lines.specs.declared.fault.LineFault.TheVariants.{LongLine, BadByte}
 use Rattle.vac_lines.specs.Lines.{lines_of, HasNo}
 use Rattle.vac_lines.specs.LineTable.{is_bad_byte}
+use Rattle.vac_streams.proofs.Cutting.{lines_cut}
 use Rattle.vac_judge.specs.declared.call.TheConstants.{CALL_BYTES}
 use Rattle.vac_judge.specs.declared.fault.CallFault.{CallFault}
 use Rattle.vac_judge.specs.declared.fault.CallFault.TheVariants.{BadCall, Line}
 use Rattle.vac_judge.specs.Call.{Call, line_call, call_parts, parts_call, ◌>>=◌}
 use Rattle.vac_judge.specs.Laws.{Lists, LegalSummary}
-use Rattle.vac_judge.proofs.Cutting.{lines_cut}
 use Rattle.vac_order.specs.declared.ordering.Outcome.{Outcome}
 use Rattle.vac_order.specs.declared.ordering.Outcome.TheVariants as outcome
 use Rattle.vac_order.specs.Calls.{no_call}
 use Rattle.vac_order.specs.Reading.{call_at}
-use Rattle.vac_order.specs.Found.{Found, Wrong, Order, NoOrder, Undecided, IsFound, numbered, line_at, order_text, found_text}
+use Rattle.vac_order.specs.Found.{Found, Wrong, Order, NoOrder, Undecided, IsFound, numbered, line_at, order_text}
+use Rattle.vac_order.specs.Found.{found_text}
 use Rattle.vac_order.specs.Ordering.{outcome_of, FindsText}
 use Rattle.vac_order.specs.Laws.{IsJudgedLegal, IsOrderOfText, OrderIsJudgedLegal}
 use Rattle.vac_order.proofs.Lawful.{tail_same, calls_same}
@@ -67,10 +70,12 @@ order_listed bytes calls [] l f h = refl
 order_listed bytes calls (n ∷ ns) l f h =
     let first : 1 ≤ n = All-head (λ n. 1 ≤ n) n ns f in
     let last : n ≤ length calls = All-head (λ n. n ≤ length calls) n ns h in
-    let read : line_call (line_at bytes n) ≡ Ok (call_at calls n) = read_at (lines_of bytes) calls (n - 1) l (omega arith) in
+    let read : line_call (line_at bytes n) ≡ Ok (call_at calls n) =
+    read_at (lines_of bytes) calls (n - 1) l (omega arith) in
     let more = order_text bytes ns in
     ap (λ t. map line_call (lines_of t)) (append_assoc (line_at bytes n) (10 ∷ []) more)
-    ∙ ap (map line_call) (lines_cut (line_at bytes n) more (no_ends (line_at bytes n) (clean (line_at bytes n) (call_at calls n) read)))
+    ∙ ap (map line_call) (lines_cut (line_at bytes n) more (no_ends (line_at bytes n)
+    (clean (line_at bytes n) (call_at calls n) read)))
     ∙ ap (λ r. r ∷ map line_call (lines_of more)) read
     ∙ ap (λ rs. Ok (call_at calls n) ∷ rs)
     (order_listed bytes calls ns l (All-tail (λ n. 1 ≤ n) n ns f) (All-tail (λ n. n ≤ length calls) n ns h))
@@ -86,15 +91,21 @@ legal_text : LegalSummary → (n steps : ℕ) (bytes text : List ℕ) → FindsT
     → (calls : List Call) × IsJudgedLegal n text calls × IsOrderOfText bytes calls
 legal_text summary n steps bytes text f = go f.found f.is f.answered f.text_is
   where
-    go : (found : Found) → IsFound n steps bytes found → outcome.Ordered ≡ outcome_of found → text ≡ found_text bytes found
+    go : (found : Found) → IsFound n steps bytes found → outcome.Ordered ≡ outcome_of found →
+        text ≡ found_text bytes found
         → (calls : List Call) × IsJudgedLegal n text calls × IsOrderOfText bytes calls
     go (Wrong verdict) is a t = absurd (illegal_not a)
     go (Order numbers) is a t =
         let calls = numbered is.calls numbers in
         let listed : Lists text calls =
-        subst (λ x. Lists x calls) (sym t) (order_listed bytes is.calls numbers is.listed is.numbers_are.first is.numbers_are.last) in (
+        subst (λ x. Lists x calls) (sym t) (order_listed bytes is.calls numbers is.listed is.numbers_are.first
+        is.numbers_are.last) in (
           calls,
-          record { listed = listed; linearization = is.linearization; verdict = summary n text calls listed is.linearization },
+          record {
+            listed = listed;
+            linearization = is.linearization;
+            verdict = summary n text calls listed is.linearization;
+          },
           record { calls = is.calls; listed = is.listed; orders = is.orders },
         )
     go (NoOrder most stuck) is a t = absurd (illegal_not a)
@@ -120,7 +131,8 @@ order_is_judged_legal summary n steps unread left held holds h =
     }
   where
     of_input : (calls : List Call) → Lists h.text calls → (u : Option (List ℕ))
-        → IfSome u (λ input. FindsText n steps input outcome.Ordered h.text) → IfSome u (λ input. IsOrderOfText input calls)
+        → IfSome u (λ input. FindsText n steps input outcome.Ordered h.text) →
+        IfSome u (λ input. IsOrderOfText input calls)
     of_input calls listed None f = tt
     of_input calls listed (Some input) f =
         let two = legal_text summary n steps input h.text f in

@@ -1,4 +1,5 @@
-use Rattle.std.proofs.Common.{◌≡◌, ◌<◌, ◌≤◌, ℕ, ◌++◌, length, take, flat_map, get_or, refl, sym, ap, ◌∙◌, subst, arith, append_assoc, append-nil}
+use Rattle.std.proofs.Common.{◌≡◌, ◌<◌, ◌≤◌, ℕ, ◌++◌, length, take, flat_map, get_or, refl, sym, ap, ◌∙◌, subst, arith}
+use Rattle.std.proofs.Common.{append_assoc, append-nil}
 use Rattle.std.specs.Global.{Vec}
 use Rattle.std.proofs.lemmas.List.{take_all}
 use Rattle.vac_model.specs.declared.replies.Reply.TheVariants as reply
@@ -21,19 +22,23 @@ stuck-preserved c = λ all.
     let d : Stuck = record { place = 0; expected = reply.Done } in
     let one = get_or stuck i d in
     let old = c.args.out.now.items in
-    let within : one.place < length lines = all_get (λ (x : Stuck). x.place < length lines) stuck i d c.stuck-test.true all in
+    let within : one.place < length lines = all_get (λ (x : Stuck). x.place < length lines) stuck i d c.stuck-test.true
+    all in
     elim c.if-place-lines.branch [
       | then-place-lines+in_ok-print_stuck w ↦
           let line = w.index-lines-place.result in
           ap (λ (v : Vec ℕ). v.items) w.out-is ∙ w.in_ok-print_stuck.ensures
           ∙ ap (λ (x : Line). c.stuck.out.items ++ stuck_text (x.number, one.expected)) (sym w.index-lines-place.is)
           ∙ ap (λ t. t ++ stuck_text (line.number, one.expected)) (c.stuck.invariant all)
-          ∙ append_assoc old (flat_map stuck_text (told_by (numbers_of lines) (take i stuck))) (stuck_text (line.number, one.expected))
-          ∙ ap (λ t. old ++ t) (sym (stuck_next lines stuck i one d line c.stuck-test.true refl within w.index-lines-place.is))
+          ∙ append_assoc old (flat_map stuck_text (told_by (numbers_of lines) (take i stuck)))
+          (stuck_text (line.number, one.expected))
+          ∙ ap (λ t. old ++ t) (sym (stuck_next lines stuck i one d line c.stuck-test.true refl within
+          w.index-lines-place.is))
       | else-place-lines w ↦ absurd (let far = w.if-place-lines.false in omega arith)
     ]
 
 pub returns : goal.returns
 returns c = λ all.
     c.stuck.invariant all
-    ∙ ap (λ l. c.args.out.now.items ++ flat_map stuck_text (told_by (numbers_of c.args.lines.now) l)) (take_all c.stuck.number c.args.stuck.now c.stuck-test.false)
+    ∙ ap (λ l. c.args.out.now.items ++ flat_map stuck_text (told_by (numbers_of c.args.lines.now) l))
+    (take_all c.stuck.number c.args.stuck.now c.stuck-test.false)

@@ -7,4 +7,5 @@ use Rattle.vac_order.proofs.found.print_all_stuck.Given as goal
 
 abbrev pub invariant-stuck : goal.invariant-stuck
 invariant-stuck l =
-    All (λ (one : Stuck). one.place < length l.lines) l.stuck → l.out.items ≡ l.initial.out.items ++ flat_map stuck_text (told_by (numbers_of l.lines) (take l.number l.stuck))
+    All (λ (one : Stuck). one.place < length l.lines) l.stuck →
+    l.out.items ≡ l.initial.out.items ++ flat_map stuck_text (told_by (numbers_of l.lines) (take l.number l.stuck))

@@ -13,4 +13,5 @@ on_ok P Q f (Err e) h = tt
 pub returns : goal.returns
 returns c =
     let rest = flat_map stuck_text (told_by (numbers_of c.args.lines.now) c.args.stuck.now) in
-    on_ok _ _ (λ h all. h all ∙ ap (λ t. t ++ rest) c.in_ok-append_count.ensures ∙ append_assoc c.args.out.now.items _ rest) c.print_all_stuck.result c.print_all_stuck.ensures
+    on_ok _ _ (λ h all. h all ∙ ap (λ t. t ++ rest) c.in_ok-append_count.ensures ∙
+    append_assoc c.args.out.now.items _ rest) c.print_all_stuck.result c.print_all_stuck.ensures

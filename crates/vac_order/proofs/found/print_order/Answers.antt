@@ -1,4 +1,5 @@
-use Rattle.std.proofs.Common.{◌≡◌, ◌<◌, ◌≤◌, ℕ, ◌++◌, length, take, get_or, refl, sym, ap, ◌∙◌, subst, arith, append_assoc, append-nil}
+use Rattle.std.proofs.Common.{◌≡◌, ◌<◌, ◌≤◌, ℕ, ◌++◌, length, take, get_or, refl, sym, ap, ◌∙◌, subst, arith}
+use Rattle.std.proofs.Common.{append_assoc, append-nil}
 use Rattle.std.specs.Global.{Vec}
 use Rattle.std.proofs.lemmas.List.{take_all}
 use Rattle.vac_lines.specs.Script.{as_line}
@@ -24,14 +25,17 @@ places-preserved c = λ all.
       | then-place-lines+in_ok-append_line w ↦
           let line = w.index-lines-place.result in
           ap (λ (v : Vec ℕ). v.items) w.out-is ∙ w.in_ok-append_line.ensures
-          ∙ ap (λ t. c.places.out.items ++ as_line t) (w.as_slice.ensures.value ∙ sym (ap (λ (x : Line). x.text.items) w.index-lines-place.is))
+          ∙ ap (λ t. c.places.out.items ++ as_line t) (w.as_slice.ensures.value ∙
+          sym (ap (λ (x : Line). x.text.items) w.index-lines-place.is))
           ∙ ap (λ t. t ++ as_line line.text.items) (c.places.invariant all)
           ∙ append_assoc old (placed_text (texts_of lines) (take i places)) (as_line line.text.items)
-          ∙ ap (λ t. old ++ t) (sym (placed_next lines places i p line c.places-test.true refl within w.index-lines-place.is))
+          ∙ ap (λ t. old ++ t) (sym (placed_next lines places i p line c.places-test.true refl within
+          w.index-lines-place.is))
       | else-place-lines w ↦ absurd (let far = w.if-place-lines.false in omega arith)
     ]
 
 pub returns : goal.returns
 returns c = λ all.
     c.places.invariant all
-    ∙ ap (λ l. c.args.out.now.items ++ placed_text (texts_of c.args.lines.now) l) (take_all c.places.number c.args.places.now c.places-test.false)
+    ∙ ap (λ l. c.args.out.now.items ++ placed_text (texts_of c.args.lines.now) l)
+    (take_all c.places.number c.args.places.now c.places-test.false)

@@ -15,7 +15,8 @@ if_ok P Q f (Err e) h = tt
 
 pub find_order-requires : goal.find_order-requires
 find_order-requires g c =
-    subst IsWhole (sym (all_left c.new.result.low c.new.result.beyond.items (calls_of c.args.calls.now.lines.items) c.new.ensures.low c.new.ensures.beyond)) c.requires
+    subst IsWhole (sym (all_left c.new.result.low c.new.result.beyond.items
+    (calls_of c.args.calls.now.lines.items) c.new.ensures.low c.new.ensures.beyond)) c.requires
 
 pub returns-in-Some : goal.returns-in-Some
 returns-in-Some g c =
@@ -27,7 +28,9 @@ returns g c =
     let state = g.M.Machine.state in
     let calls = c.args.calls.now in
     if_ok (λ found. Finds (point_views state calls) (point_at state calls c.new.result) c.args.steps found)
-    (λ found. (n : ℕ) → state c.args.machine ≡ empty_state n → Judges (point_at state calls) n (calls_of calls.lines.items) c.args.steps found)
+    (λ found. (n : ℕ) → state c.args.machine ≡ empty_state n →
+    Judges (point_at state calls) n (calls_of calls.lines.items) c.args.steps found)
     (λ found h n e.
-    judges state calls c.new.result n c.args.steps c.requires c.new.ensures.low c.new.ensures.beyond (ap state c.new.ensures.machine ∙ e) found h)
+    judges state calls c.new.result n c.args.steps c.requires c.new.ensures.low c.new.ensures.beyond
+    (ap state c.new.ensures.machine ∙ e) found h)
     c.find_order.result c.find_order.ensures

@@ -6,6 +6,8 @@ use Rattle.vac_order.proofs.ordering.find_text.Goals as goal
 
 pub returns-in_ok-print_verdict-in-Wrong-clause-found : goal.returns-in_ok-print_verdict-in-Wrong-clause-found
 returns-in_ok-print_verdict-in-Wrong-clause-found g c =
-    text_wrong c.args.blocks c.args.steps (g.R.Read.remaining c.args.input.now) (g.R.Read.remaining c.read_history.new.input) c.in-Wrong.verdict c.print_verdict.new.out.items
-    (subst (WasRead (g.R.Read.remaining c.args.input.now) (g.R.Read.remaining c.read_history.new.input)) c.in-Wrong.is c.in_ok-history.ensures.read)
+    text_wrong c.args.blocks c.args.steps (g.R.Read.remaining c.args.input.now)
+    (g.R.Read.remaining c.read_history.new.input) c.in-Wrong.verdict c.print_verdict.new.out.items
+    (subst (WasRead (g.R.Read.remaining c.args.input.now) (g.R.Read.remaining c.read_history.new.input)) c.in-Wrong.is
+    c.in_ok-history.ensures.read)
     (c.in_ok-print_verdict-in-Wrong.ensures ∙ ap (λ t. t ++ verdict_text c.in-Wrong.verdict) c.new-text.ensures.items)

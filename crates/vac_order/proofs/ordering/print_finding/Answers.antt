@@ -19,7 +19,8 @@ returns-in_ok-print_order-in-Order g c = λ lines n steps bytes k j texts listed
     let found = subst (Judges (point_at g.M.Machine.state calls) n (calls_of kept) steps) c.in-Order.is j in
     let within : All (λ p. p < length c.as_slice-lines.result.now) c.as_slice.result.now =
     subst (λ (s : List Line). All (λ p. p < length s) c.as_slice.result.now) (sym c.as_slice-lines.ensures)
-    (subst (λ l. All (λ p. p < length kept) l) (sym c.as_slice.ensures.value) (subst (λ m. All (λ p. p < m) places) (length-map kept call_of) found.within)) in
+    (subst (λ l. All (λ p. p < length kept) l) (sym c.as_slice.ensures.value)
+    (subst (λ m. All (λ p. p < m) places) (length-map kept call_of) found.within)) in
     finds_order lines kept k bytes texts listed right n steps places c.print_order.new.out.items found
     (c.in_ok-print_order-in-Order.ensures within
     ∙ ap (λ t. t ++ placed_text (texts_of c.as_slice-lines.result.now) c.as_slice.result.now) none
@@ -35,14 +36,19 @@ returns-in_ok-print_no_order-in-NoOrder g c = λ lines n steps bytes k j texts l
     let stuck = c.in_ok-stuck-in-NoOrder.stuck.items in
     let are = c.in_ok-stuck-in-NoOrder.ensures in
     let found = subst (Judges (point_at g.M.Machine.state calls) n (calls_of kept) steps) c.in-NoOrder.is j in
-    let within : All (λ (one : Stuck). one.place < length c.as_slice-lines.result.now) c.as_slice-in-NoOrder.result.now =
-    subst (λ (s : List Line). All (λ (one : Stuck). one.place < length s) c.as_slice-in-NoOrder.result.now) (sym c.as_slice-lines.ensures)
+    let within : All (λ (one : Stuck). one.place < length c.as_slice-lines.result.now) c.as_slice-in-NoOrder.result.now
+    =
+    subst (λ (s : List Line). All (λ (one : Stuck). one.place < length s) c.as_slice-in-NoOrder.result.now)
+    (sym c.as_slice-lines.ensures)
     (subst (λ l. All (λ (one : Stuck). one.place < length kept) l) (sym c.as_slice-in-NoOrder.ensures.value)
     (subst (λ m. All (λ (one : Stuck). one.place < m) stuck) (length-map kept call_of) are.within)) in
-    finds_none lines kept k bytes texts listed right n steps most (made_of point) (g.M.Machine.state point.machine) stuck c.print_no_order.new.out.items found are
+    finds_none lines kept k bytes texts listed right n steps most (made_of point)
+    (g.M.Machine.state point.machine) stuck c.print_no_order.new.out.items found are
     (c.in_ok-print_no_order-in-NoOrder.ensures within
-    ∙ ap (λ t. t ++ none_text most (told_by (numbers_of c.as_slice-lines.result.now) c.as_slice-in-NoOrder.result.now)) none
-    ∙ ap (λ (s : List Line). none_text most (told_by (numbers_of s) c.as_slice-in-NoOrder.result.now)) c.as_slice-lines.ensures
+    ∙ ap (λ t. t ++ none_text most (told_by (numbers_of c.as_slice-lines.result.now) c.as_slice-in-NoOrder.result.now))
+    none
+    ∙ ap (λ (s : List Line). none_text most (told_by (numbers_of s) c.as_slice-in-NoOrder.result.now))
+    c.as_slice-lines.ensures
     ∙ ap (λ l. none_text most (told_by (numbers_of kept) l)) c.as_slice-in-NoOrder.ensures.value)
 
 pub returns-in_ok-print_undecided-in-Unknown : goal.returns-in_ok-print_undecided-in-Unknown

@@ -9,7 +9,8 @@ use Rattle.vac_order.proofs.Tries.{front_made}
 use Rattle.vac_order.proofs.Sorted.{call_here, long_calls}
 use Rattle.vac_order.proofs.Points.{front_less, front_next, front_has}
 use Rattle.vac_order.proofs.point.has_earlier.Goals as goal
-use Rattle.vac_order.proofs.point.has_earlier.Goals.{else-lines-earlier-via-then-lines-earlier+else-not-is_made, else-lines-earlier-via-else-lines-earlier}
+use Rattle.vac_order.proofs.point.has_earlier.Goals.{else-lines-earlier-via-then-lines-earlier+else-not-is_made}
+use Rattle.vac_order.proofs.point.has_earlier.Goals.{else-lines-earlier-via-else-lines-earlier}
 
 same : (a b : ℕ) → a ≡ b → (a == b) ≡ true
 same a b e = grind (arith, nat_tests)
@@ -20,31 +21,40 @@ other a b n = grind (arith, nat_tests)
 pub lines-init : goal.lines-init
 lines-init c =
     ap (list_any (λ (o : Call). o.client == c.args.client))
-    (front_made (is_made c.args.low c.args.beyond.now) 0 (calls_of c.args.lines.now) c.args.from (λ j l. c.requires.made j (omega arith)))
+    (front_made (is_made c.args.low c.args.beyond.now) 0 (calls_of c.args.lines.now) c.args.from
+    (λ j l. c.requires.made j (omega arith)))
 
 pub returns-then-not-is_made : goal.returns-then-not-is_made
 returns-then-not-is_made c =
     let e = c.lines.earlier in
     let lines = c.args.lines.now in
     let within : e < length lines = omega arith in
-    sym (front_has (λ (o : Call). o.client == c.args.client) (is_made c.args.low c.args.beyond.now) 0 (calls_of lines) e c.args.place e (omega arith) (omega arith)
+    sym (front_has (λ (o : Call). o.client == c.args.client) (is_made c.args.low c.args.beyond.now) 0
+    (calls_of lines) e c.args.place e (omega arith) (omega arith)
     (long_calls lines e within) (sym c.is_made.ensures ∙ c.if-not-is_made.true)
-    (ap (λ (o : Call). o.client == c.args.client) (call_here lines e c.index-lines-earlier.result within c.index-lines-earlier.is) ∙ same c.index-lines-earlier.result.client c.args.client (ap (λ (x : Line). x.client) c.index-lines-earlier.is ∙ c.if-lines-earlier.true)))
+    (ap (λ (o : Call). o.client == c.args.client) (call_here lines e c.index-lines-earlier.result within
+    c.index-lines-earlier.is) ∙ same c.index-lines-earlier.result.client c.args.client
+    (ap (λ (x : Line). x.client) c.index-lines-earlier.is ∙ c.if-lines-earlier.true)))
 
 pub lines-preserved : goal.lines-preserved
 lines-preserved c =
     let e = c.lines.earlier in
     let lines = c.args.lines.now in
     let within : e < length lines = omega arith in
-    front_next (λ (o : Call). o.client == c.args.client) (is_made c.args.low c.args.beyond.now) (calls_of lines) e (long_calls lines e within)
+    front_next (λ (o : Call). o.client == c.args.client) (is_made c.args.low c.args.beyond.now) (calls_of lines) e
+    (long_calls lines e within)
     (elim c.else-lines-earlier.branch [
-      | else-lines-earlier-via-then-lines-earlier+else-not-is_made w ↦ inl (sym w.is_made.ensures ∙ w.if-not-is_made.false)
+      | else-lines-earlier-via-then-lines-earlier+else-not-is_made w ↦
+          inl (sym w.is_made.ensures ∙ w.if-not-is_made.false)
       | else-lines-earlier-via-else-lines-earlier w ↦
-          inr (ap (λ (o : Call). o.client == c.args.client) (call_here lines e c.index-lines-earlier.result within c.index-lines-earlier.is)
-          ∙ other c.index-lines-earlier.result.client c.args.client (λ y. w.if-lines-earlier.false (sym (ap (λ (x : Line). x.client) c.index-lines-earlier.is) ∙ y)))
+          inr (ap (λ (o : Call). o.client == c.args.client) (call_here lines e c.index-lines-earlier.result within
+          c.index-lines-earlier.is)
+          ∙ other c.index-lines-earlier.result.client c.args.client
+          (λ y. w.if-lines-earlier.false (sym (ap (λ (x : Line). x.client) c.index-lines-earlier.is) ∙ y)))
     ]) c.lines.invariant
 
 pub returns : goal.returns
 returns c =
-    sym (front_less (λ (o : Call). o.client == c.args.client) (is_made c.args.low c.args.beyond.now) 0 (calls_of c.args.lines.now) c.args.place c.lines.earlier
+    sym (front_less (λ (o : Call). o.client == c.args.client) (is_made c.args.low c.args.beyond.now) 0
+    (calls_of c.args.lines.now) c.args.place c.lines.earlier
     (omega arith) c.lines.invariant)

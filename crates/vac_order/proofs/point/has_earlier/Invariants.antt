@@ -7,4 +7,5 @@ use Rattle.vac_order.proofs.point.has_earlier.Given as goal
 
 abbrev pub invariant-lines : goal.invariant-lines
 invariant-lines l =
-    list_any (λ (other : Call). other.client == l.client) (rest_of (is_made l.low l.beyond) 0 (take l.earlier (calls_of l.lines))) ≡ false
+    list_any (λ (other : Call). other.client == l.client) (rest_of (is_made l.low l.beyond) 0
+    (take l.earlier (calls_of l.lines))) ≡ false

@@ -11,13 +11,21 @@ returns-then-first-lines c =
     let lines = c.args.lines.now in
     let e : c.first_left-first.result ≡ length lines = c.if-first-lines.true in
     let long = length_calls lines in
-    tells_all (is_made c.args.low c.args.beyond.now) (calls_of lines) (λ p l. c.first_left-first.ensures.below p (omega arith))
+    tells_all (is_made c.args.low c.args.beyond.now) (calls_of lines)
+    (λ p l. c.first_left-first.ensures.below p (omega arith))
 
 pub returns : goal.returns
 returns c =
     let lines = c.args.lines.now in
     let first = c.first_left-first.result in
-    let within : first < length lines = (let a = c.first_left-first.ensures.within in let b = c.if-first-lines.false in omega arith) in
+    let within : first < length lines = (let a = c.first_left-first.ensures.within in let b = c.if-first-lines.false in
+    omega arith) in
     tells_first (is_made c.args.low c.args.beyond.now) lines first c.index-lines-first.result c.is_some.result
-    (record { sorted = c.requires; within = within; is = c.index-lines-first.is; below = c.first_left-first.ensures.below; left = c.first_left-first.ensures.left within })
+    (record {
+      sorted = c.requires;
+      within = within;
+      is = c.index-lines-first.is;
+      below = c.first_left-first.ensures.below;
+      left = c.first_left-first.ensures.left within;
+    })
     (c.is_some.ensures ∙ sym (ap (λ (x : Line). is_some x.reply) c.index-lines-first.is))

@@ -6,18 +6,21 @@ use Rattle.vac_order.proofs.Sorted.{length_calls}
 use Rattle.vac_order.proofs.Tries.{tries_none}
 use Rattle.vac_order.proofs.Points.{IsFirstLeft, tries_made_all, tries_start, tries_pass, tries_found, tries_end}
 use Rattle.vac_order.proofs.point.next_call.Goals as goal
-use Rattle.vac_order.proofs.point.next_call.Goals.{then-is_made-via-then-is_made, then-is_made-via-else-is_made+then-end-from-2}
+use Rattle.vac_order.proofs.point.next_call.Goals.{then-is_made-via-then-is_made}
+use Rattle.vac_order.proofs.point.next_call.Goals.{then-is_made-via-else-is_made+then-end-from-2}
 
 pub returns-then-first-lines-clause-next : goal.returns-then-first-lines-clause-next
 returns-then-first-lines-clause-next c =
     let lines = c.args.lines.now in
     let e : c.first_left-first.result ≡ length lines = c.if-first-lines.true in
     let long = length_calls lines in
-    tries_made_all (is_made c.args.low c.args.beyond.now) (calls_of lines) c.args.from (λ p l. c.first_left-first.ensures.below p (omega arith))
+    tries_made_all (is_made c.args.low c.args.beyond.now) (calls_of lines) c.args.from
+    (λ p l. c.first_left-first.ensures.below p (omega arith))
 
 pub lines-init : goal.lines-init
 lines-init c =
-    tries_start (is_made c.args.low c.args.beyond.now) (calls_of c.args.lines.now) c.args.from c.first_left-first.result c.start_of-place.result c.first_left-first.ensures.below c.start_of-place.ensures.either
+    tries_start (is_made c.args.low c.args.beyond.now) (calls_of c.args.lines.now) c.args.from c.first_left-first.result
+    c.start_of-place.result c.first_left-first.ensures.below c.start_of-place.ensures.either
 
 pub returns-then-end-from-clause-next : goal.returns-then-end-from-clause-next
 returns-then-end-from-clause-next c =
@@ -25,7 +28,8 @@ returns-then-end-from-clause-next c =
     let made = is_made c.args.low c.args.beyond.now in
     let first = c.first_left-first.result in
     let line = c.index-lines-first.result in
-    let inside : first < length lines = (let a = c.first_left-first.ensures.within in let b = c.if-first-lines.false in omega arith) in
+    let inside : first < length lines = (let a = c.first_left-first.ensures.within in let b = c.if-first-lines.false in
+    omega arith) in
     let left : IsFirstLeft made lines first line = record {
       sorted = c.requires;
       within = inside;
@@ -48,7 +52,8 @@ lines-preserved-then-is_made c =
     let made = is_made c.args.low c.args.beyond.now in
     let first = c.first_left-first.result in
     let line = c.index-lines-first.result in
-    let inside : first < length lines = (let a = c.first_left-first.ensures.within in let b = c.if-first-lines.false in omega arith) in
+    let inside : first < length lines = (let a = c.first_left-first.ensures.within in let b = c.if-first-lines.false in
+    omega arith) in
     let left : IsFirstLeft made lines first line = record {
       sorted = c.requires;
       within = inside;
@@ -74,7 +79,8 @@ returns-then-not-has_earlier-clause-next c =
     let made = is_made c.args.low c.args.beyond.now in
     let first = c.first_left-first.result in
     let line = c.index-lines-first.result in
-    let inside : first < length lines = (let a = c.first_left-first.ensures.within in let b = c.if-first-lines.false in omega arith) in
+    let inside : first < length lines = (let a = c.first_left-first.ensures.within in let b = c.if-first-lines.false in
+    omega arith) in
     let left : IsFirstLeft made lines first line = record {
       sorted = c.requires;
       within = inside;
@@ -89,7 +95,8 @@ returns-then-not-has_earlier-clause-next c =
     let begin : next.begin ≡ (get_or lines p next).begin = ap (λ (x : Line). x.begin) c.index-lines-place.is in
     let from = c.from-else-is_made.ensures in
     let test = c.if-end-from-2.false in
-    tries_found made lines first line c.args.from p next left within c.index-lines-place.is c.lines.invariant (sym c.is_made.ensures ∙ c.if-is_made.false) (omega arith)
+    tries_found made lines first line c.args.from p next left within c.index-lines-place.is c.lines.invariant
+    (sym c.is_made.ensures ∙ c.if-is_made.false) (omega arith)
     (sym c.has_earlier.ensures ∙ c.if-not-has_earlier.true)
 
 pub lines-preserved : goal.lines-preserved
@@ -98,7 +105,8 @@ lines-preserved c =
     let made = is_made c.args.low c.args.beyond.now in
     let first = c.first_left-first.result in
     let line = c.index-lines-first.result in
-    let inside : first < length lines = (let a = c.first_left-first.ensures.within in let b = c.if-first-lines.false in omega arith) in
+    let inside : first < length lines = (let a = c.first_left-first.ensures.within in let b = c.if-first-lines.false in
+    omega arith) in
     let left : IsFirstLeft made lines first line = record {
       sorted = c.requires;
       within = inside;

@@ -12,5 +12,7 @@ lines-preserved c =
     let x = get_or now p d in
     subst (λ y. Keeps c.args.lines.now (set now p y) (c.lines.back + 1) c.lesser-soonest.result)
     (sym (keep_any x c.lesser-soonest.result _ _))
-    (keep_step c.args.lines.now now c.lines.back c.lines.soonest c.lesser-soonest.result p (get_or now p d) d c.lines.invariant (omega arith) refl refl
-    (c.lesser-soonest.ensures ∙ ap (λ (x : Line). cond (nat_lt x.begin c.lines.soonest) x.begin c.lines.soonest) (same_default now p c.index-lines-place.result d within)))
+    (keep_step c.args.lines.now now c.lines.back c.lines.soonest c.lesser-soonest.result p
+    (get_or now p d) d c.lines.invariant (omega arith) refl refl
+    (c.lesser-soonest.ensures ∙ ap (λ (x : Line). cond (nat_lt x.begin c.lines.soonest) x.begin c.lines.soonest)
+    (same_default now p c.index-lines-place.result d within)))

@@ -12,9 +12,11 @@ pub returns : goal.returns
 returns g c =
     let point = c.args.point.now in
     let state = g.M.Machine.state point.machine in
-    if_ok (λ found. AreStuck state (is_made point.low c.as_slice.result.now) (calls_of c.as_slice-2.result.now) found.items)
+    if_ok (λ found. AreStuck state (is_made point.low c.as_slice.result.now)
+    (calls_of c.as_slice-2.result.now) found.items)
     (λ found. AreStuck state (is_made point.low point.beyond.items) (calls_of c.args.calls.now.lines.items) found.items)
     (λ found h.
     subst (λ ls. AreStuck state (is_made point.low point.beyond.items) (calls_of ls) found.items) c.as_slice-2.ensures
-    (subst (λ b. AreStuck state (is_made point.low b) (calls_of c.as_slice-2.result.now) found.items) c.as_slice.ensures.value h))
+    (subst (λ b. AreStuck state (is_made point.low b) (calls_of c.as_slice-2.result.now) found.items)
+    c.as_slice.ensures.value h))
     c.stuck_lines.result c.stuck_lines.ensures

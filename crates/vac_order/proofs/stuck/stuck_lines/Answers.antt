@@ -1,4 +1,5 @@
-use Rattle.std.proofs.Common.{◌≡◌, ◌+◌, ◌<◌, ℕ, Bool, true, false, is_some, Option, Some, None, List, length, refl, sym, ap, ◌∙◌, subst, arith}
+use Rattle.std.proofs.Common.{◌≡◌, ◌+◌, ◌<◌, ℕ, Bool, true, false, is_some, Option, Some, None, List, length, refl, sym}
+use Rattle.std.proofs.Common.{ap, ◌∙◌, subst, arith}
 use Rattle.std.specs.Global.{Vec}
 use Rattle.vac_model.specs.State.{State}
 use Rattle.vac_model.specs.Run.{run}
@@ -32,16 +33,21 @@ calls-preserved g c =
     let within : p < length lines = (let l = next.within in omega arith) in
     let here = call_here lines p line within c.index-lines-place.is in
     let some : is_answered (at cs p) ≡ is_some line.reply = ap is_answered here ∙ given line.reply in
-    let same : c.is_some.result ≡ is_some line.reply = c.is_some.ensures ∙ sym (ap (λ (x : Line). is_some x.reply) c.index-lines-place.is) in
+    let same : c.is_some.result ≡ is_some line.reply = c.is_some.ensures ∙
+    sym (ap (λ (x : Line). is_some x.reply) c.index-lines-place.is) in
     elim c.if-is_some.branch [
       | then-is_some+in_ok-expected+in_ok-push w ↦
           let x : Stuck = record { place = p; expected = w.in_ok-expected.expected } in
-          subst (λ l. AreFound s made cs l (p + 1)) (sym (ap (λ (v : Vec Stuck). v.items) w.found-is ∙ w.in_ok-push.ensures.items))
+          subst (λ l. AreFound s made cs l (p + 1)) (sym (ap (λ (v : Vec Stuck). v.items) w.found-is ∙
+          w.in_ok-push.ensures.items))
           (found_more s made cs c.calls.found.items c.calls.from p x next (some ∙ sym same ∙ w.if-is_some.true) refl
-          (sym (ap (λ (y : Call). (run s y.task).1) (call_here lines p w.index-lines-place-then-is_some.result within w.index-lines-place-then-is_some.is)
-          ∙ ap (λ (y : Line). (run s y.task).1) w.index-lines-place-then-is_some.is ∙ ap (λ (y : State × Reply). y.1) w.in_ok-expected.ensures))
+          (sym (ap (λ (y : Call). (run s y.task).1) (call_here lines p w.index-lines-place-then-is_some.result within
+          w.index-lines-place-then-is_some.is)
+          ∙ ap (λ (y : Line). (run s y.task).1) w.index-lines-place-then-is_some.is ∙
+          ap (λ (y : State × Reply). y.1) w.in_ok-expected.ensures))
           c.calls.invariant)
       | else-is_some w ↦
           subst (λ l. AreFound s made cs l (p + 1)) (sym (ap (λ (v : Vec Stuck). v.items) w.found-is))
-          (found_less s made cs c.calls.found.items c.calls.from p next (some ∙ sym same ∙ w.if-is_some.false) c.calls.invariant)
+          (found_less s made cs c.calls.found.items c.calls.from p next
+          (some ∙ sym same ∙ w.if-is_some.false) c.calls.invariant)
     ]

@@ -27,27 +27,32 @@ walk-init g c =
     let within : 0 ≤ vec_len c.new-3.result.worlds = omega arith in (
       within,
       starts views c.args.start c.new-2.result c.new-3.result c.new-2.ensures.items c.new-3.ensures c.requires
-          (subst (TellsLeft (answered start.rest)) c.if-is_done.false c.is_done.ensures.left) c.is_done.ensures.all c.is_done.ensures.apart,
+          (subst (TellsLeft (answered start.rest)) c.if-is_done.false c.is_done.ensures.left) c.is_done.ensures.all
+          c.is_done.ensures.apart,
     )
 
 pub returns-in-Found : goal.returns-in-Found
 returns-in-Found g c =
     let views = g.W.World.view c.args.ground.now in
     let start = views.at c.args.start in
-    subst (StepsTo views start (suc c.walk.made)) c.in-Found.is (c.in_ok-next.ensures.steps start c.walk.made c.walk.invariant.1)
+    subst (StepsTo views start (suc c.walk.made)) c.in-Found.is
+    (c.in_ok-next.ensures.steps start c.walk.made c.walk.invariant.1)
 
 pub returns-in-NoOrder : goal.returns-in-NoOrder
 returns-in-NoOrder g c =
     let views = g.W.World.view c.args.ground.now in
     let start = views.at c.args.start in
-    subst (StepsTo views start (suc c.walk.made)) c.in-NoOrder.is (c.in_ok-next.ensures.steps start c.walk.made c.walk.invariant.1)
+    subst (StepsTo views start (suc c.walk.made)) c.in-NoOrder.is
+    (c.in_ok-next.ensures.steps start c.walk.made c.walk.invariant.1)
 
 pub walk-preserved : goal.walk-preserved
 walk-preserved g c =
     let views = g.W.World.view c.args.ground.now in
     let start = views.at c.args.start in (
       subst StaysWithin c.in-On.is c.in_ok-next.ensures.within,
-      subst (λ n. Walks views start n c.in-On.next) (sym (add-one c.walk.made)) (subst (StepsTo views start (suc c.walk.made)) c.in-On.is (c.in_ok-next.ensures.steps start c.walk.made c.walk.invariant.1)),
+      subst (λ n. Walks views start n c.in-On.next) (sym (add-one c.walk.made))
+          (subst (StepsTo views start (suc c.walk.made)) c.in-On.is
+          (c.in_ok-next.ensures.steps start c.walk.made c.walk.invariant.1)),
     )
 
 pub returns : goal.returns
@@ -56,4 +61,5 @@ returns g c =
     let start = views.at c.args.start in
     let walk = c.walk.walk in
     subst (λ n. IsUndecided start n c.most_of.result) (omega arith)
-    (undecided views start c.walk.made walk (views.tries walk.world walk.next) c.most_of.result c.walk.invariant.1 c.most_of.ensures)
+    (undecided views start c.walk.made walk (views.tries walk.world walk.next) c.most_of.result c.walk.invariant.1
+    c.most_of.ensures)

@@ -2,4 +2,5 @@ use Rattle.vac_order.specs.Walking.{IsWithin, Walks}
 use Rattle.vac_order.proofs.walk.find_order.Given as goal
 
 abbrev pub invariant-walk : goal.invariant-walk
-invariant-walk g l = IsWithin l.walk × Walks (g.W.World.view l.fn.ground) ((g.W.World.view l.fn.ground).at l.fn.start) l.made l.walk
+invariant-walk g l = IsWithin l.walk × Walks (g.W.World.view l.fn.ground)
+    ((g.W.World.view l.fn.ground).at l.fn.start) l.made l.walk

@@ -6,4 +6,5 @@ use Rattle.vac_order.proofs.ends.Ends.get.Goals as goal
 
 pub returns : goal.returns
 returns c =
-    c.copied.ensures ∙ c.get.ensures.value ∙ sym (get-tree nat_cmp_total c.self.inside.entries c.args.client) ∙ ap (λ m. map.get m c.args.client) c.self.view_is
+    c.copied.ensures ∙ c.get.ensures.value ∙ sym (get-tree nat_cmp_total c.self.inside.entries c.args.client) ∙
+    ap (λ m. map.get m c.args.client) c.self.view_is

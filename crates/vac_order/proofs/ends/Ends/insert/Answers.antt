@@ -7,5 +7,6 @@ use Rattle.vac_order.proofs.ends.Ends.insert.Goals as goal
 
 pub returns : goal.returns
 returns c =
-    insert-tree nat_cmp_total nat_cmp-IsAntisymmetric c.self.inside.entries c.insert.new.self c.args.client c.args.end c.in_ok-insert.ensures.updates
+    insert-tree nat_cmp_total nat_cmp-IsAntisymmetric c.self.inside.entries c.insert.new.self c.args.client c.args.end
+    c.in_ok-insert.ensures.updates
     ∙ ap (λ m. map.insert m c.args.client c.args.end) c.self.view_is

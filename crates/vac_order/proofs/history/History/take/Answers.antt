@@ -16,5 +16,6 @@ returns c = λ held.
     took before after c.args.text.now (shown_call call) c.in_ok-line.line (c.len.result + 1) held
     (c.in_ok-insert.ensures ∙ ap (λ e. insert before.ends call.client e) c.end_of-end.ensures)
     (omega arith) c.in_ok-line.ensures.line c.in_ok-push.ensures.items
-    (not_true (breaks_client (calls_of before.lines.items) (shown_call call)) (sym (c.is_in_turn.ensures held) ∙ c.if-not-is_in_turn.false))
+    (not_true (breaks_client (calls_of before.lines.items) (shown_call call))
+    (sym (c.is_in_turn.ensures held) ∙ c.if-not-is_in_turn.false))
     (timed_of call c.in_ok-line.ensures.begun)

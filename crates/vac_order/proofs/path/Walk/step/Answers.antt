@@ -9,5 +9,6 @@ returns-in-None-clause-steps g c = λ start steps w.
     let self = c.args.self in
     let place = c.in-Some.place in
     steps_lost views start steps self (views.call place) (views.tries self.world (place + 1))
-    (tried views start steps self (views.call place) (views.tries self.world (place + 1)) c.in-Some.ensures.is w) c.in-Some.ensures.may
+    (tried views start steps self (views.call place) (views.tries self.world (place + 1)) c.in-Some.ensures.is w)
+    c.in-Some.ensures.may
     (subst (LedTo views self.world place) c.in-None.is c.in_ok-next.ensures)

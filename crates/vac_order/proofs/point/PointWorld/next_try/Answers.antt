@@ -9,6 +9,8 @@ returns g c =
     let self = c.args.self.now in
     let calls = c.args.calls.now in
     told_next g.M.Machine.state calls self c.args.from c.next_call.result
-    (subst (λ ls. TellsTry (is_made self.low self.beyond.items) (calls_of ls) c.args.from c.next_call.result) c.as_slice-2.ensures
-    (subst (λ b. TellsTry (is_made self.low b) (calls_of c.as_slice-2.result.now) c.args.from c.next_call.result) c.as_slice.ensures.value c.next_call.ensures.next))
+    (subst (λ ls. TellsTry (is_made self.low self.beyond.items) (calls_of ls) c.args.from c.next_call.result)
+    c.as_slice-2.ensures
+    (subst (λ b. TellsTry (is_made self.low b) (calls_of c.as_slice-2.result.now) c.args.from c.next_call.result)
+    c.as_slice.ensures.value c.next_call.ensures.next))
     c.next_call.ensures.small

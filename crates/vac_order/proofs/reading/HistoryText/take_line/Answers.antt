@@ -15,7 +15,8 @@ returns c = λ held.
     let calls = calls_of before.lines.items in
     let call = shown_call c.in-Ok.call in
     let breaks : breaks_client calls call ≡ true =
-    subst (λ b. MatchBool b (Took before c.take.new.self c.args.line.now call) (breaks_client calls call ≡ true)) c.if-branch.false (c.in_ok-take.ensures held) in
+    subst (λ b. MatchBool b (Took before c.take.new.self c.args.line.now call) (breaks_client calls call ≡ true))
+    c.if-branch.false (c.in_ok-take.ensures held) in
     record {
       verdict = Illegal c.number-number.result Client;
       wrong = refl;
