@@ -135,7 +135,8 @@ fn find_text<R: Read, P: Watcher>(
 
 /// Orders a history of a system of `blocks` blocks, of which only each client's own order is known:
 /// reads its lines to the end of the input, or to the first that is no call or not in turn, looks
-/// for an order that is a linearization in at most `steps` steps, and writes what was found.
+/// for an order that is a linearization, quickly and then exactly, in at most `steps` steps each,
+/// and writes what was found.
 ///
 /// After a fault of the output a prefix of the text was written, after any other nothing.
 ///
