@@ -1,6 +1,7 @@
 mod Ending
-pub mod Journals
+pub mod Kept
 pub mod Turning
 mod Recorded
 pub mod LoadEnds
+pub mod Ledgers
 pub mod Judgement

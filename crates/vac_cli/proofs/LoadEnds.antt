@@ -4,6 +4,7 @@ use Rattle.std.proofs.lemmas.Bool.Decides.{nat_tests}
 use Rattle.vac_draws.specs.declared.settings.Settings.{Settings}
 use Rattle.vac_draws.specs.Streams.{stream_of}
 use Rattle.vac_draws.specs.Setting.{is_settings, is_work, is_system}
+use Rattle.vac_model.specs.Ranges.{is_block_count}
 use Rattle.vac_history.specs.declared.journal.Journal.{Journal}
 use Rattle.vac_history.specs.History.{notes_of, kept_by, WroteHistory, WroteHistoryPrefix}
 use Rattle.vac_load.specs.declared.load.LoadFault.TheVariants as load
@@ -28,14 +29,14 @@ named : (history : Bool) (s : Settings) (held holds : Option (List ℕ)) → Nam
 named true s held holds n = inl n
 named false s held holds n = inl n
 
-not_arguments : load.Memory ≡ load.Arguments → ⊥
+pub not_arguments : load.Memory ≡ load.Arguments → ⊥
 not_arguments e = absurd cc
 
 -- a load can end for want of memory
 pub named_memory : (s : Settings) (held holds : Option (List ℕ)) → AppendsPrefix held holds (load_fault_line load.Memory) → NamedFault s held holds
 named_memory s held holds line = (load.Memory, not_arguments, inr (stream_of s.seed 0, inl refl), line)
 
-one_of : (status : ℕ) → 1 ≤ status → status ≤ 2 → (status ≡ 2 → ⊥) → status ≡ 1
+pub one_of : (status : ℕ) → 1 ≤ status → status ≤ 2 → (status ≡ 2 → ⊥) → status ≡ 1
 one_of status low high is_not = omega (arith, low, high, is_not)
 
 -- a load whose settings fit each other ended for want of memory
@@ -97,3 +98,7 @@ stopped_calls s opening clients status fault held middle holds fits one has wrot
 -- there are few clients
 pub few_clients : (s : Settings) → is_settings s ≡ true → s.clients ≤ 64
 few_clients s e = let w : is_work s ≡ true = both_first (is_work s) (is_system s) e in grind (arith, nat_tests, w)
+
+-- the number of blocks is in its range
+pub right_blocks : (s : Settings) → is_settings s ≡ true → is_block_count s.blocks ≡ true
+right_blocks s e = grind (arith, nat_tests, e)

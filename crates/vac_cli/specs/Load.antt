@@ -15,6 +15,8 @@ use Rattle.vac_history.specs.Turns.{EachInTurn}
 use Rattle.vac_history.specs.Order.{AreOrdered}
 use Rattle.vac_history.specs.History.{call_of, WroteHistory, WroteHistoryPrefix}
 use Rattle.vac_history.specs.Legal.{AreLegal}
+use Rattle.vac_attempts.specs.Pages.{Page}
+use Rattle.vac_attempts.specs.Text.{WroteAttempts, WroteAttemptsPrefix}
 use Rattle.vac_load.specs.Lists.{Paired}
 use Rattle.vac_load.specs.Load.{IsLoadFault}
 use Rattle.vac_load.specs.Streams.{LoadedBySeed}
@@ -103,6 +105,31 @@ pub record WroteCallsInPart (s : Settings) (held holds : Option (List ℕ)) : Ty
   pub written : WroteHistoryPrefix (opening ∷ clients) held holds
   pub in_order : AreOrdered (map (λ e. e.note) written.all)
   pub legal : AreLegal s.blocks (map call_of written.all) noted.loaded.last
+
+-- the load was run to its end, and the attempts of its calls were written and nothing else: of each
+-- answered call the attempt that answered it, once, at its record's place and with its record's
+-- reads and writes (`IsNoted` of vac_manager), and attempts that were given up; and those that
+-- write the words that the system began with; all in the order of their places
+-- Not said: that each attempt that was given up is among them, that it read what the text says, and
+-- at which place it is; that a stamp is a reading of the clock. `vacation opaque` judges it.
+-- Not said: that the lines are read by it.
+pub record WroteTried (s : Settings) (held holds : Option (List ℕ)) : Type 0 where
+  pub opening : Page
+  pub clients : List Page
+  pub noted : HasNoted s opening.calls (map (λ page. page.calls) clients)
+  pub written : WroteAttempts s.blocks (opening ∷ clients) held holds
+
+-- the load was run to its end, and a prefix of such a text was written
+pub record WroteTriedInPart (s : Settings) (held holds : Option (List ℕ)) : Type 0 where
+  pub opening : Page
+  pub clients : List Page
+  pub noted : HasNoted s opening.calls (map (λ page. page.calls) clients)
+  pub written : WroteAttemptsPrefix s.blocks (opening ∷ clients) held holds
+
+-- a load that is to write its attempts ended by a fault
+abbrev pub TriedEnded : Settings → Option (List ℕ) → Option (List ℕ) → Type 0
+TriedEnded s held holds =
+    NamedFault s held holds ⊎ NamedAfterWriting (WroteTriedInPart s held) holds
 
 -- the load was run to its end, and its history was written, or its two lines were
 abbrev pub LoadWrote : Bool → Settings → Option (List ℕ) → Option (List ℕ) → Type 0

@@ -18,7 +18,7 @@ use Rattle.vac_script.specs.Script.{WroteAll, WrotePrefix}
 use Rattle.vac_script.specs.Dump.{Dumped, DumpStopped}
 use Rattle.vac_script.specs.Check.{Checked, CheckStopped}
 use Rattle.vac_worklist.specs.Worklist.{WroteTasks, WroteTasksPrefix}
-use Rattle.vac_cli.specs.Load.{LoadWrote, LoadEnded}
+use Rattle.vac_cli.specs.Load.{LoadWrote, LoadEnded, WroteTried, TriedEnded}
 use Rattle.vac_cli.specs.Ending.{Ends, NamedAfter, NamedAfterWriting, fault_line, load_fault_line}
 use Rattle.vac_cli.specs.Ordering.{Orders}
 use Rattle.vac_cli.specs.Asking.{JudgesAs, JudgesAttempts}
@@ -32,6 +32,21 @@ Loads history status s held holds =
     × Ends status (LoadWrote history s held holds) (LoadEnded history s held holds))
     ⊎ ((is_settings s ≡ false) × (status ≡ 2)
     × AppendsPrefix held holds (load_fault_line Arguments))
+
+-- a load is run where its settings fit each other, and writes its attempts
+abbrev pub Tries : ℕ → Settings → Option (List ℕ) → Option (List ℕ) → Type 0
+Tries status s held holds =
+    ((is_settings s ≡ true) × Ends status (WroteTried s held holds) (TriedEnded s held holds))
+    ⊎ ((is_settings s ≡ false) × (status ≡ 2)
+    × AppendsPrefix held holds (load_fault_line Arguments))
+
+-- a load writes its history, its attempts or its two lines; where both of the first are asked for,
+-- the command line is refused, and nothing is written
+abbrev pub LoadsAs : Bool → Bool → ℕ → Settings → Option (List ℕ) → Option (List ℕ) → Type 0
+LoadsAs true true status s held holds = (status ≡ 2) × (holds ≡ held)
+LoadsAs true false status s held holds = Loads true status s held holds
+LoadsAs false true status s held holds = Tries status s held holds
+LoadsAs false false status s held holds = Loads false status s held holds
 
 -- the tasks of a load are written where its settings fit each other; where they do not, the command
 -- line is refused
@@ -79,7 +94,7 @@ Does files (Order blocks search) status unread left held holds =
 Does files (Opaque n) status unread left held holds =
     JudgesAttempts n status unread left held holds
 Does files (Load settings how) status unread left held holds =
-    (left ≡ unread) × Loads how.history status settings held holds
+    (left ≡ unread) × LoadsAs how.history how.attempts status settings held holds
 Does files (Tasks settings) status unread left held holds =
     (left ≡ unread) × Lists status settings held holds
 

@@ -13,6 +13,7 @@ mod searching;
 mod stats;
 mod status;
 mod telling;
+mod tracing;
 
 pub use files::Open;
 pub use program::{refuse_words, run_words};

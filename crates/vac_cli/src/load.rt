@@ -5,7 +5,7 @@ ghost use Rattle.vac_draws.specs.Setting.{is_settings};
 ghost use Rattle.vac_load.specs.Streams.{LoadedBySeed};
 ghost use Rattle.vac_cli.specs.Load.{tried_text, wanting_text};
 ghost use Rattle.vac_cli.specs.Load.{tally_text, load_text};
-ghost use Rattle.vac_cli.specs.Program.{Loads};
+ghost use Rattle.vac_cli.specs.Program.{Loads, LoadsAs};
 ghost use Rattle.std.specs.Io.KnownBytes.{Appends};
 ghost use Rattle.vac_streams.specs.declared.fault.StreamFault.TheVariants.{Memory};
 ghost use Rattle.vac_cli.specs.Ending.{fault_line};
@@ -15,7 +15,8 @@ ghost use Rattle.vac_lines.specs.Text.{field_text, report_text};
 
 use crate::noting::{load_noted, run_told};
 use crate::stats::{Span, tell_stats};
-use crate::status::{DONE, FAULT, end_by, end_by_settings, end_load_by};
+use crate::status::{DONE, FAULT, REFUSED, end_by, end_by_settings, end_load_by};
+use crate::tracing::load_traced;
 use std::alloc::{AllocError, Global};
 use std::io::Write;
 use std::sync::Wait;
@@ -27,9 +28,22 @@ use vac_model::{Reply, Report};
 use vac_options::How;
 use vac_streams::StreamFault;
 
-/// Runs a load, writes its two lines, or the history of its calls, and returns the status. Where
-/// that is asked for, writes to `errors` how far it is, and in the end how long its clients took
-/// and how often they tried. Where the history is written, the two lines go to `errors`.
+/// Says that a load cannot write both its history and its attempts, and returns the status of a
+/// refused command line.
+fn refuse_both<E: Write>(errors: &mut E) -> u8
+    ensures { result ≡ 2 }
+{
+    let _ = write_and_flush(
+        errors,
+        b"error: --history and --attempts do not go together\n",
+    );
+    REFUSED
+}
+
+/// Runs a load, writes its two lines, the history of its calls or their attempts, and returns the
+/// status. Where that is asked for, writes to `errors` how far it is, and in the end how long its
+/// clients took and how often they tried. Where the history or the attempts are written, the two
+/// lines go to `errors`.
 pub(crate) fn load<T: Threads + Wait + Clock + Sync + AllocGlobal, W: Write, E: Write + Send>(
     rt: &T,
     settings: &Settings,
@@ -37,13 +51,14 @@ pub(crate) fn load<T: Threads + Wait + Clock + Sync + AllocGlobal, W: Write, E: 
     output: &mut W,
     errors: &mut E,
 ) -> u8
-    ensures { Loads how.history result settings.now
+    ensures { LoadsAs how.history how.attempts result settings.now
         (W.contents output.old) (W.contents output.new) }
 {
-    if how.history {
-        load_noted(rt, settings, how, output, errors)
-    } else {
-        load_reported(rt, settings, how, output, errors)
+    match (how.history, how.attempts) {
+        (true, true) => refuse_both(errors),
+        (true, false) => load_noted(rt, settings, how, output, errors),
+        (false, true) => load_traced(rt, settings, how, output, errors),
+        (false, false) => load_reported(rt, settings, how, output, errors),
     }
 }
 
