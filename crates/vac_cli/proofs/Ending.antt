@@ -11,12 +11,15 @@ nothing None = (0, tt)
 nothing (Some bytes) = (0, sym (append-nil bytes))
 
 -- a text was written or a prefix of it was
-pub either_way : {T E : Type 0} (r : Result T E) (held holds : Option (List ℕ)) (text : List ℕ) → OnOk r (Appends held holds text) → OnErr r (AppendsPrefix held holds text) → AppendsPrefix held holds text
+pub either_way : {T E : Type 0} (r : Result T E) (held holds : Option (List ℕ)) (text : List ℕ) →
+    OnOk r (Appends held holds text) → OnErr r (AppendsPrefix held holds text) → AppendsPrefix held holds text
 either_way (Ok x) held holds text ok err = whole held holds text ok
 either_way (Err e) held holds text ok err = err
 
 -- where nothing was written first
-pub nothing_then : (held middle holds : Option (List ℕ)) (text : List ℕ) → Appends held middle [] → AppendsPrefix middle holds text → AppendsPrefix held holds text
+pub nothing_then : (held middle holds : Option (List ℕ)) (text : List ℕ) → Appends held middle [] →
+    AppendsPrefix middle holds text → AppendsPrefix held holds text
 nothing_then None middle holds text none more = (0, tt)
 nothing_then (Some h) None holds text none more = absurd none
-nothing_then (Some h) (Some m) holds text none more = subst (λ (bytes : List ℕ). AppendsPrefix (Some bytes) holds text) (none ∙ append-nil h) more
+nothing_then (Some h) (Some m) holds text none more = subst (λ (bytes : List ℕ). AppendsPrefix (Some bytes) holds text)
+    (none ∙ append-nil h) more

@@ -23,13 +23,17 @@ module _ {X : Type 0} (calls_of : X → List Note) where
   same_calls a b e = cc
 
   -- what an empty keeper kept are notes of exactly those records
-  are_noted : (records : List Record) (before after : X) → calls_of before ≡ [] → AreKept records (kept_of before) (kept_of after) → Paired IsNoted (calls_of after) records
+  are_noted : (records : List Record) (before after : X) → calls_of before ≡ [] →
+      AreKept records (kept_of before) (kept_of after) → Paired IsNoted (calls_of after) records
   are_noted records before after empty k =
-      let all : calls_of after ≡ k.notes = same_calls (calls_of after) k.notes (k.kept ∙ ap (λ (l : List Note). behind (Some l) k.notes) empty) in
+      let all : calls_of after ≡ k.notes = same_calls (calls_of after) k.notes
+      (k.kept ∙ ap (λ (l : List Note). behind (Some l) k.notes) empty) in
       subst (λ (l : List Note). Paired IsNoted l records) (sym all) k.are_of
 
-  all_noted : {Y : Type 0} (records_of : Y → List Record) (ys : List Y) (befores afters : List X) → All (λ x. calls_of x ≡ []) befores
-      → AllKept records_of ys (map kept_of befores) (map kept_of afters) → Paired (λ notes y. Paired IsNoted notes (records_of y)) (map calls_of afters) ys
+  all_noted : {Y : Type 0} (records_of : Y → List Record) (ys : List Y) (befores afters : List X) →
+      All (λ x. calls_of x ≡ []) befores
+      → AllKept records_of ys (map kept_of befores) (map kept_of afters) →
+      Paired (λ notes y. Paired IsNoted notes (records_of y)) (map calls_of afters) ys
   all_noted records_of [] [] [] empty k = none
   all_noted records_of [] [] (a ∷ afters) empty k = elim k [ ]
   all_noted records_of [] (b ∷ befores) [] empty k = elim k [ ]
@@ -41,17 +45,21 @@ module _ {X : Type 0} (calls_of : X → List Note) where
       both (are_noted (records_of y) b a (All-head (λ x. calls_of x ≡ []) b befores empty) k)
       (all_noted records_of ys befores afters (All-tail (λ x. calls_of x ≡ []) b befores empty) ks)
 
-  pub noted : (s : Settings) (load : LoadReport) (before after : Keepers X) → calls_of before.opening ≡ [] → All (λ x. calls_of x ≡ []) before.clients.items
-      → KeptBySeed kept_of s load.tally load.report before after → HasNoted s (calls_of after.opening) (map calls_of after.clients.items)
+  pub noted : (s : Settings) (load : LoadReport) (before after : Keepers X) → calls_of before.opening ≡ [] →
+      All (λ x. calls_of x ≡ []) before.clients.items
+      → KeptBySeed kept_of s load.tally load.report before after →
+      HasNoted s (calls_of after.opening) (map calls_of after.clients.items)
   noted s load before after opening clients k = record {
     load = load;
     loaded = k.loaded;
     of_opening = are_noted k.loaded.opened before.opening after.opening opening k.opening_kept;
-    of_clients = all_noted (λ x. x.records) k.loaded.shares before.clients.items after.clients.items clients k.clients_kept;
+    of_clients = all_noted (λ x. x.records) k.loaded.shares before.clients.items after.clients.items clients
+        k.clients_kept;
   }
 
 -- as many keepers come back as went in
-same_number : {X : Type 0} (records_of : X → List Record) (xs : List X) (ks ks' : List Kept) → AllKept records_of xs ks ks' → length ks' ≡ length ks
+same_number : {X : Type 0} (records_of : X → List Record) (xs : List X) (ks ks' : List Kept) →
+    AllKept records_of xs ks ks' → length ks' ≡ length ks
 same_number records_of [] [] [] k = refl
 same_number records_of [] [] (k' ∷ ks') k = elim k [ ]
 same_number records_of [] (b ∷ ks) [] k = elim k [ ]
@@ -61,8 +69,10 @@ same_number records_of (x ∷ xs) [] (k' ∷ ks') k = elim k [ ]
 same_number records_of (x ∷ xs) (b ∷ ks) [] k = elim k [ ]
 same_number records_of (x ∷ xs) (b ∷ ks) (k' ∷ ks') (one_kept k more) = ap suc (same_number records_of xs ks ks' more)
 
-pub same_clients : {X : Type 0} (calls_of : X → List Note) (s : Settings) (load : LoadReport) (before after : Keepers X) → KeptBySeed (λ x. Some (calls_of x)) s load.tally load.report before after
+pub same_clients : {X : Type 0} (calls_of : X → List Note) (s : Settings) (load : LoadReport) (before after : Keepers X)
+    → KeptBySeed (λ x. Some (calls_of x)) s load.tally load.report before after
     → length after.clients.items ≡ length before.clients.items
 same_clients calls_of s load before after k =
     sym (length-map after.clients.items (λ x. Some (calls_of x)))
-    ∙ (same_number (λ x. x.records) k.loaded.shares _ _ k.clients_kept ∙ length-map before.clients.items (λ x. Some (calls_of x)))
+    ∙ (same_number (λ x. x.records) k.loaded.shares _ _ k.clients_kept ∙ length-map before.clients.items
+    (λ x. Some (calls_of x)))

@@ -1,5 +1,6 @@
 -- How a load ends.
-use Rattle.std.proofs.Common.{◌≡◌, ◌≤◌, ◌↔◌, ◌&&◌, ◌⊎◌, inl, inr, refl, ℕ, zero, suc, Bool, true, false, List, Option, map, arith}
+use Rattle.std.proofs.Common.{◌≡◌, ◌≤◌, ◌↔◌, ◌&&◌, ◌⊎◌, inl, inr, refl, ℕ, zero, suc, Bool, true, false, List, Option}
+use Rattle.std.proofs.Common.{map, arith}
 use Rattle.std.proofs.lemmas.Bool.Decides.{nat_tests}
 use Rattle.vac_draws.specs.declared.settings.Settings.{Settings}
 use Rattle.vac_draws.specs.Streams.{stream_of}
@@ -25,7 +26,8 @@ both_first true b e = refl
 both_first false b e = e
 
 -- the line of a fault was written in part
-named : (history : Bool) (s : Settings) (held holds : Option (List ℕ)) → NamedFault s held holds → LoadEnded history s held holds
+named : (history : Bool) (s : Settings) (held holds : Option (List ℕ)) → NamedFault s held holds →
+    LoadEnded history s held holds
 named true s held holds n = inl n
 named false s held holds n = inl n
 
@@ -33,21 +35,34 @@ pub not_arguments : load.Memory ≡ load.Arguments → ⊥
 not_arguments e = absurd cc
 
 -- a load can end for want of memory
-pub named_memory : (s : Settings) (held holds : Option (List ℕ)) → AppendsPrefix held holds (load_fault_line load.Memory) → NamedFault s held holds
+pub named_memory : (s : Settings) (held holds : Option (List ℕ)) →
+    AppendsPrefix held holds (load_fault_line load.Memory) → NamedFault s held holds
 named_memory s held holds line = (load.Memory, not_arguments, inr (stream_of s.seed 0, inl refl), line)
 
 pub one_of : (status : ℕ) → 1 ≤ status → status ≤ 2 → (status ≡ 2 → ⊥) → status ≡ 1
 one_of status low high is_not = omega (arith, low, high, is_not)
 
 -- a load whose settings fit each other ended for want of memory
-pub ended_for_memory : (history : Bool) (s : Settings) (status : ℕ) (held holds : Option (List ℕ)) → is_settings s ≡ true → 1 ≤ status → status ≤ 2 → ((status ≡ 2) ↔ (load.Memory ≡ load.Arguments)) → AppendsPrefix held holds (load_fault_line load.Memory) → Loads history status s held holds
+pub ended_for_memory : (history : Bool) (s : Settings) (status : ℕ) (held holds : Option (List ℕ)) →
+    is_settings s ≡ true → 1 ≤ status → status ≤ 2 → ((status ≡ 2) ↔ (load.Memory ≡ load.Arguments)) →
+    AppendsPrefix held holds (load_fault_line load.Memory) → Loads history status s held holds
 ended_for_memory history s status held holds fits low high refused line =
-    inl (fits, inr (one_of status low high (λ two. not_arguments (refused.0 two)), named history s held holds (named_memory s held holds line)))
+    inl (
+      fits,
+      inr (
+        one_of status low high (λ two. not_arguments (refused.0 two)),
+        named history s held holds (named_memory s held holds line),
+      ),
+    )
 
 -- the load was run to its end, and its two lines were written, in whole or in part, or memory was refused for them
-pub ended_with_lines : (s : Settings) (load : LoadReport) (status : ℕ) (held holds : Option (List ℕ)) → is_settings s ≡ true → LoadedBySeed s load.tally load.report → status ≤ 1 → (status ≡ 0 → Appends held holds (load_text load))
-    → (status ≡ 1 → AppendsPrefix held holds (fault_line stream.Memory) ⊎ AppendsPrefix held holds (load_text load)) → Loads false status s held holds
-ended_with_lines s load zero held holds fits loaded low done stopped = inl (fits, inl (refl, record { load = load; loaded = loaded; written = done refl }))
+pub ended_with_lines : (s : Settings) (load : LoadReport) (status : ℕ) (held holds : Option (List ℕ)) →
+    is_settings s ≡ true → LoadedBySeed s load.tally load.report → status ≤ 1 →
+    (status ≡ 0 → Appends held holds (load_text load))
+    → (status ≡ 1 → AppendsPrefix held holds (fault_line stream.Memory) ⊎ AppendsPrefix held holds (load_text load)) →
+    Loads false status s held holds
+ended_with_lines s load zero held holds fits loaded low done stopped =
+    inl (fits, inl (refl, record { load = load; loaded = loaded; written = done refl }))
 ended_with_lines s load (suc zero) held holds fits loaded low done stopped =
     elim (stopped refl) [
       | inl line ↦ inl (fits, inr (refl, inl (named_memory s held holds line)))
@@ -56,7 +71,9 @@ ended_with_lines s load (suc zero) held holds fits loaded low done stopped =
 ended_with_lines s load (suc (suc n)) held holds fits loaded low done stopped = absurd (omega (arith, low))
 
 -- the history was written whole
-pub wrote_calls : {C : Type 0} (s : Settings) (opening : Journal C) (clients : List (Journal C)) (held holds : Option (List ℕ)) → is_settings s ≡ true → HasNoted s (notes_of opening) (map notes_of clients) → WroteHistory (kept_by opening clients) held holds → Loads true 0 s held holds
+pub wrote_calls : {C : Type 0} (s : Settings) (opening : Journal C) (clients : List (Journal C))
+    (held holds : Option (List ℕ)) → is_settings s ≡ true → HasNoted s (notes_of opening) (map notes_of clients) →
+    WroteHistory (kept_by opening clients) held holds → Loads true 0 s held holds
 wrote_calls s opening clients held holds fits has wrote = inl (
   fits,
   inl (
@@ -68,13 +85,17 @@ wrote_calls s opening clients held holds fits has wrote = inl (
       in_turn = each_in_turn opening clients;
       written = wrote;
       in_order = wrote.merged.ordered (each_ordered s opening clients has);
-      legal = load_legal s (notes_of opening) (map notes_of clients) wrote.all has wrote.merged (each_in_turn opening clients) (wrote.merged.ordered (each_ordered s opening clients has));
+      legal = load_legal s (notes_of opening) (map notes_of clients) wrote.all has wrote.merged
+          (each_in_turn opening clients) (wrote.merged.ordered (each_ordered s opening clients has));
     },
   ),
 )
 
 -- a prefix of it was written, and then one of the line of a fault
-pub stopped_calls : {C : Type 0} (s : Settings) (opening : Journal C) (clients : List (Journal C)) (status : ℕ) (fault : StreamFault) (held middle holds : Option (List ℕ)) → is_settings s ≡ true → status ≡ 1 → HasNoted s (notes_of opening) (map notes_of clients) → WroteHistoryPrefix (kept_by opening clients) held middle → CanStopWriting fault → AppendsPrefix middle holds (fault_line fault) → Loads true status s held holds
+pub stopped_calls : {C : Type 0} (s : Settings) (opening : Journal C) (clients : List (Journal C)) (status : ℕ)
+    (fault : StreamFault) (held middle holds : Option (List ℕ)) → is_settings s ≡ true → status ≡ 1 →
+    HasNoted s (notes_of opening) (map notes_of clients) → WroteHistoryPrefix (kept_by opening clients) held middle →
+    CanStopWriting fault → AppendsPrefix middle holds (fault_line fault) → Loads true status s held holds
 stopped_calls s opening clients status fault held middle holds fits one has wrote can_stop line = inl (
   fits,
   inr (
@@ -88,7 +109,8 @@ stopped_calls s opening clients status fault held middle holds fits one has wrot
         in_turn = each_in_turn opening clients;
         written = wrote;
         in_order = wrote.merged.ordered (each_ordered s opening clients has);
-        legal = load_legal s (notes_of opening) (map notes_of clients) wrote.all has wrote.merged (each_in_turn opening clients) (wrote.merged.ordered (each_ordered s opening clients has));
+        legal = load_legal s (notes_of opening) (map notes_of clients) wrote.all has wrote.merged
+            (each_in_turn opening clients) (wrote.merged.ordered (each_ordered s opening clients has));
       },
       (fault, can_stop, line),
     ),

@@ -34,9 +34,9 @@ fn ledgers<'a, T: Clock>(
     Ok(ledgers)
 }
 
-/// Runs a load, writes the attempts of its calls, its two lines to `errors`, and returns the status.
-/// Where there was no room for a call, for an attempt, or for what it read and wrote, the load ends
-/// with the fault of refused memory.
+/// Runs a load, writes the attempts of its calls, its two lines to `errors`, and returns the
+/// status. Where there was no room for a call, for an attempt, or for what it read and wrote, the
+/// load ends with the fault of refused memory.
 pub(crate) fn load_traced<
     T: Threads + Wait + Clock + Sync + AllocGlobal,
     W: Write,

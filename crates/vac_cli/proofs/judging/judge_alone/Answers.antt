@@ -11,4 +11,8 @@ judge_history-requires-clause-most g c = leb-true _ _ (and_parts _ _ c.requires)
 
 pub returns-in-Err : goal.returns-in-Err
 returns-in-Err g c =
-    inr (c.end_by.ensures.status, inr (judge_stopped _ c.in-Err.fault _ _ _ _ _ c.in-Err.ensures.err c.end_by.ensures.line))
+    inr (
+      c.end_by.ensures.status,
+      inr (judge_stopped _ c.in-Err.fault _ _ _ _ _ c.in-Err.ensures.err
+          c.end_by.ensures.line),
+    )

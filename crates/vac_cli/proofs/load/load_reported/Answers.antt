@@ -6,10 +6,13 @@ use Rattle.vac_cli.proofs.load.load_reported.Goals as goal
 pub returns-in_default : goal.returns-in_default
 returns-in_default g c =
     let e = c.end_load_by.ensures in
-    ended_for_memory false c.args.settings.now _ (g.W.Write.contents c.args.output.now) (g.W.Write.contents c.end_load_by.new.output) (search rules) e.low e.high e.refused e.line
+    ended_for_memory false c.args.settings.now _ (g.W.Write.contents c.args.output.now)
+    (g.W.Write.contents c.end_load_by.new.output) (search rules) e.low e.high e.refused e.line
 
 -- src/load.rt:51:1
 pub returns-in-Ok-run_told : goal.returns-in-Ok-run_told
 returns-in-Ok-run_told g c =
     let e = c.write_load.ensures in
-    ended_with_lines c.args.settings.now c.in-Ok-run_told.report c.write_load.result (g.W.Write.contents c.args.output.now) (g.W.Write.contents c.write_load.new.output) (search rules) c.in-Ok-run_told.ensures.kept.loaded e.status e.done e.stopped
+    ended_with_lines c.args.settings.now c.in-Ok-run_told.report c.write_load.result
+    (g.W.Write.contents c.args.output.now) (g.W.Write.contents c.write_load.new.output)
+    (search rules) c.in-Ok-run_told.ensures.kept.loaded e.status e.done e.stopped

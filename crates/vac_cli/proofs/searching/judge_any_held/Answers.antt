@@ -7,7 +7,8 @@ use Rattle.vac_cli.proofs.searching.judge_any_held.Goals as goal
 pub returns-in-Ok : goal.returns-in-Ok
 returns-in-Ok g c =
     found_held _ _ _ _ _ _ _ _ _ _ c.as_slice-order.result.now
-    (subst (λ (t : List ℕ). HasText c.args.blocks c.args.search.steps (g.R.Read.remaining c.args.input.now) (g.R.Read.remaining c.order_kept.new.input) outcome.Ordered t)
+    (subst (λ (t : List ℕ). HasText c.args.blocks c.args.search.steps (g.R.Read.remaining c.args.input.now)
+    (g.R.Read.remaining c.order_kept.new.input) outcome.Ordered t)
     (sym c.as_slice-order.ensures.value) c.in-Ok.ensures.order) c.in-Ok.ensures.unwritten c.judge_held.ensures
 
 pub returns-in-Err : goal.returns-in-Err

@@ -10,4 +10,8 @@ pub order_history-requires-clause-most : goal.order_history-requires-clause-most
 order_history-requires-clause-most g c = leb-true _ _ (and_parts _ _ c.requires).1
 
 pub returns-in-Err : goal.returns-in-Err
-returns-in-Err g c = inr (c.end_by.ensures.status, order_stopped _ _ c.in-Err.fault _ _ _ _ _ c.in-Err.ensures.err c.end_by.ensures.line)
+returns-in-Err g c = inr (
+  c.end_by.ensures.status,
+  order_stopped _ _ c.in-Err.fault _ _ _ _ _ c.in-Err.ensures.err
+      c.end_by.ensures.line,
+)

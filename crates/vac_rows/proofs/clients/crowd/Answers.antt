@@ -5,4 +5,9 @@ use Rattle.vac_rows.proofs.clients.crowd.Goals as goal
 
 -- src/clients.rt:35:5
 pub loop-id-preserved : goal.loop-id-preserved
-loop-id-preserved g c = (search rules, all_more (λ (other : Client). other.table ≡ c.args.manager.now.table) c.loop-id.others.items c.push.new.self.items c.enter-other.result (search rules) c.loop-id.invariant.1 (search rules))
+loop-id-preserved g c = (
+  search rules,
+  all_more (λ (other : Client). other.table ≡ c.args.manager.now.table)
+      c.loop-id.others.items c.push.new.self.items c.enter-other.result (search rules) c.loop-id.invariant.1
+      (search rules),
+)
