@@ -1,8 +1,10 @@
 //! Tests of the load and of the program's calls: scripts, dumps, checks and command lines over
 //! input and output that fail, histories held against work, drawn tasks, loads of one client and of
-//! several that meet, and the times of a history.
+//! several that meet, the times of a history, and the text of attempts.
 #![tactic(auto)]
 
+#[cfg(test)]
+mod attempts;
 #[cfg(test)]
 mod beside;
 #[cfg(test)]

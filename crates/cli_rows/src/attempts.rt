@@ -1,0 +1,128 @@
+//! The text of a load's attempts, worked out from the layout of the words, and their times.
+
+use crate::small_load::SETTINGS;
+use std::cell::Cell;
+use std::test::Fail;
+use stm_attempt::NoGate;
+use stm_words::Version;
+use vac_attempts::{Ledger, write_attempts};
+use vac_history::Watch;
+use vac_load::{Keepers, Phases, Settings, run_load_kept};
+use vac_manager::{Keep, Place, Placed, Tracer};
+use vac_model::{Command, Reply, Task};
+
+/// A watch that stands still.
+#[derive(Clone, Copy, Drop)]
+struct Still;
+
+impl Watch for Still {
+    ghost shows = { λ _ _ _. Unit {0} };
+
+    fn read(&mut self) -> u64 {
+        0
+    }
+}
+
+/// Tells nobody how far the clients are.
+#[derive(Clone, Copy, Drop)]
+struct Untold;
+
+impl Phases for Untold {
+    fn ready(&self) {}
+
+    fn done(&self) {}
+}
+
+/// The roots stand in words 1 to 4, the heads of the free lists in 8 to 15, and the blocks of eight
+/// words from 16 on, one in each of the first four lists. An item takes its block from the first
+/// list that has one. The task asks for the free units of the flight, its block's sixth word.
+const WANTS: &[u8] = b"0 0 0 commit w 8 16 w 9 24 w 10 32 w 11 40\n\
+    0 0 0 commit r 1 0 r 8 16 r 16 0 w 8 0 w 16 1 w 20 0 w 21 300 w 22 300 w 23 80 r 1 0 w 17 0 \
+    w 18 0 w 19 1 w 1 16 w 19 0\n\
+    0 0 0 commit r 2 0 r 8 0 r 9 24 r 24 0 w 9 0 w 24 1 w 28 0 w 29 200 w 30 200 w 31 90 r 2 0 \
+    w 25 0 w 26 0 w 27 1 w 2 24 w 27 0\n\
+    0 0 0 commit r 3 0 r 8 0 r 9 0 r 10 32 r 32 0 w 10 0 w 32 1 w 36 0 w 37 400 w 38 400 w 39 90 \
+    r 3 0 w 33 0 w 34 0 w 35 1 w 3 32 w 35 0\n\
+    0 0 0 commit r 4 0 r 8 0 r 9 0 r 10 0 r 11 40 r 40 0 w 11 0 w 40 1 w 44 0 r 45 0 r 46 0 \
+    r 47 0 r 4 0 w 41 0 w 42 0 w 43 1 w 4 40 w 43 0\n\
+    1 0 0 commit r 2 24 r 24 1 r 29 200\n";
+
+#[test]
+fn attempts_of_one_question(rt: HostRuntime) -> Result<(), Fail> {
+    let alloc = rt.alloc();
+    let settings = Settings {
+        tasks: 1,
+        items: 1,
+        reads: 100,
+        blocks: 4,
+        ..SETTINGS
+    };
+    let mut clients = Vec::new(alloc);
+    clients.push(Ledger::new(alloc, Still))?;
+    let opening = Ledger::new(alloc, Still);
+    let keepers = Keepers { opening, clients };
+    let Ok((_, _, kept)) = run_load_kept(&rt, &settings, NoGate, Untold, keepers) else {
+        panic!(rt; "the load stopped")
+    };
+    let mut out = Vec::new(alloc);
+    let clients = kept.clients.as_slice();
+    assert_eq!(rt; clients.len(), 1);
+    let written = write_attempts(alloc, 4, &kept.opening, clients, &mut out).is_ok();
+    assert_eq!(rt; (written, out.as_slice()), (true, WANTS));
+    Ok(())
+}
+
+/// A watch that shows how often it was read, also by its copies.
+#[derive(Clone, Copy, Drop)]
+struct Counted<'a> {
+    count: &'a Cell<u64>,
+}
+
+impl Watch for Counted<'_> {
+    ghost shows = { λ _ _ _. Unit {0} };
+
+    fn read(&mut self) -> u64 {
+        let count = self.count.get().saturating_add(1);
+        self.count.set(count);
+        count
+    }
+}
+
+/// A call of two attempts, neither of which reads or writes. Reading 1 is the call's begin, 2 and 3
+/// are around the attempt that was given up, 4 and 5 around the one that committed.
+#[test]
+fn attempts_have_the_readings_around_them(rt: HostRuntime) -> Result<(), Fail> {
+    let alloc = rt.alloc();
+    let count = Cell::new(0);
+    let watch = Counted { count: &count };
+    let opening = Ledger::new(alloc, watch);
+    let mut client = Ledger::new(alloc, watch);
+    let first = Version::new(0).ok_or("a version")?;
+    let version = Version::new(3).ok_or("a version")?;
+    let place = Place {
+        renewal: 0,
+        version,
+        wrote: true,
+    };
+    client.begin()?;
+    let mut trail = client.lend();
+    trail.prepare();
+    trail.begun(0, first);
+    trail.give_up();
+    trail.prepare();
+    trail.begun(0, first);
+    trail.commit(place);
+    client.take_back(trail);
+    let reply = Reply::Done;
+    client.keep(
+        Task::One(Command::NewCustomer { id: 1 }),
+        Placed { reply, place },
+    );
+    let mut clients = Vec::new(alloc);
+    clients.push(client)?;
+    let mut out = Vec::new(alloc);
+    let written = write_attempts(alloc, 1, &opening, clients.as_slice(), &mut out).is_ok();
+    let wants = b"0 0 0 commit w 8 16\n1 2 3 abort\n1 4 5 commit\n";
+    assert_eq!(rt; (written, out.as_slice()), (true, wants.as_slice()));
+    Ok(())
+}
