@@ -1,14 +1,11 @@
-//! The text of a load's attempts, worked out from the layout of the words, and their times.
+//! The text of a load's attempts, worked out from the layout of the words.
 
 use crate::small_load::SETTINGS;
 use std::test::Fail;
 use stm_attempt::NoGate;
-use stm_words::Version;
 use vac_attempts::{Ledger, write_attempts};
 use vac_history::Watch;
 use vac_load::{Keepers, Phases, Settings, run_load_kept};
-use vac_manager::{Keep, Place, Placed, Tracer};
-use vac_model::{Command, Reply, Task};
 
 /// A watch that stands still.
 #[derive(Clone, Copy, Drop)]
@@ -68,59 +65,5 @@ fn attempts_of_one_question(rt: HostRuntime) -> Result<(), Fail> {
     assert_eq!(rt; clients.len(), 1);
     let written = write_attempts(alloc, 4, &kept.opening, clients, &mut out).is_ok();
     assert_eq!(rt; (written, out.as_slice()), (true, WANTS));
-    Ok(())
-}
-
-/// A watch that shows how often it was read.
-#[derive(Clone, Copy, Drop)]
-struct Counted {
-    count: u64,
-}
-
-impl Watch for Counted {
-    ghost shows = { λ _ _ _. Unit {0} };
-
-    fn read(&mut self) -> u64 {
-        self.count = self.count.saturating_add(1);
-        self.count
-    }
-}
-
-/// A call of two attempts, neither of which reads or writes. What traces them has a watch of its
-/// own: readings 1 and 2 are around the attempt that was given up, 3 and 4 around the one that
-/// committed.
-#[test]
-fn attempts_have_the_readings_around_them(rt: HostRuntime) -> Result<(), Fail> {
-    let alloc = rt.alloc();
-    let watch = Counted { count: 0 };
-    let opening = Ledger::new(alloc, watch);
-    let mut client = Ledger::new(alloc, watch);
-    let first = Version::new(0).ok_or("a version")?;
-    let version = Version::new(3).ok_or("a version")?;
-    let place = Place {
-        renewal: 0,
-        version,
-        wrote: true,
-    };
-    client.begin()?;
-    let mut trail = client.lend();
-    trail.prepare();
-    trail.begun(0, first);
-    trail.give_up();
-    trail.prepare();
-    trail.begun(0, first);
-    trail.commit(place);
-    client.take_back(trail);
-    let reply = Reply::Done;
-    client.keep(
-        Task::One(Command::NewCustomer { id: 1 }),
-        Placed { reply, place },
-    );
-    let mut clients = Vec::new(alloc);
-    clients.push(client)?;
-    let mut out = Vec::new(alloc);
-    let written = write_attempts(alloc, 1, &opening, clients.as_slice(), &mut out).is_ok();
-    let wants = b"0 0 0 commit w 8 16\n1 1 2 abort\n1 3 4 commit\n";
-    assert_eq!(rt; (written, out.as_slice()), (true, wants.as_slice()));
     Ok(())
 }
