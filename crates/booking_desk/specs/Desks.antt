@@ -114,6 +114,7 @@ pub record HasServed (s : DeskSettings) (d d' : Desk) (y y' : SessionShown) : Ty
 -- why a trip was not booked: never for its numbers; all attempts of all calls met a conflict, and
 -- the last one showed this one; or what a call of the manager says of refused memory, and of a
 -- clock that was found at its last version
+-- Not said: that `Memory` is returned only where memory was refused.
 abbrev pub IsRefusal : RegionShown → Task → ℕ → Fault → Client → Client → Type 0
 IsRefusal region t asks fault.Arguments v v' = ⊥
 IsRefusal region t asks fault.Memory v v' = IsFault region t TRIES fault.Memory v v'

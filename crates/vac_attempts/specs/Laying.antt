@@ -6,11 +6,12 @@ use Rattle.tx_observed.specs.declared.access.Access.{Access}
 use Rattle.tx_observed.specs.declared.access.Access.TheVariants.{Write}
 use Rattle.vac_manager.specs.declared.note.AttemptNote.{AttemptNote}
 
--- it committed before all others: it began and ended at 0
+-- it committed before all others: it began and ended at 0, and wrote version 0
 pub record IsLaid (a : AttemptNote) : Type 0 where
   pub commits : a.commits ≡ true
   pub begin : a.begin ≡ 0
   pub end : a.end ≡ 0
+  pub place : a.place ≡ record { renewal = 0; version = 0; wrote = true }
 
 -- the write of a word at an address, where it is not 0
 abbrev pub write_of : ℕ → ℕ → List Access

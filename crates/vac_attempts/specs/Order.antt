@@ -8,11 +8,11 @@ use Rattle.vac_manager.specs.declared.note.AttemptNote.{AttemptNote}
 use Rattle.vac_attempts.specs.Lines.{Entry}
 
 -- by renewal, by version, the writer of a version before all others that read it, and then by when
--- they began
+-- they began, and ended
 abbrev pub compare : AttemptNote → AttemptNote → Ordering
 compare a b =
-    ordering_then (ordering_then (nat_cmp a.place.renewal b.place.renewal)
-    (nat_cmp (rank_of a.place) (rank_of b.place))) (nat_cmp a.begin b.begin)
+    ordering_then (ordering_then (ordering_then (nat_cmp a.place.renewal b.place.renewal)
+    (nat_cmp (rank_of a.place) (rank_of b.place))) (nat_cmp a.begin b.begin)) (nat_cmp a.end b.end)
 
 -- none is to be before the one before it
 abbrev pub AreOrdered : List Entry → Type 0

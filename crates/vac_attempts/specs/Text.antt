@@ -12,7 +12,8 @@ use Rattle.vac_attempts.specs.Pages.{Page, entries_of, entries_from, are_noted}
 -- these are the attempts of a load on a system of so many blocks: as attempts of client 0 those
 -- that write the words it begins with; of each client, from 0 on, the one that answered each of its
 -- calls, once, and those that were given up; all in the order of their places
--- Not said: which place is that of an attempt that was given up.
+-- Not said: that what is listed as given up did not commit, and was an attempt of this load; what
+-- it read; which place is its own.
 pub record AreAttempts (blocks : ℕ) (pages : List Page) (all : List Entry) : Type 0 where
   pub laid : List AttemptNote
   pub lays : Lays blocks laid

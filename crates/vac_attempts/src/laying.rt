@@ -16,7 +16,9 @@ use vac_model::limits::MOST_BLOCKS;
 const MOST_LAID: usize = 16_384;
 
 /// The place before all others.
-fn before_all() -> Place {
+fn before_all() -> Place
+    ensures { result ≡ record { renewal = 0; version = 0; wrote = true } }
+{
     let Some(version) = Version::new(0) else {
         unreachable!()
     };

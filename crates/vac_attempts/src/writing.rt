@@ -24,11 +24,21 @@ use vac_streams::{StreamFault, send_chunk, send_rest};
 use vac_worklist::OPENING;
 
 /// By what the attempts are put in order: by renewal, by version, the writer of a version before
-/// all others that read it, and then by when they began.
-fn key_of(attempt: &AttemptNote) -> (u32, u64, u64)
-    ensures { result ≡ (attempt.now.place.renewal, rank_of attempt.now.place, attempt.now.begin) }
+/// all others that read it, and then by when they began, and ended.
+fn key_of(attempt: &AttemptNote) -> (u32, u64, u64, u64)
+    ensures { result ≡ (
+      attempt.now.place.renewal,
+      rank_of attempt.now.place,
+      attempt.now.begin,
+      attempt.now.end,
+    ) }
 {
-    (attempt.place.renewal, rank(attempt.place), attempt.begin)
+    (
+        attempt.place.renewal,
+        rank(attempt.place),
+        attempt.begin,
+        attempt.end,
+    )
 }
 
 /// Sends the line of an attempt.
@@ -84,7 +94,7 @@ pub fn are_whole<W: Watch + Copy + Drop>(opening: &Ledger<W>, clients: &[Ledger<
 /// `vacation opaque` reads it: first, as attempts of client 0, the words that it begins with; then
 /// the attempts of the opening as those of client 0, and of the clients from 1 on. They are ordered
 /// as they claim to stand: by renewal, by version, the writer of a version before all others that
-/// read it, and these by when they began.
+/// read it, and these by when they began, and ended.
 ///
 /// Takes a few words for each attempt, and memory for one chunk of text. After a fault, what was
 /// written is nothing or a prefix of such a text. Where a ledger had no room for a call or for an

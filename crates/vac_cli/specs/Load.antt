@@ -111,7 +111,8 @@ pub record WroteCallsInPart (s : Settings) (held holds : Option (List ℕ)) : Ty
 -- reads and writes (`IsNoted` of vac_manager), and attempts that were given up; and those that
 -- write the words that the system began with; all in the order of their places
 -- Not said: that each attempt that was given up is among them, that it read what the text says, and
--- at which place it is; that a stamp is a reading of the clock. `vacation opaque` judges it.
+-- at which place it is; that a stamp is a reading of the clock, and each client's are in turn.
+-- `vacation opaque` judges it.
 -- Not said: that the lines are read by it.
 pub record WroteTried (s : Settings) (held holds : Option (List ℕ)) : Type 0 where
   pub opening : Page

@@ -11,8 +11,13 @@ use Rattle.vac_attempts.proofs.Sorted.{in_order}
 use Rattle.vac_attempts.proofs.writing.write_attempts.Goals as goal
 
 -- by what a line is sorted
-abbrev place_of : Line → ℕ × ℕ × ℕ
-place_of line = (line.attempt.now.place.renewal, rank_of line.attempt.now.place, line.attempt.now.begin)
+abbrev place_of : Line → ℕ × ℕ × ℕ × ℕ
+place_of line = (
+  line.attempt.now.place.renewal,
+  rank_of line.attempt.now.place,
+  line.attempt.now.begin,
+  line.attempt.now.end,
+)
 
 pub returns-in_err-send_lines-clause-err : goal.returns-in_err-send_lines-clause-err
 returns-in_err-send_lines-clause-err g c =
