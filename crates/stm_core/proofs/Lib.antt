@@ -25,6 +25,7 @@ pub mod Histories
 pub mod Merging
 pub mod Facts
 pub mod Dating
+pub mod Traced
 pub mod Tracing
 pub mod Playing
 pub mod Conditions

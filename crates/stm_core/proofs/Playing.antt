@@ -34,7 +34,8 @@ use Rattle.stm_core.proofs.Renewing.{whole, at_below, serial_append, image_appen
 use Rattle.stm_core.proofs.Dating.{Mark, IsStamped, IsDated, Dated, placed, in_placed, placed_in, placed_old, date_step}
 use Rattle.stm_core.proofs.Dating.{date_decide, date_longer, date_join, ranked_by}
 use Rattle.stm_core.proofs.Conditions.{IsReading, CanAct, CanPlay, IsAlone, can_play}
-use Rattle.stm_core.proofs.Tracing.{Trace, at_most_one, act_trace, split_trace, gather_trace, renew_trace}
+use Rattle.stm_core.proofs.Traced.{Trace}
+use Rattle.stm_core.proofs.Tracing.{at_most_one, act_trace, split_trace, gather_trace, renew_trace}
 use Rattle.stm_core.proofs.Tracing.{opening_trace, of_list}
 use Rattle.stm_core.specs.Listed.{made}
 use Rattle.stm_core.proofs.Orders.{in_cons}

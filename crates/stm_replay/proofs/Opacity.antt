@@ -19,7 +19,8 @@ use Rattle.stm_core.proofs.Conditions.{CanPlay, can_play}
 use Rattle.stm_core.proofs.Histories.{laid_value, laid_length, image_length}
 use Rattle.stm_core.proofs.Facts.{ahead_by, agrees_by}
 use Rattle.stm_core.proofs.Dating.{placed, placed_in, ranked_by}
-use Rattle.stm_core.proofs.Tracing.{Trace, begin_first, step_stays, at_most_one, decided_since, writing_before}
+use Rattle.stm_core.proofs.Traced.{Trace, begin_first, step_stays}
+use Rattle.stm_core.proofs.Tracing.{at_most_one, decided_since, writing_before}
 use Rattle.stm_core.proofs.Tracing.{opening_trace}
 use Rattle.stm_core.proofs.Playing.{filed, earlier_after, history_after, Beside, event_beside, event_traced}
 use Rattle.stm_core.proofs.Playing.{first_stays, opening_beside, is_history, every_list_is_serializable}

@@ -23,6 +23,7 @@ pub mod Noted
 pub mod Finding
 pub mod Booked
 pub mod Noting
+pub mod Standing
 pub mod Going
 pub mod Walks
 pub mod Index

@@ -1,6 +1,6 @@
 -- The audit of words is right: it meets no flaw exactly where the words are those of a balanced
 -- state, and then its report is the state's.
-use Rattle.std.specs.Prelude.{◌≡◌, ℕ, ◌+◌, ◌*◌, ◌<◌, ◌≤◌, Ok, Err}
+use Rattle.std.specs.Prelude.{◌≡◌, ℕ, ◌<◌, ◌≤◌, Ok, Err}
 use Rattle.tx_alloc.specs.Pool.{heap_words}
 use Rattle.vac_model.specs.declared.limits.TheConstants.{MOST_BLOCKS}
 use Rattle.vac_model.specs.declared.replies.Report.{Report}

@@ -1,5 +1,5 @@
 -- What the running audit does.
-use Rattle.std.specs.Prelude.{◌≡◌, ◌⊎◌, ℕ, ◌+◌, ◌*◌, ◌<◌, ◌≤◌, Bool, List, [], ◌++◌, length, suc, Result, Ok, Err, MatchResult, slice_index, sum_by, ⊤}
+use Rattle.std.specs.Prelude.{◌≡◌, ◌⊎◌, ℕ, ◌+◌, ◌<◌, ◌≤◌, Bool, List, [], ◌++◌, length, suc, Result, Ok, Err, MatchResult, slice_index, sum_by, ⊤}
 use Rattle.std.specs.List.{All, AllWithin, HoldsAt}
 use Rattle.tx_alloc.specs.Pool.{heap_words}
 use Rattle.tx_alloc.specs.Rows.{Rows}

@@ -1,6 +1,6 @@
 use Rattle.std.proofs.Common.{arith, inl, inr, refl}
 use Rattle.std.specs.Prelude.{slice_index}
-use Rattle.vac_audit.proofs.Going.{key_fails, key_holds}
+use Rattle.vac_audit.proofs.Standing.{key_fails, key_holds}
 use Rattle.vac_audit.proofs.tree.look_at_key.Goals as goal
 use Rattle.vac_audit.proofs.tree.look_at_key.Goals.{then-key-above-via-then-key-above}
 use Rattle.vac_audit.proofs.tree.look_at_key.Goals.{then-key-above-via-else-key-above+then-key-gt-LAST_ID}

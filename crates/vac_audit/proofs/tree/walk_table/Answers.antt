@@ -2,8 +2,10 @@ use Rattle.std.proofs.Common.{arith, ap, sym, [], length}
 use Rattle.vac_audit.specs.declared.tree.Step.TheVariants.{Left, Right}
 use Rattle.vac_audit.specs.declared.tree.Turn.TheVariants.{Down, Up}
 use Rattle.vac_audit.proofs.Going.{tree_start, goes_down, goes_not_down, as_pushed, turn_as, weight_pushed, weight_down}
-use Rattle.vac_audit.proofs.Going.{turn_weight, goes_order, goes_fault, goes_right, goes_up, goes_colour, goes_done}
-use Rattle.vac_audit.proofs.Going.{goes_red, popped, blocks_split, popped_weight, empty_of, room_less, lefts_append}
+use Rattle.vac_audit.proofs.Standing.{turn_weight}
+use Rattle.vac_audit.proofs.Going.{goes_order, goes_fault, goes_right, goes_up, goes_colour, goes_done}
+use Rattle.vac_audit.proofs.Standing.{room_less, lefts_append}
+use Rattle.vac_audit.proofs.Going.{goes_red, popped, blocks_split, popped_weight, empty_of}
 use Rattle.vac_audit.proofs.Going.{handed_table}
 use Rattle.vac_audit.proofs.tree.walk_table.Goals as goal
 

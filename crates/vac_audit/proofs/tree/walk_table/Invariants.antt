@@ -1,6 +1,6 @@
 use Rattle.std.proofs.Common.{◌+◌, ◌*◌}
 use Rattle.vac_audit.specs.Marks.{unmarked}
-use Rattle.vac_audit.proofs.Going.{TreeGoes, weight, turn_weight}
+use Rattle.vac_audit.proofs.Standing.{TreeGoes, weight, turn_weight}
 use Rattle.vac_audit.proofs.tree.walk_table.Given as goal
 
 abbrev pub invariant-walk : goal.invariant-walk
