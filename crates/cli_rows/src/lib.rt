@@ -1,6 +1,6 @@
 //! Tests of the load and of the program's calls: scripts, dumps, checks and command lines over
 //! input and output that fail, histories held against work, drawn tasks, loads of one client and of
-//! several that meet, the times of a history, and the text of attempts.
+//! several that meet or that memory is refused to, the times of a history, and the text of attempts.
 #![tactic(auto)]
 
 #[cfg(test)]
@@ -25,6 +25,8 @@ mod loads;
 mod loops;
 #[cfg(test)]
 mod meetings;
+#[cfg(test)]
+mod refused;
 #[cfg(test)]
 mod rounds;
 #[cfg(test)]

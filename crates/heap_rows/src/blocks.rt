@@ -140,57 +140,53 @@ fn has_pieces(alloc: Global, blocks: usize, expected: &[(usize, u64)]) -> Result
     Ok(words.len() == 16 + 8 * blocks && found.as_slice() == expected)
 }
 
+/// The words of a heap of eight blocks, one in each list.
+const EIGHT: [(usize, u64); 8] = [
+    (8, 16),
+    (9, 24),
+    (10, 32),
+    (11, 40),
+    (12, 48),
+    (13, 56),
+    (14, 64),
+    (15, 72),
+];
+
+/// The words of a heap of nine: the first list has two.
+const NINE: [(usize, u64); 9] = [
+    (8, 16),
+    (9, 32),
+    (10, 40),
+    (11, 48),
+    (12, 56),
+    (13, 64),
+    (14, 72),
+    (15, 80),
+    (16, 24),
+];
+
+/// The words of a heap of ten: the first two lists have two each.
+const TEN: [(usize, u64); 10] = [
+    (8, 16),
+    (9, 32),
+    (10, 48),
+    (11, 56),
+    (12, 64),
+    (13, 72),
+    (14, 80),
+    (15, 88),
+    (16, 24),
+    (32, 40),
+];
+
 #[test]
 fn words_of_heaps_in_pieces(rt: HostRuntime) -> Result<(), Fail> {
-    let one = [(8, 16)];
-    let seven = [
-        (8, 16),
-        (9, 24),
-        (10, 32),
-        (11, 40),
-        (12, 48),
-        (13, 56),
-        (14, 64),
-    ];
-    let eight = [
-        (8, 16),
-        (9, 24),
-        (10, 32),
-        (11, 40),
-        (12, 48),
-        (13, 56),
-        (14, 64),
-        (15, 72),
-    ];
-    let nine = [
-        (8, 16),
-        (9, 32),
-        (10, 40),
-        (11, 48),
-        (12, 56),
-        (13, 64),
-        (14, 72),
-        (15, 80),
-        (16, 24),
-    ];
-    let ten = [
-        (8, 16),
-        (9, 32),
-        (10, 48),
-        (11, 56),
-        (12, 64),
-        (13, 72),
-        (14, 80),
-        (15, 88),
-        (16, 24),
-        (32, 40),
-    ];
     let found = [
-        has_pieces(rt.alloc(), 1, &one)?,
-        has_pieces(rt.alloc(), 7, &seven)?,
-        has_pieces(rt.alloc(), 8, &eight)?,
-        has_pieces(rt.alloc(), 9, &nine)?,
-        has_pieces(rt.alloc(), 10, &ten)?,
+        has_pieces(rt.alloc(), 1, &EIGHT[..1])?,
+        has_pieces(rt.alloc(), 7, &EIGHT[..7])?,
+        has_pieces(rt.alloc(), 8, &EIGHT)?,
+        has_pieces(rt.alloc(), 9, &NINE)?,
+        has_pieces(rt.alloc(), 10, &TEN)?,
     ];
     assert_eq!(rt; found, [true; 5]);
     Ok(())

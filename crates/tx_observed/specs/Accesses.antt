@@ -59,6 +59,7 @@ AreOf accesses reads writes =
     × (are_right empty empty accesses ≡ true)
 
 -- what was seen, if there was room for all of it, are the accesses of such a memory
+-- Not said: how often a read was seen. Seen twice, it leaves the same.
 abbrev pub IsTracked : Option (List Access) → Words → Words → Type 0
 IsTracked seen reads writes =
     (accesses : List Access) → seen ≡ Some accesses → AreOf accesses reads writes

@@ -5,7 +5,7 @@ use Rattle.std.proofs.lemmas.List.{map-append, take_more, length-map, length-tak
 use Rattle.std.proofs.lemmas.List.Folds.{list_all-append}
 use Rattle.vac_attempts.specs.declared.ledger.Ledger.{Ledger}
 use Rattle.vac_attempts.specs.Lines.{Entry}
-use Rattle.vac_attempts.specs.Pages.{Page, page_of, pages_of, all_noted, are_noted, entries_on, entries_from}
+use Rattle.vac_attempts.specs.Pages.{Page, page_of, pages_of, is_told, are_told, entries_on, entries_from}
 
 -- the attempts of two lists of clients
 pub entries_both : (first n : ℕ) (xs ys : List Page) → first + length xs ≡ n →
@@ -25,16 +25,15 @@ pages_more {W} opening clients place ledger low at =
     take_more clients place ledger low ∙ ap (λ (l : Ledger W). front ++ l ∷ []) (sym at) in
     ap (pages_of opening) all ∙ ap (λ (l : List Page). page_of opening ∷ l) (map-append page_of front (ledger ∷ []))
 
--- one client more, each of whose calls has its attempt
-pub noted_more : {W : Type 0} (opening : Ledger W) (clients : List (Ledger W)) (place : ℕ) (ledger : Ledger W) →
+-- one client more, of whom all is told
+pub told_more : {W : Type 0} (opening : Ledger W) (clients : List (Ledger W)) (place : ℕ) (ledger : Ledger W) →
     place < length clients → ledger ≡ get_or clients place ledger
-    → are_noted (pages_of opening (take place clients)) ≡ true → all_noted ledger.journal.notes.items ≡ true →
-    are_noted (pages_of opening (take (place + 1) clients)) ≡ true
-noted_more {W} opening clients place ledger low at before own =
-    let noted : Page → Bool = λ page. all_noted page.calls in
-    ap are_noted (pages_more opening clients place ledger low at)
-    ∙ list_all-append noted (pages_of opening (take place clients)) (page_of ledger ∷ [])
-    ∙ ap (λ (b : Bool). b && (noted (page_of ledger) && true)) before ∙ ap (λ (b : Bool). b && true) own
+    → are_told (pages_of opening (take place clients)) ≡ true → is_told (page_of ledger) ≡ true →
+    are_told (pages_of opening (take (place + 1) clients)) ≡ true
+told_more {W} opening clients place ledger low at before own =
+    ap are_told (pages_more opening clients place ledger low at)
+    ∙ list_all-append is_told (pages_of opening (take place clients)) (page_of ledger ∷ [])
+    ∙ ap (λ (b : Bool). b && (is_told (page_of ledger) && true)) before ∙ ap (λ (b : Bool). b && true) own
 
 -- one client more
 pub client_more : {W : Type 0} (opening : Ledger W) (clients : List (Ledger W)) (place client : ℕ) (ledger : Ledger W)

@@ -19,7 +19,7 @@ use Rattle.vac_manager.specs.declared.note.AttemptNote.{AttemptNote}
 use Rattle.vac_attempts.specs.Laying.{Lays}
 use Rattle.vac_attempts.specs.Lines.{Entry, entry_of, line_text, lines_text}
 use Rattle.vac_attempts.specs.Order.{AreOrdered}
-use Rattle.vac_attempts.specs.Pages.{Page, entries_of, entries_from, are_noted}
+use Rattle.vac_attempts.specs.Pages.{Page, entries_of, entries_from, are_told}
 use Rattle.vac_attempts.specs.Text.{AreAttempts, WroteAttempts, WroteAttemptsPrefix}
 
 -- the text of lines
@@ -76,13 +76,13 @@ module _ (blocks : ℕ) (pages : List Page) where
   -- the attempts that were laid, and then those of the clients, and all of them put in order
   pub attempts : (laid laid_now : List AttemptNote) (first all sorted now : List Line) → Lays blocks laid →
       laid_now ≡ laid → map entry_of first ≡ entries_of 0 laid_now
-      → map entry_of all ≡ map entry_of first ++ entries_from 0 pages → are_noted pages ≡ true →
+      → map entry_of all ≡ map entry_of first ++ entries_from 0 pages → are_told pages ≡ true →
       IsPermutation all sorted → AreOrdered (map entry_of sorted) → now ≡ sorted →
       AreAttempts blocks pages (map entry_of now)
-  attempts laid laid_now first all sorted now lays same own more noted moved order is = record {
+  attempts laid laid_now first all sorted now lays same own more told moved order is = record {
     laid = laid;
     lays = lays;
-    noted = noted;
+    told = told;
     each_once = subst (λ (l : List Line). IsPermutation (entries_of 0 laid ++ entries_from 0 pages) (map entry_of l))
         (sym is)
         (subst (λ (l : List Entry). IsPermutation l (map entry_of sorted))

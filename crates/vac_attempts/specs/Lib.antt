@@ -1,3 +1,4 @@
+pub mod GivenUp
 pub mod Known
 pub mod Stamped
 pub mod Lines

@@ -1,10 +1,12 @@
 -- What is kept of a client's attempts.
 use Rattle.std.specs.Prelude.{ℕ, suc, Bool, List, [], ◌∷◌, ◌++◌, map, flat_map, Option, Some, None, is_some}
+use Rattle.std.specs.Prelude.{◌&&◌}
 use Rattle.std.specs.List.{list_all}
 use Rattle.std.specs.Global.{Box}
 use Rattle.vac_manager.specs.declared.note.Note.{Note}
 use Rattle.vac_manager.specs.declared.note.AttemptNote.{AttemptNote}
 use Rattle.vac_attempts.specs.declared.ledger.Ledger.{Ledger}
+use Rattle.vac_attempts.specs.GivenUp.{none_committed}
 use Rattle.vac_attempts.specs.Lines.{Entry}
 
 -- the answered calls of a client, and its attempts that were given up
@@ -36,9 +38,13 @@ attempts_of calls = flat_map (λ n. attempt_of n.attempt) calls
 abbrev pub all_noted : List Note → Bool
 all_noted calls = list_all (λ n. is_some n.attempt) calls
 
+-- each answered call has its attempt, and none of those that were given up committed
+abbrev pub is_told : Page → Bool
+is_told page = all_noted page.calls && none_committed page.given_up
+
 -- so it is for each client
-abbrev pub are_noted : List Page → Bool
-are_noted pages = list_all (λ page. all_noted page.calls) pages
+abbrev pub are_told : List Page → Bool
+are_told pages = list_all is_told pages
 
 -- attempts, each with the number of its client
 abbrev pub entries_of : ℕ → List AttemptNote → List Entry

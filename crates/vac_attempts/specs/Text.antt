@@ -7,17 +7,17 @@ use Rattle.vac_manager.specs.declared.note.AttemptNote.{AttemptNote}
 use Rattle.vac_attempts.specs.Laying.{Lays}
 use Rattle.vac_attempts.specs.Lines.{Entry, lines_text}
 use Rattle.vac_attempts.specs.Order.{AreOrdered}
-use Rattle.vac_attempts.specs.Pages.{Page, entries_of, entries_from, are_noted}
+use Rattle.vac_attempts.specs.Pages.{Page, entries_of, entries_from, are_told}
 
 -- these are the attempts of a load on a system of so many blocks: as attempts of client 0 those
 -- that write the words it begins with; of each client, from 0 on, the one that answered each of its
 -- calls, once, and those that were given up; all in the order of their places
--- Not said: that what is listed as given up did not commit, and was an attempt of this load; what
--- it read; which place is its own.
+-- Not said: that what is listed as given up was an attempt of this load; what it read; which place
+-- is its own.
 pub record AreAttempts (blocks : ℕ) (pages : List Page) (all : List Entry) : Type 0 where
   pub laid : List AttemptNote
   pub lays : Lays blocks laid
-  pub noted : are_noted pages ≡ true
+  pub told : are_told pages ≡ true
   pub each_once : IsPermutation (entries_of 0 laid ++ entries_from 0 pages) all
   pub ordered : AreOrdered all
 

@@ -2,7 +2,7 @@
 
 ghost use Rattle.std.specs.Prelude.{◌≡◌, ◌+◌, ◌<◌, ◌^◌, ◌++◌, true, length, map, OnOk};
 ghost use Rattle.vac_attempts.specs.Lines.{entry_of};
-ghost use Rattle.vac_attempts.specs.Pages.{attempts_of, all_noted, page_of, pages_of, are_noted};
+ghost use Rattle.vac_attempts.specs.Pages.{attempts_of, all_noted, page_of, pages_of, is_told, are_told};
 ghost use Rattle.vac_attempts.specs.Pages.{entries_of, entries_on, entries_from};
 
 use crate::ledger::Ledger;
@@ -58,7 +58,7 @@ fn add_client<'a, W: Watch + Copy + Drop>(
 ) -> Result<(), AllocError>
     ensures added { OnOk result (map entry_of lines.new.items
         ≡ map entry_of lines.old.items ++ entries_on client (page_of ledger.now)) }
-    ensures noted { OnOk result (all_noted ledger.now.journal.notes.items ≡ true) }
+    ensures told { OnOk result (is_told (page_of ledger.now) ≡ true) }
 {
     add_answered(lines, client, ledger.journal().notes())?;
     add_attempts(lines, client, ledger.trail().given_up())
@@ -73,7 +73,7 @@ pub(crate) fn add_all<'a, W: Watch + Copy + Drop>(
     requires few { length clients.now < 2 ^ 32 }
     ensures added { OnOk result (map entry_of lines.new.items
         ≡ map entry_of lines.old.items ++ entries_from 0 (pages_of opening.now clients.now)) }
-    ensures noted { OnOk result (are_noted (pages_of opening.now clients.now) ≡ true) }
+    ensures told { OnOk result (are_told (pages_of opening.now clients.now) ≡ true) }
 {
     add_client(lines, OPENING, opening)?;
     'clients: for place in 0..clients.len() {

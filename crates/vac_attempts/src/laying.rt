@@ -4,30 +4,16 @@ ghost use Rattle.std.specs.Prelude.{◌≡◌, ◌+◌, ◌<◌, ◌≤◌, ◌^
 ghost use Rattle.std.specs.List.{All};
 ghost use Rattle.vac_attempts.specs.Laying.{IsLaid, Lays, write_of, writes_from, done_by};
 
+use crate::places::first_place;
 use std::alloc::{AllocError, Global};
-use stm_words::Version;
 use tx_alloc::spread_words;
 use tx_memory::Addr;
 use tx_observed::Access;
-use vac_manager::{AttemptNote, Place};
+use vac_manager::AttemptNote;
 use vac_model::limits::MOST_BLOCKS;
 
 /// How many words an attempt lays at most, so that its line is not too long.
 const MOST_LAID: usize = 16_384;
-
-/// The place before all others.
-fn before_all() -> Place
-    ensures { result ≡ record { renewal = 0; version = 0; wrote = true } }
-{
-    let Some(version) = Version::new(0) else {
-        unreachable!()
-    };
-    Place {
-        renewal: 0,
-        version,
-        wrote: true,
-    }
-}
 
 /// Adds the write of a word, where it is not 0.
 fn lay_word(accesses: &mut Vec<Access>, address: u32, word: u64) -> Result<(), AllocError>
@@ -56,7 +42,7 @@ fn lay_some(alloc: Global, first: u32, words: &[u64]) -> Result<AttemptNote, All
         begin: 0,
         end: 0,
         commits: true,
-        place: before_all(),
+        place: first_place(true),
         accesses,
     })
 }

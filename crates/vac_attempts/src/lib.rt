@@ -6,6 +6,7 @@ mod gathering;
 mod laying;
 mod ledger;
 mod lines;
+mod places;
 mod trail;
 mod writing;
 

@@ -3,16 +3,18 @@
 ghost use Rattle.std.specs.Prelude.{◌≡◌, ◌≤◌, [], true, None, IfSome, IfOk};
 ghost use Rattle.vac_manager.specs.Tracing.{trace_of, IsLast};
 ghost use Rattle.vac_history.specs.Stamps.{IsStamp};
+ghost use Rattle.vac_attempts.specs.GivenUp.{none_committed};
 ghost use Rattle.vac_attempts.specs.Known.{ended_by, is_whole_trail};
 ghost use Rattle.vac_attempts.specs.Stamped.{IsStamped};
 
 use crate::accesses::Accesses;
+use crate::places::first_place;
 use std::alloc::{AllocError, Global};
 use stm_words::Version;
 use tx_alloc::FreeList;
 use tx_memory::{TxMem, TxRead};
 use tx_observed::Observed;
-use vac_history::Watch;
+use vac_history::{Watch, stamp};
 use vac_manager::{AttemptNote, Place, Tracer};
 use vac_model::{Reply, Task};
 use vac_tasks::{read_task, run_task};
@@ -33,25 +35,7 @@ pub struct Trail<W> {
     committed: Option<AttemptNote>,
     /// Whether there was room for each attempt.
     is_whole: bool,
-}
-
-/// The first place of all.
-fn first_place() -> Place {
-    let Some(version) = Version::new(0) else {
-        unreachable!()
-    };
-    Place {
-        renewal: 0,
-        version,
-        wrote: false,
-    }
-}
-
-/// Reads the watch: a stamp that is not before the last one.
-fn stamp<W: Watch>(watch: &mut W, last: u64) -> u64
-    ensures { IsStamp W.shows watch.old watch.new last result }
-{
-    watch.read().max(last)
+    ghost aborted: { none_committed given_up.items ≡ true },
 }
 
 impl<W: Watch> Trail<W> {
@@ -67,7 +51,7 @@ impl<W: Watch> Trail<W> {
             alloc,
             watch,
             latest: 0,
-            place: first_place(),
+            place: first_place(false),
             accesses: Accesses::new(alloc),
             given_up: Vec::new(alloc),
             committed: None,

@@ -25,7 +25,7 @@ pub struct Journal<W> {
 }
 
 /// Reads the watch: a stamp that is not before the last one.
-fn stamp<W: Watch>(watch: &mut W, last: u64) -> u64
+pub fn stamp<W: Watch>(watch: &mut W, last: u64) -> u64
     ensures read { IsStamp W.shows watch.old watch.new last result }
     ensures later { last ≤ result }
 {

@@ -1,5 +1,5 @@
 -- Calls that are kept.
-use Rattle.std.specs.Prelude.{◌≡◌, List, [], ◌∷◌, ◌++◌, Option, Some, None, IfSome}
+use Rattle.std.specs.Prelude.{◌≡◌, ◌⊎◌, List, [], ◌∷◌, ◌++◌, Option, Some, None, IfSome}
 use Rattle.stm_core.specs.Client.{Record}
 use Rattle.vac_model.specs.declared.tasks.Task.{Task}
 use Rattle.vac_model.specs.Code.{code}
@@ -23,6 +23,12 @@ pub record HasKept (t : Task) (p : Placed) (traced : Option (List Trace))
   pub place : note.place ≡ p.place
   pub attempt : IfSome note.attempt (λ a. IsLast traced (trace_of a.value))
   pub kept : after ≡ behind before (note ∷ [])
+
+-- at most the last of the attempts that were traced was taken out; nothing is said where not all are
+-- known any more
+abbrev pub HasTaken : Option (List Trace) → Option (List Trace) → Type 0
+HasTaken before after = (all : List Trace) → after ≡ Some all →
+    (before ≡ Some all) ⊎ ((last : Trace) × (before ≡ Some (all ++ (last ∷ []))))
 
 -- the record is that of the call: of its task and its reply, and at its place; where the attempt
 -- that answered it is noted, it made this record

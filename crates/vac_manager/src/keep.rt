@@ -3,7 +3,7 @@
 ghost use Rattle.std.specs.Prelude.{◌≡◌, List, Option, None, OnOk};
 ghost use Rattle.vac_manager.specs.declared.note.Note.{Note};
 ghost use Rattle.vac_manager.specs.Tracing.{Trace};
-ghost use Rattle.vac_manager.specs.Keeping.{HasKept};
+ghost use Rattle.vac_manager.specs.Keeping.{HasKept, HasTaken};
 
 use crate::placed::Placed;
 use crate::tracer::{Tracer, Untraced};
@@ -29,6 +29,7 @@ pub trait Keep {
     /// Not said: when a keeper has no room.
     fn begin(&mut self) -> Result<(), AllocError>
         ensures same { notes self.new ≡ notes self.old }
+        ensures traced { traced self.new ≡ traced self.old }
         ensures room { OnOk result (ready self.new) };
 
     /// Lends what traces the attempts of the call that is about to begin.
@@ -43,10 +44,12 @@ pub trait Keep {
         ensures traced { traced self.new ≡ Self.Tracing.ended tracer }
         ensures room { ready self.old → ready self.new };
 
-    /// Keeps a call that was answered, after the others. Its attempt is the last that was traced.
+    /// Keeps a call that was answered, after the others. Its attempt is the last that was traced;
+    /// the others stay.
     fn keep(&mut self, task: Task, placed: Placed)
         requires { ready self.old }
-        ensures { HasKept task placed (traced self.old) (notes self.old) (notes self.new) };
+        ensures kept { HasKept task placed (traced self.old) (notes self.old) (notes self.new) }
+        ensures taken { HasTaken (traced self.old) (traced self.new) };
 }
 
 /// Keeps nothing.

@@ -67,9 +67,7 @@ impl Manager {
                 };
                 Err(RenewFault::Kept(Manager { alloc, region }, client, fault))
             }
-            Err(RegionRenewFault::Closed(words, version)) => {
-                Err(RenewFault::Closed(words, version))
-            }
+            Err(RegionRenewFault::Closed(words, last)) => Err(RenewFault::Closed(words, last)),
         }
     }
 }

@@ -71,45 +71,22 @@ fn states_that_differ_in_one_number(rt: HostRuntime) {
     let alloc = rt.alloc();
     let (car, customer) = (add!(Car, 7, 2, Some(50)), new_customer!(3));
     let reserved = reserve!(3, Car, 7, 1);
+    let dearer = [car, customer, reserved, add!(Car, 7, 0, Some(51))];
+    let more_units = [car, customer, reserved, add!(Car, 7, 1, None)];
+    let two_booked = [car, customer, reserve!(3, Car, 7, 2)];
+    let cheaper = add!(Car, 7, 2, Some(40));
+    let booked_for_less = [cheaper, customer, reserved, add!(Car, 7, 0, Some(50))];
+    let other_customer = [car, new_customer!(4), reserve!(4, Car, 7, 1)];
+    let other_item = [add!(Car, 8, 2, Some(50)), customer, reserve!(3, Car, 8, 1)];
     let found = [
         is_one_car_of_two(&rt, alloc, 8, &[car, customer, reserved]),
         is_one_car_of_two(&rt, alloc, 9, &[car, customer, reserved]),
-        is_one_car_of_two(
-            &rt,
-            alloc,
-            8,
-            &[car, customer, reserved, add!(Car, 7, 0, Some(51))],
-        ),
-        is_one_car_of_two(
-            &rt,
-            alloc,
-            8,
-            &[car, customer, reserved, add!(Car, 7, 1, None)],
-        ),
-        is_one_car_of_two(&rt, alloc, 8, &[car, customer, reserve!(3, Car, 7, 2)]),
-        is_one_car_of_two(
-            &rt,
-            alloc,
-            8,
-            &[
-                add!(Car, 7, 2, Some(40)),
-                customer,
-                reserved,
-                add!(Car, 7, 0, Some(50)),
-            ],
-        ),
-        is_one_car_of_two(
-            &rt,
-            alloc,
-            8,
-            &[car, new_customer!(4), reserve!(4, Car, 7, 1)],
-        ),
-        is_one_car_of_two(
-            &rt,
-            alloc,
-            8,
-            &[add!(Car, 8, 2, Some(50)), customer, reserve!(3, Car, 8, 1)],
-        ),
+        is_one_car_of_two(&rt, alloc, 8, &dearer),
+        is_one_car_of_two(&rt, alloc, 8, &more_units),
+        is_one_car_of_two(&rt, alloc, 8, &two_booked),
+        is_one_car_of_two(&rt, alloc, 8, &booked_for_less),
+        is_one_car_of_two(&rt, alloc, 8, &other_customer),
+        is_one_car_of_two(&rt, alloc, 8, &other_item),
     ];
     let wanted = [true, false, false, false, false, false, false, false];
     same(&rt, &found, &wanted);

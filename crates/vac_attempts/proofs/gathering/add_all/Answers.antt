@@ -1,6 +1,6 @@
 use Rattle.std.proofs.Common.{refl, ◌+◌, map}
 use Rattle.vac_attempts.specs.Lines.{entry_of}
-use Rattle.vac_attempts.proofs.Gathered.{client_more, noted_more}
+use Rattle.vac_attempts.proofs.Gathered.{client_more, told_more}
 use Rattle.vac_attempts.proofs.gathering.add_all.Goals as goal
 
 pub clients-preserved : goal.clients-preserved
@@ -11,6 +11,6 @@ clients-preserved g c =
           (map entry_of c.clients.lines.items) (map entry_of c.add_client-in-clients.new.lines.items)
           (map entry_of c.args.lines.now.items) c.clients-test.true c.index-clients-place.is refl
           c.clients.invariant.added c.in_ok-add_client-2.ensures.added;
-      noted = noted_more c.args.opening.now c.args.clients.now c.clients.place ledger c.clients-test.true
-          c.index-clients-place.is c.clients.invariant.noted c.in_ok-add_client-2.ensures.noted;
+      told = told_more c.args.opening.now c.args.clients.now c.clients.place ledger c.clients-test.true
+          c.index-clients-place.is c.clients.invariant.told c.in_ok-add_client-2.ensures.told;
     }
