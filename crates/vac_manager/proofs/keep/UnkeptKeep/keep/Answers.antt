@@ -2,8 +2,8 @@ use Rattle.std.proofs.Common.{None, refl}
 use Rattle.vac_manager.proofs.keep.UnkeptKeep.keep.Goals as goal
 
 -- src/keep.rt:45:5
-pub returns : goal.returns
-returns c = record {
+pub returns-clause-kept : goal.returns-clause-kept
+returns-clause-kept c = record {
   note = record {
     begin = 0;
     end = 0;

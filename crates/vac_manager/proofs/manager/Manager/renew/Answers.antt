@@ -19,5 +19,5 @@ invariant_of-client c =
 pub returns-in-Err-Closed-clause-refused : goal.returns-in-Err-Closed-clause-refused
 returns-in-Err-Closed-clause-refused c =
     let ends : Ends (λ (tag : List ℕ) reads writes. IsLawful tag reads writes) c.self.inside.region
-    c.client.inside.client.value c.in-Err-Closed.words.items c.in-Err-Closed.version = search rules in
+    c.client.inside.client.value c.in-Err-Closed.words.items c.in-Err-Closed.last = search rules in
     (closes _ _ _ _ _ _ c.self.invariant ends (search rules) (search rules), search rules)
