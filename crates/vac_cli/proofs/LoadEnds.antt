@@ -7,7 +7,12 @@ use Rattle.vac_draws.specs.Streams.{stream_of}
 use Rattle.vac_draws.specs.Setting.{is_settings, is_work, is_system}
 use Rattle.vac_model.specs.Ranges.{is_block_count}
 use Rattle.vac_history.specs.declared.journal.Journal.{Journal}
-use Rattle.vac_history.specs.History.{notes_of, kept_by, WroteHistory, WroteHistoryPrefix}
+use Rattle.vac_history.specs.Order.{Entry, IsMerged, AreOrdered}
+use Rattle.vac_history.specs.Numbers.{EachHasLines}
+use Rattle.vac_history.specs.History.{notes_of, kept_by, call_of, entries_text, WroteHistory, WroteHistoryPrefix}
+use Rattle.vac_history.specs.Legal.{AreLegal, JudgedByPrecedence}
+use Rattle.vac_history.proofs.Legality.{texts_up_to_precedence}
+use Rattle.vac_judge.specs.CallText.{IsTheirHistory}
 use Rattle.vac_load.specs.declared.load.LoadFault.TheVariants as load
 use Rattle.vac_load.specs.declared.load.LoadReport.{LoadReport}
 use Rattle.vac_load.specs.Streams.{LoadedBySeed}
@@ -20,6 +25,7 @@ use Rattle.vac_cli.specs.Load.{load_text, NamedFault, LoadEnded, HasNoted}
 use Rattle.vac_cli.specs.Program.{Loads}
 use Rattle.vac_cli.proofs.Turning.{each_ordered, each_in_turn}
 use Rattle.vac_cli.proofs.Recorded.{load_legal}
+use Rattle.vac_cli.proofs.Lines.{each_has_lines}
 
 both_first : (a b : Bool) → (a && b) ≡ true → a ≡ true
 both_first true b e = refl
@@ -70,52 +76,72 @@ ended_with_lines s load (suc zero) held holds fits loaded low done stopped =
     ]
 ended_with_lines s load (suc (suc n)) held holds fits loaded low done stopped = absurd (omega (arith, low))
 
--- the history was written whole
-pub wrote_calls : {C : Type 0} (s : Settings) (opening : Journal C) (clients : List (Journal C))
-    (held holds : Option (List ℕ)) → is_settings s ≡ true → HasNoted s (notes_of opening) (map notes_of clients) →
-    WroteHistory (kept_by opening clients) held holds → Loads true 0 s held holds
-wrote_calls s opening clients held holds fits has wrote = inl (
-  fits,
-  inl (
-    refl,
-    record {
-      opening = notes_of opening;
-      clients = map notes_of clients;
-      noted = has;
-      in_turn = each_in_turn opening clients;
-      written = wrote;
-      in_order = wrote.merged.ordered (each_ordered s opening clients has);
-      legal = load_legal s (notes_of opening) (map notes_of clients) wrote.all has wrote.merged
-          (each_in_turn opening clients) (wrote.merged.ordered (each_ordered s opening clients has));
-    },
-  ),
-)
+-- the calls of journals that were written in one order
+module _ {C : Type 0} (s : Settings) (opening : Journal C) (clients : List (Journal C)) (fits : is_settings s ≡ true)
+    (has : HasNoted s (notes_of opening) (map notes_of clients)) where
+  in_order : (all : List Entry) → IsMerged (kept_by opening clients) all → AreOrdered (map (λ e. e.note) all)
+  in_order all merged = merged.ordered (each_ordered s opening clients has)
 
--- a prefix of it was written, and then one of the line of a fault
-pub stopped_calls : {C : Type 0} (s : Settings) (opening : Journal C) (clients : List (Journal C)) (status : ℕ)
-    (fault : StreamFault) (held middle holds : Option (List ℕ)) → is_settings s ≡ true → status ≡ 1 →
-    HasNoted s (notes_of opening) (map notes_of clients) → WroteHistoryPrefix (kept_by opening clients) held middle →
-    CanStopWriting fault → AppendsPrefix middle holds (fault_line fault) → Loads true status s held holds
-stopped_calls s opening clients status fault held middle holds fits one has wrote can_stop line = inl (
-  fits,
-  inr (
-    one,
-    inr (
-      middle,
+  are_legal : (all : List Entry) → IsMerged (kept_by opening clients) all →
+      AreLegal s.blocks (map call_of all) has.loaded.last
+  are_legal all merged =
+      load_legal s (notes_of opening) (map notes_of clients) all has merged (each_in_turn opening clients)
+      (in_order all merged)
+
+  lines : EachHasLines (kept_by opening clients)
+  lines = each_has_lines s (notes_of opening) (map notes_of clients) fits has
+
+  are_judged : (all : List Entry) → IsMerged (kept_by opening clients) all → IsTheirHistory (map call_of all) →
+      JudgedByPrecedence s.blocks (entries_text all) (map call_of all)
+  are_judged all merged read =
+      texts_up_to_precedence s.blocks (map call_of all) has.loaded.last read (are_legal all merged)
+
+  -- the history was written whole
+  pub wrote_calls : (held holds : Option (List ℕ)) → WroteHistory (kept_by opening clients) held holds →
+      Loads true 0 s held holds
+  wrote_calls held holds wrote = inl (
+    fits,
+    inl (
+      refl,
       record {
         opening = notes_of opening;
         clients = map notes_of clients;
         noted = has;
         in_turn = each_in_turn opening clients;
         written = wrote;
-        in_order = wrote.merged.ordered (each_ordered s opening clients has);
-        legal = load_legal s (notes_of opening) (map notes_of clients) wrote.all has wrote.merged
-            (each_in_turn opening clients) (wrote.merged.ordered (each_ordered s opening clients has));
+        in_order = in_order wrote.all wrote.merged;
+        legal = are_legal wrote.all wrote.merged;
+        read = wrote.read lines;
+        judged = are_judged wrote.all wrote.merged (wrote.read lines);
       },
-      (fault, can_stop, line),
     ),
-  ),
-)
+  )
+
+  -- a prefix of it was written, and then one of the line of a fault
+  pub stopped_calls : (status : ℕ) (fault : StreamFault) (held middle holds : Option (List ℕ)) → status ≡ 1 →
+      WroteHistoryPrefix (kept_by opening clients) held middle → CanStopWriting fault →
+      AppendsPrefix middle holds (fault_line fault) → Loads true status s held holds
+  stopped_calls status fault held middle holds one wrote can_stop line = inl (
+    fits,
+    inr (
+      one,
+      inr (
+        middle,
+        record {
+          opening = notes_of opening;
+          clients = map notes_of clients;
+          noted = has;
+          in_turn = each_in_turn opening clients;
+          written = wrote;
+          in_order = in_order wrote.all wrote.merged;
+          legal = are_legal wrote.all wrote.merged;
+          read = wrote.read lines;
+          judged = are_judged wrote.all wrote.merged (wrote.read lines);
+        },
+        (fault, can_stop, line),
+      ),
+    ),
+  )
 
 -- there are few clients
 pub few_clients : (s : Settings) → is_settings s ≡ true → s.clients ≤ 64

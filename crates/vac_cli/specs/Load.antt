@@ -13,8 +13,9 @@ use Rattle.vac_manager.specs.declared.note.Note.{Note}
 use Rattle.vac_manager.specs.Keeping.{IsNoted}
 use Rattle.vac_history.specs.Turns.{EachInTurn}
 use Rattle.vac_history.specs.Order.{AreOrdered}
-use Rattle.vac_history.specs.History.{call_of, WroteHistory, WroteHistoryPrefix}
-use Rattle.vac_history.specs.Legal.{AreLegal}
+use Rattle.vac_history.specs.History.{call_of, entries_text, WroteHistory, WroteHistoryPrefix}
+use Rattle.vac_history.specs.Legal.{AreLegal, JudgedByPrecedence}
+use Rattle.vac_judge.specs.CallText.{IsTheirHistory}
 use Rattle.vac_attempts.specs.Pages.{Page}
 use Rattle.vac_attempts.specs.Text.{WroteAttempts, WroteAttemptsPrefix}
 use Rattle.vac_load.specs.Lists.{Paired}
@@ -80,11 +81,12 @@ pub record HasNoted (s : Settings) (opening : List Note) (clients : List (List N
 
 -- the load was run to its end, and the history of its answered calls was written and nothing else:
 -- all in the order of their records, and readers of one version in that in which they began. In
--- this order the calls are legal, and leave the state that the load reports
--- Not said: that a call which had ended before another began comes before it; only by this could
--- the judge still call the history illegal (`LegalUpToPrecedence` of vac_history).
--- Not said: that a stamp is a reading of the clock; that the lines are read by the judge; that the
--- state is the one which the load writes to the errors, of which no clause speaks.
+-- this order the calls are legal, and leave the state that the load reports. Its lines are read as
+-- these calls, and the judge calls it legal exactly where no call that had ended before another
+-- began comes after it
+-- Not said: that none does: what two clients read of the clock says nothing of which read it first.
+-- Not said: that a stamp is a reading of the clock; that the state is the one which the load writes
+-- to the errors, of which no clause speaks.
 -- Not said: that no call was left out because a journal had no room for it: of the journals that a
 -- load hands back it is only known which calls they keep.
 pub record WroteCalls (s : Settings) (held holds : Option (List ℕ)) : Type 0 where
@@ -95,6 +97,8 @@ pub record WroteCalls (s : Settings) (held holds : Option (List ℕ)) : Type 0 w
   pub written : WroteHistory (opening ∷ clients) held holds
   pub in_order : AreOrdered (map (λ e. e.note) written.all)
   pub legal : AreLegal s.blocks (map call_of written.all) noted.loaded.last
+  pub read : IsTheirHistory (map call_of written.all)
+  pub judged : JudgedByPrecedence s.blocks (entries_text written.all) (map call_of written.all)
 
 -- the load was run to its end, and a prefix of such a history was written
 pub record WroteCallsInPart (s : Settings) (held holds : Option (List ℕ)) : Type 0 where
@@ -105,6 +109,8 @@ pub record WroteCallsInPart (s : Settings) (held holds : Option (List ℕ)) : Ty
   pub written : WroteHistoryPrefix (opening ∷ clients) held holds
   pub in_order : AreOrdered (map (λ e. e.note) written.all)
   pub legal : AreLegal s.blocks (map call_of written.all) noted.loaded.last
+  pub read : IsTheirHistory (map call_of written.all)
+  pub judged : JudgedByPrecedence s.blocks (entries_text written.all) (map call_of written.all)
 
 -- the load was run to its end, and the attempts of its calls were written and nothing else: of each
 -- answered call the attempt that answered it, once, at its record's place and with its record's

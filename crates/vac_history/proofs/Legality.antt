@@ -1,6 +1,6 @@
 -- Calls that are written in the order of their records are legal.
 use Rattle.vac_model.specs.State.{empty_state}
-use Rattle.vac_history.specs.Legal.{OrderedCallsAreLegal, LegalUpToPrecedence}
+use Rattle.vac_history.specs.Legal.{OrderedCallsAreLegal, LegalUpToPrecedence, TextsAreLegalUpToPrecedence}
 use Rattle.vac_history.proofs.Exchange.{gives}
 use Rattle.vac_history.proofs.Sequence.{times, sequential}
 
@@ -19,3 +19,8 @@ up_to_precedence n calls last h = (
   λ l. l.precedence,
   λ p. record { replies = h.replies; times = h.times; clients = h.clients; precedence = p },
 )
+
+pub texts_up_to_precedence : TextsAreLegalUpToPrecedence
+texts_up_to_precedence n calls last theirs h =
+    let order = up_to_precedence n calls last h in
+    (λ e. order.0 ((theirs.judged n).0 e), λ p. (theirs.judged n).1 (order.1 p))

@@ -2,6 +2,7 @@ pub mod Ordering
 pub mod Best
 pub mod Left
 pub mod Merges
+pub mod Written
 pub mod Texts
 pub mod Starts
 pub mod Exchange

@@ -193,6 +193,16 @@ each_picked P lists left (e ∷ all) p each =
     All-cons P e all (All-head P e t.rest own)
     (each_picked P p.0 left all p.2 (taken_each (All P) lists p.0 e t (All-tail P e t.rest own) (λ k _. each k)))
 
+-- and of each of an interleaving
+pub each_of : (P : Entry → Type 0) (lists : List (List Entry)) (all : List Entry) → Interleaves lists all →
+    EachList (All P) lists → All P all
+each_of P lists [] h each = All-nil P
+each_of P lists (e ∷ all) h each =
+    let t = h.1 in
+    let own = subst (All P) t.first (each t.place) in
+    All-cons P e all (All-head P e t.rest own)
+    (each_of P h.0 all h.2 (taken_each (All P) lists h.0 e t (All-tail P e t.rest own) (λ k _. each k)))
+
 -- the later calls of a list in order
 behind_first : (x : Entry) (xs : List Entry) → AllPairs InOrder (x ∷ xs) → All (InOrder x) xs
 behind_first x xs pairs k d low = pairs 0 (suc k) d (omega arith) (omega (arith, low))

@@ -5,13 +5,14 @@ use Rattle.std.proofs.lemmas.List.{map-append}
 use Rattle.std.specs.Io.KnownBytes.{Appends}
 use Rattle.std.proofs.KnownBytes.{Appends-nil}
 use Rattle.vac_lines.specs.Script.{as_line}
-use Rattle.vac_judge.specs.CallText.{call_text, history_text}
+use Rattle.vac_judge.specs.CallText.{call_text, history_text, IsTheirHistory}
 use Rattle.vac_lines.specs.Writing.{AppendsPrefix}
 use Rattle.vac_streams.specs.Sent.{Sent}
 use Rattle.vac_worklist.proofs.Texts.{sent_both, part_second, prefix_longer, prefix_is, none_written, sent_end}
 use Rattle.vac_worklist.proofs.Texts.{sent_end_in_part}
 use Rattle.vac_manager.specs.declared.note.Note.{Note}
-use Rattle.vac_history.specs.Order.{Entry, entries_from}
+use Rattle.vac_history.specs.Order.{Entry, entries_from, IsMerged}
+use Rattle.vac_history.specs.Numbers.{EachHasLines}
 use Rattle.vac_history.specs.Picking.{Picks, IsEmpty, Merges}
 use Rattle.vac_history.specs.History.{call_of, entries_text, WroteHistory, WroteHistoryPrefix}
 use Rattle.vac_history.specs.Sending.{SentPicked, SentMerged, MergedPrefix}
@@ -82,33 +83,46 @@ sent_all lists left held holds hand p empty = record {
 
 -- ---- the whole history
 
-module _ (kept : List (List Note)) (held : Option (List ℕ)) where
+module _ (kept : List (List Note)) (held : Option (List ℕ))
+    (read : (all : List Entry) → IsMerged kept all → EachHasLines kept → IsTheirHistory (map call_of all)) where
   pub nothing_of_it : WroteHistoryPrefix kept held held
   nothing_of_it =
       let m = merging (entries_from 0 kept) in
-      record { all = m.0; merged = is_merged kept m.0 m.1; written = none_written held (entries_text m.0) }
+      let merged = is_merged kept m.0 m.1 in
+      record {
+        all = m.0;
+        merged = merged;
+        written = none_written held (entries_text m.0);
+        read = read m.0 merged;
+      }
 
   module _ (holds : Option (List ℕ)) (lists : List (List Entry)) (is : lists ≡ entries_from 0 kept) where
+    are_merged : (all : List Entry) → Merges lists all → IsMerged kept all
+    are_merged all m = is_merged kept all (subst (λ (l : List (List Entry)). Merges l all) is m)
+
     pub prefix_of_it : MergedPrefix lists held holds → WroteHistoryPrefix kept held holds
-    prefix_of_it p = record {
-      all = p.all;
-      merged = is_merged kept p.all (subst
-          (λ (l : List (List Entry)). Merges l p.all) is p.merges);
-      written = p.written;
-    }
+    prefix_of_it p =
+        let merged = are_merged p.all p.merges in
+        record { all = p.all; merged = merged; written = p.written; read = read p.all merged }
 
     pub rest_of_it : (grown : Option (List ℕ)) (hand : List ℕ) → SentMerged lists held holds hand →
         Appends holds grown hand → WroteHistory kept held grown
-    rest_of_it grown hand p w = record {
-      all = p.all;
-      merged = is_merged kept p.all (subst (λ (l : List (List Entry)). Merges l p.all) is p.merges);
-      written = sent_end held holds grown hand (entries_text p.all) p.sent w;
-    }
+    rest_of_it grown hand p w =
+        let merged = are_merged p.all p.merges in
+        record {
+          all = p.all;
+          merged = merged;
+          written = sent_end held holds grown hand (entries_text p.all) p.sent w;
+          read = read p.all merged;
+        }
 
     pub rest_in_part : (grown : Option (List ℕ)) (hand : List ℕ) → SentMerged lists held holds hand →
         AppendsPrefix holds grown hand → WroteHistoryPrefix kept held grown
-    rest_in_part grown hand p w = record {
-      all = p.all;
-      merged = is_merged kept p.all (subst (λ (l : List (List Entry)). Merges l p.all) is p.merges);
-      written = sent_end_in_part held holds grown hand (entries_text p.all) p.sent w;
-    }
+    rest_in_part grown hand p w =
+        let merged = are_merged p.all p.merges in
+        record {
+          all = p.all;
+          merged = merged;
+          written = sent_end_in_part held holds grown hand (entries_text p.all) p.sent w;
+          read = read p.all merged;
+        }

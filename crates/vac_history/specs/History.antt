@@ -3,11 +3,12 @@ use Rattle.std.specs.Prelude.{ℕ, Bool, ◌&&◌, List, ◌∷◌, map, Option}
 use Rattle.std.specs.List.{list_all}
 use Rattle.std.specs.Io.KnownBytes.{Appends}
 use Rattle.vac_judge.specs.Call.{Call}
-use Rattle.vac_judge.specs.CallText.{answered, history_text}
+use Rattle.vac_judge.specs.CallText.{answered, history_text, IsTheirHistory}
 use Rattle.vac_lines.specs.Writing.{AppendsPrefix}
 use Rattle.vac_manager.specs.declared.note.Note.{Note}
 use Rattle.vac_history.specs.declared.journal.Journal.{Journal}
 use Rattle.vac_history.specs.Order.{Entry, IsMerged}
+use Rattle.vac_history.specs.Numbers.{EachHasLines}
 
 -- the calls that a client kept
 abbrev pub notes_of : {C : Type 0} → Journal C → List Note
@@ -31,13 +32,14 @@ call_of e = answered e.client e.note.begin e.note.end e.note.task e.note.reply
 abbrev pub entries_text : List Entry → List ℕ
 entries_text all = history_text (map call_of all)
 
--- the calls that the clients kept were written, a line each, in one order, and nothing else
--- Not said: that the lines are read back, which `histories_are_read` of vac_judge says of calls in
--- their ranges; in how many writes.
+-- the calls that the clients kept were written, a line each, in one order, and nothing else; where
+-- their tasks have lines that can be read, the text is read as these calls, and judged as such
+-- Not said: in how many writes.
 pub record WroteHistory (kept : List (List Note)) (held holds : Option (List ℕ)) : Type 0 where
   pub all : List Entry
   pub merged : IsMerged kept all
   pub written : Appends held holds (entries_text all)
+  pub read : EachHasLines kept → IsTheirHistory (map call_of all)
 
 -- a prefix of such a text was written
 -- Not said: that it ends otherwise only where memory is refused or a write fails.
@@ -46,3 +48,4 @@ pub record WroteHistoryPrefix (kept : List (List Note)) (held holds : Option (Li
   pub all : List Entry
   pub merged : IsMerged kept all
   pub written : AppendsPrefix held holds (entries_text all)
+  pub read : EachHasLines kept → IsTheirHistory (map call_of all)

@@ -1,5 +1,5 @@
 -- When the calls of a history are legal in the order in which they are written.
-use Rattle.std.specs.Prelude.{◌≡◌, ◌↔◌, ℕ, List, [], ◌∷◌, ◌++◌, map}
+use Rattle.std.specs.Prelude.{◌≡◌, ◌↔◌, ℕ, true, List, [], ◌∷◌, ◌++◌, map}
 use Rattle.stm_core.specs.Client.{Record}
 use Rattle.stm_core.specs.Invariant.{Sorted}
 use Rattle.vac_model.specs.State.{State, empty_state}
@@ -9,6 +9,8 @@ use Rattle.vac_manager.specs.Keeping.{IsNoted}
 use Rattle.vac_judge.specs.Call.{Call}
 use Rattle.vac_judge.specs.Laws.{GiveReplies, TakeTime, AreSequential, KeepPrecedence}
 use Rattle.vac_judge.specs.Laws.{IsLinearization, state_after}
+use Rattle.vac_judge.specs.Verdict.{verdict_on, is_legal}
+use Rattle.vac_judge.specs.CallText.{history_text, IsTheirHistory}
 use Rattle.vac_history.specs.Turns.{EachInTurn}
 use Rattle.vac_history.specs.Order.{Entry, AreOrdered, IsMerged}
 use Rattle.vac_history.specs.History.{call_of}
@@ -51,3 +53,14 @@ OrderedCallsAreLegal = (n : ℕ) (kept : List (List Note)) (all : List Entry) (l
 abbrev pub LegalUpToPrecedence : Type 0
 LegalUpToPrecedence = (n : ℕ) (calls : List Call) (last : State) → AreLegal n calls last →
     IsLinearization n calls ↔ KeepPrecedence calls
+
+-- the text of calls is legal for the judge of a system of n blocks exactly where no call that had
+-- ended before another began comes after it
+abbrev pub JudgedByPrecedence : ℕ → List ℕ → List Call → Type 0
+JudgedByPrecedence n text calls = (is_legal (verdict_on n text) ≡ true) ↔ KeepPrecedence calls
+
+-- so it is for the text of such calls, where it is read as them
+abbrev pub TextsAreLegalUpToPrecedence : Type 0
+TextsAreLegalUpToPrecedence = (n : ℕ) (calls : List Call) (last : State) →
+    IsTheirHistory calls → AreLegal n calls last →
+    JudgedByPrecedence n (history_text calls) calls

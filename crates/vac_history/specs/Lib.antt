@@ -1,5 +1,6 @@
 pub mod Order
 pub mod Turns
+pub mod Numbers
 pub mod Stamps
 pub mod Stamped
 pub mod Picking

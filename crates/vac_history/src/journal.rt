@@ -3,10 +3,12 @@
 ghost use Rattle.std.specs.Prelude.{◌≡◌, ◌≤◌, [], true};
 ghost use Rattle.std.specs.List.{All};
 ghost use Rattle.vac_history.specs.Turns.{TakeTime, AreInTurn};
+ghost use Rattle.vac_history.specs.Numbers.{EndInTime, HaveReplies, HaveReplies-prop};
 ghost use Rattle.vac_history.specs.Stamps.{IsStamp};
 
 use crate::watch::Watch;
 use std::alloc::{AllocError, Global};
+use vac_judge::numbers_of_a_reply;
 use vac_manager::{AttemptNote, Keep, Note, Place, Placed, Untraced};
 use vac_model::Task;
 
@@ -22,6 +24,8 @@ pub struct Journal<W> {
     ghost timed: { TakeTime notes.items },
     ghost in_turn: { AreInTurn notes.items },
     ghost over: { All (λ n. n.end ≤ latest) notes.items },
+    ghost ends: { EndInTime notes.items },
+    ghost replies: { HaveReplies notes.items } by { HaveReplies-prop notes.items },
 }
 
 /// Reads the watch: a stamp that is not before the last one.
@@ -76,6 +80,7 @@ impl<W: Watch> Journal<W> {
         let begin = self.latest;
         let end = stamp(&mut self.watch, begin);
         let Placed { reply, place } = placed;
+        numbers_of_a_reply(&reply);
         self.latest = end;
         self.notes.push_reserved(Note {
             begin,

@@ -1,6 +1,7 @@
 //! Laws on the order of a history. Each is the contract of a function that does nothing.
 
 ghost use Rattle.vac_history.specs.Legal.{OrderedCallsAreLegal, LegalUpToPrecedence};
+ghost use Rattle.vac_history.specs.Legal.{TextsAreLegalUpToPrecedence};
 
 /// The calls of a legal history of records are legal in the order in which they are written, in
 /// which readers of one version are in the order in which they began: run one after the other they
@@ -14,4 +15,10 @@ pub fn ordered_calls_are_legal()
 /// after it: that is all that rests on what the times of two clients say of each other.
 pub fn legal_up_to_precedence()
     ensures { LegalUpToPrecedence }
+{}
+
+/// The text of calls that are legal in such an order, where it is read as them, is legal for the
+/// judge exactly then.
+pub fn texts_are_legal_up_to_precedence()
+    ensures { TextsAreLegalUpToPrecedence }
 {}

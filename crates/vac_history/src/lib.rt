@@ -11,6 +11,6 @@ mod watch;
 pub use fault::HistoryFault;
 pub use history::{are_whole, write_history};
 pub use journal::{Journal, stamp};
-pub use laws::{legal_up_to_precedence, ordered_calls_are_legal};
+pub use laws::{legal_up_to_precedence, ordered_calls_are_legal, texts_are_legal_up_to_precedence};
 pub use merging::rank;
 pub use watch::{Since, Watch};

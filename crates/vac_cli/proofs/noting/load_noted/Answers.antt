@@ -36,33 +36,32 @@ write_history-requires g c =
 pub returns-in-Ok-write_history : goal.returns-in-Ok-write_history
 returns-in-Ok-write_history g c =
     let k = c.in-Ok-run_told.loaded.2 in
-    wrote_calls c.args.settings.now k.opening k.clients.items (g.W.Write.contents c.args.output.now)
-    (g.W.Write.contents c.write_history.new.output) (search rules)
+    wrote_calls c.args.settings.now k.opening k.clients.items (search rules)
     (noted notes_of c.args.settings.now c.in-Ok-run_told.loaded.0
     (record { opening = c.new-2.result; clients = c.in-Ok.clients }) k c.new-2.ensures.empty c.in-Ok.ensures.empty
     c.in-Ok-run_told.ensures.kept)
-    (search rules)
+    (g.W.Write.contents c.args.output.now) (g.W.Write.contents c.write_history.new.output) (search rules)
 
 -- src/noting.rt:80:1
 pub returns-in-Err-Memory : goal.returns-in-Err-Memory
 returns-in-Err-Memory g c =
     let k = c.in-Ok-run_told.loaded.2 in
-    stopped_calls c.args.settings.now k.opening k.clients.items c.end_by.result stream.Memory
-    (g.W.Write.contents c.args.output.now) (g.W.Write.contents c.write_history.new.output)
-    (g.W.Write.contents c.end_by.new.output) (search rules) c.end_by.ensures.status
+    stopped_calls c.args.settings.now k.opening k.clients.items (search rules)
     (noted notes_of c.args.settings.now c.in-Ok-run_told.loaded.0
     (record { opening = c.new-2.result; clients = c.in-Ok.clients }) k c.new-2.ensures.empty c.in-Ok.ensures.empty
     c.in-Ok-run_told.ensures.kept)
-    (search rules) (inl refl) c.end_by.ensures.line
+    c.end_by.result stream.Memory (g.W.Write.contents c.args.output.now)
+    (g.W.Write.contents c.write_history.new.output) (g.W.Write.contents c.end_by.new.output)
+    c.end_by.ensures.status (search rules) (inl refl) c.end_by.ensures.line
 
 -- src/noting.rt:72:1
 pub returns : goal.returns
 returns g c =
     let k = c.in-Ok-run_told.loaded.2 in
-    stopped_calls c.args.settings.now k.opening k.clients.items c.end_by-in-Err-Write.result stream.Write
-    (g.W.Write.contents c.args.output.now) (g.W.Write.contents c.write_history.new.output)
-    (g.W.Write.contents c.end_by-in-Err-Write.new.output) (search rules) c.end_by-in-Err-Write.ensures.status
+    stopped_calls c.args.settings.now k.opening k.clients.items (search rules)
     (noted notes_of c.args.settings.now c.in-Ok-run_told.loaded.0
     (record { opening = c.new-2.result; clients = c.in-Ok.clients }) k c.new-2.ensures.empty c.in-Ok.ensures.empty
     c.in-Ok-run_told.ensures.kept)
-    (search rules) (inr refl) c.end_by-in-Err-Write.ensures.line
+    c.end_by-in-Err-Write.result stream.Write (g.W.Write.contents c.args.output.now)
+    (g.W.Write.contents c.write_history.new.output) (g.W.Write.contents c.end_by-in-Err-Write.new.output)
+    c.end_by-in-Err-Write.ensures.status (search rules) (inr refl) c.end_by-in-Err-Write.ensures.line

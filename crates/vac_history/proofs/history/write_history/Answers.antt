@@ -3,24 +3,29 @@ use Rattle.vac_lines.proofs.Extends.{on_err}
 use Rattle.vac_history.specs.Rests.{left_of}
 use Rattle.vac_history.specs.History.{kept_by}
 use Rattle.vac_history.proofs.Texts.{nothing_of_it, prefix_of_it, rest_of_it, rest_in_part}
+use Rattle.vac_history.proofs.Written.{text_read}
 use Rattle.vac_history.proofs.history.write_history.Goals as goal
 
 pub returns-then-not-are_whole-clause-err : goal.returns-then-not-are_whole-clause-err
 returns-then-not-are_whole-clause-err g c = nothing_of_it (kept_by c.args.opening.now c.args.clients.now) _
+    (text_read c.args.opening.now c.args.clients.now c.requires.few)
 
 pub returns-in_err-rests-clause-err : goal.returns-in_err-rests-clause-err
 returns-in_err-rests-clause-err g c = on_err c.from_residual.result
-    (nothing_of_it (kept_by c.args.opening.now c.args.clients.now) _)
+    (nothing_of_it (kept_by c.args.opening.now c.args.clients.now) _
+    (text_read c.args.opening.now c.args.clients.now c.requires.few))
 
 pub returns-in_err-send_all-clause-err : goal.returns-in_err-send_all-clause-err
 returns-in_err-send_all-clause-err g c =
-    on_err c.from_residual-in_err-send_all.result (prefix_of_it (kept_by c.args.opening.now c.args.clients.now) _ _
+    on_err c.from_residual-in_err-send_all.result (prefix_of_it (kept_by c.args.opening.now c.args.clients.now) _
+    (text_read c.args.opening.now c.args.clients.now c.requires.few) _
     (left_of c.as_mut_slice.result.now)
     (ap left_of c.as_mut_slice.ensures.value ∙ c.in_ok-rests.ensures) c.in_err-send_all.ensures.err)
 
 pub returns-in-Ok-clause-ok : goal.returns-in-Ok-clause-ok
 returns-in-Ok-clause-ok g c =
-    rest_of_it (kept_by c.args.opening.now c.args.clients.now) _ (g.W.Write.contents c.send_all.new.output)
+    rest_of_it (kept_by c.args.opening.now c.args.clients.now) _
+    (text_read c.args.opening.now c.args.clients.now c.requires.few) (g.W.Write.contents c.send_all.new.output)
     (left_of c.as_mut_slice.result.now)
     (ap left_of c.as_mut_slice.ensures.value ∙ c.in_ok-rests.ensures)
     (g.W.Write.contents c.send_rest.new.output) c.send_all.new.hand.items c.in_ok-send_all.ensures.ok
@@ -28,7 +33,8 @@ returns-in-Ok-clause-ok g c =
 
 pub returns-clause-err : goal.returns-clause-err
 returns-clause-err g c =
-    rest_in_part (kept_by c.args.opening.now c.args.clients.now) _ (g.W.Write.contents c.send_all.new.output)
+    rest_in_part (kept_by c.args.opening.now c.args.clients.now) _
+    (text_read c.args.opening.now c.args.clients.now c.requires.few) (g.W.Write.contents c.send_all.new.output)
     (left_of c.as_mut_slice.result.now)
     (ap left_of c.as_mut_slice.ensures.value ∙ c.in_ok-rests.ensures)
     (g.W.Write.contents c.send_rest.new.output) c.send_all.new.hand.items c.in_ok-send_all.ensures.ok
