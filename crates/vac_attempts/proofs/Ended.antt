@@ -1,11 +1,12 @@
 -- Attempts that have ended.
 use Rattle.std.proofs.Common.{◌≡◌, ◌∙◌, sym, ap, subst, Bool, true, List, [], ◌∷◌, ◌++◌, map, Option, Some, Result, Ok}
-use Rattle.std.proofs.Common.{Err}
+use Rattle.std.proofs.Common.{Err, None, false, inl, inr, append-nil}
 use Rattle.std.specs.Prelude.{IfOk, IfSome}
 use Rattle.std.specs.Result.{result_ok}
 use Rattle.std.specs.Global.{Box}
 use Rattle.vac_manager.specs.declared.note.AttemptNote.{AttemptNote}
 use Rattle.vac_manager.specs.Tracing.{Trace, trace_of, IsLast}
+use Rattle.vac_manager.specs.Keeping.{HasTaken}
 use Rattle.vac_attempts.specs.Known.{known, committed}
 
 -- all that have ended
@@ -27,3 +28,21 @@ last_taken given at_hand a (Ok b) taken whole all there is e =
 last_taken given at_hand a (Err x) taken whole all there is e =
     subst (λ (o : Option (Box AttemptNote)). IfSome o (λ b. IsLast (all_ended whole given at_hand) (trace_of b.value)))
     (sym e) tt
+
+-- the one at hand is taken out, and the others stay
+one_taken : (whole : Bool) (given : List AttemptNote) (at_hand : Option AttemptNote)
+    → HasTaken (all_ended whole given at_hand) (all_ended whole given None)
+one_taken false given at_hand all e = absurd (let z : None ≡ Some all = e in cc)
+one_taken true given None all e = inl e
+one_taken true given (Some a) all e =
+    let z : Some (map trace_of given ++ []) ≡ Some all = e in
+    let same : map trace_of given ++ [] ≡ all = cc in
+    inr (trace_of a, ap (λ t. Some (t ++ trace_of a ∷ [])) (sym (append-nil (map trace_of given)) ∙ same))
+
+pub has_taken : (given given' : List AttemptNote) (at_hand left : Option AttemptNote) (whole whole' : Bool) →
+    left ≡ None → given' ≡ given → whole' ≡ whole →
+    HasTaken (all_ended whole given at_hand) (all_ended whole' given' left)
+has_taken given given' at_hand left whole whole' none same kept all e =
+    one_taken whole given at_hand all
+    (sym (ap (λ (w : Bool). all_ended w given' left) kept ∙ ap (λ (l : List AttemptNote). all_ended whole l left) same ∙
+    ap (all_ended whole given) none) ∙ e)

@@ -86,9 +86,7 @@ impl<W: Watch + Copy + Send + Drop> Keep for Ledger<W> {
 
     fn keep(&mut self, task: Task, placed: Placed) {
         let attempt = self.trail.take_committed();
-        if attempt.is_none() {
-            self.is_whole = false;
-        }
+        self.is_whole = self.is_whole && attempt.is_some();
         self.journal.keep_with(task, placed, attempt);
     }
 }

@@ -1,11 +1,7 @@
 //! What traces the attempts of a client's calls.
 
-ghost use Rattle.std.specs.Prelude.{◌≡◌, ◌≤◌, [], true, None, IfSome, IfOk};
-ghost use Rattle.vac_manager.specs.Tracing.{trace_of, IsLast};
-ghost use Rattle.vac_history.specs.Stamps.{IsStamp};
+ghost use Rattle.std.specs.Prelude.{◌≡◌, true};
 ghost use Rattle.vac_attempts.specs.GivenUp.{none_committed};
-ghost use Rattle.vac_attempts.specs.Known.{ended_by, is_whole_trail};
-ghost use Rattle.vac_attempts.specs.Stamped.{IsStamped};
 
 use crate::accesses::Accesses;
 use crate::places::first_place;
@@ -39,6 +35,11 @@ pub struct Trail<W> {
 }
 
 impl<W: Watch> Trail<W> {
+    ghost use Rattle.std.specs.Prelude.{[], None, IfSome, IfOk};
+    ghost use Rattle.vac_manager.specs.Tracing.{trace_of, IsLast};
+    ghost use Rattle.vac_attempts.specs.Known.{ended_by, is_whole_trail};
+    ghost use Rattle.vac_attempts.specs.Stamped.{IsStamped};
+
     /// An empty trail, whose times are those of this watch.
     pub(crate) fn new(alloc: Global, watch: W) -> Trail<W>
         ensures given_up { result.given_up.items ≡ [] }
@@ -76,7 +77,9 @@ impl<W: Watch> Trail<W> {
     /// Takes out the attempt that committed, where there is one and all is whole.
     pub(crate) fn take_committed(&mut self) -> Option<Box<AttemptNote>>
         ensures last { IfSome result (λ a. IsLast (ended_by self.old) (trace_of a.value)) }
+        ensures taken { self.new.committed ≡ None }
         ensures given_up { self.new.given_up.items ≡ self.old.given_up.items }
+        ensures whole { self.new.is_whole ≡ self.old.is_whole }
     {
         let note = self.committed.take()?;
         if !self.is_whole {

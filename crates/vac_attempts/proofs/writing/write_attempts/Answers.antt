@@ -27,7 +27,7 @@ returns-in_err-send_lines-clause-err g c =
     (answers_always _ _ _ (λ f a r g h. search rules))) in
     let are = attempts c.args.blocks pages c.in_ok-laid.laid.items c.as_slice.result.now c.add_attempts.new.lines.items
     c.add_all.new.lines.items c.sort_by_key.new.self.items c.as_slice-2.result.now
-    c.in_ok-laid.ensures c.as_slice.ensures.value own c.in_ok-add_all.ensures.added c.in_ok-add_all.ensures.noted
+    c.in_ok-laid.ensures c.as_slice.ensures.value own c.in_ok-add_all.ensures.added c.in_ok-add_all.ensures.told
     c.in_ok-sort_by_key.ensures.permutation order c.as_slice-2.ensures.value in
     on_err c.from_residual-in_err-send_lines.result (wrote_part c.args.blocks pages c.as_slice-2.result.now are _ _
     c.in_err-send_lines.ensures.err)
@@ -40,7 +40,7 @@ returns-clause-ok g c =
     (answers_always _ _ _ (λ f a r g h. search rules))) in
     let are = attempts c.args.blocks pages c.in_ok-laid.laid.items c.as_slice.result.now c.add_attempts.new.lines.items
     c.add_all.new.lines.items c.sort_by_key.new.self.items c.as_slice-2.result.now
-    c.in_ok-laid.ensures c.as_slice.ensures.value own c.in_ok-add_all.ensures.added c.in_ok-add_all.ensures.noted
+    c.in_ok-laid.ensures c.as_slice.ensures.value own c.in_ok-add_all.ensures.added c.in_ok-add_all.ensures.told
     c.in_ok-sort_by_key.ensures.permutation order c.as_slice-2.ensures.value in
     on_ok_map c.send_rest.result
     (λ w. wrote_all c.args.blocks pages c.as_slice-2.result.now are _ _ _ c.send_lines.new.hand.items
@@ -54,7 +54,7 @@ returns-clause-err g c =
     (answers_always _ _ _ (λ f a r g h. search rules))) in
     let are = attempts c.args.blocks pages c.in_ok-laid.laid.items c.as_slice.result.now c.add_attempts.new.lines.items
     c.add_all.new.lines.items c.sort_by_key.new.self.items c.as_slice-2.result.now
-    c.in_ok-laid.ensures c.as_slice.ensures.value own c.in_ok-add_all.ensures.added c.in_ok-add_all.ensures.noted
+    c.in_ok-laid.ensures c.as_slice.ensures.value own c.in_ok-add_all.ensures.added c.in_ok-add_all.ensures.told
     c.in_ok-sort_by_key.ensures.permutation order c.as_slice-2.ensures.value in
     on_err_map c.send_rest.result
     (λ w. wrote_rest c.args.blocks pages c.as_slice-2.result.now are _ _ _ c.send_lines.new.hand.items
