@@ -1,8 +1,9 @@
 -- What a load promises.
 use Rattle.std.specs.Prelude.{◌≡◌, ◌≤◌, ◌<◌, ◌+◌, ◌*◌, ◌⊎◌, ◌++◌, ◌&&◌, nat_eq, Bool, ℕ, List, [], ◌∷◌, length}
-use Rattle.tx_memory.specs.Image.{In}
+use Rattle.std.specs.Prelude.{All, vec_len}
 use Rattle.vac_model.specs.declared.tasks.Task.{Task}
 use Rattle.stm_core.specs.Client.{Client, Record, merged}
+use Rattle.stm_core.specs.declared.limits.TheConstants.{MOST_GRANTS}
 use Rattle.stm_core.specs.History.{Sub}
 use Rattle.stm_core.specs.Invariant.{Sorted}
 use Rattle.stm_region.specs.Shown.{RegionShown}
@@ -12,12 +13,14 @@ use Rattle.vac_manager.specs.Session.{SessionShown, GoesOn}
 use Rattle.vac_manager.specs.declared.fault.Fault.{Fault}
 use Rattle.vac_manager.specs.declared.fault.Fault.TheVariants as fault
 use Rattle.vac_draws.specs.declared.settings.Settings.{Settings}
+use Rattle.vac_draws.specs.declared.settings.TheConstants.{MOST_CLIENTS, MOST_TASKS}
 use Rattle.vac_load.specs.declared.tally.Tally.{Tally}
 use Rattle.vac_load.specs.Attempted.{CountsShown}
+use Rattle.vac_load.specs.declared.seats.Seat.{Seat}
 use Rattle.vac_load.specs.declared.workers.Worker.{Worker}
-use Rattle.vac_load.specs.declared.workers.Worked.{Worked}
 use Rattle.vac_load.specs.declared.workers.WorkOf.{WorkOf}
 use Rattle.vac_load.specs.declared.workers.Crew.{Crew}
+use Rattle.vac_load.specs.declared.rounds.Round.{Round}
 use Rattle.vac_load.specs.Looping.{Looped, Clocked, AreOf, total}
 use Rattle.vac_load.specs.Lists.{Paired, Interleaved}
 use Rattle.vac_load.specs.Keeping.{Kept, AreKept, AllKept, HasKeptAdded, SeatShown, shown}
@@ -53,13 +56,13 @@ pub record HasWorked {D : Type 0} (leads : D → ℕ → D → Type 0) (s : Sett
 
 -- this worker ran its tasks of a round, and became that worker, with how they ended
 abbrev pub DidWork : {D G K : Type 0} → (D → ℕ → D → Type 0) → (K → Kept) → Settings
-    → Worker D G K → Worked D G K → Type 0
-DidWork leads notes s w d = HasWorked leads s w.session d.worker.session
-    (shown notes w.seat) (shown notes d.worker.seat) d.tally
+    → Worker D G K → Worker D G K → Type 0
+DidWork leads notes s w d = HasWorked leads s w.session d.session
+    (shown notes w.seat) (shown notes d.seat) d.tally
 
 -- each worker of a crew ran its tasks of a round; the workers are in their order
 pub record DidAllWork {D G K : Type 0} (leads : D → ℕ → D → Type 0) (notes : K → Kept)
-    (s : Settings) (crew : Crew (Worker D G K)) (done : Crew (Worked D G K)) : Type 0 where
+    (s : Settings) (crew : Crew D G K) (done : Crew D G K) : Type 0 where
   pub first : DidWork leads notes s crew.first done.first
   pub others : Paired (DidWork leads notes s) crew.others.items done.others.items
 
@@ -88,46 +91,39 @@ pub record Gathered {X : Type 0} (records_of : X → List Record) (tally_of : X 
   pub tallies : t ≡ added_up tally_of (first ∷ others)
 
 -- a worker's session is one with this manager, and its client begins with these records and this
--- floor; and the worker has this seat
-pub record IsWorker {D : Type 0} (manager : RegionShown) (records : List Record) (floor : ℕ)
-    (state : D) (y : SessionShown) (draws : D) : Type 0 where
-  pub manager_is : y.manager ≡ manager
-  pub records_are : y.client.value.records ≡ records
-  pub knows : y.client.value.floor ≡ floor
-  pub draws_are : draws ≡ state
+-- floor; and the worker has this seat, with its draws, its gate and its keeper
+pub record IsWorker {D G K : Type 0} (manager : RegionShown) (records : List Record) (floor : ℕ)
+    (seat : Seat D G K) (w : Worker D G K) : Type 0 where
+  pub manager_is : w.session.manager ≡ manager
+  pub records_are : w.session.client.value.records ≡ records
+  pub knows : w.session.client.value.floor ≡ floor
+  pub seat_is : w.seat ≡ seat
 
 -- each seat got a session with the opening session's manager: the first that session, the others
--- sessions of clients without records
-pub record IsCrew {D P W : Type 0} (draws_of : P → D) (opener : SessionShown) (pairs : List P)
-    (session_of : W → SessionShown) (drawing : W → D) (first : W) (others : List W)
-    : Type 0 where
-  pub pair : P
-  pub rest : List P
-  pub pairs_are : pairs ≡ pair ∷ rest
+-- sessions of clients without records. The first one holds the grants of them all
+pub record IsCrew {D G K : Type 0} (opener : SessionShown) (seats : List (Seat D G K))
+    (crew : Crew D G K) : Type 0 where
+  pub seat : Seat D G K
+  pub rest : List (Seat D G K)
+  pub seats_are : seats ≡ seat ∷ rest
   pub opening : IsWorker opener.manager opener.client.value.records opener.client.value.floor
-      (draws_of pair) (session_of first) (drawing first)
-  pub others_are : Paired (λ p w. IsWorker opener.manager [] opener.client.value.floor
-      (draws_of p) (session_of w) (drawing w)) rest others
+      seat crew.first
+  pub others_are : Paired (IsWorker opener.manager [] opener.client.value.floor)
+      rest crew.others.items
+  pub grants : crew.first.session.client.value.grants + vec_len crew.others ≡ MOST_GRANTS
+  pub others_grants : All (λ w. w.session.client.value.grants ≡ 0) crew.others.items
 
--- the record comes after none that is added in this renewal by a client that knows this version
-pub record IsKnown (renewal version : ℕ) (r : Record) : Type 0 where
-  pub present : r.renewal ≤ renewal
-  pub known : r.renewal ≡ renewal → r.version ≤ version
-  pub unplaced : r.renewal ≡ renewal → r.point ≡ 0
-
--- each of these records comes after none that such a client adds in this renewal
-abbrev pub AreKnown : ℕ → ℕ → List Record → Type 0
-AreKnown renewal version records = (r : Record) → In r records → IsKnown renewal version r
-
--- after the records of earlier renewals, which have one writer a version and readers that wrote
--- nothing, come those of this one
-pub record IsInRenewal (renewal : ℕ) (records : List Record) : Type 0 where
-  pub past : List Record
-  pub present : List Record
-  pub records_are : records ≡ past ++ present
-  pub versioned : AreVersioned past
-  pub earlier : (r : Record) → In r past → r.renewal < renewal
-  pub now : (r : Record) → In r present → r.renewal ≡ renewal
+-- the workers of a crew can be gathered: their sessions are with one manager, the first of them
+-- holds the grants of them all, and their tallies can be added up
+pub record CanGather {D G K : Type 0} (crew : Crew D G K) : Type 0 where
+  pub one : All (λ w. w.session.manager ≡ crew.first.session.manager)
+      crew.others.items
+  pub grants : crew.first.session.client.value.grants + vec_len crew.others ≡ MOST_GRANTS
+  pub others_grants : All (λ w. w.session.client.value.grants ≡ 0) crew.others.items
+  pub few : vec_len crew.others < MOST_CLIENTS
+  pub tasks : total crew.first.tally.tally ≤ MOST_TASKS
+  pub others_tasks : All (λ w. total w.tally.tally ≤ MOST_TASKS) crew.others.items
+  pub tries : All (λ w. w.tally.tries ≡ crew.first.tally.tries) crew.others.items
 
 -- what one client did, in one round or in several: the records of its answered tasks, how its
 -- tasks ended, and the state that its draws were left in
@@ -176,17 +172,35 @@ pub record RanAll {D P : Type 0} (leads : D → ℕ → D → Type 0) (s : Setti
   pub alone : length seats ≡ 1 → t.busy ≡ 0
   pub in_time : length seats ≡ 1 → HasTime s → t.spent ≡ 0
 
--- one more round was run, from these records, seats and tally on
-pub record RanMore {D P : Type 0} (leads : D → ℕ → D → Type 0) (s : Settings)
-    (shown_of : P → SeatShown D) (before : List Record) (seats : List P) (t : Tally)
-    (after : List Record) (left : List P) (t' : Tally) : Type 0 where
+-- all clients ran n tasks each, from this manager, its client and these seats on, and that left the
+-- round
+abbrev pub HasRun : {D G K : Type 0} → (D → ℕ → D → Type 0) → (K → Kept) → Settings → ℕ
+    → SessionShown → List (Seat D G K) → Round D G K → Type 0
+HasRun leads notes s n y seats r = RanAll leads s (shown notes) n y.client.value.records seats
+    r.alone.client.value.records r.seats.items r.tally.tally
+
+-- a round of a load with these settings: a seat for each client, and the settings' tries
+pub record IsRound {D G K : Type 0} (s : Settings) (r : Round D G K) : Type 0 where
+  pub number : vec_len r.seats ≡ s.clients
+  pub tries : r.tally.tries ≡ s.tries
+
+-- the manager was renewed, and one more round was run
+pub record RanMore {D G K : Type 0} (leads : D → ℕ → D → Type 0) (notes : K → Kept)
+    (s : Settings) (r r' : Round D G K) : Type 0 where
+  pub renewal : r'.alone.manager.renewal ≡ r.alone.manager.renewal + 1
+  pub size : r'.alone.manager.size ≡ r.alone.manager.size
   pub more : Tally
-  pub ran : RanAll leads s shown_of s.tasks before seats after left more
-  pub tally_is : t' ≡ plus t more
+  pub ran : RanAll leads s (shown notes) s.tasks r.alone.client.value.records r.seats.items
+      r'.alone.client.value.records r'.seats.items more
+  pub tally_is : r'.tally.tally ≡ plus r.tally.tally more
 
 -- a load can be run with these settings and this many clients
 abbrev pub is_load : Settings → ℕ → Bool
 is_load s clients = is_settings s && nat_eq clients s.clients
+
+-- memory was refused, or a thread was not started
+abbrev pub IsRefusal : LoadFault → Type 0
+IsRefusal e = (e ≡ load.Memory) ⊎ (e ≡ load.Spawn)
 
 -- the manager of a load was made, and the opening was answered whole: from this state of its draws
 -- on all its commands were drawn, and each of them was asked for and answered, by a clock that
@@ -201,6 +215,17 @@ pub record WasOpened {D : Type 0} (leads : D → ℕ → D → Type 0) (s : Sett
   pub ready : Client
   pub ran : Ran leads region.renewal (opening s) opener.value ready state left
   pub answered : IsAnswered region ready
+
+-- the manager of a load was made, its opening was answered whole, and the opening's keeper kept the
+-- calls
+pub record HasOpened {D : Type 0} (leads : D → ℕ → D → Type 0) (s : Settings) (state left : D)
+    (before after : Kept) (y : SessionShown) : Type 0 where
+  pub stripes : ℕ
+  pub opener : CallerShown
+  pub opens : Opens s.blocks s.last stripes y.manager opener
+  pub ran : Ran leads y.manager.renewal (opening s) opener.value y.client.value state left
+  pub answered : IsAnswered y.manager y.client.value
+  pub kept : HasKeptAdded opener.value y.client.value before after
 
 -- where the clock is found at its end, that is the last version of the settings, and less than the
 -- number of the opening's commands

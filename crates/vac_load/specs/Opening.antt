@@ -7,6 +7,7 @@ use Rattle.vac_model.specs.declared.tasks.Task.{Task}
 use Rattle.vac_model.specs.declared.tasks.Task.TheVariants as task
 use Rattle.vac_manager.specs.Called.{IsWhole}
 use Rattle.vac_manager.specs.Legal.{WasLegal}
+use Rattle.vac_manager.specs.Session.{SessionShown}
 use Rattle.vac_manager.specs.declared.fault.Fault.{Fault}
 use Rattle.vac_manager.specs.declared.fault.Fault.TheVariants as fault
 use Rattle.vac_draws.specs.Draws.{Reader, Reads, Drew, Drawn}
@@ -24,6 +25,12 @@ pub record Ran {D : Type 0} (leads : D → ℕ → D → Type 0) (renewal : ℕ)
   pub drawn : Drawn leads reader state commands last
   pub answered : Answered renewal (as_tasks commands) v v'
   pub near : v'.floor ≤ v.floor + length commands
+
+-- the same of a session
+abbrev pub RanIn : {D : Type 0} → (D → ℕ → D → Type 0) → Reader (List Command)
+    → SessionShown → SessionShown → D → D → Type 0
+RanIn leads reader y y' state last =
+    Ran leads y.manager.renewal reader y.client.value y'.client.value state last
 
 -- a client that is alone had its last call answered by this region's manager: its records are a
 -- whole history, and the last of them was decided in a state of the region's core
@@ -62,3 +69,9 @@ pub record Stopped {D : Type 0} (leads : D → ℕ → D → Type 0) (renewal la
   pub near : between.floor ≤ v.floor + length asked
   pub kept : v'.records ≡ between.records
   pub why : IsOpeningFault last between.floor e
+
+-- the same of a session, with its manager's last version
+abbrev pub StoppedIn : {D : Type 0} → (D → ℕ → D → Type 0) → Reader (List Command) → Fault
+    → SessionShown → SessionShown → D → D → Type 0
+StoppedIn leads reader e y y' state left = Stopped leads y.manager.renewal y.manager.last reader e
+    y.client.value y'.client.value state left
