@@ -20,7 +20,7 @@ use Rattle.vac_load.specs.Sums.{sum_of, plus, added_up}
 use Rattle.vac_load.specs.Lists.{Paired, none, both}
 use Rattle.vac_load.specs.Alone.{AreKnown}
 use Rattle.vac_load.specs.Keeping.{Kept, SeatShown, shown}
-use Rattle.vac_load.specs.Load.{InterleavedAll, Share, drawn_share, HasShare, HasKeptShare, RanAll, HasRun, RanMore}
+use Rattle.vac_load.specs.Load.{InterleavedAll, Share, drawn_share, HasShare, HasKeptShare, RanAll, HasRun}
 use Rattle.vac_draws.proofs.Drawing.{drawn_both}
 use Rattle.vac_load.proofs.Answering.{are_of_both}
 use Rattle.vac_load.proofs.Merging.{interleaved_both}
@@ -158,17 +158,24 @@ module _ {D P : Type 0} (leads : D → ℕ → D → Type 0) (s : Settings) (sho
 
 -- one round more
 pub ran_more : {D G K : Type 0} (leads : D → ℕ → D → Type 0) (notes : K → Kept) (s : Settings) (rounds : ℕ)
-    (y : SessionShown) (seats : List (Seat D G K)) (r r' : Round D G K) →
-    HasRun leads notes s (rounds * s.tasks) y seats r → RanMore leads notes s r r' →
-    HasRun leads notes s ((rounds + 1) * s.tasks) y seats r'
-ran_more leads notes s rounds y seats r r' h k =
+    (y ready : SessionShown) (seats : List (Seat D G K)) (r more : Round D G K) (t : Tally) →
+    HasRun leads notes s (rounds * s.tasks) y seats r → ready.client.value.records ≡ r.alone.client.value.records →
+    HasRun leads notes s s.tasks ready r.seats.items more → t ≡ plus r.tally.tally more.tally.tally →
+    RanAll leads s (shown notes) ((rounds + 1) * s.tasks) y.client.value.records seats
+    more.alone.client.value.records more.seats.items t
+ran_more leads notes s rounds y ready seats r more t h same k e =
     let n : rounds * s.tasks + s.tasks ≡ (rounds + 1) * s.tasks = grind arith in
-    let last = r'.alone.client.value.records in
-    subst (λ (j : ℕ). HasRun leads notes s j y seats r') n
-    (subst (λ (u : Tally). RanAll leads s (shown notes) (rounds * s.tasks + s.tasks) y.client.value.records seats last
-    r'.seats.items u) (sym k.tally_is)
-    (ran_both leads s (shown notes) (rounds * s.tasks) s.tasks y.client.value.records r.alone.client.value.records last
-    seats r.seats.items r'.seats.items r.tally.tally k.more h k.ran))
+    let first = y.client.value.records in
+    let middle = r.alone.client.value.records in
+    let last = more.alone.client.value.records in
+    let next : RanAll leads s (shown notes) s.tasks middle r.seats.items last more.seats.items more.tally.tally =
+    subst (λ (l : List Record). RanAll leads s (shown notes) s.tasks l r.seats.items last more.seats.items
+    more.tally.tally) same k in
+    subst (λ (j : ℕ). RanAll leads s (shown notes) j first seats last more.seats.items t) n
+    (subst (λ (u : Tally). RanAll leads s (shown notes) (rounds * s.tasks + s.tasks) first seats last
+    more.seats.items u) (sym e)
+    (ran_both leads s (shown notes) (rounds * s.tasks) s.tasks first middle last seats r.seats.items more.seats.items
+    r.tally.tally more.tally.tally h next))
 
 -- tallies of so many tasks each
 total_of : {D P : Type 0} (leads : D → ℕ → D → Type 0) (s : Settings) (shown_of : P →

@@ -20,8 +20,8 @@ use Rattle.vac_draws.specs.Tasks.{task_of}
 use Rattle.vac_load.specs.Keeping.{AreKept, Kept, SeatShown, shown}
 use Rattle.vac_load.specs.Sums.{sum_of, plus, added_up}
 use Rattle.vac_load.specs.Lists.{Paired, none, both, Interleaved}
-use Rattle.vac_load.specs.Load.{InterleavedAll, all_merged, Gathered, DidWork, DidAllWork, IsWorker, IsCrew, CanGather}
-use Rattle.vac_load.specs.Load.{Share, HasKeptShare, RanAll}
+use Rattle.vac_load.specs.Load.{InterleavedAll, all_merged, Gathered, DidWork, DidAllWork, IsWorker, IsCrew, IsMember}
+use Rattle.vac_load.specs.Load.{CanGather, Share, HasKeptShare, RanAll}
 use Rattle.vac_load.specs.Alone.{AreKnown, IsInRenewal, IsReady}
 use Rattle.vac_load.proofs.Clocking.{clocked_in_time}
 use Rattle.vac_load.proofs.Eras.{more_in}
@@ -268,7 +268,8 @@ module _ {D G K : Type 0} (leads : D → ℕ → D → Type 0) (notes : K → Ke
         each = subst (λ (l : List (Seat D G K)). Paired (λ p x. HasKeptShare leads s s.tasks (shown notes p) x) l
             (mine ∷ more.shares)) (sym h.seats_are) (both d.has more.each);
         left_are = paired_through (λ x r. shown notes r.seat ≡ x.left) (λ r p. p ≡ r.seat)
-            (λ x p. shown notes p ≡ x.left) handed (mine ∷ more.shares) (done.first ∷ done.others.items) left (both refl more.left_are) lefts;
+            (λ x p. shown notes p ≡ x.left) handed (mine ∷ more.shares) (done.first ∷ done.others.items) left
+            (both refl more.left_are) lefts;
         rest = all_merged (λ (x : Share (SeatShown D)). x.records) d.added more.shares;
         behind = r.behind;
         each_once = within opener.manager.renewal opener.client.value.floor d.added more.shares d.sorted more.later;
@@ -307,30 +308,25 @@ module _ {D G K : Type 0} (leads : D → ℕ → D → Type 0) (notes : K → Ke
   can_gather seats crew done clients tasks number h k =
       let first = ap (λ (y : SessionShown). y.manager) k.first.session ∙ h.opening.manager_is in
       let same = paired_length _ crew.others.items done.others.items k.others in
-      let here = crew.others.ok.0 in
       let there = done.others.ok.0 in
+      let managers = paired_each (IsWorker opener.manager [] opener.client.value.floor)
+      (λ w. w.session.manager ≡ opener.manager) (λ p w i. i.manager_is) h.rest crew.others.items h.others_are in
       record {
-        one = paired_both (DidWork leads notes s) (λ w. w.session.manager ≡ done.first.session.manager)
-            (λ r. r.session.manager ≡ done.first.session.manager)
-            (λ w r e d. ap (λ (y : SessionShown). y.manager) d.session ∙ e) crew.others.items done.others.items
-            (paired_each (IsWorker opener.manager [] opener.client.value.floor)
-            (λ w. w.session.manager ≡ done.first.session.manager) (λ p w i. i.manager_is ∙ sym first) h.rest
-            crew.others.items h.others_are) k.others;
         grants = (
             let held = k.first.looped.answered.grants in
             let all : crew.first.session.client.value.grants + crew.others.len ≡ 63 = h.grants in
-            omega (arith, held, same, here, there, all));
-        others_grants = paired_both (DidWork leads notes s) (λ w. w.session.client.value.grants ≡ 0)
-            (λ r. r.session.client.value.grants ≡ 0) (λ w r e d. d.looped.answered.grants ∙ e)
-            crew.others.items done.others.items h.others_grants k.others;
+            omega (arith, held, same, crew.others.ok.0, there, all));
         few = (
             let long : length seats ≡ suc (length h.rest) = ap (λ (l : List (Seat D G K)). length l) h.seats_are in
             let pairs = paired_length _ h.rest crew.others.items h.others_are in
             omega (arith, long, pairs, same, there, number, clients));
         tasks = (let all = k.first.looped.all in omega (arith, all, tasks));
-        others_tasks = paired_each (DidWork leads notes s) (λ r. total r.tally.tally ≤ 1000000)
-            (λ w r d. (let all = d.looped.all in omega (arith, all, tasks))) crew.others.items done.others.items
-            k.others;
-        tries = paired_each (DidWork leads notes s) (λ r. r.tally.tries ≡ done.first.tally.tries)
-            (λ w r d. d.tries ∙ sym k.first.tries) crew.others.items done.others.items k.others;
+        others = paired_both (DidWork leads notes s)
+            (λ w. (w.session.manager ≡ opener.manager) × (w.session.client.value.grants ≡ 0)) (IsMember done.first)
+            (λ w r e d. record {
+              one = ap (λ (y : SessionShown). y.manager) d.session ∙ (e.0 ∙ sym first);
+              grants = d.looped.answered.grants ∙ e.1;
+              tasks = (let all = d.looped.all in omega (arith, all, tasks));
+              tries = d.tries ∙ sym k.first.tries;
+            }) crew.others.items done.others.items (λ j x l. (managers j x l, h.others_grants j x l)) k.others;
       }

@@ -113,17 +113,20 @@ pub record IsCrew {D G K : Type 0} (opener : SessionShown) (seats : List (Seat D
   pub grants : crew.first.session.client.value.grants + vec_len crew.others ≡ MOST_GRANTS
   pub others_grants : All (λ w. w.session.client.value.grants ≡ 0) crew.others.items
 
--- the workers of a crew can be gathered: their sessions are with one manager, the first of them
--- holds the grants of them all, and their tallies can be added up
+-- the worker is one of those that the first one can take in: its session is with the same manager,
+-- it has no grants, and its tally can be added
+pub record IsMember {D G K : Type 0} (first w : Worker D G K) : Type 0 where
+  pub one : w.session.manager ≡ first.session.manager
+  pub grants : w.session.client.value.grants ≡ 0
+  pub tasks : total w.tally.tally ≤ MOST_TASKS
+  pub tries : w.tally.tries ≡ first.tally.tries
+
+-- the workers of a crew can be gathered: the first one holds the grants of them all
 pub record CanGather {D G K : Type 0} (crew : Crew D G K) : Type 0 where
-  pub one : All (λ w. w.session.manager ≡ crew.first.session.manager)
-      crew.others.items
   pub grants : crew.first.session.client.value.grants + vec_len crew.others ≡ MOST_GRANTS
-  pub others_grants : All (λ w. w.session.client.value.grants ≡ 0) crew.others.items
   pub few : vec_len crew.others < MOST_CLIENTS
   pub tasks : total crew.first.tally.tally ≤ MOST_TASKS
-  pub others_tasks : All (λ w. total w.tally.tally ≤ MOST_TASKS) crew.others.items
-  pub tries : All (λ w. w.tally.tries ≡ crew.first.tally.tries) crew.others.items
+  pub others : All (IsMember crew.first) crew.others.items
 
 -- what one client did, in one round or in several: the records of its answered tasks, how its
 -- tasks ended, and the state that its draws were left in
@@ -183,16 +186,6 @@ HasRun leads notes s n y seats r = RanAll leads s (shown notes) n y.client.value
 pub record IsRound {D G K : Type 0} (s : Settings) (r : Round D G K) : Type 0 where
   pub number : vec_len r.seats ≡ s.clients
   pub tries : r.tally.tries ≡ s.tries
-
--- the manager was renewed, and one more round was run
-pub record RanMore {D G K : Type 0} (leads : D → ℕ → D → Type 0) (notes : K → Kept)
-    (s : Settings) (r r' : Round D G K) : Type 0 where
-  pub renewal : r'.alone.manager.renewal ≡ r.alone.manager.renewal + 1
-  pub size : r'.alone.manager.size ≡ r.alone.manager.size
-  pub more : Tally
-  pub ran : RanAll leads s (shown notes) s.tasks r.alone.client.value.records r.seats.items
-      r'.alone.client.value.records r'.seats.items more
-  pub tally_is : r'.tally.tally ≡ plus r.tally.tally more
 
 -- a load can be run with these settings and this many clients
 abbrev pub is_load : Settings → ℕ → Bool

@@ -1,11 +1,9 @@
 //! The rounds of a load, with a renewal of the clock between two of them.
 
-ghost use Rattle.std.specs.Prelude.{◌≡◌, ◌≤◌, ◌<◌, ◌*◌, true, vec_len, IfOk, IfErr};
-ghost use Rattle.vac_load.specs.Looping.{total};
+ghost use Rattle.std.specs.Prelude.{◌≡◌, ◌*◌, true, vec_len, IfOk, IfErr};
 ghost use Rattle.vac_draws.specs.Setting.{is_settings};
-ghost use Rattle.vac_draws.specs.declared.settings.TheConstants.{MOST_CLIENTS, MOST_ROUNDS, MOST_TASKS};
 ghost use Rattle.vac_load.specs.Alone.{IsReady};
-ghost use Rattle.vac_load.specs.Load.{HasRun, IsRefusal, IsRound, RanMore};
+ghost use Rattle.vac_load.specs.Load.{HasRun, IsRefusal, IsRound};
 
 use crate::alone::Alone;
 use crate::counts::Counts;
@@ -71,50 +69,7 @@ fn run_round<
     })
 }
 
-/// Renews the clock and runs one more round, in which the seats go on.
-fn go_on<
-    R: Threads + Wait,
-    D: Draws + Send + Drop,
-    G: Gate + Send + Drop,
-    K: Keep + Send + Drop,
-    S: Phases + Copy + Send + Drop,
->(
-    rt: &R,
-    alloc: Global,
-    settings: &Settings,
-    round: Round<D, G, K>,
-    phases: S,
-) -> Result<Round<D, G, K>, LoadFault>
-    requires renewals { round.alone.manager.renewal < MOST_ROUNDS }
-    requires settings { is_settings settings.now ≡ true }
-    requires round { IsRound settings.now round }
-    requires few { total round.tally.tally ≤ MOST_CLIENTS * (MOST_ROUNDS * MOST_TASKS) }
-    ensures round { IfOk result (λ r. IsRound settings.now r) }
-    ensures more { IfOk result (λ r. RanMore D.leads K.notes settings.now round r) }
-    ensures refused { IfErr result (λ fault. IsRefusal fault) }
-{
-    let Round {
-        alone,
-        seats,
-        tally,
-    } = round;
-    let alone = match alone.renewed(settings) {
-        Ok(renewed) => renewed,
-        Err(fault) => return Err(fault),
-    };
-    let Round {
-        alone,
-        seats,
-        tally: more,
-    } = run_round(rt, alloc, settings, alone, seats, phases)?;
-    Ok(Round {
-        alone,
-        seats,
-        tally: tally.plus(more),
-    })
-}
-
-/// Runs all rounds of a load. Between two of them the manager is renewed.
+/// Runs all rounds of a load, in which the seats go on. Between two of them the manager is renewed.
 pub(crate) fn run_rounds<
     R: Threads + Wait,
     D: Draws + Send + Drop,
@@ -141,7 +96,21 @@ pub(crate) fn run_rounds<
 {
     let mut round = run_round(rt, alloc, settings, alone, seats, phases)?;
     'rounds: for done in 1..settings.rounds {
-        round = go_on(rt, alloc, settings, round, phases)?;
+        let Round {
+            alone,
+            seats,
+            tally,
+        } = round;
+        let alone = match alone.renewed(settings) {
+            Ok(renewed) => renewed,
+            Err(fault) => return Err(fault),
+        };
+        let more = run_round(rt, alloc, settings, alone, seats, phases)?;
+        round = Round {
+            alone: more.alone,
+            seats: more.seats,
+            tally: tally.plus(more.tally),
+        };
     }
     Ok(round)
 }

@@ -6,7 +6,7 @@ use Rattle.vac_load.specs.Attempted.{CountsShown}
 use Rattle.vac_load.specs.Looping.{total}
 use Rattle.vac_load.specs.Sums.{plus}
 use Rattle.vac_load.specs.Lists.{Paired}
-use Rattle.vac_load.specs.Load.{Gathered}
+use Rattle.vac_load.specs.Load.{Gathered, IsMember}
 use Rattle.vac_load.proofs.Pairs.{all_met, paired_none, paired_step, one_on, all_same, all_but_first, all_first}
 use Rattle.vac_load.proofs.Pairs.{room_left, room_taken, held_back, nothing_left}
 use Rattle.vac_load.proofs.Gatherings.{gathered_one, gathered_more, took_in}
@@ -31,15 +31,9 @@ loop-worker-init g c =
       all = sym made.0;
       manager = refl;
       grants = ap (λ (k : ℕ). c.args.crew.first.session.client.value.grants + k) made.1 ∙ c.requires.can.grants;
-      others_grants = all_same (λ w. w.session.client.value.grants ≡ 0) c.args.crew.others.items
-          (into_iter_items c.into_iter-worker-iterator.result) made.0 c.requires.can.others_grants;
-      others = all_same (λ w. w.session.manager ≡ c.args.crew.first.session.manager)
-          c.args.crew.others.items (into_iter_items c.into_iter-worker-iterator.result) made.0 c.requires.can.one;
-      tasks = all_same (λ w. total w.tally.tally ≤ 1000000) c.args.crew.others.items
-          (into_iter_items c.into_iter-worker-iterator.result) made.0 c.requires.can.others_tasks;
+      others = all_same (IsMember c.args.crew.first) c.args.crew.others.items
+          (into_iter_items c.into_iter-worker-iterator.result) made.0 c.requires.can.others;
       tries = refl;
-      others_tries = all_same (λ w. w.tally.tries ≡ c.args.crew.first.tally.tries) c.args.crew.others.items
-          (into_iter_items c.into_iter-worker-iterator.result) made.0 c.requires.can.tries;
       gathered = gathered_one (λ w. w.session.client.value.records) (λ w. w.tally.tally) c.args.crew.first;
       handed = paired_step (λ w seat. seat ≡ w.seat) []
           c.args.seats.items c.push_reserved.new.self.items c.args.crew.first c.args.crew.first.seat pushed.items
@@ -54,22 +48,18 @@ loop-worker-init g c =
 
 pub gather-requires : goal.gather-requires
 gather-requires g c =
-    let same = all_first (λ w. w.session.manager ≡ c.args.crew.first.session.manager)
-    (into_iter_items c.loop-worker.worker-iterator) (into_iter_items c.next.new.self) c.in-Some.worker
-    c.in-Some.ensures.steps.0 c.loop-worker.invariant.others in
-    record { own = ap (λ (m : RegionShown). m.table) (same ∙ sym c.loop-worker.invariant.manager) }
+    let one = all_first (IsMember c.args.crew.first) (into_iter_items c.loop-worker.worker-iterator)
+    (into_iter_items c.next.new.self) c.in-Some.worker c.in-Some.ensures.steps.0 c.loop-worker.invariant.others in
+    record { own = ap (λ (m : RegionShown). m.table) (one.one ∙ sym c.loop-worker.invariant.manager) }
 
 pub plus-tally-requires : goal.plus-tally-requires
 plus-tally-requires g c =
-    let m = all_first (λ w. total w.tally.tally ≤ 1000000) (into_iter_items c.loop-worker.worker-iterator)
-    (into_iter_items c.next.new.self) c.in-Some.worker c.in-Some.ensures.steps.0 c.loop-worker.invariant.tasks in
-    let n = all_first (λ w. w.tally.tries ≡ c.args.crew.first.tally.tries)
-    (into_iter_items c.loop-worker.worker-iterator) (into_iter_items c.next.new.self) c.in-Some.worker
-    c.in-Some.ensures.steps.0 c.loop-worker.invariant.others_tries in
+    let one = all_first (IsMember c.args.crew.first) (into_iter_items c.loop-worker.worker-iterator)
+    (into_iter_items c.next.new.self) c.in-Some.worker c.in-Some.ensures.steps.0 c.loop-worker.invariant.others in
     record {
       fits = few_both (total c.loop-worker.tally.tally) (total c.in-Some.worker.tally.tally) (into_iter_len
-          c.loop-worker.worker-iterator) m c.loop-worker.invariant.bound;
-      same = n ∙ sym c.loop-worker.invariant.tries;
+          c.loop-worker.worker-iterator) one.tasks c.loop-worker.invariant.bound;
+      same = one.tries ∙ sym c.loop-worker.invariant.tries;
     }
 
 pub loop-worker-preserved : goal.loop-worker-preserved
@@ -80,29 +70,18 @@ loop-worker-preserved g c =
     let pushed = c.push_reserved-in-loop-worker.ensures in
     let taken = took_in c.loop-worker.session c.in-Some.worker.session c.gather.new.self c.gather.ensures.session
     in
-    let m = all_first (λ w. total w.tally.tally ≤ 1000000) (into_iter_items c.loop-worker.worker-iterator)
-    (into_iter_items c.next.new.self) c.in-Some.worker split i.tasks in
-    let none = all_first (λ w. w.session.client.value.grants ≡ 0) (into_iter_items c.loop-worker.worker-iterator)
-    (into_iter_items c.next.new.self) c.in-Some.worker split i.others_grants in
+    let one = all_first (IsMember c.args.crew.first) (into_iter_items c.loop-worker.worker-iterator)
+    (into_iter_items c.next.new.self) c.in-Some.worker split i.others in
     record {
       all = one_on c.args.crew.others.items c.loop-worker.yielded (into_iter_items c.loop-worker.worker-iterator)
           (into_iter_items c.next.new.self) c.in-Some.worker i.all split;
       manager = taken.manager ∙ i.manager;
       grants = held_back c.loop-worker.session.client.value.grants c.in-Some.worker.session.client.value.grants
           c.gather.new.self.client.value.grants (into_iter_len c.loop-worker.worker-iterator)
-          (into_iter_len c.next.new.self) less none taken.grants i.grants;
-      others_grants = all_but_first (λ w. w.session.client.value.grants ≡ 0)
-          (into_iter_items c.loop-worker.worker-iterator) (into_iter_items c.next.new.self) c.in-Some.worker split
-          i.others_grants;
-      others = all_but_first (λ w. w.session.manager ≡ c.args.crew.first.session.manager)
-          (into_iter_items c.loop-worker.worker-iterator) (into_iter_items c.next.new.self) c.in-Some.worker split
-          i.others;
-      tasks = all_but_first (λ w. total w.tally.tally ≤ 1000000) (into_iter_items c.loop-worker.worker-iterator)
-          (into_iter_items c.next.new.self) c.in-Some.worker split i.tasks;
+          (into_iter_len c.next.new.self) less one.grants taken.grants i.grants;
+      others = all_but_first (IsMember c.args.crew.first) (into_iter_items c.loop-worker.worker-iterator)
+          (into_iter_items c.next.new.self) c.in-Some.worker split i.others;
       tries = ap (λ (x : CountsShown). x.tries) c.plus-tally.ensures ∙ i.tries;
-      others_tries = all_but_first (λ w. w.tally.tries ≡ c.args.crew.first.tally.tries)
-          (into_iter_items c.loop-worker.worker-iterator) (into_iter_items c.next.new.self) c.in-Some.worker split
-          i.others_tries;
       gathered = gathered_more (λ w. w.session.client.value.records)
           (λ w. w.tally.tally) c.args.crew.first c.loop-worker.yielded c.in-Some.worker
           c.loop-worker.session.client.value c.gather.new.self.client.value c.loop-worker.tally.tally
@@ -117,7 +96,7 @@ loop-worker-preserved g c =
           c.push_reserved-in-loop-worker.new.self.cap less pushed.len pushed.capacity i.room;
       bound = few_more c.loop-worker.tally.tally c.in-Some.worker.tally.tally c.plus-tally.result.tally
           (into_iter_len c.loop-worker.worker-iterator) (into_iter_len c.next.new.self)
-          (ap (λ (x : CountsShown). x.tally) c.plus-tally.ensures) less m i.bound;
+          (ap (λ (x : CountsShown). x.tally) c.plus-tally.ensures) less one.tasks i.bound;
     }
 
 pub returns-clause-gathered : goal.returns-clause-gathered

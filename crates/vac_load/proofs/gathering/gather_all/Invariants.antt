@@ -3,7 +3,7 @@ use Rattle.stm_core.specs.declared.limits.TheConstants.{MOST_GRANTS}
 use Rattle.std.specs.Vec.Iter.{into_iter_items, into_iter_len}
 use Rattle.vac_load.specs.Looping.{total}
 use Rattle.vac_load.specs.Lists.{Paired}
-use Rattle.vac_load.specs.Load.{Gathered}
+use Rattle.vac_load.specs.Load.{Gathered, IsMember}
 use Rattle.vac_load.proofs.gathering.gather_all.Given as goal
 
 abbrev pub invariant-loop-worker : goal.invariant-loop-worker
@@ -11,12 +11,8 @@ invariant-loop-worker g l = record {
   all : l.fn.crew.others.items ≡ l.yielded ++ into_iter_items l.worker-iterator;
   manager : l.session.manager ≡ l.fn.crew.first.session.manager;
   grants : l.session.client.value.grants + into_iter_len l.worker-iterator ≡ MOST_GRANTS;
-  others_grants : All (λ w. w.session.client.value.grants ≡ 0) (into_iter_items l.worker-iterator);
-  others : All (λ w. w.session.manager ≡ l.fn.crew.first.session.manager)
-      (into_iter_items l.worker-iterator);
-  tasks : All (λ w. total w.tally.tally ≤ 1000000) (into_iter_items l.worker-iterator);
+  others : All (IsMember l.fn.crew.first) (into_iter_items l.worker-iterator);
   tries : l.tally.tries ≡ l.fn.crew.first.tally.tries;
-  others_tries : All (λ w. w.tally.tries ≡ l.fn.crew.first.tally.tries) (into_iter_items l.worker-iterator);
   gathered : Gathered (λ w. w.session.client.value.records)
       (λ w. w.tally.tally) l.fn.crew.first l.yielded l.session.client.value.records l.tally.tally;
   handed : Paired (λ w seat. seat ≡ w.seat) (l.fn.crew.first ∷ l.yielded) l.seats.items;

@@ -1,7 +1,8 @@
 use Rattle.std.proofs.Common.{◌≡◌, ◌∙◌, ◌*◌, ◌≤◌, length, ℕ, sym, ap, subst, arith}
 use Rattle.stm_region.specs.Shown.{RegionShown}
+use Rattle.vac_load.specs.Attempted.{CountsShown}
 use Rattle.vac_load.specs.Load.{HasRun}
-use Rattle.vac_load.proofs.Joining.{ran_more, ran_total, few, few_all}
+use Rattle.vac_load.proofs.Joining.{ran_more, ran_total, few, few_all, few_each}
 use Rattle.vac_load.proofs.rounds.run_rounds.Goals as goal
 
 pub rounds-init : goal.rounds-init
@@ -18,29 +19,51 @@ rounds-init g c =
           c.args.seats.items c.in_ok-round.round) one c.in_ok-round.ensures.ran;
     }
 
-pub go_on-requires-clause-renewals : goal.go_on-requires-clause-renewals
-go_on-requires-clause-renewals g c = λ _ _.
+pub renewed-requires : goal.renewed-requires
+renewed-requires g c =
     let most = few c.args.settings.now c.requires.settings in
-    omega (arith, c.rounds.invariant.renewals, c.rounds-test.true, most.rounds)
+    record {
+      renewals = omega (arith, c.rounds.invariant.renewals, c.rounds-test.true, most.rounds);
+      settings = c.requires.settings;
+    }
 
-pub go_on-requires-clause-few : goal.go_on-requires-clause-few
-go_on-requires-clause-few g c = λ _ _.
+pub run_round-requires-in-rounds-clause-number : goal.run_round-requires-in-rounds-clause-number
+run_round-requires-in-rounds-clause-number g c = λ _ _. c.rounds.invariant.round.number
+
+pub run_round-requires-in-rounds-clause-ready : goal.run_round-requires-in-rounds-clause-ready
+run_round-requires-in-rounds-clause-ready g c = λ _ _. c.in-Ok.ensures.renewed.ready
+
+pub plus-requires : goal.plus-requires
+plus-requires g c =
     let most = few c.args.settings.now c.requires.settings in
-    let all = ran_total _ _ _ _ _ _ _ _ _ c.rounds.invariant.ran in
-    let number : length c.args.seats.items ≡ c.args.settings.now.clients =
+    let count : length c.args.seats.items ≡ c.args.settings.now.clients =
     sym c.args.seats.ok.0 ∙ c.requires.number in
-    let rounds : c.rounds.done ≤ 100 = omega (arith, most.rounds) in
-    few_all _ _ _ c.rounds.done _ all number most.clients rounds most.tasks
+    let here : length c.rounds.round.seats.items ≡ c.args.settings.now.clients =
+    sym c.rounds.round.seats.ok.0 ∙ c.rounds.invariant.round.number in
+    let rounds : c.rounds.done ≤ 100 = omega (arith, most.rounds, c.rounds-test.true) in
+    let so_far = few_all _ _ _ c.rounds.done _ (ran_total _ _ _ _ _ _ _ _ _ c.rounds.invariant.ran) count
+    most.clients rounds most.tasks in
+    let more = few_each _ _ _ _ (ran_total _ _ _ _ _ _ _ _ _ c.in_ok-more.ensures.ran) here most.clients most.tasks in
+    record {
+      fits = omega (arith, so_far, more);
+      same = c.in_ok-more.ensures.round.tries ∙ sym c.rounds.invariant.round.tries;
+    }
 
 pub rounds-preserved : goal.rounds-preserved
 rounds-preserved g c =
-    let more = c.in_ok-round-2.ensures.more in
+    let i = c.rounds.invariant in
+    let renewed = c.in-Ok.ensures.renewed in
+    let more = c.in_ok-more.ensures in
     record {
-      renewals = omega (arith, more.renewal, c.rounds.invariant.renewals);
-      size = more.size ∙ c.rounds.invariant.size;
-      round = c.in_ok-round-2.ensures.round;
-      ran = ran_more g.D.Draws.leads g.K.Keep.notes c.args.settings.now c.rounds.done c.args.alone
-          c.args.seats.items _ _ c.rounds.invariant.ran more;
+      renewals = omega (arith, ap (λ (m : RegionShown). m.renewal) more.manager ∙ renewed.renewal, i.renewals);
+      size = ap (λ (m : RegionShown). m.size) more.manager ∙ (renewed.size ∙ i.size);
+      round = record {
+        number = more.round.number;
+        tries = ap (λ (x : CountsShown). x.tries) c.plus.ensures ∙ i.round.tries;
+      };
+      ran = ran_more g.D.Draws.leads g.K.Keep.notes c.args.settings.now c.rounds.done c.args.alone c.in-Ok.renewed
+          c.args.seats.items c.rounds.round c.in_ok-more.more c.plus.result.tally i.ran renewed.records more.ran
+          (ap (λ (x : CountsShown). x.tally) c.plus.ensures);
     }
 
 pub returns-clause-ran : goal.returns-clause-ran
