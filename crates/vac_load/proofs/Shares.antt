@@ -14,7 +14,6 @@ use Rattle.vac_load.specs.declared.seats.Seat.{Seat}
 use Rattle.vac_load.specs.declared.tally.Tally.{Tally}
 use Rattle.vac_load.specs.declared.workers.Worker.{Worker}
 use Rattle.vac_load.specs.declared.workers.Crew.{Crew}
-use Rattle.vac_load.specs.Looping.{total}
 use Rattle.vac_draws.specs.Draws.{Drawn, times}
 use Rattle.vac_draws.specs.Tasks.{task_of}
 use Rattle.vac_load.specs.Keeping.{AreKept, Kept, SeatShown, shown}

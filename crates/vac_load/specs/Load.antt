@@ -34,7 +34,7 @@ use Rattle.vac_model.specs.State.{State, empty_state, report}
 use Rattle.vac_manager.specs.Legal.{IsLegal, AreVersioned}
 use Rattle.vac_draws.specs.Draws.{Drawn, times}
 use Rattle.vac_draws.specs.Tasks.{task_of, opening}
-use Rattle.vac_load.specs.Sums.{plus, added_up}
+use Rattle.vac_load.specs.Sums.{added_up}
 
 -- the clock has a version for each command of the opening, and, after them, one for each task of
 -- one client in a round

@@ -11,6 +11,7 @@ use Rattle.vac_manager.specs.Session.{SessionShown}
 use Rattle.vac_manager.specs.declared.fault.Fault.{Fault}
 use Rattle.vac_manager.specs.declared.fault.Fault.TheVariants as fault
 use Rattle.vac_draws.specs.Draws.{Reader, Reads, Drew, Drawn}
+use Rattle.vac_load.specs.Keeping.{Kept, HasKeptAdded}
 use Rattle.vac_load.specs.Looping.{Answered}
 
 -- each command as a task
@@ -55,6 +56,20 @@ IsOpeningFault last floor fault.Arguments = ⊥
 IsOpeningFault last floor fault.Memory = Unit {0}
 IsOpeningFault last floor (fault.Busy conflict) = ⊥
 IsOpeningFault last floor (fault.Spent version) = (version ≡ last) × (floor ≡ last)
+
+-- a client that is alone had this command answered, and its keeper kept the call: it added its
+-- record, and raised the version that the client knows by at most one
+pub record WasAnswered (command : Command) (y y' : SessionShown) (before after : Kept)
+    : Type 0 where
+  pub answered : Answered y.manager.renewal (task.One command ∷ []) y.client.value y'.client.value
+  pub near : y'.client.value.floor ≤ y.client.value.floor + 1
+  pub ready : IsAnswered y.manager y'.client.value
+  pub kept : HasKeptAdded y.client.value y'.client.value before after
+
+-- a client that is alone had a command of the opening refused so, which added no record
+pub record WasRefused (e : Fault) (y y' : SessionShown) : Type 0 where
+  pub why : IsOpeningFault y.manager.last y.client.value.floor e
+  pub same : y'.client.value.records ≡ y.client.value.records
 
 -- commands were read from the front of drawn words, and asked for in their order: those before the
 -- last one were answered, and the last one was refused with this fault and added no record

@@ -1,15 +1,14 @@
 //! The opening of a load: its items and customers.
 
-ghost use Rattle.std.specs.Prelude.{◌≡◌, ◌<◌, ◌≤◌, ◌+◌, ◌^◌, true, IfOk, IfErr, [], ◌∷◌};
+ghost use Rattle.std.specs.Prelude.{◌≡◌, ◌<◌, ◌≤◌, ◌^◌, true, IfOk, IfErr};
 ghost use Rattle.vac_model.specs.Ranges.{is_command};
 ghost use Rattle.vac_manager.specs.Called.{HasAllGrants};
 ghost use Rattle.vac_manager.specs.Session.{GoesOn};
 ghost use Rattle.vac_draws.specs.Draws.{for_each};
 ghost use Rattle.vac_draws.specs.Setting.{is_settings};
-ghost use Rattle.vac_load.specs.Looping.{Answered};
 ghost use Rattle.vac_load.specs.Keeping.{HasKeptAdded};
 ghost use Rattle.vac_draws.specs.Tasks.{stock, stocks, opening};
-ghost use Rattle.vac_load.specs.Opening.{RanIn, StoppedIn, IsAnswered, IsOpeningFault};
+ghost use Rattle.vac_load.specs.Opening.{RanIn, StoppedIn, IsAnswered, WasAnswered, WasRefused};
 
 use stm_attempt::NoGate;
 use vac_draws::{Draws, Settings, draw_stock};
@@ -26,18 +25,9 @@ fn ask_for<K: Keep>(session: &mut Session<'_>, command: Command, keep: &mut K) -
     requires range { is_command command ≡ true }
     ensures session { GoesOn session.old session.new }
     ensures grants { HasAllGrants session.new.client.value }
-    ensures answered { IfOk result (λ _. Answered session.old.manager.renewal
-        (Task.One command ∷ []) session.old.client.value session.new.client.value) }
-    ensures near { IfOk result (λ _.
-        session.new.client.value.floor ≤ session.old.client.value.floor + 1) }
-    ensures ready { IfOk result (λ _.
-        IsAnswered session.old.manager session.new.client.value) }
-    ensures refused { IfErr result (λ fault.
-        IsOpeningFault session.old.manager.last session.old.client.value.floor fault) }
-    ensures same { IfErr result (λ _.
-        session.new.client.value.records ≡ session.old.client.value.records) }
-    ensures kept { IfOk result (λ _. HasKeptAdded session.old.client.value session.new.client.value
+    ensures answered { IfOk result (λ _. WasAnswered command session.old session.new
         (K.notes keep.old) (K.notes keep.new)) }
+    ensures refused { IfErr result (λ fault. WasRefused fault session.old session.new) }
 {
     if keep.begin().is_err() {
         return Err(Fault::Memory);
