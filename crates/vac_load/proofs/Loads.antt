@@ -36,15 +36,14 @@ use Rattle.vac_load.specs.Load.{is_load, LoadedKept, WasOpened, WasStopped, IsTo
 use Rattle.vac_load.specs.Load.{IsLoadFault}
 use Rattle.vac_load.proofs.Order.{added_known}
 use Rattle.vac_load.proofs.Eras.{all_versioned}
-use Rattle.vac_load.proofs.Notes.{kept_added}
 use Rattle.vac_load.proofs.Joining.{ran_total}
 use Rattle.vac_load.proofs.Beginning.{long_opening}
 
 -- after the opening the first round can begin: what the opening added is known to its client, and it
 -- took the clock on by at most one for each of its commands
-pub opened_ready : {D : Type 0} (leads : D → ℕ → D → Type 0) (s : Settings) (state left : D) (before after : Kept)
-    (y : SessionShown) → HasOpened leads s state left before after y → IsReady s y
-opened_ready leads s state left before after y h =
+pub opened_ready : {D : Type 0} (leads : D → ℕ → D → Type 0) (s : Settings) (state left : D) (y : SessionShown) →
+    HasOpened leads s state left y → IsReady s y
+opened_ready leads s state left y h =
     let a = h.ran.answered in
     let all : y.client.value.records ≡ a.added = a.records ∙
     ap (λ (c : CallerShown). c.value.records ++ a.added) h.opens.client_is in
@@ -106,7 +105,8 @@ pub loaded_kept : {D G K : Type 0} (leads : D → ℕ → D → Type 0) (notes :
     (seats : List (Seat D G K)) (y : SessionShown) (end : Round D G K) (before kept : Kept) (words : List ℕ)
     (r : Report) →
     length seats ≡ s.clients →
-    HasOpened leads s state last before kept y →
+    HasOpened leads s state last y →
+    AreKept y.client.value.records before kept →
     HasRun leads notes s (s.rounds * s.tasks) y seats end →
     IsInRenewal end.alone.manager.renewal end.alone.client.value.records →
     end.alone.manager.size ≡ y.manager.size →
@@ -114,7 +114,7 @@ pub loaded_kept : {D G K : Type 0} (leads : D → ℕ → D → Type 0) (notes :
     ((x : State) → Shows words x → report x ≡ r) →
     LoadedKept leads s (λ seat. seat.draws) state seats end.tally.tally r before kept (kept_at notes seats)
     (kept_at notes end.seats.items)
-loaded_kept leads notes s state last seats y end before kept words r n opened all in_it size closed shows =
+loaded_kept leads notes s state last seats y end before kept words r n opened keeps all in_it size closed shows =
     let ran = opened.ran in
     let closes = closed.1 in
     let added = ran.answered.added in
@@ -150,7 +150,7 @@ loaded_kept leads notes s state last seats y end before kept words r n opened al
         alone = λ one. all.alone (n ∙ one);
         in_time = λ one time. all.in_time (n ∙ one) time;
       };
-      opening_kept = kept_added opened.opener.value y.client.value added before kept ran.answered.records opened.kept;
+      opening_kept = subst (λ (l : List Record). AreKept l before kept) records keeps;
       clients_kept = kept_drawn leads s (shown notes) n_of seats all.shares left all.each all.left_are;
     }
 
@@ -242,19 +242,6 @@ kept_by_seed draws_of keep_of notes s t r state n seats left before after begins
     (notes after.opening) l (map notes after.clients.items)) first
     (subst (λ (l : List Kept). LoadedKept gives s draws_of state seats t r (notes before.opening) (notes after.opening)
     (map (λ p. notes (keep_of p)) seats) l) last h)))
-
--- the manager of a load was made, and its opening was answered whole
-pub was_opened : {D : Type 0} (leads : D → ℕ → D → Type 0) (s : Settings) (state left : D) (before after : Kept)
-    (y : SessionShown) → HasOpened leads s state left before after y → WasOpened leads s state left
-was_opened leads s state left before after y h = record {
-  stripes = h.stripes;
-  region = y.manager;
-  opener = h.opener;
-  opens = h.opens;
-  ready = y.client.value;
-  ran = h.ran;
-  answered = h.answered;
-}
 
 too_short : {D : Type 0} (leads : D → ℕ → D → Type 0) (s : Settings) (renewal : ℕ) (e : Fault) (v v' : Client)
     (state left : D) → v.floor ≡ 0 → Stopped leads renewal s.last (opening s) e v v' state left → IsTooShort s e

@@ -15,7 +15,6 @@ use Rattle.vac_manager.specs.declared.fault.Fault.TheVariants as fault
 use Rattle.vac_draws.specs.declared.settings.Settings.{Settings}
 use Rattle.vac_draws.specs.declared.settings.TheConstants.{MOST_CLIENTS, MOST_TASKS}
 use Rattle.vac_load.specs.declared.tally.Tally.{Tally}
-use Rattle.vac_load.specs.Attempted.{CountsShown}
 use Rattle.vac_load.specs.declared.seats.Seat.{Seat}
 use Rattle.vac_load.specs.declared.workers.Worker.{Worker}
 use Rattle.vac_load.specs.declared.workers.WorkOf.{WorkOf}
@@ -41,24 +40,19 @@ use Rattle.vac_load.specs.Sums.{added_up}
 abbrev pub HasTime : Settings → Type 0
 HasTime s = 4 * s.items + s.tasks ≤ s.last
 
--- a worker ran its tasks of a round, with the settings' tries for each: its session went on, its
--- client's value has what its loop made of it in its manager's renewal and, where it is alone, by
--- its manager's clock, and its keeper kept its answered calls
-pub record HasWorked {D : Type 0} (leads : D → ℕ → D → Type 0) (s : Settings)
-    (y y' : SessionShown) (state last : SeatShown D) (t : CountsShown) : Type 0 where
-  pub session : GoesOn y y'
-  pub looped : Looped leads s y.manager.renewal s.tasks y.client.value y'.client.value
-      state.draws last.draws t.tally
-  pub clock : HasAllGrants y.client.value
-      → Clocked y.manager.last y.client.value y'.client.value t.tally
-  pub tries : t.tries ≡ s.tries
-  pub kept : HasKeptAdded y.client.value y'.client.value state.kept last.kept
-
--- this worker ran its tasks of a round, and became that worker, with how they ended
-abbrev pub DidWork : {D G K : Type 0} → (D → ℕ → D → Type 0) → (K → Kept) → Settings
-    → Worker D G K → Worker D G K → Type 0
-DidWork leads notes s w d = HasWorked leads s w.session d.session
-    (shown notes w.seat) (shown notes d.seat) d.tally
+-- a worker ran its tasks of a round, with the settings' tries for each, and became that worker: its
+-- session went on, its client's value has what its loop made of it in its manager's renewal and,
+-- where it is alone, by its manager's clock, and its keeper kept its answered calls
+pub record DidWork {D G K : Type 0} (leads : D → ℕ → D → Type 0) (notes : K → Kept) (s : Settings)
+    (w d : Worker D G K) : Type 0 where
+  pub session : GoesOn w.session d.session
+  pub looped : Looped leads s w.session.manager.renewal s.tasks w.session.client.value
+      d.session.client.value w.seat.draws d.seat.draws d.tally.tally
+  pub clock : HasAllGrants w.session.client.value → Clocked w.session.manager.last
+      w.session.client.value d.session.client.value d.tally.tally
+  pub tries : d.tally.tries ≡ s.tries
+  pub kept : HasKeptAdded w.session.client.value d.session.client.value
+      (notes w.seat.keep) (notes d.seat.keep)
 
 -- each worker of a crew ran its tasks of a round; the workers are in their order
 pub record DidAllWork {D G K : Type 0} (leads : D → ℕ → D → Type 0) (notes : K → Kept)
@@ -198,27 +192,18 @@ IsRefusal e = (e ≡ load.Memory) ⊎ (e ≡ load.Spawn)
 -- the manager of a load was made, and the opening was answered whole: from this state of its draws
 -- on all its commands were drawn, and each of them was asked for and answered, by a clock that
 -- ends at the settings' last version. What the client has then is a whole history of this manager
--- Not said: that it was the manager of this load: some region and client are named.
-pub record WasOpened {D : Type 0} (leads : D → ℕ → D → Type 0) (s : Settings) (state left : D)
-    : Type 0 where
-  pub stripes : ℕ
-  pub region : RegionShown
-  pub opener : CallerShown
-  pub opens : Opens s.blocks s.last stripes region opener
-  pub ready : Client
-  pub ran : Ran leads region.renewal (opening s) opener.value ready state left
-  pub answered : IsAnswered region ready
-
--- the manager of a load was made, its opening was answered whole, and the opening's keeper kept the
--- calls
 pub record HasOpened {D : Type 0} (leads : D → ℕ → D → Type 0) (s : Settings) (state left : D)
-    (before after : Kept) (y : SessionShown) : Type 0 where
+    (y : SessionShown) : Type 0 where
   pub stripes : ℕ
   pub opener : CallerShown
   pub opens : Opens s.blocks s.last stripes y.manager opener
   pub ran : Ran leads y.manager.renewal (opening s) opener.value y.client.value state left
   pub answered : IsAnswered y.manager y.client.value
-  pub kept : HasKeptAdded opener.value y.client.value before after
+
+-- the same of some manager and its client
+-- Not said: that it was the manager of this load.
+abbrev pub WasOpened : {D : Type 0} → (D → ℕ → D → Type 0) → Settings → D → D → Type 0
+WasOpened leads s state left = (y : SessionShown) × HasOpened leads s state left y
 
 -- where the clock is found at its end, that is the last version of the settings, and less than the
 -- number of the opening's commands

@@ -2,7 +2,7 @@
 
 ghost use Rattle.std.specs.Prelude.{◌≡◌, ◌↔◌, true, false, vec_len, IfOk, IfErr, IsErrOf};
 ghost use Rattle.vac_draws.specs.Setting.{is_settings};
-ghost use Rattle.vac_load.specs.Keeping.{kept_at};
+ghost use Rattle.vac_load.specs.Keeping.{AreKept, kept_at};
 ghost use Rattle.vac_load.specs.Load.{HasOpened, Loaded, LoadedKept, is_load, IsLoadFault, IsStopOfLoad};
 ghost use Rattle.vac_draws.specs.Streams.{gives, stream_of};
 ghost use Rattle.vac_load.specs.Streams.{LoadedBySeed, KeptBySeed};
@@ -57,8 +57,9 @@ fn open_load<D: Draws, K: Keep>(
     keep: &mut K,
 ) -> Result<Alone, LoadFault>
     requires settings { is_settings settings.now ≡ true }
-    ensures opened { IfOk result (λ r. HasOpened D.leads settings.now opening.old opening.new
-        (K.notes keep.old) (K.notes keep.new) r) }
+    ensures opened { IfOk result (λ r. HasOpened D.leads settings.now opening.old opening.new r) }
+    ensures kept { IfOk result (λ r. AreKept r.client.value.records
+        (K.notes keep.old) (K.notes keep.new)) }
     ensures stopped { IfErr result (λ fault.
         IsStopOfLoad D.leads settings.now opening.old opening.new fault) }
 {

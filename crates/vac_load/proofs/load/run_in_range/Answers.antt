@@ -2,22 +2,22 @@ use Rattle.std.proofs.Common.{inl, ◌≡◌, ◌∙◌, length, ℕ, sym, subst
 use Rattle.vac_load.specs.Attempted.{IsEffort}
 use Rattle.vac_load.specs.Load.{IsStopOfLoad}
 use Rattle.vac_load.proofs.Opened.{handed_on}
-use Rattle.vac_load.proofs.Loads.{loaded_kept, opened_ready, was_opened, stop_behind}
+use Rattle.vac_load.proofs.Loads.{loaded_kept, opened_ready, stop_behind}
 use Rattle.vac_load.proofs.load.run_in_range.Goals as goal
 
 pub run_rounds-requires-clause-renewals : goal.run_rounds-requires-clause-renewals
 run_rounds-requires-clause-renewals g c = λ _ _. c.in-Ok.ensures.opened.opens.renewal
 
 pub run_rounds-requires-clause-ready : goal.run_rounds-requires-clause-ready
-run_rounds-requires-clause-ready g c = λ _ _. opened_ready _ _ _ _ _ _ _ c.in-Ok.ensures.opened
+run_rounds-requires-clause-ready g c = λ _ _. opened_ready _ _ _ _ _ c.in-Ok.ensures.opened
 
 pub returns-clause-kept : goal.returns-clause-kept
 returns-clause-kept g c =
     let n : length c.args.seats.items ≡ c.args.settings.now.clients = sym c.args.seats.ok.0 ∙ c.requires.number in
     rw c.apart.ensures.tally (loaded_kept g.D.Draws.leads g.K.Keep.notes c.args.settings.now c.args.opening.now
     c.open_load.new.opening c.args.seats.items c.in-Ok.opened c.in_ok-round.round _ _ c.in-Ok-close.words.items
-    c.report_of-report.result n c.in-Ok.ensures.opened c.in_ok-round.ensures.ran c.close.ensures.era
-    c.in_ok-round.ensures.size c.in-Ok-close.ensures.closes c.report_of-report.ensures)
+    c.report_of-report.result n c.in-Ok.ensures.opened c.in-Ok.ensures.kept c.in_ok-round.ensures.ran
+    c.close.ensures.era c.in_ok-round.ensures.size c.in-Ok-close.ensures.closes c.report_of-report.ensures)
 
 pub returns-clause-number : goal.returns-clause-number
 returns-clause-number g c = c.in_ok-round.ensures.round.number ∙ sym c.requires.number
@@ -30,12 +30,12 @@ returns-in_err-round-clause-stopped g c =
     handed_on c.from_residual.result c.in_err-round.field-0.0
     (λ e. IsStopOfLoad leads s c.args.opening.now left e) c.from_residual.ensures.1
     (stop_behind leads s c.args.opening.now left c.in_err-round.field-0.0
-    (was_opened _ _ _ _ _ _ _ c.in-Ok.ensures.opened) c.in_err-round.ensures.refused)
+    (_, c.in-Ok.ensures.opened) c.in_err-round.ensures.refused)
 
 pub returns-in-Err-close-clause-stopped : goal.returns-in-Err-close-clause-stopped
 returns-in-Err-close-clause-stopped g c =
     stop_behind g.D.Draws.leads c.args.settings.now c.args.opening.now c.open_load.new.opening c.in-Err-close.fault
-    (was_opened _ _ _ _ _ _ _ c.in-Ok.ensures.opened) (inl c.in-Err-close.ensures.refused)
+    (_, c.in-Ok.ensures.opened) (inl c.in-Err-close.ensures.refused)
 
 pub returns-clause-efforts : goal.returns-clause-efforts
 returns-clause-efforts g c = subst (λ (n : ℕ). IsEffort n c.apart.result.0 c.apart.result.1)
