@@ -12,7 +12,7 @@ use Rattle.vac_manager.specs.Renewed.{ClosesSomewhere}
 use Rattle.vac_draws.specs.Draws.{Reader}
 use Rattle.vac_model.specs.declared.commands.Command.{Command}
 use Rattle.vac_load.specs.Opening.{Ran}
-use Rattle.vac_load.specs.Load.{IsInRenewal}
+use Rattle.vac_load.specs.Alone.{IsInRenewal}
 
 none_versioned : AreVersioned []
 none_versioned = record { writers = tt; readers = λ r i. absurd (nothing_in r i) }

@@ -7,16 +7,20 @@ use Rattle.stm_core.specs.Client.{Record}
 use Rattle.stm_region.specs.Shown.{RegionShown}
 use Rattle.vac_manager.specs.Called.{CallerShown}
 use Rattle.vac_manager.specs.Renewed.{ClosesSomewhere}
+use Rattle.vac_manager.specs.Session.{SessionShown}
 use Rattle.stm_core.specs.History.{Sub, done, keep, skip}
 use Rattle.vac_draws.specs.declared.settings.Settings.{Settings}
+use Rattle.vac_load.specs.declared.rounds.Round.{Round}
+use Rattle.vac_load.specs.declared.seats.Seat.{Seat}
 use Rattle.vac_load.specs.declared.tally.Tally.{Tally}
 use Rattle.std.proofs.lemmas.Bool.Decides.{nat_tests}
 use Rattle.vac_draws.specs.Setting.{is_settings, is_work, is_system}
 use Rattle.vac_load.specs.Looping.{total}
 use Rattle.vac_load.specs.Sums.{sum_of, plus, added_up}
 use Rattle.vac_load.specs.Lists.{Paired, none, both}
-use Rattle.vac_load.specs.Keeping.{SeatShown}
-use Rattle.vac_load.specs.Load.{InterleavedAll, AreKnown, Share, drawn_share, HasShare, HasKeptShare, RanAll, RanMore}
+use Rattle.vac_load.specs.Alone.{AreKnown}
+use Rattle.vac_load.specs.Keeping.{Kept, SeatShown, shown}
+use Rattle.vac_load.specs.Load.{InterleavedAll, Share, drawn_share, HasShare, HasKeptShare, RanAll, HasRun}
 use Rattle.vac_draws.proofs.Drawing.{drawn_both}
 use Rattle.vac_load.proofs.Answering.{are_of_both}
 use Rattle.vac_load.proofs.Merging.{interleaved_both}
@@ -153,17 +157,25 @@ module _ {D P : Type 0} (leads : D → ℕ → D → Type 0) (s : Settings) (sho
       }
 
 -- one round more
-pub ran_more : {D P : Type 0} (leads : D → ℕ → D → Type 0) (s : Settings) (shown_of : P →
-    SeatShown D) (rounds : ℕ) (before middle after : List Record) (pairs between left : List P) (t t' : Tally) →
-    RanAll leads s shown_of (rounds * s.tasks) before pairs middle between t →
-    RanMore leads s shown_of middle between t after left t' →
-    RanAll leads s shown_of ((rounds + 1) * s.tasks) before pairs after left t'
-ran_more leads s shown_of rounds before middle after pairs between left t t' h k =
+pub ran_more : {D G K : Type 0} (leads : D → ℕ → D → Type 0) (notes : K → Kept) (s : Settings) (rounds : ℕ)
+    (y ready : SessionShown) (seats : List (Seat D G K)) (r more : Round D G K) (t : Tally) →
+    HasRun leads notes s (rounds * s.tasks) y seats r → ready.client.value.records ≡ r.alone.client.value.records →
+    HasRun leads notes s s.tasks ready r.seats.items more → t ≡ plus r.tally.tally more.tally.tally →
+    RanAll leads s (shown notes) ((rounds + 1) * s.tasks) y.client.value.records seats
+    more.alone.client.value.records more.seats.items t
+ran_more leads notes s rounds y ready seats r more t h same k e =
     let n : rounds * s.tasks + s.tasks ≡ (rounds + 1) * s.tasks = grind arith in
-    subst (λ (j : ℕ). RanAll leads s shown_of j before pairs after left t') n
-    (subst (λ (u : Tally). RanAll leads s shown_of (rounds * s.tasks + s.tasks) before pairs after left u)
-    (sym k.tally_is)
-    (ran_both leads s shown_of (rounds * s.tasks) s.tasks before middle after pairs between left t k.more h k.ran))
+    let first = y.client.value.records in
+    let middle = r.alone.client.value.records in
+    let last = more.alone.client.value.records in
+    let next : RanAll leads s (shown notes) s.tasks middle r.seats.items last more.seats.items more.tally.tally =
+    subst (λ (l : List Record). RanAll leads s (shown notes) s.tasks l r.seats.items last more.seats.items
+    more.tally.tally) same k in
+    subst (λ (j : ℕ). RanAll leads s (shown notes) j first seats last more.seats.items t) n
+    (subst (λ (u : Tally). RanAll leads s (shown notes) (rounds * s.tasks + s.tasks) first seats last
+    more.seats.items u) (sym e)
+    (ran_both leads s (shown notes) (rounds * s.tasks) s.tasks first middle last seats r.seats.items more.seats.items
+    r.tally.tally more.tally.tally h next))
 
 -- tallies of so many tasks each
 total_of : {D P : Type 0} (leads : D → ℕ → D → Type 0) (s : Settings) (shown_of : P →
@@ -218,6 +230,10 @@ second_true false b e = absurd (let k : false ≡ true = e in cc)
 -- a load has items
 pub some_items : (s : Settings) → is_settings s ≡ true → 1 ≤ s.items
 some_items s e = let h : is_system s ≡ true = second_true (is_work s) (is_system s) e in grind (arith, nat_tests, h)
+
+-- a task gets so many tries at most
+pub few_tries : (s : Settings) → is_settings s ≡ true → s.tries ≤ 1048576
+few_tries s e = let h : is_system s ≡ true = second_true (is_work s) (is_system s) e in grind (arith, nat_tests, h)
 
 -- no more tasks than in the most rounds by the most clients
 pub few_tasks : (clients rounds tasks : ℕ) → clients ≤ 64 → rounds ≤ 100 → tasks ≤ 1000000 →

@@ -1,6 +1,6 @@
 -- A load as a whole: the opening, the clients, and the report.
 use Rattle.std.proofs.lemmas.Bool.Decides.{nat_tests}
-use Rattle.std.proofs.Common.{Bool, true, ◌≡◌, ◌∙◌, ◌≤◌, ◌⊎◌, ℕ, ◌+◌, ◌*◌, ◌-◌, ◌/◌, List, [], ◌∷◌, ◌++◌, length}
+use Rattle.std.proofs.Common.{Bool, true, ◌≡◌, ◌∙◌, ◌⊎◌, ℕ, ◌+◌, ◌*◌, ◌-◌, ◌/◌, List, [], ◌∷◌, ◌++◌, length}
 use Rattle.std.proofs.Common.{length-append, map, refl, sym, inl, inr, ap, subst, arith}
 use Rattle.tx_memory.specs.Image.{In}
 use Rattle.stm_core.specs.Client.{Client, Record}
@@ -10,49 +10,52 @@ use Rattle.vac_model.specs.State.{State, empty_state, report}
 use Rattle.vac_manager.specs.Law.{Shows}
 use Rattle.vac_manager.specs.Legal.{IsLegal, capacity_of}
 use Rattle.vac_manager.specs.Called.{CallerShown}
-use Rattle.vac_manager.specs.Opening.{Opens, Closes}
+use Rattle.vac_manager.specs.Opening.{Opens}
+use Rattle.vac_manager.specs.Renewed.{ClosesSomewhere}
+use Rattle.vac_manager.specs.Session.{SessionShown}
 use Rattle.vac_draws.specs.declared.settings.Settings.{Settings}
 use Rattle.vac_load.specs.declared.tally.Tally.{Tally}
 use Rattle.vac_draws.specs.Tasks.{opening}
 use Rattle.vac_manager.specs.declared.fault.Fault.{Fault}
 use Rattle.vac_manager.specs.declared.fault.Fault.TheVariants as fault
-use Rattle.vac_load.specs.Opening.{Ran, Stopped, IsAnswered}
-use Rattle.vac_draws.specs.Draws.{Reader}
-use Rattle.vac_model.specs.declared.commands.Command.{Command}
+use Rattle.vac_load.specs.Opening.{Stopped}
 use Rattle.rand_pcg.specs.Lcg.{Lcg}
 use Rattle.vac_load.specs.declared.seats.Keepers.{Keepers}
+use Rattle.vac_load.specs.declared.seats.Seat.{Seat}
+use Rattle.vac_load.specs.declared.rounds.Round.{Round}
 use Rattle.vac_load.specs.declared.load.LoadFault.{LoadFault}
 use Rattle.vac_load.specs.declared.load.LoadFault.TheVariants as load
 use Rattle.vac_draws.specs.Streams.{stream_of, streams_of, gives}
 use Rattle.vac_load.specs.Streams.{KeptBySeed}
 use Rattle.vac_load.specs.Lists.{Paired, none, both}
-use Rattle.vac_load.specs.Keeping.{Kept, AreKept, HasKeptAdded, AllKept, none_kept, one_kept, SeatShown}
+use Rattle.vac_load.specs.Alone.{IsInRenewal, IsReady}
+use Rattle.vac_load.specs.Keeping.{Kept, AreKept, AllKept, none_kept, one_kept, SeatShown, shown, kept_at}
 use Rattle.vac_load.specs.Sums.{sum_of, added_up}
-use Rattle.vac_load.specs.Load.{InterleavedAll, AreKnown, IsInRenewal, Share, drawn_share, HasShare, HasKeptShare}
-use Rattle.vac_load.specs.Load.{RanAll, is_load, LoadedKept, WasOpened, WasStopped, IsTooShort, IsStopOfLoad}
+use Rattle.vac_load.specs.Load.{InterleavedAll, Share, drawn_share, HasShare, HasKeptShare, HasOpened, HasRun}
+use Rattle.vac_load.specs.Load.{is_load, LoadedKept, WasOpened, WasStopped, IsTooShort, IsStopOfLoad}
 use Rattle.vac_load.specs.Load.{IsLoadFault}
 use Rattle.vac_load.proofs.Order.{added_known}
 use Rattle.vac_load.proofs.Eras.{all_versioned}
-use Rattle.vac_load.proofs.Notes.{kept_added}
 use Rattle.vac_load.proofs.Joining.{ran_total}
 use Rattle.vac_load.proofs.Beginning.{long_opening}
 
--- what an opening added is known to its client
-pub opened_known : {D : Type 0} (leads : D → ℕ → D → Type 0) (renewal : ℕ) (reader : Reader (List Command))
-    (v v' : Client) (state last : D) → v.records ≡ [] → Ran leads renewal reader v v' state last →
-    AreKnown renewal v'.floor v'.records
-opened_known leads renewal reader v v' state last empty ran = λ r i.
-    (let a = ran.answered in
-    let all : v'.records ≡ a.added = a.records ∙ ap (λ (l : List Record). l ++ a.added) empty in
-    added_known renewal v.floor v'.floor r (a.each r (subst (λ (l : List Record). In r l) all i)))
-
--- an opening takes the clock on by at most one for each of its commands
-pub opened_early : {D : Type 0} (leads : D → ℕ → D → Type 0) (s : Settings) (renewal : ℕ) (v v' : Client)
-    (state last : D) → v.floor ≡ 0 → Ran leads renewal (opening s) v v' state last → v'.floor ≤ 4 * s.items
-opened_early leads s renewal v v' state last first ran =
-    let d = ran.drawn in
-    let long = long_opening s (d.words ++ []) ran.commands [] (d.reads []) in
-    omega (arith, long, first, ran.near)
+-- after the opening the first round can begin: what the opening added is known to its client, and it
+-- took the clock on by at most one for each of its commands
+pub opened_ready : {D : Type 0} (leads : D → ℕ → D → Type 0) (s : Settings) (state left : D) (y : SessionShown) →
+    HasOpened leads s state left y → IsReady s y
+opened_ready leads s state left y h =
+    let a = h.ran.answered in
+    let all : y.client.value.records ≡ a.added = a.records ∙
+    ap (λ (c : CallerShown). c.value.records ++ a.added) h.opens.client_is in
+    let first : h.opener.value.floor ≡ 0 = ap (λ (c : CallerShown). c.value.floor) h.opens.client_is in
+    let d = h.ran.drawn in
+    let long = long_opening s (d.words ++ []) h.ran.commands [] (d.reads []) in
+    record {
+      last = h.opens.last_is;
+      known = λ r i. added_known y.manager.renewal h.opener.value.floor y.client.value.floor r
+          (a.each r (subst (λ (l : List Record). In r l) all i));
+      early = omega (arith, long, first, h.ran.near);
+    }
 
 -- shares without what was kept
 module _ {D : Type 0} where
@@ -98,27 +101,30 @@ module _ {D P : Type 0} (leads : D → ℕ → D → Type 0) (s : Settings) (sho
   kept_drawn [] [] (q ∷ qs) hs ks = elim ks [ ]
   kept_drawn (p ∷ ps) (x ∷ xs) [] hs ks = elim ks [ ]
 
-pub loaded_kept : {D P : Type 0} (leads : D → ℕ → D → Type 0) (s : Settings) (shown_of : P →
-    SeatShown D) (state last : D) (seats left : List P) (stripes : ℕ) (region region' : RegionShown)
-    (opener : CallerShown) (ready after : Client) (before kept : Kept) (t : Tally) (words : List ℕ) (version : ℕ)
+pub loaded_kept : {D G K : Type 0} (leads : D → ℕ → D → Type 0) (notes : K → Kept) (s : Settings) (state last : D)
+    (seats : List (Seat D G K)) (y : SessionShown) (end : Round D G K) (before kept : Kept) (words : List ℕ)
     (r : Report) →
     length seats ≡ s.clients →
-    Opens s.blocks s.last stripes region opener →
-    Ran leads region.renewal (opening s) opener.value ready state last →
-    HasKeptAdded opener.value ready before kept →
-    RanAll leads s shown_of (s.rounds * s.tasks) ready.records seats after.records left t →
-    IsInRenewal region'.renewal after.records →
-    region'.size ≡ region.size →
-    Closes region' after words version →
+    HasOpened leads s state last y →
+    AreKept y.client.value.records before kept →
+    HasRun leads notes s (s.rounds * s.tasks) y seats end →
+    IsInRenewal end.alone.manager.renewal end.alone.client.value.records →
+    end.alone.manager.size ≡ y.manager.size →
+    ClosesSomewhere end.alone.manager end.alone.client.value words →
     ((x : State) → Shows words x → report x ≡ r) →
-    LoadedKept leads s (λ p. (shown_of p).draws) state seats t r before kept (map (λ p. (shown_of p).kept) seats)
-    (map (λ p. (shown_of p).kept) left)
-loaded_kept leads s shown_of state last seats left stripes region region' opener ready after before kept t words version
-    r n opens ran keeps all in_it size closes shows =
+    LoadedKept leads s (λ seat. seat.draws) state seats end.tally.tally r before kept (kept_at notes seats)
+    (kept_at notes end.seats.items)
+loaded_kept leads notes s state last seats y end before kept words r n opened keeps all in_it size closed shows =
+    let ran = opened.ran in
+    let closes = closed.1 in
     let added = ran.answered.added in
-    let records : ready.records ≡ added = ran.answered.records ∙
-    ap (λ (c : CallerShown). c.value.records ++ added) opens.client_is in
-    let capacity : capacity_of region' ≡ s.blocks = ap (λ (k : ℕ). (k - 16) / 8) size ∙ opens.capacity in
+    let after = end.alone.client.value in
+    let left = end.seats.items in
+    let n_of = s.rounds * s.tasks in
+    let records : y.client.value.records ≡ added = ran.answered.records ∙
+    ap (λ (c : CallerShown). c.value.records ++ added) opened.opens.client_is in
+    let capacity : capacity_of end.alone.manager ≡ s.blocks = ap (λ (k : ℕ). (k - 16) / 8) size ∙
+    opened.opens.capacity in
     let count : s.clients * (s.rounds * s.tasks) ≡ s.rounds * s.clients * s.tasks = grind arith in
     record {
       loaded = record {
@@ -130,22 +136,22 @@ loaded_kept leads s shown_of state last seats left stripes region region' opener
         rest = all.rest;
         opening_first = all.behind ∙ ap (λ (l : List Record). l ++ all.rest) records;
         rounds_in_order = closes.ends.sorted;
-        versioned = all_versioned region'.renewal after.records in_it closes.versioned;
+        versioned = all_versioned end.alone.manager.renewal after.records in_it closes.versioned;
         commands = ran.commands;
         drawn = last;
         opening_is = ran.drawn;
         opened_are = ran.answered.are_of;
         shares = map drawn_share all.shares;
-        each = each_drawn leads s shown_of (s.rounds * s.tasks) seats all.shares all.each;
+        each = each_drawn leads s (shown notes) n_of seats all.shares all.each;
         each_once = once_drawn all.shares all.rest all.each_once;
         tallies = all.tallies ∙ sym (tallies_drawn all.shares);
-        all = ran_total leads s shown_of (s.rounds * s.tasks) ready.records after.records seats left t all ∙
+        all = ran_total leads s (shown notes) n_of y.client.value.records after.records seats left end.tally.tally all ∙
             (ap (λ (k : ℕ). k * (s.rounds * s.tasks)) n ∙ count);
         alone = λ one. all.alone (n ∙ one);
         in_time = λ one time. all.in_time (n ∙ one) time;
       };
-      opening_kept = kept_added opener.value ready ran.answered.added before kept ran.answered.records keeps;
-      clients_kept = kept_drawn leads s shown_of (s.rounds * s.tasks) seats all.shares left all.each all.left_are;
+      opening_kept = subst (λ (l : List Record). AreKept l before kept) records keeps;
+      clients_kept = kept_drawn leads s (shown notes) n_of seats all.shares left all.each all.left_are;
     }
 
 -- what holds between images and elements holds between the list of images and the elements
@@ -236,22 +242,6 @@ kept_by_seed draws_of keep_of notes s t r state n seats left before after begins
     (notes after.opening) l (map notes after.clients.items)) first
     (subst (λ (l : List Kept). LoadedKept gives s draws_of state seats t r (notes before.opening) (notes after.opening)
     (map (λ p. notes (keep_of p)) seats) l) last h)))
-
--- the manager of a load was made, and its opening was answered whole
-pub was_opened : {D : Type 0} (leads : D → ℕ → D → Type 0) (s : Settings) (state left : D) (stripes : ℕ)
-    (region : RegionShown) (opener : CallerShown) (ready : Client) →
-    Opens s.blocks s.last stripes region opener → Ran leads region.renewal (opening s) opener.value ready state left →
-    IsAnswered region ready → WasOpened leads s state left
-was_opened leads s state left stripes region opener ready opens ran answered =
-    record {
-      stripes = stripes;
-      region = region;
-      opener = opener;
-      opens = opens;
-      ready = ready;
-      ran = ran;
-      answered = answered;
-    }
 
 too_short : {D : Type 0} (leads : D → ℕ → D → Type 0) (s : Settings) (renewal : ℕ) (e : Fault) (v v' : Client)
     (state left : D) → v.floor ≡ 0 → Stopped leads renewal s.last (opening s) e v v' state left → IsTooShort s e

@@ -14,59 +14,72 @@ use Rattle.vac_load.specs.Looping.{Answered}
 use Rattle.stm_region.specs.Shown.{RegionShown}
 use Rattle.vac_manager.specs.Called.{IsWhole}
 use Rattle.vac_manager.specs.Legal.{WasLegal}
+use Rattle.vac_manager.specs.Session.{SessionShown, GoesOn}
 use Rattle.vac_manager.specs.Placed.{replied}
 use Rattle.vac_manager.specs.declared.placed.Placed.{Placed}
 use Rattle.vac_manager.specs.declared.fault.Fault.{Fault}
-use Rattle.vac_load.specs.Opening.{as_tasks, Ran, Begun, Stopped, IsAnswered, IsOpeningFault}
+use Rattle.vac_load.specs.Keeping.{Kept, HasKeptAdded}
+use Rattle.vac_load.specs.Opening.{as_tasks, Ran, RanIn, Begun, Stopped, StoppedIn, IsAnswered, IsOpeningFault}
+use Rattle.vac_load.specs.Opening.{WasAnswered, WasRefused}
 use Rattle.vac_draws.proofs.Drawing.{plus_one, drawn_always, drawn_then_always, drawn_joined}
 use Rattle.vac_load.proofs.Answering.{answered_both, answered_quiet}
+use Rattle.vac_load.proofs.Sessions.{of_manager}
 use Rattle.vac_load.proofs.Beginning.{Readable, readable_stocks, begun_whole, begun_first, begun_second, begun_on}
 use Rattle.vac_load.proofs.Beginning.{begun_items, begun_customers, More, more_customers, long_customers}
 
-pub ran_joined : {D : Type 0} (leads : D → ℕ → D → Type 0) (renewal : ℕ) (first second : Reader (List Command))
-    (v w u : Client) (a b c : D) →
-    Ran leads renewal first v w a b → Ran leads renewal second w u b c → Ran leads renewal (joined first second) v u a c
-ran_joined leads renewal first second v w u a b c p q = record {
-  commands = p.commands ++ q.commands;
-  drawn = drawn_joined leads first second a p.commands b q.commands c p.drawn q.drawn;
-  answered = rw (map-append (λ c. One c) p.commands q.commands)
-      (answered_both renewal (as_tasks p.commands) (as_tasks q.commands) v w u p.answered q.answered);
-  near = omega (arith, length-append p.commands q.commands, p.near, q.near);
-}
+pub ran_joined : {D : Type 0} (leads : D → ℕ → D → Type 0) (first second : Reader (List Command))
+    (y z w : SessionShown) (a b c : D) → GoesOn y z → RanIn leads first y z a b → RanIn leads second z w b c →
+    RanIn leads (joined first second) y w a c
+ran_joined leads first second y z w a b c e p k =
+    let q = of_manager (λ m. Ran leads m.renewal second z.client.value w.client.value b c) y z e k in
+    record {
+      commands = p.commands ++ q.commands;
+      drawn = drawn_joined leads first second a p.commands b q.commands c p.drawn q.drawn;
+      answered = rw (map-append (λ c. One c) p.commands q.commands)
+          (answered_both y.manager.renewal (as_tasks p.commands) (as_tasks q.commands) y.client.value z.client.value
+          w.client.value p.answered q.answered);
+      near = omega (arith, length-append p.commands q.commands, p.near, q.near);
+    }
 
 -- nothing yet
-pub ran_none : {D : Type 0} (leads : D → ℕ → D → Type 0) (renewal : ℕ) (f : ℕ →
-    Reader (List Command)) (v : Client) (a : D) → Ran leads renewal (for_each 0 f) v v a a
-ran_none leads renewal f v a = record {
+pub ran_none : {D : Type 0} (leads : D → ℕ → D → Type 0) (f : ℕ → Reader (List Command)) (y : SessionShown) (a : D) →
+    RanIn leads (for_each 0 f) y y a a
+ran_none leads f y a = record {
   commands = [];
   drawn = drawn_always leads a [];
-  answered = answered_quiet renewal v v refl (omega arith) refl;
+  answered = answered_quiet y.manager.renewal y.client.value y.client.value refl (omega arith) refl;
   near = omega arith;
 }
 
-pub ran_more : {D : Type 0} (leads : D → ℕ → D → Type 0) (renewal : ℕ) (n : ℕ) (f : ℕ →
-    Reader (List Command)) (v w u : Client) (a b c : D) →
-    Ran leads renewal (for_each n f) v w a b → Ran leads renewal (f (n + 1)) w u b c →
-    Ran leads renewal (for_each (n + 1) f) v u a c
-ran_more leads renewal n f v w u a b c =
-    rw (plus_one n) (λ p q. ran_joined leads renewal (for_each n f) (f (suc n)) v w u a b c p q)
+pub ran_more : {D : Type 0} (leads : D → ℕ → D → Type 0) (n : ℕ) (f : ℕ → Reader (List Command)) (y z w : SessionShown)
+    (a b c : D) → GoesOn y z → RanIn leads (for_each n f) y z a b → RanIn leads (f (n + 1)) z w b c →
+    RanIn leads (for_each (n + 1) f) y w a c
+ran_more leads n f y z w a b c =
+    rw (plus_one n) (λ e p q. ran_joined leads (for_each n f) (f (suc n)) y z w a b c e p q)
 
 -- where a call was answered, its commands were run
-pub ran_if_ok : {D E : Type 0} (leads : D → ℕ → D → Type 0) (renewal : ℕ) (reader : Reader (List Command))
-    (command : Command) (v v' : Client) (a b : D) (result : Result (Unit {0}) E) →
-    Drawn leads reader a (command ∷ []) b → IfOk result (λ _. Answered renewal (One command ∷ []) v v') →
-    IfOk result (λ _. v'.floor ≤ v.floor + 1) → IfOk result (λ _. Ran leads renewal reader v v' a b)
-ran_if_ok leads renewal reader command v v' a b (Ok x) p q r =
-    record { commands = command ∷ []; drawn = p; answered = q; near = r }
-ran_if_ok leads renewal reader command v v' a b (Err e) p q r = tt
+pub ran_if_ok : {D E : Type 0} (leads : D → ℕ → D → Type 0) (reader : Reader (List Command)) (command : Command)
+    (y y' : SessionShown) (before after : Kept) (a b : D) (result : Result (Unit {0}) E) →
+    Drawn leads reader a (command ∷ []) b → IfOk result (λ _. WasAnswered command y y' before after) →
+    IfOk result (λ _. RanIn leads reader y y' a b)
+ran_if_ok leads reader command y y' before after a b (Ok x) p q =
+    record { commands = command ∷ []; drawn = p; answered = q.answered; near = q.near }
+ran_if_ok leads reader command y y' before after a b (Err e) p q = tt
+
+-- and kept
+pub kept_if_ok : {E : Type 0} (command : Command) (y y' : SessionShown) (before after : Kept)
+    (result : Result (Unit {0}) E) → IfOk result (λ _. WasAnswered command y y' before after) →
+    IfOk result (λ _. HasKeptAdded y.client.value y'.client.value before after)
+kept_if_ok command y y' before after (Ok x) q = q.kept
+kept_if_ok command y y' before after (Err e) q = tt
 
 -- where the last of two was answered, both were run
-pub ran_both : {D E : Type 0} (leads : D → ℕ → D → Type 0) (renewal : ℕ) (first second : Reader (List Command))
-    (v w u : Client) (a b c : D) (result : Result (Unit {0}) E) →
-    Ran leads renewal first v w a b → IfOk result (λ _. Ran leads renewal second w u b c) →
-    IfOk result (λ _. Ran leads renewal (joined first second) v u a c)
-ran_both leads renewal first second v w u a b c (Ok x) p q = ran_joined leads renewal first second v w u a b c p q
-ran_both leads renewal first second v w u a b c (Err e) p q = tt
+pub ran_both : {D E : Type 0} (leads : D → ℕ → D → Type 0) (first second : Reader (List Command))
+    (y z w : SessionShown) (a b c : D) (result : Result (Unit {0}) E) → GoesOn y z →
+    RanIn leads first y z a b → IfOk result (λ _. RanIn leads second z w b c) →
+    IfOk result (λ _. RanIn leads (joined first second) y w a c)
+ran_both leads first second y z w a b c (Ok x) e p q = ran_joined leads first second y z w a b c e p q
+ran_both leads first second y z w a b c (Err f) e p q = tt
 
 pub customers_more : (renewal n : ℕ) (v w u : Client) → Answered renewal (as_tasks (customers n)) v w →
     Answered renewal (One (NewCustomer (n + 1)) ∷ []) w u → Answered renewal (as_tasks (customers (n + 1))) v u
@@ -82,16 +95,19 @@ pub record Opening {D : Type 0} (leads : D → ℕ → D → Type 0) (renewal : 
   pub made : Answered renewal (as_tasks (customers n)) between u
   pub near : u.floor ≤ between.floor + n
 
-pub opening_more : {D : Type 0} (leads : D → ℕ → D → Type 0) (renewal : ℕ) (m n : ℕ) (v w u : Client) (a b : D) →
-    Opening leads renewal m n v w a b → Answered renewal (One (NewCustomer (n + 1)) ∷ []) w u → u.floor ≤ w.floor + 1 →
-    Opening leads renewal m (n + 1) v u a b
-opening_more leads renewal m n v w u a b p q near = record {
-  between = p.between;
-  items = p.items;
-  made = customers_more renewal n p.between w u p.made q;
-  near =
-      omega (arith, p.near, near);
-}
+pub opening_more : {D : Type 0} (leads : D → ℕ → D → Type 0) (m n : ℕ) (y z w : SessionShown) (before after : Kept)
+    (a b : D) → GoesOn y z → Opening leads y.manager.renewal m n y.client.value z.client.value a b →
+    WasAnswered (NewCustomer (n + 1)) z w before after →
+    Opening leads y.manager.renewal m (n + 1) y.client.value w.client.value a b
+opening_more leads m n y z w before after a b e p q =
+    let made = of_manager (λ r. Answered r.renewal (One (NewCustomer (n + 1)) ∷ []) z.client.value w.client.value)
+    y z e q.answered in
+    record {
+      between = p.between;
+      items = p.items;
+      made = customers_more y.manager.renewal n p.between z.client.value w.client.value p.made made;
+      near = omega (arith, p.near, q.near);
+    }
 
 pub opening_all : {D : Type 0} (leads : D → ℕ → D → Type 0) (renewal : ℕ) (s : Settings) (v u : Client) (a b : D) →
     Opening leads renewal s.items s.items v u a b → Ran leads renewal (opening s) v u a b
@@ -112,29 +128,26 @@ opening_all leads renewal s v u a b p = record {
 }
 
 -- a command that was refused after its words were drawn
-pub stopped_if_err : {D X : Type 0} (leads : D → ℕ → D → Type 0) (renewal last : ℕ) (reader : Reader (List Command))
-    (command : Command) (v v' : Client) (a b : D) (result : Result X Fault) →
-    Drawn leads reader a (command ∷ []) b → IfErr result (λ _. v'.records ≡ v.records) →
-    IfErr result (λ fault. IsOpeningFault last v.floor fault) →
-    IfErr result (λ fault. Stopped leads renewal last reader fault v v' a b)
-stopped_if_err leads renewal last reader command v v' a b (Ok x) p k q = tt
-stopped_if_err leads renewal last reader command v v' a b (Err e) p k q = record {
+pub stopped_if_err : {D X : Type 0} (leads : D → ℕ → D → Type 0) (reader : Reader (List Command)) (command : Command)
+    (y y' : SessionShown) (a b : D) (result : Result X Fault) → Drawn leads reader a (command ∷ []) b →
+    IfErr result (λ fault. WasRefused fault y y') → IfErr result (λ fault. StoppedIn leads reader fault y y' a b)
+stopped_if_err leads reader command y y' a b (Ok x) p q = tt
+stopped_if_err leads reader command y y' a b (Err e) p q = record {
   asked = [];
   refused = command;
   begun = begun_whole leads reader a (command ∷ []) b p;
-  between = v;
-  answered = answered_quiet renewal v v refl (omega arith) refl;
+  between = y.client.value;
+  answered = answered_quiet y.manager.renewal y.client.value y.client.value refl (omega arith) refl;
   near = omega arith;
-  kept = k;
-  why = q;
+  kept = q.same;
+  why = q.why;
 }
 
 -- the first of two stopped
-pub stopped_first : {D : Type 0} (leads : D → ℕ → D → Type 0) (renewal last : ℕ) (first second : Reader (List Command))
-    (fault : Fault) (v v' : Client) (a b : D) →
-    Readable second → Stopped leads renewal last first fault v v' a b →
-    Stopped leads renewal last (joined first second) fault v v' a b
-stopped_first leads renewal last first second fault v v' a b r p = record {
+pub stopped_first : {D : Type 0} (leads : D → ℕ → D → Type 0) (first second : Reader (List Command)) (fault : Fault)
+    (y y' : SessionShown) (a b : D) → Readable second → StoppedIn leads first fault y y' a b →
+    StoppedIn leads (joined first second) fault y y' a b
+stopped_first leads first second fault y y' a b r p = record {
   asked = p.asked;
   refused = p.refused;
   begun = begun_first leads first second a (p.asked ++ (p.refused ∷ [])) b r p.begun;
@@ -146,42 +159,42 @@ stopped_first leads renewal last first second fault v v' a b r p = record {
 }
 
 -- the second of two stopped
-pub stopped_second : {D : Type 0} (leads : D → ℕ → D → Type 0) (renewal last : ℕ) (first second : Reader (List Command))
-    (fault : Fault) (v w u : Client) (a b c : D) →
-    Ran leads renewal first v w a b → Stopped leads renewal last second fault w u b c →
-    Stopped leads renewal last (joined first second) fault v u a c
-stopped_second leads renewal last first second fault v w u a b c p q = record {
-  asked = p.commands ++ q.asked;
-  refused = q.refused;
-  begun = subst (λ (l : List Command). Begun leads (joined first second) a l c)
-      (sym (append_assoc p.commands q.asked (q.refused ∷ [])))
-      (begun_second leads first second a p.commands b (q.asked ++ (q.refused ∷ [])) c p.drawn q.begun);
-  between = q.between;
-  answered = rw (map-append (λ c. One c) p.commands q.asked)
-      (answered_both renewal (as_tasks p.commands) (as_tasks q.asked) v w q.between p.answered q.answered);
-  near = omega (arith, length-append p.commands q.asked, p.near, q.near);
-  kept = q.kept;
-  why = q.why;
-}
+pub stopped_second : {D : Type 0} (leads : D → ℕ → D → Type 0) (first second : Reader (List Command)) (fault : Fault)
+    (y z w : SessionShown) (a b c : D) → GoesOn y z → RanIn leads first y z a b →
+    StoppedIn leads second fault z w b c → StoppedIn leads (joined first second) fault y w a c
+stopped_second leads first second fault y z w a b c e p k =
+    let q = of_manager (λ m. Stopped leads m.renewal m.last second fault z.client.value w.client.value b c) y z e k in
+    record {
+      asked = p.commands ++ q.asked;
+      refused = q.refused;
+      begun = subst (λ (l : List Command). Begun leads (joined first second) a l c)
+          (sym (append_assoc p.commands q.asked (q.refused ∷ [])))
+          (begun_second leads first second a p.commands b (q.asked ++ (q.refused ∷ [])) c p.drawn q.begun);
+      between = q.between;
+      answered = rw (map-append (λ c. One c) p.commands q.asked)
+          (answered_both y.manager.renewal (as_tasks p.commands) (as_tasks q.asked) y.client.value z.client.value
+          q.between p.answered q.answered);
+      near = omega (arith, length-append p.commands q.asked, p.near, q.near);
+      kept = q.kept;
+      why = q.why;
+    }
 
-pub stopped_second_if_err : {D X : Type 0} (leads : D → ℕ → D →
-    Type 0) (renewal last : ℕ) (first second : Reader (List Command)) (v w u : Client) (a b c : D)
-    (result : Result X Fault) →
-    Ran leads renewal first v w a b → IfErr result (λ fault. Stopped leads renewal last second fault w u b c) →
-    IfErr result (λ fault. Stopped leads renewal last (joined first second) fault v u a c)
-stopped_second_if_err leads renewal last first second v w u a b c (Ok x) p q = tt
-stopped_second_if_err leads renewal last first second v w u a b c (Err e) p q =
-    stopped_second leads renewal last first second e v w u a b c p q
+pub stopped_second_if_err : {D X : Type 0} (leads : D → ℕ → D → Type 0) (first second : Reader (List Command))
+    (y z w : SessionShown) (a b c : D) (result : Result X Fault) → GoesOn y z → RanIn leads first y z a b →
+    IfErr result (λ fault. StoppedIn leads second fault z w b c) →
+    IfErr result (λ fault. StoppedIn leads (joined first second) fault y w a c)
+stopped_second_if_err leads first second y z w a b c (Ok x) e p q = tt
+stopped_second_if_err leads first second y z w a b c (Err f) e p q =
+    stopped_second leads first second f y z w a b c e p q
 
 -- the items stopped at those of this id, of so many that there are
-pub stopped_items : {D : Type 0} (leads : D → ℕ → D → Type 0) (renewal last n m : ℕ) (fault : Fault) (v w u : Client)
-    (a b c : D) → n + 1 ≤ m →
-    Ran leads renewal (for_each n stocks) v w a b → Stopped leads renewal last (stocks (n + 1)) fault w u b c →
-    Stopped leads renewal last (for_each m stocks) fault v u a c
-stopped_items leads renewal last n m fault v w u a b c less p q =
-    let here : Stopped leads renewal last (for_each (suc n) stocks) fault v u a c =
-    stopped_second leads renewal last (for_each n stocks) (stocks (suc n)) fault v w u a b c p
-    (subst (λ (k : ℕ). Stopped leads renewal last (stocks k) fault w u b c) (plus_one n) q) in
+pub stopped_items : {D : Type 0} (leads : D → ℕ → D → Type 0) (n m : ℕ) (fault : Fault) (y z w : SessionShown)
+    (a b c : D) → n + 1 ≤ m → GoesOn y z → RanIn leads (for_each n stocks) y z a b →
+    StoppedIn leads (stocks (n + 1)) fault z w b c → StoppedIn leads (for_each m stocks) fault y w a c
+stopped_items leads n m fault y z w a b c less e p q =
+    let here : StoppedIn leads (for_each (suc n) stocks) fault y w a c =
+    stopped_second leads (for_each n stocks) (stocks (suc n)) fault y z w a b c e p
+    (subst (λ (k : ℕ). StoppedIn leads (stocks k) fault z w b c) (plus_one n) q) in
     record {
       asked = here.asked;
       refused = here.refused;
@@ -195,11 +208,9 @@ stopped_items leads renewal last n m fault v w u a b c less p q =
     }
 
 -- the items stopped, and the opening with them
-pub stopped_opening : {D : Type 0} (leads : D → ℕ → D → Type 0) (renewal last : ℕ) (s : Settings) (fault : Fault)
-    (v v' : Client) (a b : D) →
-    Stopped leads renewal last (for_each s.items stocks) fault v v' a b →
-    Stopped leads renewal last (opening s) fault v v' a b
-stopped_opening leads renewal last s fault v v' a b p = record {
+pub stopped_opening : {D : Type 0} (leads : D → ℕ → D → Type 0) (s : Settings) (fault : Fault) (y y' : SessionShown)
+    (a b : D) → StoppedIn leads (for_each s.items stocks) fault y y' a b → StoppedIn leads (opening s) fault y y' a b
+stopped_opening leads s fault y y' a b p = record {
   asked = p.asked;
   refused = p.refused;
   begun = begun_items leads s a (p.asked ++ (p.refused ∷ [])) b p.begun;
@@ -211,11 +222,11 @@ stopped_opening leads renewal last s fault v v' a b p = record {
 }
 
 -- a customer was refused
-pub stopped_customers : {D : Type 0} (leads : D → ℕ → D → Type 0) (renewal last : ℕ) (s : Settings) (n : ℕ)
-    (fault : Fault) (v w u : Client) (a b : D) → n + 1 ≤ s.items →
-    Opening leads renewal s.items n v w a b → u.records ≡ w.records → IsOpeningFault last w.floor fault →
-    Stopped leads renewal last (opening s) fault v u a b
-stopped_customers leads renewal last s n fault v w u a b less p kept why =
+pub stopped_customers : {D : Type 0} (leads : D → ℕ → D → Type 0) (s : Settings) (n : ℕ) (fault : Fault)
+    (y z w : SessionShown) (a b : D) → n + 1 ≤ s.items → GoesOn y z →
+    Opening leads y.manager.renewal s.items n y.client.value z.client.value a b → WasRefused fault z w →
+    StoppedIn leads (opening s) fault y w a b
+stopped_customers leads s n fault y z w a b less e p q =
     let m : More n s.items = (more_customers (s.items - (n + 1)) n s.items (omega (arith, less))) in
     record {
       asked = p.items.commands ++ customers n;
@@ -223,13 +234,13 @@ stopped_customers leads renewal last s n fault v w u a b less p kept why =
       begun = subst (λ (l : List Command). Begun leads (opening s) a l b)
           (sym (append_assoc p.items.commands (customers n) (NewCustomer (suc n) ∷ [])))
           (begun_customers leads s a p.items.commands b (customers (suc n)) m.rest p.items.drawn m.all);
-      between = w;
+      between = z.client.value;
       answered = rw (map-append (λ c. One c) p.items.commands (customers n))
-          (answered_both renewal (as_tasks p.items.commands)
-          (as_tasks (customers n)) v p.between w p.items.answered p.made);
+          (answered_both y.manager.renewal (as_tasks p.items.commands) (as_tasks (customers n)) y.client.value
+          p.between z.client.value p.items.answered p.made);
       near = omega (arith, length-append p.items.commands (customers n), long_customers n, p.items.near, p.near);
-      kept = kept;
-      why = why;
+      kept = q.same;
+      why = of_manager (λ m. IsOpeningFault m.last z.client.value.floor fault) y z e q.why;
     }
 
 -- a fault that is handed on

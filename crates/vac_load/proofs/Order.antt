@@ -4,7 +4,7 @@ use Rattle.tx_memory.specs.Image.{In}
 use Rattle.stm_core.specs.Client.{Record, before, rank, inserted, merged}
 use Rattle.vac_manager.proofs.Adding.{not_earlier, rank_small}
 use Rattle.vac_load.specs.Looping.{IsAdded}
-use Rattle.vac_load.specs.Load.{IsKnown}
+use Rattle.vac_load.specs.Alone.{IsKnown}
 
 -- what a client added, it knows
 pub added_known : (renewal before now : ℕ) (r : Record) → IsAdded renewal before now r → IsKnown renewal now r

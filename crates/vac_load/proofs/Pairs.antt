@@ -4,7 +4,6 @@ use Rattle.std.proofs.Common.{map, min, ◌+◌, ◌≤◌, append-nil, append_a
 use Rattle.std.specs.Vec.Iter.{into_iter_items, into_iter_len}
 use Rattle.vac_draws.specs.declared.settings.Settings.{Settings}
 use Rattle.vac_load.specs.declared.workers.Worker.{Worker}
-use Rattle.vac_load.specs.declared.workers.Worked.{Worked}
 use Rattle.vac_load.specs.declared.workers.WorkOf.{WorkOf}
 use Rattle.vac_load.specs.Lists.{Paired, none, both}
 use Rattle.vac_load.specs.Keeping.{Kept}
@@ -92,7 +91,7 @@ all_but_first P xs ys x e h = let g : All P (x ∷ ys) = subst (λ (l : List _).
 
 -- a promise of work that was kept
 pub kept_promise : {D G K : Type 0} (leads : D → ℕ → D → Type 0) (notes : K →
-    Kept) (s : Settings) (w : Worker D G K) (p : WorkOf D G K) (d : Worked D G K) →
+    Kept) (s : Settings) (w : Worker D G K) (p : WorkOf D G K) (d : Worker D G K) →
     IsPromise s w p → DidWork leads notes p.settings p.worker.value d → DidWork leads notes s w d
 kept_promise leads notes s w p d h k =
     subst (λ (x : Settings). DidWork leads notes x w d) h.settings_is
@@ -100,7 +99,7 @@ kept_promise leads notes s w p d h k =
 
 -- promises of work that were kept
 pub worked_through : {D G K H : Type 0} (leads : D → ℕ → D → Type 0) (notes : K → Kept) (s : Settings) (promise : H →
-    WorkOf D G K) (ws : List (Worker D G K)) (hs : List H) (ds : List (Worked D G K)) →
+    WorkOf D G K) (ws : List (Worker D G K)) (hs : List H) (ds : List (Worker D G K)) →
     Paired (λ w h. IsPromise s w (promise h)) ws hs → Paired
     (λ h d. DidWork leads notes (promise h).settings (promise h).worker.value d) hs ds →
     Paired (DidWork leads notes s) ws ds

@@ -3,7 +3,6 @@ use Rattle.std.proofs.Common.{◌≡◌, ◌∙◌, ℕ, suc, ◌+◌, ◌*◌, 
 use Rattle.std.proofs.Common.{sym, ap, subst, arith}
 use Rattle.tx_memory.specs.Image.{In}
 use Rattle.stm_core.specs.Client.{Client, Record, merged}
-use Rattle.stm_core.specs.declared.limits.TheConstants.{MOST_GRANTS}
 use Rattle.stm_core.specs.Invariant.{Sorted}
 use Rattle.stm_core.proofs.Orders.{in_merged}
 use Rattle.stm_core.proofs.Whole.{merged_sorted}
@@ -11,16 +10,18 @@ use Rattle.stm_region.specs.Shown.{RegionShown}
 use Rattle.vac_manager.specs.Called.{CallerShown, Splits}
 use Rattle.vac_manager.specs.Session.{SessionShown}
 use Rattle.vac_draws.specs.declared.settings.Settings.{Settings}
+use Rattle.vac_load.specs.declared.seats.Seat.{Seat}
 use Rattle.vac_load.specs.declared.tally.Tally.{Tally}
-use Rattle.vac_load.specs.Attempted.{CountsShown}
-use Rattle.vac_load.specs.Looping.{total}
+use Rattle.vac_load.specs.declared.workers.Worker.{Worker}
+use Rattle.vac_load.specs.declared.workers.Crew.{Crew}
 use Rattle.vac_draws.specs.Draws.{Drawn, times}
 use Rattle.vac_draws.specs.Tasks.{task_of}
-use Rattle.vac_load.specs.Keeping.{AreKept, SeatShown}
+use Rattle.vac_load.specs.Keeping.{AreKept, Kept, SeatShown, shown}
 use Rattle.vac_load.specs.Sums.{sum_of, plus, added_up}
 use Rattle.vac_load.specs.Lists.{Paired, none, both, Interleaved}
-use Rattle.vac_load.specs.Load.{InterleavedAll, all_merged, Gathered, HasWorked, IsWorker, IsCrew, AreKnown}
-use Rattle.vac_load.specs.Load.{IsInRenewal, Share, HasKeptShare, RanAll}
+use Rattle.vac_load.specs.Load.{InterleavedAll, all_merged, Gathered, DidWork, DidAllWork, IsWorker, IsCrew, IsMember}
+use Rattle.vac_load.specs.Load.{CanGather, Share, HasKeptShare, RanAll}
+use Rattle.vac_load.specs.Alone.{AreKnown, IsInRenewal, IsReady}
 use Rattle.vac_load.proofs.Clocking.{clocked_in_time}
 use Rattle.vac_load.proofs.Eras.{more_in}
 use Rattle.vac_load.proofs.Order.{IsLater, added_later, known_first, merged_behind}
@@ -28,15 +29,16 @@ use Rattle.vac_load.proofs.Merging.{interleaved_alone, regrouped, merged_interle
 use Rattle.vac_load.proofs.Notes.{kept_added}
 use Rattle.vac_load.proofs.Pairs.{paired_through, paired_length, all_cons}
 
--- a session that was split off
-pub split_worker : {D : Type 0} (y before after other : SessionShown) (state : D) →
-    Splits before.client after.client other.client → other.manager ≡ before.manager → before.manager ≡ y.manager →
-    before.client.value.floor ≡ y.client.value.floor → IsWorker y.manager [] y.client.value.floor state other state
-split_worker y before after other state s m t f = record {
+-- a worker whose session was split off
+pub split_worker : {D G K : Type 0} (y before after : SessionShown) (w : Worker D G K) →
+    Splits before.client after.client w.session.client → w.session.manager ≡ before.manager →
+    before.manager ≡ y.manager → before.client.value.floor ≡ y.client.value.floor →
+    IsWorker y.manager [] y.client.value.floor w.seat w
+split_worker y before after w s m t f = record {
   manager_is = m ∙ t;
   records_are = ap (λ (x : CallerShown). x.value.records) s.theirs;
   knows = ap (λ (x : CallerShown). x.value.floor) s.theirs ∙ f;
-  draws_are = refl;
+  seat_is = refl;
 }
 
 -- the client that another was split off from
@@ -80,12 +82,17 @@ pub record Did {D : Type 0} (leads : D → ℕ → D → Type 0) (s : Settings) 
   pub later : (r : Record) → In r added → IsLater renewal floor r
   pub has : HasKeptShare leads s s.tasks state (record { records = added; tally = t; left = left })
 
-pub did : {D : Type 0} (leads : D → ℕ → D → Type 0) (s : Settings) (manager : RegionShown) (floor : ℕ)
-    (before : List Record) (state seat left : SeatShown D) (y y' : SessionShown) (t : CountsShown) →
-    IsWorker manager before floor state y seat → HasWorked leads s y y' seat left t →
-    Did leads s manager.renewal floor before state left y'.client t.tally
-did leads s manager floor before state seat left y y' t h w =
-    let l = w.looped in
+pub did : {D G K : Type 0} (leads : D → ℕ → D → Type 0) (notes : K → Kept) (s : Settings) (manager : RegionShown)
+    (floor : ℕ) (before : List Record) (seat : Seat D G K) (w : Worker D G K) (r : Worker D G K) →
+    IsWorker manager before floor seat w → DidWork leads notes s w r →
+    Did leads s manager.renewal floor before (shown notes seat) (shown notes r.seat) r.session.client
+    r.tally.tally
+did leads notes s manager floor before seat w r h k =
+    let y = w.session in
+    let y' = r.session in
+    let left = shown notes r.seat in
+    let same = ap (λ (x : Seat _ _ _). shown notes x) h.seat_is in
+    let l = k.looped in
     let a = l.answered in
     record {
       added = a.added;
@@ -98,15 +105,15 @@ did leads s manager floor before state seat left y y' t h w =
         has = record {
           tasks = l.tasks;
           drawn = subst (λ (x : SeatShown _). Drawn leads (times s.tasks (task_of s)) x.draws l.tasks left.draws)
-              h.draws_are l.drawn;
+              same l.drawn;
           answered = l.done;
           among = l.among;
           number = l.number;
           are_of = a.are_of;
           all = l.all;
         };
-        kept = subst (λ (x : SeatShown _). AreKept a.added x.kept left.kept) h.draws_are
-            (kept_added y.client.value y'.client.value a.added seat.kept left.kept a.records w.kept);
+        kept = subst (λ (x : SeatShown _). AreKept a.added x.kept left.kept) same
+            (kept_added y.client.value y'.client.value a.added (notes w.seat.keep) left.kept a.records k.kept);
       };
     }
 
@@ -153,27 +160,27 @@ no_sum : {X : Type 0} (f : X → ℕ) (xs : List X) → length xs ≡ 0 → sum_
 no_sum f [] e = refl
 no_sum f (x ∷ xs) e = absurd (omega (arith, e))
 
-module _ {D P W R : Type 0} (leads : D → ℕ → D → Type 0) (s : Settings) (opener : SessionShown) (shown_of : P →
-    SeatShown D) (session_of : W → SessionShown) (seat_of : W → SeatShown D) (after_of : R →
-    SessionShown) (last_of : R → SeatShown D) (counts_of : R → CountsShown) where
+module _ {D G K : Type 0} (leads : D → ℕ → D → Type 0) (notes : K → Kept) (s : Settings) (opener : SessionShown) where
   -- how the tasks ended
-  abbrev tally_of : R → Tally
-  tally_of r = (counts_of r).tally
+  abbrev tally_of : Worker D G K → Tally
+  tally_of r = r.tally.tally
+
+  -- the records of the client
+  abbrev records_of : Worker D G K → List Record
+  records_of r = r.session.client.value.records
 
   -- the shares of the clients that began without records
-  record Shared (floor : ℕ) (ps : List P) (rs : List R) : Type 0 where
+  record Shared (floor : ℕ) (ps : List (Seat D G K)) (rs : List (Worker D G K)) : Type 0 where
     shares : List (Share (SeatShown D))
-    each : Paired (λ p x. HasKeptShare leads s s.tasks (shown_of p) x) ps shares
-    left_are : Paired (λ x r. last_of r ≡ x.left) shares rs
+    each : Paired (λ p x. HasKeptShare leads s s.tasks (shown notes p) x) ps shares
+    left_are : Paired (λ x r. shown notes r.seat ≡ x.left) shares rs
     later : AreLater opener.manager.renewal floor shares
-    merges : (l : List Record) → all_merged (λ r. (after_of r).client.value.records) l rs ≡ all_merged
+    merges : (l : List Record) → all_merged records_of l rs ≡ all_merged
         (λ (x : Share (SeatShown D)). x.records) l shares
     tallies : added_up tally_of rs ≡ added_up (λ (x : Share (SeatShown D)). x.tally) shares
 
-  shared : (floor : ℕ) (ps : List P) (ws : List W) (rs : List R) →
-      Paired (λ p w. IsWorker opener.manager [] floor (shown_of p) (session_of w) (seat_of w)) ps ws →
-      Paired (λ w r. HasWorked leads s (session_of w) (after_of r) (seat_of w) (last_of r) (counts_of r)) ws rs →
-      Shared floor ps rs
+  shared : (floor : ℕ) (ps : List (Seat D G K)) (ws : List (Worker D G K)) (rs : List (Worker D G K)) →
+      Paired (IsWorker opener.manager [] floor) ps ws → Paired (DidWork leads notes s) ws rs → Shared floor ps rs
   shared floor [] [] [] none none = record {
     shares = [];
     each = none;
@@ -183,16 +190,15 @@ module _ {D P W R : Type 0} (leads : D → ℕ → D → Type 0) (s : Settings) 
     tallies = refl;
   }
   shared floor (p ∷ ps) (w ∷ ws) (r ∷ rs) (both h hs) (both k ks) =
-      let d = did leads s opener.manager floor [] (shown_of p) (seat_of w) (last_of r) (session_of w) (after_of r)
-      (counts_of r) h k in
+      let d = did leads notes s opener.manager floor [] p w r h k in
       let more = shared floor ps ws rs hs ks in
       record {
-        shares = record { records = d.added; tally = tally_of r; left = last_of r } ∷ more.shares;
+        shares = record { records = d.added; tally = tally_of r; left = shown notes r.seat } ∷ more.shares;
         each = both d.has more.each;
         left_are = both refl more.left_are;
         later = ((d.sorted, d.later), more.later);
-        merges = λ l. ap (λ (m : List Record). all_merged (λ r. (after_of r).client.value.records) (merged l m) rs)
-            d.records_are ∙ more.merges (merged l d.added);
+        merges = λ l. ap (λ (m : List Record). all_merged records_of (merged l m) rs) d.records_are
+            ∙ more.merges (merged l d.added);
         tallies = ap (λ (t : Tally). plus (tally_of r) t) more.tallies;
       }
   shared floor [] [] (r ∷ rs) hs ks = elim ks [ ]
@@ -200,122 +206,126 @@ module _ {D P W R : Type 0} (leads : D → ℕ → D → Type 0) (s : Settings) 
   shared floor (p ∷ ps) [] rs hs ks = elim hs [ ]
   shared floor (p ∷ ps) (w ∷ ws) [] hs ks = elim ks [ ]
 
-  pub ran_all : (pairs left : List P) (first : W) (others : List W) (first' : R) (others' : List R) (after : Client)
-      (t : Tally) →
-      AreKnown opener.manager.renewal opener.client.value.floor opener.client.value.records →
-      IsCrew shown_of opener pairs session_of seat_of first others →
-      HasWorked leads s (session_of first) (after_of first') (seat_of first) (last_of first') (counts_of first') →
-      Paired (λ w r. HasWorked leads s (session_of w) (after_of r) (seat_of w) (last_of r) (counts_of r)) others others'
-      →
-      Gathered (λ r. (after_of r).client.value.records) tally_of first' others' after.records t →
-      Paired (λ r p. shown_of p ≡ last_of r) (first' ∷ others') left →
-      (session_of first).client.value.grants + length others ≡ MOST_GRANTS →
-      opener.manager.last ≡ s.last →
-      opener.client.value.floor ≤ 4 * s.items →
-      RanAll leads s shown_of s.tasks opener.client.value.records pairs after.records left t
-  ran_all pairs left first others first' others' after t known h k ks g lefts grants last early =
+  -- what a seat that was handed back shows
+  handed : (x : Share (SeatShown D)) (r : Worker D G K) (p : Seat D G K) → shown notes r.seat ≡ x.left → p ≡ r.seat →
+      shown notes p ≡ x.left
+  handed x r p e f = ap (λ (y : Seat D G K). shown notes y) f ∙ e
+
+  -- what the first one added, and the others behind it
+  record Round (seats : List (Seat D G K)) (crew : Crew D G K) (done : Crew D G K) (all : List Record)
+      (h : IsCrew opener seats crew) : Type 0 where
+    mine : Did leads s opener.manager.renewal opener.client.value.floor opener.client.value.records
+        (shown notes h.seat) (shown notes done.first.seat) done.first.session.client
+        done.first.tally.tally
+    more : Shared opener.client.value.floor h.rest done.others.items
+    behind : all ≡ opener.client.value.records
+        ++ all_merged (λ (x : Share (SeatShown D)). x.records) mine.added more.shares
+
+  round : (seats : List (Seat D G K)) (crew : Crew D G K) (done : Crew D G K) (all : List Record)
+      (t : Tally) → IsReady s opener → (h : IsCrew opener seats crew) → DidAllWork leads notes s crew done →
+      Gathered records_of tally_of done.first done.others.items all t → Round seats crew done all h
+  round seats crew done all t ready h k g =
       let floor = opener.client.value.floor in
-      let d = did leads s opener.manager floor opener.client.value.records (shown_of h.pair) (seat_of first)
-      (last_of first') (session_of first) (after_of first') (counts_of first') h.opening k in
-      let more = shared floor h.rest others others' h.others_are ks in
-      let inside = within opener.manager.renewal floor d.added more.shares d.sorted more.later in
-      let mine : Share (SeatShown D) = record { records = d.added; tally = tally_of first'; left = last_of first' } in
+      let before = opener.client.value.records in
+      let d = did leads notes s opener.manager floor before h.seat crew.first done.first h.opening k.first in
+      let more = shared floor h.rest crew.others.items done.others.items h.others_are k.others in
+      record {
+        mine = d;
+        more = more;
+        behind = g.records_are ∙ (ap (λ (m : List Record). all_merged records_of m done.others.items) d.records_are
+            ∙ (more.merges (before ++ d.added)
+            ∙ merged_front opener.manager.renewal floor before d.added more.shares ready.known more.later));
+      }
+
+  pub ran_all : (seats left : List (Seat D G K)) (crew : Crew D G K) (done : Crew D G K)
+      (after : Client) (t : Tally) → IsReady s opener → IsCrew opener seats crew → DidAllWork leads notes s crew done →
+      Gathered records_of tally_of done.first done.others.items after.records t →
+      Paired (λ r p. p ≡ r.seat) (done.first ∷ done.others.items) left →
+      RanAll leads s (shown notes) s.tasks opener.client.value.records seats after.records left t
+  ran_all seats left crew done after t ready h k g lefts =
+      let r = round seats crew done after.records t ready h k g in
+      let d = r.mine in
+      let more = r.more in
+      let mine : Share (SeatShown D) = record {
+        records = d.added;
+        tally = tally_of done.first;
+        left = shown notes done.first.seat;
+      } in
+      -- with one client there are no others
+      let none : length seats ≡ 1 → length crew.others.items ≡ 0 = λ one. (
+      let long : length seats ≡ suc (length h.rest) = ap (λ (l : List (Seat D G K)). length l) h.seats_are in
+      let same = paired_length _ h.rest crew.others.items h.others_are in
+      omega (arith, one, long, same)) in
+      let quiet : (f : Worker D G K → ℕ) → length seats ≡ 1 → sum_of f done.others.items ≡ 0 = λ f one. (
+      let same = paired_length _ crew.others.items done.others.items k.others in
+      no_sum f done.others.items (omega (arith, none one, same))) in
+      let grants : length seats ≡ 1 → crew.first.session.client.value.grants ≡ 63 = λ one. (
+      let held : crew.first.session.client.value.grants + crew.others.len ≡ 63 = h.grants in
+      omega (arith, none one, held, crew.others.ok.0)) in
       record {
         shares = mine ∷ more.shares;
-        each = subst (λ (l : List P). Paired (λ p x. HasKeptShare leads s s.tasks (shown_of p) x) l
-            (mine ∷ more.shares)) (sym h.pairs_are) (both d.has more.each);
-        left_are = paired_through (λ x r. last_of r ≡ x.left) (λ r p. shown_of p ≡ last_of r)
-            (λ x p. shown_of p ≡ x.left) (λ x r p e f. f ∙ e) (mine ∷ more.shares) (first' ∷ others') left
+        each = subst (λ (l : List (Seat D G K)). Paired (λ p x. HasKeptShare leads s s.tasks (shown notes p) x) l
+            (mine ∷ more.shares)) (sym h.seats_are) (both d.has more.each);
+        left_are = paired_through (λ x r. shown notes r.seat ≡ x.left) (λ r p. p ≡ r.seat)
+            (λ x p. shown notes p ≡ x.left) handed (mine ∷ more.shares) (done.first ∷ done.others.items) left
             (both refl more.left_are) lefts;
         rest = all_merged (λ (x : Share (SeatShown D)). x.records) d.added more.shares;
-        behind = g.records_are
-            ∙ (ap (λ (m : List Record). all_merged (λ r. (after_of r).client.value.records) m others') d.records_are
-            ∙ (more.merges (opener.client.value.records ++ d.added)
-            ∙ merged_front opener.manager.renewal floor opener.client.value.records d.added more.shares known
-            more.later));
-        each_once = inside;
-        tallies = g.tallies ∙ ap (λ (u : Tally). plus (tally_of first') u) more.tallies;
+        behind = r.behind;
+        each_once = within opener.manager.renewal opener.client.value.floor d.added more.shares d.sorted more.later;
+        tallies = g.tallies ∙ ap (λ (u : Tally). plus (tally_of done.first) u) more.tallies;
         alone = λ one. (
-            let long : length pairs ≡ suc (length h.rest) = ap (λ (l : List P). length l) h.pairs_are in
-            let same = paired_length _ h.rest others h.others_are in
-            let none = k.looped.alone (omega (arith, one, long, same, grants)) in
-            let quiet : sum_of (λ r. (tally_of r).busy) others' ≡ 0 =
-            no_sum (λ r. (tally_of r).busy) others' (omega (
-              arith,
-              one,
-              long,
-              same,
-              paired_length _ others others' ks,
-            )) in
-            let busy : t.busy ≡ (tally_of first').busy + sum_of (λ r. (tally_of r).busy) others' =
+            let first = k.first.looped.alone (grants one) in
+            let busy : t.busy ≡ (tally_of done.first).busy + sum_of (λ r. (tally_of r).busy) done.others.items =
             ap (λ (u : Tally). u.busy) g.tallies in
-            omega (arith, none, quiet, busy));
+            omega (arith, first, quiet (λ r. (tally_of r).busy) one, busy));
         in_time = λ one time. (
-            let long : length pairs ≡ suc (length h.rest) = ap (λ (l : List P). length l) h.pairs_are in
-            let same = paired_length _ h.rest others h.others_are in
-            let clock = k.clock (omega (arith, one, long, same, grants)) in
-            let ends : (session_of first).manager.last ≡ s.last =
-            ap (λ (m : RegionShown). m.last) h.opening.manager_is ∙ last in
-            let none = clocked_in_time _ _ _ _ s.tasks (4 * s.items) clock k.looped.all
-            (omega (arith, h.opening.knows, early)) (omega (arith, ends, time)) in
-            let quiet : sum_of (λ r. (tally_of r).spent) others' ≡ 0 =
-            no_sum (λ r. (tally_of r).spent) others' (omega (
-              arith,
-              one,
-              long,
-              same,
-              paired_length _ others others' ks,
-            )) in
-            let spent : t.spent ≡ (tally_of first').spent + sum_of (λ r. (tally_of r).spent) others' =
+            let clock = k.first.clock (grants one) in
+            let ends : crew.first.session.manager.last ≡ s.last =
+            ap (λ (m : RegionShown). m.last) h.opening.manager_is ∙ ready.last in
+            let first = clocked_in_time _ _ _ _ s.tasks (4 * s.items) clock k.first.looped.all
+            (omega (arith, h.opening.knows, ready.early)) (omega (arith, ends, time)) in
+            let spent : t.spent ≡ (tally_of done.first).spent + sum_of (λ r. (tally_of r).spent) done.others.items =
             ap (λ (u : Tally). u.spent) g.tallies in
-            omega (arith, none, quiet, spent));
+            omega (arith, first, quiet (λ r. (tally_of r).spent) one, spent));
       }
 
   -- what they added is of this renewal
-  pub ran_in : (pairs : List P) (first : W) (others : List W) (first' : R) (others' : List R) (after : Client)
-      (t : Tally) →
-      AreKnown opener.manager.renewal opener.client.value.floor opener.client.value.records →
-      IsCrew shown_of opener pairs session_of seat_of first others →
-      HasWorked leads s (session_of first) (after_of first') (seat_of first) (last_of first') (counts_of first') →
-      Paired (λ w r. HasWorked leads s (session_of w) (after_of r) (seat_of w) (last_of r) (counts_of r)) others others'
-      →
-      Gathered (λ r. (after_of r).client.value.records) tally_of first' others' after.records t →
+  pub ran_in : (seats : List (Seat D G K)) (crew : Crew D G K) (done : Crew D G K) (after : Client)
+      (t : Tally) → IsReady s opener → IsCrew opener seats crew → DidAllWork leads notes s crew done →
+      Gathered records_of tally_of done.first done.others.items after.records t →
       IsInRenewal opener.manager.renewal opener.client.value.records → IsInRenewal opener.manager.renewal after.records
-  ran_in pairs first others first' others' after t known h k ks g in_it =
-      let floor = opener.client.value.floor in
-      let d = did leads s opener.manager floor opener.client.value.records (shown_of h.pair) (seat_of first)
-      (last_of first') (session_of first) (after_of first') (counts_of first') h.opening k in
-      let more = shared floor h.rest others others' h.others_are ks in
-      let rest = all_merged (λ (x : Share (SeatShown D)). x.records) d.added more.shares in
-      more_in opener.manager.renewal opener.client.value.records rest after.records in_it
-      (g.records_are
-      ∙ (ap (λ (m : List Record). all_merged (λ r. (after_of r).client.value.records) m others') d.records_are
-      ∙ (more.merges (opener.client.value.records ++ d.added)
-      ∙ merged_front opener.manager.renewal floor opener.client.value.records d.added more.shares known more.later)))
-      (of_this opener.manager.renewal floor d.added more.shares d.later more.later)
+  ran_in seats crew done after t ready h k g in_it =
+      let r = round seats crew done after.records t ready h k g in
+      more_in opener.manager.renewal opener.client.value.records
+      (all_merged (λ (x : Share (SeatShown D)). x.records) r.mine.added r.more.shares) after.records in_it r.behind
+      (of_this opener.manager.renewal opener.client.value.floor r.mine.added r.more.shares r.mine.later r.more.later)
 
-module _ {D W R : Type 0} (leads : D → ℕ → D → Type 0) (s : Settings) (session_of : W → SessionShown) (seat_of : W →
-    SeatShown D) (after_of : R → SessionShown) (last_of : R → SeatShown D) (counts_of : R → CountsShown) where
-  pub worked_with : (manager : RegionShown) (ws : List W) (rs : List R) →
-      All (λ w. (session_of w).manager ≡ manager) ws →
-      Paired (λ w r. HasWorked leads s (session_of w) (after_of r) (seat_of w) (last_of r) (counts_of r)) ws rs →
-      All (λ r. (after_of r).manager ≡ manager) rs
-  worked_with manager ws rs h p = paired_both _ (λ w. (session_of w).manager ≡ manager)
-      (λ r. (after_of r).manager ≡ manager) (λ w r e k. ap (λ (y : SessionShown). y.manager) k.session ∙ e) ws rs h p
-
-  pub worked_grants : (ws : List W) (rs : List R) → All (λ w. (session_of w).client.value.grants ≡ 0) ws →
-      Paired (λ w r. HasWorked leads s (session_of w) (after_of r) (seat_of w) (last_of r) (counts_of r)) ws rs →
-      All (λ r. (after_of r).client.value.grants ≡ 0) rs
-  worked_grants ws rs h p = paired_both _ (λ w. (session_of w).client.value.grants ≡ 0)
-      (λ r. (after_of r).client.value.grants ≡ 0) (λ w r e k. k.looped.answered.grants ∙ e) ws rs h p
-
-  pub worked_tasks : (n : ℕ) (ws : List W) (rs : List R) → s.tasks ≤ n →
-      Paired (λ w r. HasWorked leads s (session_of w) (after_of r) (seat_of w) (last_of r) (counts_of r)) ws rs →
-      All (λ r. total (counts_of r).tally ≤ n) rs
-  worked_tasks n ws rs few p = paired_each _ (λ r. total (counts_of r).tally ≤ n) (λ w r k. (let q = k.looped.all in
-      omega (arith, q, few))) ws rs p
-
-  pub worked_tries : (n : ℕ) (ws : List W) (rs : List R) → s.tries ≡ n →
-      Paired (λ w r. HasWorked leads s (session_of w) (after_of r) (seat_of w) (last_of r) (counts_of r)) ws rs →
-      All (λ r. (counts_of r).tries ≡ n) rs
-  worked_tries n ws rs same p = paired_each _ (λ r. (counts_of r).tries ≡ n) (λ w r k. k.tries ∙ same) ws rs p
+  -- workers that ran their tasks can be gathered
+  pub can_gather : (seats : List (Seat D G K)) (crew : Crew D G K) (done : Crew D G K) →
+      s.clients ≤ 64 → s.tasks ≤ 1000000 → length seats ≡ s.clients → IsCrew opener seats crew →
+      DidAllWork leads notes s crew done → CanGather done
+  can_gather seats crew done clients tasks number h k =
+      let first = ap (λ (y : SessionShown). y.manager) k.first.session ∙ h.opening.manager_is in
+      let same = paired_length _ crew.others.items done.others.items k.others in
+      let there = done.others.ok.0 in
+      let managers = paired_each (IsWorker opener.manager [] opener.client.value.floor)
+      (λ w. w.session.manager ≡ opener.manager) (λ p w i. i.manager_is) h.rest crew.others.items h.others_are in
+      record {
+        grants = (
+            let held = k.first.looped.answered.grants in
+            let all : crew.first.session.client.value.grants + crew.others.len ≡ 63 = h.grants in
+            omega (arith, held, same, crew.others.ok.0, there, all));
+        few = (
+            let long : length seats ≡ suc (length h.rest) = ap (λ (l : List (Seat D G K)). length l) h.seats_are in
+            let pairs = paired_length _ h.rest crew.others.items h.others_are in
+            omega (arith, long, pairs, same, there, number, clients));
+        tasks = (let all = k.first.looped.all in omega (arith, all, tasks));
+        others = paired_both (DidWork leads notes s)
+            (λ w. (w.session.manager ≡ opener.manager) × (w.session.client.value.grants ≡ 0)) (IsMember done.first)
+            (λ w r e d. record {
+              one = ap (λ (y : SessionShown). y.manager) d.session ∙ (e.0 ∙ sym first);
+              grants = d.looped.answered.grants ∙ e.1;
+              tasks = (let all = d.looped.all in omega (arith, all, tasks));
+              tries = d.tries ∙ sym k.first.tries;
+            }) crew.others.items done.others.items (λ j x l. (managers j x l, h.others_grants j x l)) k.others;
+      }

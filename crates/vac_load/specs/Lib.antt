@@ -1,3 +1,4 @@
+pub mod Alone
 pub mod Attempted
 pub mod Lists
 pub mod Looping

@@ -1,8 +1,9 @@
 -- What a load promises.
 use Rattle.std.specs.Prelude.{◌≡◌, ◌≤◌, ◌<◌, ◌+◌, ◌*◌, ◌⊎◌, ◌++◌, ◌&&◌, nat_eq, Bool, ℕ, List, [], ◌∷◌, length}
-use Rattle.tx_memory.specs.Image.{In}
+use Rattle.std.specs.Prelude.{All, vec_len}
 use Rattle.vac_model.specs.declared.tasks.Task.{Task}
 use Rattle.stm_core.specs.Client.{Client, Record, merged}
+use Rattle.stm_core.specs.declared.limits.TheConstants.{MOST_GRANTS}
 use Rattle.stm_core.specs.History.{Sub}
 use Rattle.stm_core.specs.Invariant.{Sorted}
 use Rattle.stm_region.specs.Shown.{RegionShown}
@@ -12,12 +13,13 @@ use Rattle.vac_manager.specs.Session.{SessionShown, GoesOn}
 use Rattle.vac_manager.specs.declared.fault.Fault.{Fault}
 use Rattle.vac_manager.specs.declared.fault.Fault.TheVariants as fault
 use Rattle.vac_draws.specs.declared.settings.Settings.{Settings}
+use Rattle.vac_draws.specs.declared.settings.TheConstants.{MOST_CLIENTS, MOST_TASKS}
 use Rattle.vac_load.specs.declared.tally.Tally.{Tally}
-use Rattle.vac_load.specs.Attempted.{CountsShown}
+use Rattle.vac_load.specs.declared.seats.Seat.{Seat}
 use Rattle.vac_load.specs.declared.workers.Worker.{Worker}
-use Rattle.vac_load.specs.declared.workers.Worked.{Worked}
 use Rattle.vac_load.specs.declared.workers.WorkOf.{WorkOf}
 use Rattle.vac_load.specs.declared.workers.Crew.{Crew}
+use Rattle.vac_load.specs.declared.rounds.Round.{Round}
 use Rattle.vac_load.specs.Looping.{Looped, Clocked, AreOf, total}
 use Rattle.vac_load.specs.Lists.{Paired, Interleaved}
 use Rattle.vac_load.specs.Keeping.{Kept, AreKept, AllKept, HasKeptAdded, SeatShown, shown}
@@ -31,35 +33,30 @@ use Rattle.vac_model.specs.State.{State, empty_state, report}
 use Rattle.vac_manager.specs.Legal.{IsLegal, AreVersioned}
 use Rattle.vac_draws.specs.Draws.{Drawn, times}
 use Rattle.vac_draws.specs.Tasks.{task_of, opening}
-use Rattle.vac_load.specs.Sums.{plus, added_up}
+use Rattle.vac_load.specs.Sums.{added_up}
 
 -- the clock has a version for each command of the opening, and, after them, one for each task of
 -- one client in a round
 abbrev pub HasTime : Settings → Type 0
 HasTime s = 4 * s.items + s.tasks ≤ s.last
 
--- a worker ran its tasks of a round, with the settings' tries for each: its session went on, its
--- client's value has what its loop made of it in its manager's renewal and, where it is alone, by
--- its manager's clock, and its keeper kept its answered calls
-pub record HasWorked {D : Type 0} (leads : D → ℕ → D → Type 0) (s : Settings)
-    (y y' : SessionShown) (state last : SeatShown D) (t : CountsShown) : Type 0 where
-  pub session : GoesOn y y'
-  pub looped : Looped leads s y.manager.renewal s.tasks y.client.value y'.client.value
-      state.draws last.draws t.tally
-  pub clock : HasAllGrants y.client.value
-      → Clocked y.manager.last y.client.value y'.client.value t.tally
-  pub tries : t.tries ≡ s.tries
-  pub kept : HasKeptAdded y.client.value y'.client.value state.kept last.kept
-
--- this worker ran its tasks of a round, and became that worker, with how they ended
-abbrev pub DidWork : {D G K : Type 0} → (D → ℕ → D → Type 0) → (K → Kept) → Settings
-    → Worker D G K → Worked D G K → Type 0
-DidWork leads notes s w d = HasWorked leads s w.session d.worker.session
-    (shown notes w.seat) (shown notes d.worker.seat) d.tally
+-- a worker ran its tasks of a round, with the settings' tries for each, and became that worker: its
+-- session went on, its client's value has what its loop made of it in its manager's renewal and,
+-- where it is alone, by its manager's clock, and its keeper kept its answered calls
+pub record DidWork {D G K : Type 0} (leads : D → ℕ → D → Type 0) (notes : K → Kept) (s : Settings)
+    (w d : Worker D G K) : Type 0 where
+  pub session : GoesOn w.session d.session
+  pub looped : Looped leads s w.session.manager.renewal s.tasks w.session.client.value
+      d.session.client.value w.seat.draws d.seat.draws d.tally.tally
+  pub clock : HasAllGrants w.session.client.value → Clocked w.session.manager.last
+      w.session.client.value d.session.client.value d.tally.tally
+  pub tries : d.tally.tries ≡ s.tries
+  pub kept : HasKeptAdded w.session.client.value d.session.client.value
+      (notes w.seat.keep) (notes d.seat.keep)
 
 -- each worker of a crew ran its tasks of a round; the workers are in their order
 pub record DidAllWork {D G K : Type 0} (leads : D → ℕ → D → Type 0) (notes : K → Kept)
-    (s : Settings) (crew : Crew (Worker D G K)) (done : Crew (Worked D G K)) : Type 0 where
+    (s : Settings) (crew : Crew D G K) (done : Crew D G K) : Type 0 where
   pub first : DidWork leads notes s crew.first done.first
   pub others : Paired (DidWork leads notes s) crew.others.items done.others.items
 
@@ -88,46 +85,42 @@ pub record Gathered {X : Type 0} (records_of : X → List Record) (tally_of : X 
   pub tallies : t ≡ added_up tally_of (first ∷ others)
 
 -- a worker's session is one with this manager, and its client begins with these records and this
--- floor; and the worker has this seat
-pub record IsWorker {D : Type 0} (manager : RegionShown) (records : List Record) (floor : ℕ)
-    (state : D) (y : SessionShown) (draws : D) : Type 0 where
-  pub manager_is : y.manager ≡ manager
-  pub records_are : y.client.value.records ≡ records
-  pub knows : y.client.value.floor ≡ floor
-  pub draws_are : draws ≡ state
+-- floor; and the worker has this seat, with its draws, its gate and its keeper
+pub record IsWorker {D G K : Type 0} (manager : RegionShown) (records : List Record) (floor : ℕ)
+    (seat : Seat D G K) (w : Worker D G K) : Type 0 where
+  pub manager_is : w.session.manager ≡ manager
+  pub records_are : w.session.client.value.records ≡ records
+  pub knows : w.session.client.value.floor ≡ floor
+  pub seat_is : w.seat ≡ seat
 
 -- each seat got a session with the opening session's manager: the first that session, the others
--- sessions of clients without records
-pub record IsCrew {D P W : Type 0} (draws_of : P → D) (opener : SessionShown) (pairs : List P)
-    (session_of : W → SessionShown) (drawing : W → D) (first : W) (others : List W)
-    : Type 0 where
-  pub pair : P
-  pub rest : List P
-  pub pairs_are : pairs ≡ pair ∷ rest
+-- sessions of clients without records. The first one holds the grants of them all
+pub record IsCrew {D G K : Type 0} (opener : SessionShown) (seats : List (Seat D G K))
+    (crew : Crew D G K) : Type 0 where
+  pub seat : Seat D G K
+  pub rest : List (Seat D G K)
+  pub seats_are : seats ≡ seat ∷ rest
   pub opening : IsWorker opener.manager opener.client.value.records opener.client.value.floor
-      (draws_of pair) (session_of first) (drawing first)
-  pub others_are : Paired (λ p w. IsWorker opener.manager [] opener.client.value.floor
-      (draws_of p) (session_of w) (drawing w)) rest others
+      seat crew.first
+  pub others_are : Paired (IsWorker opener.manager [] opener.client.value.floor)
+      rest crew.others.items
+  pub grants : crew.first.session.client.value.grants + vec_len crew.others ≡ MOST_GRANTS
+  pub others_grants : All (λ w. w.session.client.value.grants ≡ 0) crew.others.items
 
--- the record comes after none that is added in this renewal by a client that knows this version
-pub record IsKnown (renewal version : ℕ) (r : Record) : Type 0 where
-  pub present : r.renewal ≤ renewal
-  pub known : r.renewal ≡ renewal → r.version ≤ version
-  pub unplaced : r.renewal ≡ renewal → r.point ≡ 0
+-- the worker is one of those that the first one can take in: its session is with the same manager,
+-- it has no grants, and its tally can be added
+pub record IsMember {D G K : Type 0} (first w : Worker D G K) : Type 0 where
+  pub one : w.session.manager ≡ first.session.manager
+  pub grants : w.session.client.value.grants ≡ 0
+  pub tasks : total w.tally.tally ≤ MOST_TASKS
+  pub tries : w.tally.tries ≡ first.tally.tries
 
--- each of these records comes after none that such a client adds in this renewal
-abbrev pub AreKnown : ℕ → ℕ → List Record → Type 0
-AreKnown renewal version records = (r : Record) → In r records → IsKnown renewal version r
-
--- after the records of earlier renewals, which have one writer a version and readers that wrote
--- nothing, come those of this one
-pub record IsInRenewal (renewal : ℕ) (records : List Record) : Type 0 where
-  pub past : List Record
-  pub present : List Record
-  pub records_are : records ≡ past ++ present
-  pub versioned : AreVersioned past
-  pub earlier : (r : Record) → In r past → r.renewal < renewal
-  pub now : (r : Record) → In r present → r.renewal ≡ renewal
+-- the workers of a crew can be gathered: the first one holds the grants of them all
+pub record CanGather {D G K : Type 0} (crew : Crew D G K) : Type 0 where
+  pub grants : crew.first.session.client.value.grants + vec_len crew.others ≡ MOST_GRANTS
+  pub few : vec_len crew.others < MOST_CLIENTS
+  pub tasks : total crew.first.tally.tally ≤ MOST_TASKS
+  pub others : All (IsMember crew.first) crew.others.items
 
 -- what one client did, in one round or in several: the records of its answered tasks, how its
 -- tasks ended, and the state that its draws were left in
@@ -176,31 +169,41 @@ pub record RanAll {D P : Type 0} (leads : D → ℕ → D → Type 0) (s : Setti
   pub alone : length seats ≡ 1 → t.busy ≡ 0
   pub in_time : length seats ≡ 1 → HasTime s → t.spent ≡ 0
 
--- one more round was run, from these records, seats and tally on
-pub record RanMore {D P : Type 0} (leads : D → ℕ → D → Type 0) (s : Settings)
-    (shown_of : P → SeatShown D) (before : List Record) (seats : List P) (t : Tally)
-    (after : List Record) (left : List P) (t' : Tally) : Type 0 where
-  pub more : Tally
-  pub ran : RanAll leads s shown_of s.tasks before seats after left more
-  pub tally_is : t' ≡ plus t more
+-- all clients ran n tasks each, from this manager, its client and these seats on, and that left the
+-- round
+abbrev pub HasRun : {D G K : Type 0} → (D → ℕ → D → Type 0) → (K → Kept) → Settings → ℕ
+    → SessionShown → List (Seat D G K) → Round D G K → Type 0
+HasRun leads notes s n y seats r = RanAll leads s (shown notes) n y.client.value.records seats
+    r.alone.client.value.records r.seats.items r.tally.tally
+
+-- a round of a load with these settings: a seat for each client, and the settings' tries
+pub record IsRound {D G K : Type 0} (s : Settings) (r : Round D G K) : Type 0 where
+  pub number : vec_len r.seats ≡ s.clients
+  pub tries : r.tally.tries ≡ s.tries
 
 -- a load can be run with these settings and this many clients
 abbrev pub is_load : Settings → ℕ → Bool
 is_load s clients = is_settings s && nat_eq clients s.clients
 
+-- memory was refused, or a thread was not started
+abbrev pub IsRefusal : LoadFault → Type 0
+IsRefusal e = (e ≡ load.Memory) ⊎ (e ≡ load.Spawn)
+
 -- the manager of a load was made, and the opening was answered whole: from this state of its draws
 -- on all its commands were drawn, and each of them was asked for and answered, by a clock that
 -- ends at the settings' last version. What the client has then is a whole history of this manager
--- Not said: that it was the manager of this load: some region and client are named.
-pub record WasOpened {D : Type 0} (leads : D → ℕ → D → Type 0) (s : Settings) (state left : D)
-    : Type 0 where
+pub record HasOpened {D : Type 0} (leads : D → ℕ → D → Type 0) (s : Settings) (state left : D)
+    (y : SessionShown) : Type 0 where
   pub stripes : ℕ
-  pub region : RegionShown
   pub opener : CallerShown
-  pub opens : Opens s.blocks s.last stripes region opener
-  pub ready : Client
-  pub ran : Ran leads region.renewal (opening s) opener.value ready state left
-  pub answered : IsAnswered region ready
+  pub opens : Opens s.blocks s.last stripes y.manager opener
+  pub ran : Ran leads y.manager.renewal (opening s) opener.value y.client.value state left
+  pub answered : IsAnswered y.manager y.client.value
+
+-- the same of some manager and its client
+-- Not said: that it was the manager of this load.
+abbrev pub WasOpened : {D : Type 0} → (D → ℕ → D → Type 0) → Settings → D → D → Type 0
+WasOpened leads s state left = (y : SessionShown) × HasOpened leads s state left y
 
 -- where the clock is found at its end, that is the last version of the settings, and less than the
 -- number of the opening's commands

@@ -7,9 +7,11 @@ use Rattle.vac_model.specs.declared.tasks.Task.{Task}
 use Rattle.vac_model.specs.declared.tasks.Task.TheVariants as task
 use Rattle.vac_manager.specs.Called.{IsWhole}
 use Rattle.vac_manager.specs.Legal.{WasLegal}
+use Rattle.vac_manager.specs.Session.{SessionShown}
 use Rattle.vac_manager.specs.declared.fault.Fault.{Fault}
 use Rattle.vac_manager.specs.declared.fault.Fault.TheVariants as fault
 use Rattle.vac_draws.specs.Draws.{Reader, Reads, Drew, Drawn}
+use Rattle.vac_load.specs.Keeping.{Kept, HasKeptAdded}
 use Rattle.vac_load.specs.Looping.{Answered}
 
 -- each command as a task
@@ -24,6 +26,12 @@ pub record Ran {D : Type 0} (leads : D → ℕ → D → Type 0) (renewal : ℕ)
   pub drawn : Drawn leads reader state commands last
   pub answered : Answered renewal (as_tasks commands) v v'
   pub near : v'.floor ≤ v.floor + length commands
+
+-- the same of a session
+abbrev pub RanIn : {D : Type 0} → (D → ℕ → D → Type 0) → Reader (List Command)
+    → SessionShown → SessionShown → D → D → Type 0
+RanIn leads reader y y' state last =
+    Ran leads y.manager.renewal reader y.client.value y'.client.value state last
 
 -- a client that is alone had its last call answered by this region's manager: its records are a
 -- whole history, and the last of them was decided in a state of the region's core
@@ -49,6 +57,20 @@ IsOpeningFault last floor fault.Memory = Unit {0}
 IsOpeningFault last floor (fault.Busy conflict) = ⊥
 IsOpeningFault last floor (fault.Spent version) = (version ≡ last) × (floor ≡ last)
 
+-- a client that is alone had this command answered, and its keeper kept the call: it added its
+-- record, and raised the version that the client knows by at most one
+pub record WasAnswered (command : Command) (y y' : SessionShown) (before after : Kept)
+    : Type 0 where
+  pub answered : Answered y.manager.renewal (task.One command ∷ []) y.client.value y'.client.value
+  pub near : y'.client.value.floor ≤ y.client.value.floor + 1
+  pub ready : IsAnswered y.manager y'.client.value
+  pub kept : HasKeptAdded y.client.value y'.client.value before after
+
+-- a client that is alone had a command of the opening refused so, which added no record
+pub record WasRefused (e : Fault) (y y' : SessionShown) : Type 0 where
+  pub why : IsOpeningFault y.manager.last y.client.value.floor e
+  pub same : y'.client.value.records ≡ y.client.value.records
+
 -- commands were read from the front of drawn words, and asked for in their order: those before the
 -- last one were answered, and the last one was refused with this fault and added no record
 pub record Stopped {D : Type 0} (leads : D → ℕ → D → Type 0) (renewal last : ℕ)
@@ -62,3 +84,9 @@ pub record Stopped {D : Type 0} (leads : D → ℕ → D → Type 0) (renewal la
   pub near : between.floor ≤ v.floor + length asked
   pub kept : v'.records ≡ between.records
   pub why : IsOpeningFault last between.floor e
+
+-- the same of a session, with its manager's last version
+abbrev pub StoppedIn : {D : Type 0} → (D → ℕ → D → Type 0) → Reader (List Command) → Fault
+    → SessionShown → SessionShown → D → D → Type 0
+StoppedIn leads reader e y y' state left = Stopped leads y.manager.renewal y.manager.last reader e
+    y.client.value y'.client.value state left

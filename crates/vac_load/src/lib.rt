@@ -4,6 +4,7 @@
 //! Minh, Chung, Kozyrakis, Olukotun, IISWC 2008).
 #![tactic(auto)]
 
+mod alone;
 mod counts;
 mod efforts;
 mod gathering;
@@ -17,7 +18,7 @@ mod tally;
 mod workers;
 
 pub use efforts::Efforts;
-pub use load::{LoadFault, LoadReport, run_load, run_load_counted, run_load_kept, run_load_with};
+pub use load::{LoadFault, LoadReport, run_load, run_load_kept, run_load_with};
 pub use looping::client_loop;
 pub use opening::open;
 pub use phases::Phases;

@@ -1,31 +1,27 @@
 //! A load.
 
 ghost use Rattle.std.specs.Prelude.{◌≡◌, ◌↔◌, true, false, vec_len, IfOk, IfErr, IsErrOf};
-ghost use Rattle.vac_manager.specs.Called.{HasAllGrants};
-ghost use Rattle.vac_manager.specs.Opening.{Closes};
 ghost use Rattle.vac_draws.specs.Setting.{is_settings};
-ghost use Rattle.vac_load.specs.Keeping.{kept_at};
-ghost use Rattle.vac_load.specs.Load.{Loaded, LoadedKept, is_load, IsLoadFault, IsStopOfLoad};
+ghost use Rattle.vac_load.specs.Keeping.{AreKept, kept_at};
+ghost use Rattle.vac_load.specs.Load.{HasOpened, Loaded, LoadedKept, is_load, IsLoadFault, IsStopOfLoad};
 ghost use Rattle.vac_draws.specs.Streams.{gives, stream_of};
 ghost use Rattle.vac_load.specs.Streams.{LoadedBySeed, KeptBySeed};
 ghost use Rattle.vac_load.specs.Attempted.{IsEffort};
 
+use crate::alone::Alone;
 use crate::efforts::Efforts;
-use crate::gathering::Round;
 use crate::opening::open_kept;
 use crate::phases::{NoPhases, Phases};
-use crate::rounds::{Progress, run_rounds};
+use crate::rounds::{Round, run_rounds};
 use crate::seats::{Keepers, Seat, keepers_of, no_keepers, seats_by_seed, seats_unkept};
 use crate::tally::Tally;
 use std::alloc::Global;
 use std::sync::Wait;
 use std::thread::Threads;
 use stm_attempt::{Gate, NoGate};
-use stm_region::RegionFault;
-use stm_words::Version;
 use thiserror::Error;
 use vac_draws::{Draws, PcgDraws, Settings};
-use vac_manager::{Client, Fault, Keep, Manager, Report, Session, Unkept, report_of};
+use vac_manager::{Fault, Keep, Manager, Report, Session, Unkept, report_of};
 
 /// What a load leaves: how its tasks ended, over all rounds, and the report of the words after all
 /// clients were gathered for the last time.
@@ -53,20 +49,29 @@ pub enum LoadFault {
     Opening(Fault),
 }
 
-/// Ends the manager with its one client. It fails only where memory is refused.
-fn close(manager: Manager, client: Client) -> Result<(Vec<u64>, Version), LoadFault>
-    requires own { client.table ≡ manager.table }
-    requires alone { HasAllGrants client.value }
-    ensures closes { IfOk result (λ r. Closes manager client.value r.0.items r.1) }
-    ensures refused { IfErr result (λ fault. fault ≡ LoadFault.Memory) }
+/// Makes the manager of a load and answers the opening, with this keeper of its calls.
+fn open_load<D: Draws, K: Keep>(
+    alloc: Global,
+    settings: &Settings,
+    opening: &mut D,
+    keep: &mut K,
+) -> Result<Alone, LoadFault>
+    requires settings { is_settings settings.now ≡ true }
+    ensures opened { IfOk result (λ r. HasOpened D.leads settings.now opening.old opening.new r) }
+    ensures kept { IfOk result (λ r. AreKept r.client.value.records
+        (K.notes keep.old) (K.notes keep.new)) }
+    ensures stopped { IfErr result (λ fault.
+        IsStopOfLoad D.leads settings.now opening.old opening.new fault) }
 {
-    match manager.close(client) {
-        Ok(closed) => Ok(closed),
-        Err((_, _, fault)) => {
-            prove!(fault == RegionFault::Memory);
-            Err(LoadFault::Memory)
-        }
+    let Ok((manager, client)) = Manager::new(alloc, settings.blocks, settings.last) else {
+        return Err(LoadFault::Memory);
+    };
+    let mut session = Session::of(&manager, client);
+    if let Err(fault) = open_kept(&mut session, opening, settings, keep) {
+        return Err(LoadFault::Opening(fault));
     }
+    let client = session.into_client();
+    Ok(Alone::of(manager, client))
 }
 
 /// Runs a load whose arguments are in their ranges, with this keeper of the opening, and hands the
@@ -96,23 +101,18 @@ fn run_in_range<
     ensures stopped { IfErr result (λ fault.
         IsStopOfLoad D.leads settings.now opening.old opening.new fault) }
 {
-    let Ok((manager, client)) = Manager::new(alloc, settings.blocks, settings.last) else {
-        return Err(LoadFault::Memory);
+    let alone = match open_load(alloc, settings, opening, keep) {
+        Ok(opened) => opened,
+        Err(fault) => return Err(fault),
     };
-    let mut session = Session::of(&manager, client);
-    if let Err(fault) = open_kept(&mut session, opening, settings, keep) {
-        return Err(LoadFault::Opening(fault));
-    }
-    let client = session.into_client();
-    let progress = run_rounds(rt, alloc, settings, manager, client, seats, phases)?;
-    let Progress { manager, round } = progress;
+    let round = run_rounds(rt, alloc, settings, alone, seats, phases)?;
     let Round {
-        client,
+        alone,
         seats,
         tally,
     } = round;
-    let words = match close(manager, client) {
-        Ok((words, _)) => words,
+    let words = match alone.close() {
+        Ok(words) => words,
         Err(fault) => return Err(fault),
     };
     let report = report_of(words);
@@ -179,44 +179,25 @@ pub fn run_load<R: Threads + Wait + AllocGlobal>(
     ensures refused { IfErr result (λ fault.
         IsLoadFault gives settings.now (stream_of settings.now.seed 0) fault) }
 {
-    match run_load_counted(rt, settings, NoGate, NoPhases) {
-        Ok((report, _)) => Ok(report),
-        Err(fault) => Err(fault),
-    }
-}
-
-/// Runs a load as `run_load` does, each client with a copy of the gate. Besides the report, returns
-/// what the calls of all clients in all rounds took. Each client tells the phases when it is ready
-/// and when it is done, in each round.
-pub fn run_load_counted<
-    R: Threads + Wait + AllocGlobal,
-    G: Gate + Copy + Send + Drop,
-    S: Phases + Copy + Send + Drop,
->(rt: &R, settings: &Settings, gate: G, phases: S) -> Result<(LoadReport, Efforts), LoadFault>
-    ensures arguments { IsErrOf result LoadFault.Arguments
-        ↔ (is_settings settings.now ≡ false) }
-    ensures loaded { IfOk result (λ r. LoadedBySeed settings.now r.0.tally r.0.report) }
-    ensures efforts { IfOk result (λ r. IsEffort settings.now.tries r.0.tally r.1) }
-    ensures refused { IfErr result (λ fault.
-        IsLoadFault gives settings.now (stream_of settings.now.seed 0) fault) }
-{
     if !settings.is_in_range() {
         return Err(LoadFault::Arguments);
     }
     let Ok(keepers) = no_keepers(rt.alloc(), settings.clients) else {
         return Err(LoadFault::Memory);
     };
-    match run_load_kept(rt, settings, gate, phases, keepers) {
-        Ok((report, efforts, _kept)) => Ok((report, efforts)),
+    match run_load_kept(rt, settings, NoGate, NoPhases, keepers) {
+        Ok((report, _efforts, _kept)) => Ok(report),
         Err(fault) => Err(fault),
     }
 }
 
-/// Runs a load with keepers of the answered calls: one of the opening's, and one of each client's,
-/// which goes on from round to round. Each is asked for room before a call and is handed the call
-/// once it is answered; where it has no room the call is not made, and the task counts under
-/// memory, or the opening stops with the fault of refused memory. The keepers are handed back in
-/// their order.
+/// Runs a load as `run_load` does, each client with a copy of the gate, and with keepers of the
+/// answered calls: one of the opening's, and one of each client's, which goes on from round to
+/// round. Besides the report, returns what the calls of all clients in all rounds took. Each client
+/// tells the phases when it is ready and when it is done, in each round. Each keeper is asked for
+/// room before a call and is handed the call once it is answered; where it has no room the call is
+/// not made, and the task counts under memory, or the opening stops with the fault of refused
+/// memory. The keepers are handed back in their order.
 pub fn run_load_kept<
     R: Threads + Wait + AllocGlobal,
     G: Gate + Copy + Send + Drop,

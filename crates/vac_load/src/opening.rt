@@ -1,15 +1,14 @@
 //! The opening of a load: its items and customers.
 
-ghost use Rattle.std.specs.Prelude.{◌≡◌, ◌<◌, ◌≤◌, ◌+◌, ◌^◌, true, IfOk, IfErr, [], ◌∷◌};
+ghost use Rattle.std.specs.Prelude.{◌≡◌, ◌<◌, ◌≤◌, ◌^◌, true, IfOk, IfErr};
 ghost use Rattle.vac_model.specs.Ranges.{is_command};
 ghost use Rattle.vac_manager.specs.Called.{HasAllGrants};
 ghost use Rattle.vac_manager.specs.Session.{GoesOn};
 ghost use Rattle.vac_draws.specs.Draws.{for_each};
 ghost use Rattle.vac_draws.specs.Setting.{is_settings};
-ghost use Rattle.vac_load.specs.Looping.{Answered};
 ghost use Rattle.vac_load.specs.Keeping.{HasKeptAdded};
 ghost use Rattle.vac_draws.specs.Tasks.{stock, stocks, opening};
-ghost use Rattle.vac_load.specs.Opening.{Ran, Stopped, IsAnswered, IsOpeningFault};
+ghost use Rattle.vac_load.specs.Opening.{RanIn, StoppedIn, IsAnswered, WasAnswered, WasRefused};
 
 use stm_attempt::NoGate;
 use vac_draws::{Draws, Settings, draw_stock};
@@ -26,18 +25,9 @@ fn ask_for<K: Keep>(session: &mut Session<'_>, command: Command, keep: &mut K) -
     requires range { is_command command ≡ true }
     ensures session { GoesOn session.old session.new }
     ensures grants { HasAllGrants session.new.client.value }
-    ensures answered { IfOk result (λ _. Answered session.old.manager.renewal
-        (Task.One command ∷ []) session.old.client.value session.new.client.value) }
-    ensures near { IfOk result (λ _.
-        session.new.client.value.floor ≤ session.old.client.value.floor + 1) }
-    ensures ready { IfOk result (λ _.
-        IsAnswered session.old.manager session.new.client.value) }
-    ensures refused { IfErr result (λ fault.
-        IsOpeningFault session.old.manager.last session.old.client.value.floor fault) }
-    ensures same { IfErr result (λ _.
-        session.new.client.value.records ≡ session.old.client.value.records) }
-    ensures kept { IfOk result (λ _. HasKeptAdded session.old.client.value session.new.client.value
+    ensures answered { IfOk result (λ _. WasAnswered command session.old session.new
         (K.notes keep.old) (K.notes keep.new)) }
+    ensures refused { IfErr result (λ fault. WasRefused fault session.old session.new) }
 {
     if keep.begin().is_err() {
         return Err(Fault::Memory);
@@ -67,11 +57,10 @@ fn add_item<D: Draws, K: Keep>(
     requires id { 1 ≤ id }
     ensures session { GoesOn session.old session.new }
     ensures grants { HasAllGrants session.new.client.value }
-    ensures ran { IfOk result (λ _. Ran D.leads session.old.manager.renewal (stock id kind)
-        session.old.client.value session.new.client.value draws.old draws.new) }
-    ensures stopped { IfErr result (λ fault. Stopped D.leads session.old.manager.renewal
-        session.old.manager.last (stock id kind) fault
-        session.old.client.value session.new.client.value draws.old draws.new) }
+    ensures ran { IfOk result (λ _. RanIn D.leads (stock id kind)
+        session.old session.new draws.old draws.new) }
+    ensures stopped { IfErr result (λ fault. StoppedIn D.leads (stock id kind) fault
+        session.old session.new draws.old draws.new) }
     ensures kept { IfOk result (λ _. HasKeptAdded session.old.client.value session.new.client.value
         (K.notes keep.old) (K.notes keep.new)) }
 {
@@ -90,11 +79,10 @@ fn add_items<D: Draws, K: Keep>(
     requires id { 1 ≤ id }
     ensures session { GoesOn session.old session.new }
     ensures grants { HasAllGrants session.new.client.value }
-    ensures ran { IfOk result (λ _. Ran D.leads session.old.manager.renewal (stocks id)
-        session.old.client.value session.new.client.value draws.old draws.new) }
-    ensures stopped { IfErr result (λ fault. Stopped D.leads session.old.manager.renewal
-        session.old.manager.last (stocks id) fault
-        session.old.client.value session.new.client.value draws.old draws.new) }
+    ensures ran { IfOk result (λ _. RanIn D.leads (stocks id)
+        session.old session.new draws.old draws.new) }
+    ensures stopped { IfErr result (λ fault. StoppedIn D.leads (stocks id) fault
+        session.old session.new draws.old draws.new) }
     ensures kept { IfOk result (λ _. HasKeptAdded session.old.client.value session.new.client.value
         (K.notes keep.old) (K.notes keep.new)) }
 {
@@ -114,11 +102,10 @@ fn add_all<D: Draws, K: Keep>(
     requires fits { items < 2 ^ 31 }
     ensures session { GoesOn session.old session.new }
     ensures grants { HasAllGrants session.new.client.value }
-    ensures ran { IfOk result (λ _. Ran D.leads session.old.manager.renewal (for_each items stocks)
-        session.old.client.value session.new.client.value draws.old draws.new) }
-    ensures stopped { IfErr result (λ fault. Stopped D.leads session.old.manager.renewal
-        session.old.manager.last (for_each items stocks) fault
-        session.old.client.value session.new.client.value draws.old draws.new) }
+    ensures ran { IfOk result (λ _. RanIn D.leads (for_each items stocks)
+        session.old session.new draws.old draws.new) }
+    ensures stopped { IfErr result (λ fault. StoppedIn D.leads (for_each items stocks) fault
+        session.old session.new draws.old draws.new) }
     ensures kept { IfOk result (λ _. HasKeptAdded session.old.client.value session.new.client.value
         (K.notes keep.old) (K.notes keep.new)) }
 {
@@ -141,13 +128,12 @@ pub(crate) fn open_kept<D: Draws, K: Keep>(
     requires settings { is_settings settings.now ≡ true }
     ensures session { GoesOn session.old session.new }
     ensures grants { HasAllGrants session.new.client.value }
-    ensures ran { IfOk result (λ _. Ran D.leads session.old.manager.renewal (opening settings.now)
-        session.old.client.value session.new.client.value draws.old draws.new) }
+    ensures ran { IfOk result (λ _. RanIn D.leads (opening settings.now)
+        session.old session.new draws.old draws.new) }
     ensures ready { IfOk result (λ _.
         IsAnswered session.old.manager session.new.client.value) }
-    ensures stopped { IfErr result (λ fault. Stopped D.leads session.old.manager.renewal
-        session.old.manager.last (opening settings.now) fault
-        session.old.client.value session.new.client.value draws.old draws.new) }
+    ensures stopped { IfErr result (λ fault. StoppedIn D.leads (opening settings.now) fault
+        session.old session.new draws.old draws.new) }
     ensures kept { IfOk result (λ _. HasKeptAdded session.old.client.value session.new.client.value
         (K.notes keep.old) (K.notes keep.new)) }
 {
@@ -171,13 +157,12 @@ pub fn open<D: Draws>(
     requires settings { is_settings settings.now ≡ true }
     ensures session { GoesOn session.old session.new }
     ensures grants { HasAllGrants session.new.client.value }
-    ensures ran { IfOk result (λ _. Ran D.leads session.old.manager.renewal (opening settings.now)
-        session.old.client.value session.new.client.value draws.old draws.new) }
+    ensures ran { IfOk result (λ _. RanIn D.leads (opening settings.now)
+        session.old session.new draws.old draws.new) }
     ensures ready { IfOk result (λ _.
         IsAnswered session.old.manager session.new.client.value) }
-    ensures stopped { IfErr result (λ fault. Stopped D.leads session.old.manager.renewal
-        session.old.manager.last (opening settings.now) fault
-        session.old.client.value session.new.client.value draws.old draws.new) }
+    ensures stopped { IfErr result (λ fault. StoppedIn D.leads (opening settings.now) fault
+        session.old session.new draws.old draws.new) }
 {
     open_kept(session, draws, settings, &mut Unkept)
 }

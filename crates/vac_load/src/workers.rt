@@ -1,9 +1,9 @@
 //! Clients in threads of their own.
 
-ghost use Rattle.std.specs.Prelude.{◌≡◌, ◌≤◌, ◌⊎◌, [], true, IfOk, IfErr, vec_len, vec_capacity};
+ghost use Rattle.std.specs.Prelude.{◌≡◌, ◌≤◌, [], true, IfOk, IfErr, vec_len, vec_capacity};
 ghost use Rattle.vac_draws.specs.Setting.{is_settings};
 ghost use Rattle.vac_load.specs.Lists.{Paired};
-ghost use Rattle.vac_load.specs.Load.{DidWork, DidAllWork, IsPromise};
+ghost use Rattle.vac_load.specs.Load.{DidWork, DidAllWork, IsPromise, IsRefusal};
 
 use crate::counts::Counts;
 use crate::load::LoadFault;
@@ -19,17 +19,12 @@ use stm_attempt::Gate;
 use vac_draws::{Draws, Settings};
 use vac_manager::{Keep, Session};
 
-/// A client in a session with its manager, and its seat.
+/// A client in a session with its manager, its seat, and how the tasks ended that it ran in this
+/// round.
 #[derive(Drop)]
 pub(crate) struct Worker<'m, D, G, K> {
     pub(crate) session: Session<'m>,
     pub(crate) seat: Seat<D, G, K>,
-}
-
-/// A worker that ran its tasks, with how they ended.
-#[derive(Drop)]
-pub(crate) struct Worked<'m, D, G, K> {
-    pub(crate) worker: Worker<'m, D, G, K>,
     pub(crate) tally: Counts,
 }
 
@@ -40,12 +35,12 @@ struct WorkOf<'m, D, G, K> {
     worker: Snapshot<Worker<'m, D, G, K>>,
 }
 
-impl<'m, D: Draws, G, K: Keep> Promise<Worked<'m, D, G, K>> for WorkOf<'m, D, G, K> {
+impl<'m, D: Draws, G, K: Keep> Promise<Worker<'m, D, G, K>> for WorkOf<'m, D, G, K> {
     ghost kept_by = { λ p r. DidWork D.leads K.notes p.settings p.worker.value r };
 }
 
 /// The thread of a worker.
-type Handle<'m, D, G, K> = PromisedHandle<Worked<'m, D, G, K>, WorkOf<'m, D, G, K>>;
+type Handle<'m, D, G, K> = PromisedHandle<Worker<'m, D, G, K>, WorkOf<'m, D, G, K>>;
 
 /// Has a worker run its tasks.
 fn work<'m, D: Draws, G: Gate, K: Keep, S: Phases + Drop>(
@@ -53,11 +48,15 @@ fn work<'m, D: Draws, G: Gate, K: Keep, S: Phases + Drop>(
     settings: &Settings,
     worker: Worker<'m, D, G, K>,
     phases: S,
-) -> Worked<'m, D, G, K>
+) -> Worker<'m, D, G, K>
     requires settings { is_settings settings.now ≡ true }
     ensures { DidWork D.leads K.notes settings.now worker.entry result }
 {
-    let Worker { mut session, seat } = worker;
+    let Worker {
+        mut session,
+        seat,
+        ..
+    } = worker;
     let Seat {
         mut draws,
         mut gate,
@@ -74,8 +73,11 @@ fn work<'m, D: Draws, G: Gate, K: Keep, S: Phases + Drop>(
     );
     phases.done();
     let seat = Seat { draws, gate, keep };
-    let worker = Worker { session, seat };
-    Worked { worker, tally }
+    Worker {
+        session,
+        seat,
+        tally,
+    }
 }
 
 /// Starts the thread of a worker.
@@ -102,7 +104,7 @@ fn start<
         settings,
         worker: Snapshot::of(&worker),
     };
-    let run = move || -> Worked<'_, D, G, K>
+    let run = move || -> Worker<'_, D, G, K>
         requires { is_settings settings ≡ true }
         ensures { DidWork D.leads K.notes settings worker.entry result }
     { work(alloc, &settings, worker, phases) };
@@ -149,8 +151,8 @@ fn start_all<
 fn join_all<'m, R: Threads, D: Draws + Drop, G: Drop, K: Keep + Drop>(
     rt: &R,
     handles: Vec<Handle<'m, D, G, K>>,
-    mut done: Vec<Worked<'m, D, G, K>>,
-) -> Vec<Worked<'m, D, G, K>>
+    mut done: Vec<Worker<'m, D, G, K>>,
+) -> Vec<Worker<'m, D, G, K>>
     requires room { vec_len handles ≤ vec_capacity done }
     requires empty { done.items ≡ [] }
     ensures { Paired
@@ -165,9 +167,9 @@ fn join_all<'m, R: Threads, D: Draws + Drop, G: Drop, K: Keep + Drop>(
 
 /// Workers that are to run their tasks, or that ran them, the first one apart.
 #[derive(Drop)]
-pub(crate) struct Crew<W> {
-    pub(crate) first: W,
-    pub(crate) others: Vec<W>,
+pub(crate) struct Crew<'m, D, G, K> {
+    pub(crate) first: Worker<'m, D, G, K>,
+    pub(crate) others: Vec<Worker<'m, D, G, K>>,
 }
 
 /// Starts a thread for each worker and joins them all, in the order of the workers. Their places
@@ -186,13 +188,12 @@ fn run_in<
     rt: &R,
     alloc: Global,
     settings: Settings,
-    crew: Crew<Worker<'m, D, G, K>>,
+    crew: Crew<'m, D, G, K>,
     phases: S,
-) -> Result<Crew<Worked<'m, D, G, K>>, LoadFault>
+) -> Result<Crew<'m, D, G, K>, LoadFault>
     requires settings { is_settings settings ≡ true }
     ensures worked { IfOk result (λ r. DidAllWork D.leads K.notes settings crew.entry r) }
-    ensures refused { IfErr result (λ fault.
-        (fault ≡ LoadFault.Memory) ⊎ (fault ≡ LoadFault.Spawn)) }
+    ensures refused { IfErr result (λ fault. IsRefusal fault) }
 {
     let Crew { first, others } = crew;
     let Ok(mut handles) = Vec::with_capacity(alloc, others.len()) else {
@@ -222,22 +223,20 @@ pub(crate) fn run_all<
     rt: &R,
     alloc: Global,
     settings: Settings,
-    crew: Crew<Worker<'m, D, G, K>>,
+    crew: Crew<'m, D, G, K>,
     phases: S,
-) -> Result<Crew<Worked<'m, D, G, K>>, LoadFault>
+) -> Result<Crew<'m, D, G, K>, LoadFault>
     requires settings { is_settings settings ≡ true }
     ensures worked { IfOk result (λ r. DidAllWork D.leads K.notes settings crew.entry r) }
-    ensures refused { IfErr result (λ fault.
-        (fault ≡ LoadFault.Memory) ⊎ (fault ≡ LoadFault.Spawn)) }
+    ensures refused { IfErr result (λ fault. IsRefusal fault) }
 {
     thread::scope(
         thread::scope_env(),
         rt,
-        move |scope| -> Result<Crew<Worked<'_, D, G, K>>, LoadFault>
+        move |scope| -> Result<Crew<'_, D, G, K>, LoadFault>
             requires { is_settings settings ≡ true }
             ensures worked { IfOk result (λ r. DidAllWork D.leads K.notes settings crew.entry r) }
-            ensures refused { IfErr result (λ fault.
-                (fault ≡ LoadFault.Memory) ⊎ (fault ≡ LoadFault.Spawn)) }
+            ensures refused { IfErr result (λ fault. IsRefusal fault) }
         { run_in(scope, rt, alloc, settings, crew, phases) },
     )
 }

@@ -6,8 +6,7 @@ use Rattle.vac_load.specs.Attempted.{CountsShown}
 use Rattle.vac_load.specs.Looping.{total}
 use Rattle.vac_load.specs.Sums.{plus}
 use Rattle.vac_load.specs.Lists.{Paired}
-use Rattle.vac_load.specs.Keeping.{shown}
-use Rattle.vac_load.specs.Load.{Gathered}
+use Rattle.vac_load.specs.Load.{Gathered, IsMember}
 use Rattle.vac_load.proofs.Pairs.{all_met, paired_none, paired_step, one_on, all_same, all_but_first, all_first}
 use Rattle.vac_load.proofs.Pairs.{room_left, room_taken, held_back, nothing_left}
 use Rattle.vac_load.proofs.Gatherings.{gathered_one, gathered_more, took_in}
@@ -24,115 +23,94 @@ few_more : (t u v : Tally) (k k' : ℕ) → v ≡ plus t u → k' + 1 ≡ k → 
     total t + k * 1000000 ≤ 65000000 → total v + k' * 1000000 ≤ 65000000
 few_more t u v k k' e less one few = let q : total v ≡ total (plus t u) = ap (λ (x : Tally). total x) e in omega arith
 
-pub loop-worked-init : goal.loop-worked-init
-loop-worked-init g c =
-    let made = c.into_iter-worked-iterator.ensures.into_iter_gives in
+pub loop-worker-init : goal.loop-worker-init
+loop-worker-init g c =
+    let made = c.into_iter-worker-iterator.ensures.into_iter_gives in
     let pushed = c.push_reserved.ensures in
     record {
       all = sym made.0;
       manager = refl;
-      grants = ap (λ (k : ℕ). c.args.crew.first.worker.session.client.value.grants + k) made.1 ∙ c.requires.grants;
-      others_grants = all_same (λ w. w.worker.session.client.value.grants ≡ 0) c.args.crew.others.items
-          (into_iter_items c.into_iter-worked-iterator.result) made.0 c.requires.others_grants;
-      others = all_same (λ w. w.worker.session.manager ≡ c.args.crew.first.worker.session.manager)
-          c.args.crew.others.items (into_iter_items c.into_iter-worked-iterator.result) made.0 c.requires.one;
-      tasks = all_same (λ w. total w.tally.tally ≤ 1000000) c.args.crew.others.items
-          (into_iter_items c.into_iter-worked-iterator.result) made.0 c.requires.others_tasks;
+      grants = ap (λ (k : ℕ). c.args.crew.first.session.client.value.grants + k) made.1 ∙ c.requires.can.grants;
+      others = all_same (IsMember c.args.crew.first) c.args.crew.others.items
+          (into_iter_items c.into_iter-worker-iterator.result) made.0 c.requires.can.others;
       tries = refl;
-      others_tries = all_same (λ w. w.tally.tries ≡ c.args.crew.first.tally.tries) c.args.crew.others.items
-          (into_iter_items c.into_iter-worked-iterator.result) made.0 c.requires.tries;
-      gathered = gathered_one (λ w. w.worker.session.client.value.records) (λ w. w.tally.tally) c.args.crew.first;
-      handed = paired_step (λ w seat. shown g.K.Keep.notes seat ≡ shown g.K.Keep.notes w.worker.seat) []
-          c.args.seats.items c.push_reserved.new.self.items c.args.crew.first c.args.crew.first.worker.seat pushed.items
-          (paired_none (λ w seat. shown g.K.Keep.notes seat ≡ shown g.K.Keep.notes w.worker.seat) c.args.seats.items
+      gathered = gathered_one (λ w. w.session.client.value.records) (λ w. w.tally.tally) c.args.crew.first;
+      handed = paired_step (λ w seat. seat ≡ w.seat) []
+          c.args.seats.items c.push_reserved.new.self.items c.args.crew.first c.args.crew.first.seat pushed.items
+          (paired_none (λ w seat. seat ≡ w.seat) c.args.seats.items
           c.requires.empty) refl;
-      room = room_left c.args.crew.others.len (into_iter_len c.into_iter-worked-iterator.result) c.args.seats.len
+      room = room_left c.args.crew.others.len (into_iter_len c.into_iter-worker-iterator.result) c.args.seats.len
           c.push_reserved.new.self.len c.args.seats.cap c.push_reserved.new.self.cap made.1 pushed.len pushed.capacity
           (search rules) c.requires.room;
-      bound = few_left c.args.crew.others.len (into_iter_len c.into_iter-worked-iterator.result)
-          (total c.args.crew.first.tally.tally) made.1 c.requires.few c.requires.tasks;
+      bound = few_left c.args.crew.others.len (into_iter_len c.into_iter-worker-iterator.result)
+          (total c.args.crew.first.tally.tally) made.1 c.requires.can.few c.requires.can.tasks;
     }
 
 pub gather-requires : goal.gather-requires
 gather-requires g c =
-    let same = all_first (λ w. w.worker.session.manager ≡ c.args.crew.first.worker.session.manager)
-    (into_iter_items c.loop-worked.worked-iterator) (into_iter_items c.next.new.self) c.in-Some.worked
-    c.in-Some.ensures.steps.0 c.loop-worked.invariant.others in
-    record { own = ap (λ (m : RegionShown). m.table) (same ∙ sym c.loop-worked.invariant.manager) }
+    let one = all_first (IsMember c.args.crew.first) (into_iter_items c.loop-worker.worker-iterator)
+    (into_iter_items c.next.new.self) c.in-Some.worker c.in-Some.ensures.steps.0 c.loop-worker.invariant.others in
+    record { own = ap (λ (m : RegionShown). m.table) (one.one ∙ sym c.loop-worker.invariant.manager) }
 
 pub plus-tally-requires : goal.plus-tally-requires
 plus-tally-requires g c =
-    let m = all_first (λ w. total w.tally.tally ≤ 1000000) (into_iter_items c.loop-worked.worked-iterator)
-    (into_iter_items c.next.new.self) c.in-Some.worked c.in-Some.ensures.steps.0 c.loop-worked.invariant.tasks in
-    let n = all_first (λ w. w.tally.tries ≡ c.args.crew.first.tally.tries)
-    (into_iter_items c.loop-worked.worked-iterator) (into_iter_items c.next.new.self) c.in-Some.worked
-    c.in-Some.ensures.steps.0 c.loop-worked.invariant.others_tries in
+    let one = all_first (IsMember c.args.crew.first) (into_iter_items c.loop-worker.worker-iterator)
+    (into_iter_items c.next.new.self) c.in-Some.worker c.in-Some.ensures.steps.0 c.loop-worker.invariant.others in
     record {
-      fits = few_both (total c.loop-worked.tally.tally) (total c.in-Some.worked.tally.tally) (into_iter_len
-          c.loop-worked.worked-iterator) m c.loop-worked.invariant.bound;
-      same = n ∙ sym c.loop-worked.invariant.tries;
+      fits = few_both (total c.loop-worker.tally.tally) (total c.in-Some.worker.tally.tally) (into_iter_len
+          c.loop-worker.worker-iterator) one.tasks c.loop-worker.invariant.bound;
+      same = one.tries ∙ sym c.loop-worker.invariant.tries;
     }
 
-pub loop-worked-preserved : goal.loop-worked-preserved
-loop-worked-preserved g c =
-    let i = c.loop-worked.invariant in
+pub loop-worker-preserved : goal.loop-worker-preserved
+loop-worker-preserved g c =
+    let i = c.loop-worker.invariant in
     let split = c.in-Some.ensures.steps.0 in
     let less = c.in-Some.ensures.steps.1 in
-    let pushed = c.push_reserved-in-loop-worked.ensures in
-    let taken = took_in c.loop-worked.session c.in-Some.worked.worker.session c.gather.new.self c.gather.ensures.session
+    let pushed = c.push_reserved-in-loop-worker.ensures in
+    let taken = took_in c.loop-worker.session c.in-Some.worker.session c.gather.new.self c.gather.ensures.session
     in
-    let m = all_first (λ w. total w.tally.tally ≤ 1000000) (into_iter_items c.loop-worked.worked-iterator)
-    (into_iter_items c.next.new.self) c.in-Some.worked split i.tasks in
-    let none = all_first (λ w. w.worker.session.client.value.grants ≡ 0) (into_iter_items c.loop-worked.worked-iterator)
-    (into_iter_items c.next.new.self) c.in-Some.worked split i.others_grants in
+    let one = all_first (IsMember c.args.crew.first) (into_iter_items c.loop-worker.worker-iterator)
+    (into_iter_items c.next.new.self) c.in-Some.worker split i.others in
     record {
-      all = one_on c.args.crew.others.items c.loop-worked.yielded (into_iter_items c.loop-worked.worked-iterator)
-          (into_iter_items c.next.new.self) c.in-Some.worked i.all split;
+      all = one_on c.args.crew.others.items c.loop-worker.yielded (into_iter_items c.loop-worker.worker-iterator)
+          (into_iter_items c.next.new.self) c.in-Some.worker i.all split;
       manager = taken.manager ∙ i.manager;
-      grants = held_back c.loop-worked.session.client.value.grants c.in-Some.worked.worker.session.client.value.grants
-          c.gather.new.self.client.value.grants (into_iter_len c.loop-worked.worked-iterator)
-          (into_iter_len c.next.new.self) less none taken.grants i.grants;
-      others_grants = all_but_first (λ w. w.worker.session.client.value.grants ≡ 0)
-          (into_iter_items c.loop-worked.worked-iterator) (into_iter_items c.next.new.self) c.in-Some.worked split
-          i.others_grants;
-      others = all_but_first (λ w. w.worker.session.manager ≡ c.args.crew.first.worker.session.manager)
-          (into_iter_items c.loop-worked.worked-iterator) (into_iter_items c.next.new.self) c.in-Some.worked split
-          i.others;
-      tasks = all_but_first (λ w. total w.tally.tally ≤ 1000000) (into_iter_items c.loop-worked.worked-iterator)
-          (into_iter_items c.next.new.self) c.in-Some.worked split i.tasks;
+      grants = held_back c.loop-worker.session.client.value.grants c.in-Some.worker.session.client.value.grants
+          c.gather.new.self.client.value.grants (into_iter_len c.loop-worker.worker-iterator)
+          (into_iter_len c.next.new.self) less one.grants taken.grants i.grants;
+      others = all_but_first (IsMember c.args.crew.first) (into_iter_items c.loop-worker.worker-iterator)
+          (into_iter_items c.next.new.self) c.in-Some.worker split i.others;
       tries = ap (λ (x : CountsShown). x.tries) c.plus-tally.ensures ∙ i.tries;
-      others_tries = all_but_first (λ w. w.tally.tries ≡ c.args.crew.first.tally.tries)
-          (into_iter_items c.loop-worked.worked-iterator) (into_iter_items c.next.new.self) c.in-Some.worked split
-          i.others_tries;
-      gathered = gathered_more (λ w. w.worker.session.client.value.records)
-          (λ w. w.tally.tally) c.args.crew.first c.loop-worked.yielded c.in-Some.worked
-          c.loop-worked.session.client.value c.gather.new.self.client.value c.loop-worked.tally.tally
+      gathered = gathered_more (λ w. w.session.client.value.records)
+          (λ w. w.tally.tally) c.args.crew.first c.loop-worker.yielded c.in-Some.worker
+          c.loop-worker.session.client.value c.gather.new.self.client.value c.loop-worker.tally.tally
           c.plus-tally.result.tally
           i.gathered taken.records (ap (λ (x : CountsShown). x.tally) c.plus-tally.ensures);
-      handed = paired_step (λ w seat. shown g.K.Keep.notes seat ≡ shown g.K.Keep.notes w.worker.seat)
-          (c.args.crew.first ∷ c.loop-worked.yielded) c.loop-worked.seats.items
-          c.push_reserved-in-loop-worked.new.self.items c.in-Some.worked c.in-Some.worked.worker.seat pushed.items
+      handed = paired_step (λ w seat. seat ≡ w.seat)
+          (c.args.crew.first ∷ c.loop-worker.yielded) c.loop-worker.seats.items
+          c.push_reserved-in-loop-worker.new.self.items c.in-Some.worker c.in-Some.worker.seat pushed.items
           i.handed refl;
-      room = room_taken c.loop-worked.seats.len c.push_reserved-in-loop-worked.new.self.len
-          (into_iter_len c.loop-worked.worked-iterator) (into_iter_len c.next.new.self) c.loop-worked.seats.cap
-          c.push_reserved-in-loop-worked.new.self.cap less pushed.len pushed.capacity i.room;
-      bound = few_more c.loop-worked.tally.tally c.in-Some.worked.tally.tally c.plus-tally.result.tally
-          (into_iter_len c.loop-worked.worked-iterator) (into_iter_len c.next.new.self)
-          (ap (λ (x : CountsShown). x.tally) c.plus-tally.ensures) less m i.bound;
+      room = room_taken c.loop-worker.seats.len c.push_reserved-in-loop-worker.new.self.len
+          (into_iter_len c.loop-worker.worker-iterator) (into_iter_len c.next.new.self) c.loop-worker.seats.cap
+          c.push_reserved-in-loop-worker.new.self.cap less pushed.len pushed.capacity i.room;
+      bound = few_more c.loop-worker.tally.tally c.in-Some.worker.tally.tally c.plus-tally.result.tally
+          (into_iter_len c.loop-worker.worker-iterator) (into_iter_len c.next.new.self)
+          (ap (λ (x : CountsShown). x.tally) c.plus-tally.ensures) less one.tasks i.bound;
     }
 
 pub returns-clause-gathered : goal.returns-clause-gathered
 returns-clause-gathered g c =
-    rw c.into_client.ensures.client (subst (λ (l : List _). Gathered (λ w. w.worker.session.client.value.records)
-    (λ w. w.tally.tally) c.args.crew.first l c.loop-worked.session.client.value.records c.loop-worked.tally.tally)
-    (all_met c.args.crew.others.items c.loop-worked.yielded (into_iter_items c.loop-worked.worked-iterator)
-    c.loop-worked.invariant.all (nothing_left c.loop-worked.worked-iterator c.in-None.ensures.steps.0))
-    c.loop-worked.invariant.gathered)
+    rw c.into_client.ensures.client (subst (λ (l : List _). Gathered (λ w. w.session.client.value.records)
+    (λ w. w.tally.tally) c.args.crew.first l c.loop-worker.session.client.value.records c.loop-worker.tally.tally)
+    (all_met c.args.crew.others.items c.loop-worker.yielded (into_iter_items c.loop-worker.worker-iterator)
+    c.loop-worker.invariant.all (nothing_left c.loop-worker.worker-iterator c.in-None.ensures.steps.0))
+    c.loop-worker.invariant.gathered)
 
 pub returns-clause-seats : goal.returns-clause-seats
 returns-clause-seats g c =
-    subst (λ (l : List _). Paired (λ w seat. shown g.K.Keep.notes seat ≡ shown g.K.Keep.notes w.worker.seat)
-    (c.args.crew.first ∷ l) c.loop-worked.seats.items)
-    (all_met c.args.crew.others.items c.loop-worked.yielded (into_iter_items c.loop-worked.worked-iterator)
-    c.loop-worked.invariant.all (nothing_left c.loop-worked.worked-iterator c.in-None.ensures.steps.0))
-    c.loop-worked.invariant.handed
+    subst (λ (l : List _). Paired (λ w seat. seat ≡ w.seat)
+    (c.args.crew.first ∷ l) c.loop-worker.seats.items)
+    (all_met c.args.crew.others.items c.loop-worker.yielded (into_iter_items c.loop-worker.worker-iterator)
+    c.loop-worker.invariant.all (nothing_left c.loop-worker.worker-iterator c.in-None.ensures.steps.0))
+    c.loop-worker.invariant.handed

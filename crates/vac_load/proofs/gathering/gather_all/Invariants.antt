@@ -3,25 +3,19 @@ use Rattle.stm_core.specs.declared.limits.TheConstants.{MOST_GRANTS}
 use Rattle.std.specs.Vec.Iter.{into_iter_items, into_iter_len}
 use Rattle.vac_load.specs.Looping.{total}
 use Rattle.vac_load.specs.Lists.{Paired}
-use Rattle.vac_load.specs.Keeping.{shown}
-use Rattle.vac_load.specs.Load.{Gathered}
+use Rattle.vac_load.specs.Load.{Gathered, IsMember}
 use Rattle.vac_load.proofs.gathering.gather_all.Given as goal
 
-abbrev pub invariant-loop-worked : goal.invariant-loop-worked
-invariant-loop-worked g l = record {
-  all : l.fn.crew.others.items ≡ l.yielded ++ into_iter_items l.worked-iterator;
-  manager : l.session.manager ≡ l.fn.crew.first.worker.session.manager;
-  grants : l.session.client.value.grants + into_iter_len l.worked-iterator ≡ MOST_GRANTS;
-  others_grants : All (λ w. w.worker.session.client.value.grants ≡ 0) (into_iter_items l.worked-iterator);
-  others : All (λ w. w.worker.session.manager ≡ l.fn.crew.first.worker.session.manager)
-      (into_iter_items l.worked-iterator);
-  tasks : All (λ w. total w.tally.tally ≤ 1000000) (into_iter_items l.worked-iterator);
+abbrev pub invariant-loop-worker : goal.invariant-loop-worker
+invariant-loop-worker g l = record {
+  all : l.fn.crew.others.items ≡ l.yielded ++ into_iter_items l.worker-iterator;
+  manager : l.session.manager ≡ l.fn.crew.first.session.manager;
+  grants : l.session.client.value.grants + into_iter_len l.worker-iterator ≡ MOST_GRANTS;
+  others : All (IsMember l.fn.crew.first) (into_iter_items l.worker-iterator);
   tries : l.tally.tries ≡ l.fn.crew.first.tally.tries;
-  others_tries : All (λ w. w.tally.tries ≡ l.fn.crew.first.tally.tries) (into_iter_items l.worked-iterator);
-  gathered : Gathered (λ w. w.worker.session.client.value.records)
+  gathered : Gathered (λ w. w.session.client.value.records)
       (λ w. w.tally.tally) l.fn.crew.first l.yielded l.session.client.value.records l.tally.tally;
-  handed : Paired (λ w seat. shown g.K.Keep.notes seat ≡ shown g.K.Keep.notes w.worker.seat)
-      (l.fn.crew.first ∷ l.yielded) l.seats.items;
-  room : vec_len l.seats + into_iter_len l.worked-iterator ≤ vec_capacity l.seats;
-  bound : total l.tally.tally + into_iter_len l.worked-iterator * 1000000 ≤ 65000000;
+  handed : Paired (λ w seat. seat ≡ w.seat) (l.fn.crew.first ∷ l.yielded) l.seats.items;
+  room : vec_len l.seats + into_iter_len l.worker-iterator ≤ vec_capacity l.seats;
+  bound : total l.tally.tally + into_iter_len l.worker-iterator * 1000000 ≤ 65000000;
 }

@@ -1,7 +1,6 @@
 use Rattle.std.proofs.Common.{◌≡◌, ◌∙◌, sym, ℕ, ◌+◌, ◌≤◌, ◌∷◌, ap, refl, arith}
 use Rattle.std.specs.Vec.Iter.{into_iter_items, into_iter_len}
 use Rattle.vac_manager.specs.Called.{CallerShown}
-use Rattle.vac_load.specs.Keeping.{shown}
 use Rattle.vac_load.proofs.Pairs.{paired_none, paired_step, paired_all, one_on, all_more, all_none, room_taken}
 use Rattle.vac_load.proofs.Pairs.{counted_on, handed_out, nothing_left}
 use Rattle.vac_load.proofs.Shares.{split_worker, split_keeps}
@@ -56,12 +55,10 @@ loop-another-preserved g c =
       room = room_taken c.loop-another.others.len c.push_reserved.new.self.len _ _ c.loop-another.others.cap
           c.push_reserved.new.self.cap t.1 p.len p.capacity i.room;
       others_grants = all_more (λ w. w.session.client.value.grants ≡ 0) c.loop-another.others.items
-          c.push_reserved.new.self.items (record { session = c.in-Ok-split.other; seat = c.in-Some-another.another })
-          p.items i.others_grants (ap (λ (x : CallerShown). x.value.grants) s.theirs);
+          c.push_reserved.new.self.items _ p.items i.others_grants (ap (λ (x : CallerShown). x.value.grants) s.theirs);
       crew = paired_step _ _ c.loop-another.others.items c.push_reserved.new.self.items c.in-Some-another.another
-          (record { session = c.in-Ok-split.other; seat = c.in-Some-another.another }) p.items i.crew
-          (split_worker c.args.session c.loop-another.session c.split.new.self c.in-Ok-split.other
-          (shown g.K.Keep.notes c.in-Some-another.another) s c.in-Ok-split.ensures.theirs i.manager i.floor);
+          _ p.items i.crew (split_worker c.args.session c.loop-another.session c.split.new.self _ s
+          c.in-Ok-split.ensures.theirs i.manager i.floor);
     }
 
 pub returns-clause-crew : goal.returns-clause-crew
@@ -69,10 +66,12 @@ returns-clause-crew g c =
     let i = c.loop-another.invariant in
     let end = c.in-None.ensures in
     record {
-      pair = c.in-Some.seat;
+      seat = c.in-Some.seat;
       rest = into_iter_items c.into_iter-another-iterator.result;
-      pairs_are = sym c.into_iter-seats.ensures.rest ∙ (c.in-Some.ensures.items ∙
+      seats_are = sym c.into_iter-seats.ensures.rest ∙ (c.in-Some.ensures.items ∙
           ap (λ it. c.in-Some.seat ∷ into_iter_items it) (sym c.into_iter-another-iterator.ensures.into_iter_gives));
-      opening = record { manager_is = i.manager; records_are = i.records; knows = i.floor; draws_are = refl };
+      opening = record { manager_is = i.manager; records_are = i.records; knows = i.floor; seat_is = refl };
       others_are = paired_all _ _ _ _ _ i.all (nothing_left c.loop-another.another-iterator end.steps.0) i.crew;
+      grants = i.grants;
+      others_grants = i.others_grants;
     }

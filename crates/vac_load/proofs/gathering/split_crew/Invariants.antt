@@ -2,7 +2,6 @@ use Rattle.std.proofs.Common.{◌≡◌, ◌≤◌, ◌+◌, ◌++◌, [], All, 
 use Rattle.stm_core.specs.declared.limits.TheConstants.{MOST_GRANTS}
 use Rattle.std.specs.Vec.Iter.{into_iter_items, into_iter_len}
 use Rattle.vac_load.specs.Lists.{Paired}
-use Rattle.vac_load.specs.Keeping.{shown}
 use Rattle.vac_load.specs.Load.{IsWorker}
 use Rattle.vac_load.proofs.gathering.split_crew.Given as goal
 
@@ -16,6 +15,5 @@ invariant-loop-another g l = record {
   others_grants : All (λ w. w.session.client.value.grants ≡ 0) l.others.items;
   count : vec_len l.others + into_iter_len l.another-iterator + 1 ≡ vec_len l.fn.seats;
   room : vec_len l.others + into_iter_len l.another-iterator ≤ vec_capacity l.others;
-  crew : Paired (λ p w. IsWorker l.fn.session.manager [] l.fn.session.client.value.floor
-      (shown g.K.Keep.notes p) w.session (shown g.K.Keep.notes w.seat)) l.yielded l.others.items;
+  crew : Paired (IsWorker l.fn.session.manager [] l.fn.session.client.value.floor) l.yielded l.others.items;
 }

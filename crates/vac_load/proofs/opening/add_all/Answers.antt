@@ -1,9 +1,8 @@
 use Rattle.std.proofs.Common.{rules, ◌+◌, ◌≤◌, refl}
 use Rattle.vac_draws.specs.Draws.{for_each}
 use Rattle.vac_draws.specs.Tasks.{stocks}
-use Rattle.vac_load.specs.Opening.{Ran, Stopped}
+use Rattle.vac_load.specs.Opening.{StoppedIn}
 use Rattle.vac_load.proofs.Opened.{ran_none, ran_more, stopped_items, handed_on}
-use Rattle.vac_load.proofs.Sessions.{of_manager}
 use Rattle.vac_load.proofs.Notes.{kept_none, kept_both}
 use Rattle.vac_load.proofs.opening.add_all.Goals as goal
 
@@ -11,7 +10,7 @@ pub items-init : goal.items-init
 items-init g c = record {
   session = search rules;
   grants = search rules;
-  ran = ran_none g.D.Draws.leads c.args.session.now.manager.renewal stocks _ _;
+  ran = ran_none g.D.Draws.leads stocks c.args.session.now _;
   kept = kept_none _ _ _ _ refl refl;
 }
 
@@ -19,24 +18,17 @@ pub items-preserved : goal.items-preserved
 items-preserved g c = record {
   session = search rules;
   grants = search rules;
-  ran = ran_more g.D.Draws.leads c.args.session.now.manager.renewal c.items.place stocks _ _ _ _ _ _
-      c.items.invariant.ran
-      (of_manager (λ m. Ran g.D.Draws.leads m.renewal (stocks (c.items.place + 1)) c.items.session.client.value
-      c.add_items.new.session.client.value c.items.draws c.add_items.new.draws) c.args.session.now c.items.session
-      c.items.invariant.session c.in_ok-add_items.ensures.ran);
+  ran = ran_more g.D.Draws.leads c.items.place stocks c.args.session.now c.items.session c.add_items.new.session _ _ _
+      c.items.invariant.session c.items.invariant.ran c.in_ok-add_items.ensures.ran;
   kept = kept_both _ _ _ _ _ _ c.items.invariant.kept c.in_ok-add_items.ensures.kept;
 }
 
 pub returns-in_err-add_items-clause-stopped : goal.returns-in_err-add_items-clause-stopped
 returns-in_err-add_items-clause-stopped g c =
     let leads = g.D.Draws.leads in
-    let n = c.args.session.now.manager.renewal in
-    let last = c.args.session.now.manager.last in
     let less : c.items.place + 1 ≤ c.args.items = search rules in
     handed_on c.from_residual.result c.in_err-add_items.field-0.0
-    (λ e. Stopped leads n last (for_each c.args.items stocks) e c.args.session.now.client.value
-    c.add_items.new.session.client.value c.args.draws.now c.add_items.new.draws) c.from_residual.ensures.1
-    (stopped_items leads n last c.items.place c.args.items _ _ _ _ _ _ _ less c.items.invariant.ran
-    (of_manager (λ m. Stopped leads m.renewal m.last (stocks (c.items.place + 1)) c.in_err-add_items.field-0.0
-    c.items.session.client.value c.add_items.new.session.client.value c.items.draws c.add_items.new.draws)
-    c.args.session.now c.items.session c.items.invariant.session c.in_err-add_items.ensures.stopped))
+    (λ e. StoppedIn leads (for_each c.args.items stocks) e c.args.session.now c.add_items.new.session c.args.draws.now
+    c.add_items.new.draws) c.from_residual.ensures.1
+    (stopped_items leads c.items.place c.args.items _ c.args.session.now c.items.session c.add_items.new.session _ _ _
+    less c.items.invariant.session c.items.invariant.ran c.in_err-add_items.ensures.stopped)

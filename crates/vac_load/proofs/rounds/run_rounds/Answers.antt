@@ -1,66 +1,74 @@
-use Rattle.std.proofs.Common.{rules, ◌≡◌, ◌∙◌, ◌*◌, ◌≤◌, length, ℕ, refl, ap, subst, arith}
-use Rattle.vac_manager.specs.Session.{SessionShown}
-use Rattle.vac_load.specs.Keeping.{shown}
-use Rattle.vac_load.specs.Load.{IsInRenewal, RanAll}
-use Rattle.vac_load.proofs.Joining.{ran_more, ran_total, few, few_all}
+use Rattle.std.proofs.Common.{◌≡◌, ◌∙◌, ◌*◌, ◌≤◌, length, ℕ, sym, ap, subst, arith}
+use Rattle.stm_region.specs.Shown.{RegionShown}
+use Rattle.vac_load.specs.Attempted.{CountsShown}
+use Rattle.vac_load.specs.Load.{HasRun}
+use Rattle.vac_load.proofs.Joining.{ran_more, ran_total, few, few_all, few_each}
 use Rattle.vac_load.proofs.rounds.run_rounds.Goals as goal
-
-pub run_clients-requires-clause-known : goal.run_clients-requires-clause-known
-run_clients-requires-clause-known g c = λ _ _. rw c.of-session.ensures c.requires.known
-
-pub run_clients-requires-clause-last : goal.run_clients-requires-clause-last
-run_clients-requires-clause-last g c = λ _ _. rw c.of-session.ensures c.requires.last
-
-pub run_clients-requires-clause-early : goal.run_clients-requires-clause-early
-run_clients-requires-clause-early g c = λ _ _. rw c.of-session.ensures c.requires.early
 
 pub rounds-init : goal.rounds-init
 rounds-init g c =
     let one : c.args.settings.now.tasks ≡ 1 * c.args.settings.now.tasks = omega arith in
+    let same = c.in_ok-round.ensures.manager in
+    let first : c.in_ok-round.round.alone.manager.renewal ≡ c.args.alone.manager.renewal =
+    ap (λ (m : RegionShown). m.renewal) same in
     record {
-      own = c.in_ok-round.ensures.own ∙ ap (λ (y : SessionShown). y.manager.table) c.of-session.ensures;
-      alone = c.in_ok-round.ensures.alone;
-      renewals = omega (arith, c.requires.renewals);
-      number = c.in_ok-round.ensures.number;
-      era = subst (λ (y : SessionShown). IsInRenewal y.manager.renewal c.in_ok-round.round.client.value.records)
-          c.of-session.ensures c.in_ok-round.ensures.era;
-      size = refl;
-      tries = c.in_ok-round.ensures.tries;
-      ran = subst (λ (n : ℕ). RanAll g.D.Draws.leads c.args.settings.now
-          (shown g.K.Keep.notes) n c.args.client.value.records c.args.seats.items
-          c.in_ok-round.round.client.value.records c.in_ok-round.round.seats.items c.in_ok-round.round.tally.tally) one
-          (subst (λ (y : SessionShown). RanAll g.D.Draws.leads c.args.settings.now
-          (shown g.K.Keep.notes) c.args.settings.now.tasks y.client.value.records c.args.seats.items
-          c.in_ok-round.round.client.value.records c.in_ok-round.round.seats.items c.in_ok-round.round.tally.tally)
-          c.of-session.ensures c.in_ok-round.ensures.ran);
+      renewals = omega (arith, first, c.requires.renewals);
+      size = ap (λ (m : RegionShown). m.size) same;
+      round = c.in_ok-round.ensures.round;
+      ran = subst (λ (n : ℕ). HasRun g.D.Draws.leads g.K.Keep.notes c.args.settings.now n c.args.alone
+          c.args.seats.items c.in_ok-round.round) one c.in_ok-round.ensures.ran;
     }
 
-pub go_on-requires-clause-few : goal.go_on-requires-clause-few
-go_on-requires-clause-few g c = λ _ _.
+pub renewed-requires : goal.renewed-requires
+renewed-requires g c =
     let most = few c.args.settings.now c.requires.settings in
-    let all = ran_total _ _ _ _ _ _ _ _ _ c.rounds.invariant.ran in
-    let number : length c.args.seats.items ≡ c.args.settings.now.clients = search rules in
-    let rounds : c.rounds.done ≤ 100 = omega (arith, most.rounds) in
-    few_all _ _ _ c.rounds.done _ all number most.clients rounds most.tasks
+    record {
+      renewals = omega (arith, c.rounds.invariant.renewals, c.rounds-test.true, most.rounds);
+      settings = c.requires.settings;
+    }
+
+pub run_round-requires-in-rounds-clause-number : goal.run_round-requires-in-rounds-clause-number
+run_round-requires-in-rounds-clause-number g c = λ _ _. c.rounds.invariant.round.number
+
+pub run_round-requires-in-rounds-clause-ready : goal.run_round-requires-in-rounds-clause-ready
+run_round-requires-in-rounds-clause-ready g c = λ _ _. c.in-Ok.ensures.renewed.ready
+
+pub plus-requires : goal.plus-requires
+plus-requires g c =
+    let most = few c.args.settings.now c.requires.settings in
+    let count : length c.args.seats.items ≡ c.args.settings.now.clients =
+    sym c.args.seats.ok.0 ∙ c.requires.number in
+    let here : length c.rounds.round.seats.items ≡ c.args.settings.now.clients =
+    sym c.rounds.round.seats.ok.0 ∙ c.rounds.invariant.round.number in
+    let rounds : c.rounds.done ≤ 100 = omega (arith, most.rounds, c.rounds-test.true) in
+    let so_far = few_all _ _ _ c.rounds.done _ (ran_total _ _ _ _ _ _ _ _ _ c.rounds.invariant.ran) count
+    most.clients rounds most.tasks in
+    let more = few_each _ _ _ _ (ran_total _ _ _ _ _ _ _ _ _ c.in_ok-more.ensures.ran) here most.clients most.tasks in
+    record {
+      fits = omega (arith, so_far, more);
+      same = c.in_ok-more.ensures.round.tries ∙ sym c.rounds.invariant.round.tries;
+    }
 
 pub rounds-preserved : goal.rounds-preserved
-rounds-preserved g c = record {
-  own = c.in_ok-progress.ensures.own;
-  alone = c.in_ok-progress.ensures.alone;
-  renewals = omega (arith, c.in_ok-progress.ensures.renewals, c.rounds.invariant.renewals);
-  number = c.in_ok-progress.ensures.number;
-  era = c.in_ok-progress.ensures.era;
-  size = c.in_ok-progress.ensures.size ∙ c.rounds.invariant.size;
-  tries = c.in_ok-progress.ensures.tries;
-  ran = ran_more g.D.Draws.leads c.args.settings.now (shown g.K.Keep.notes) c.rounds.done _ _ _ _ _ _ _ _
-      c.rounds.invariant.ran c.in_ok-progress.ensures.ran;
-}
+rounds-preserved g c =
+    let i = c.rounds.invariant in
+    let renewed = c.in-Ok.ensures.renewed in
+    let more = c.in_ok-more.ensures in
+    record {
+      renewals = omega (arith, ap (λ (m : RegionShown). m.renewal) more.manager ∙ renewed.renewal, i.renewals);
+      size = ap (λ (m : RegionShown). m.size) more.manager ∙ (renewed.size ∙ i.size);
+      round = record {
+        number = more.round.number;
+        tries = ap (λ (x : CountsShown). x.tries) c.plus.ensures ∙ i.round.tries;
+      };
+      ran = ran_more g.D.Draws.leads g.K.Keep.notes c.args.settings.now c.rounds.done c.args.alone c.in-Ok.renewed
+          c.args.seats.items c.rounds.round c.in_ok-more.more c.plus.result.tally i.ran renewed.records more.ran
+          (ap (λ (x : CountsShown). x.tally) c.plus.ensures);
+    }
 
 pub returns-clause-ran : goal.returns-clause-ran
 returns-clause-ran g c =
     let most = few c.args.settings.now c.requires.settings in
     let all : c.rounds.done ≡ c.args.settings.now.rounds = omega (arith, most.some) in
-    subst (λ (n : ℕ). RanAll g.D.Draws.leads c.args.settings.now (shown g.K.Keep.notes)
-    (n * c.args.settings.now.tasks) c.args.client.value.records c.args.seats.items
-    c.rounds.progress.round.client.value.records c.rounds.progress.round.seats.items
-    c.rounds.progress.round.tally.tally) all c.rounds.invariant.ran
+    subst (λ (n : ℕ). HasRun g.D.Draws.leads g.K.Keep.notes c.args.settings.now (n * c.args.settings.now.tasks)
+    c.args.alone c.args.seats.items c.rounds.round) all c.rounds.invariant.ran

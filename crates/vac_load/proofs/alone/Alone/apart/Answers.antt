@@ -1,0 +1,10 @@
+use Rattle.std.proofs.Common.{sym}
+use Rattle.vac_load.proofs.alone.Alone.apart.Goals as goal
+
+pub returns : goal.returns
+returns c = record {
+  same = sym c.self.view_is;
+  own = c.self.invariant.own;
+  grants = c.self.invariant.grants;
+  era = c.self.invariant.era;
+}
