@@ -1,6 +1,6 @@
 //! Tests of the load and of the program's calls: scripts, dumps, checks and command lines over
-//! input and output that fail, histories held against work, drawn tasks, loads of one client and of
-//! several that meet or that memory is refused to, the times of a history, and the text of attempts.
+//! input and output that fail, histories held against work, drawn tasks, loads of one client, of
+//! several that meet, and with memory refused, the times of a history, and the text of attempts.
 #![tactic(auto)]
 
 #[cfg(test)]
