@@ -24,8 +24,8 @@ pub record HasKept (t : Task) (p : Placed) (traced : Option (List Trace))
   pub attempt : IfSome note.attempt (λ a. IsLast traced (trace_of a.value))
   pub kept : after ≡ behind before (note ∷ [])
 
--- at most the last of the attempts that were traced was taken out; nothing is said where not all are
--- known any more
+-- at most the last of the attempts that were traced was taken out; where not all of them are known
+-- any more, nothing is said
 abbrev pub HasTaken : Option (List Trace) → Option (List Trace) → Type 0
 HasTaken before after = (all : List Trace) → after ≡ Some all →
     (before ≡ Some all) ⊎ ((last : Trace) × (before ≡ Some (all ++ (last ∷ []))))

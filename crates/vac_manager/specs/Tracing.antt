@@ -99,9 +99,9 @@ AreOfEnd (Ok reply) v v' traces = (before : List Trace) × (last : Trace)
 AreOfEnd (Err e) v v' traces = AreGivenUp traces
 
 -- the attempts of a call that ended so are traced behind the others: each that it made, once
--- Not said: where nothing is traced, or there was no room for all, anything; of an attempt that was
--- given up, what it read and wrote, which the tracer is shown, but no call tells again; that the
--- renewal and the read version which a tracer is told are the attempt's, so where it is put.
+-- Not said: where nothing is traced, or there was no room for all, anything. Of an attempt that was
+-- given up: what it read and wrote, which no call tells again. Of each: that the renewal and the
+-- read version which the tracer is told are its own, so where it is put.
 abbrev pub HasTraced : {E : Type 0} → Result Reply E → Client → Client
     → Option (List Trace) → Option (List Trace) → Type 0
 HasTraced result v v' before after = (all : List Trace) → after ≡ Some all →
