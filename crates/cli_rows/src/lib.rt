@@ -20,6 +20,8 @@ mod failing;
 #[cfg(test)]
 mod faults;
 #[cfg(test)]
+mod gates;
+#[cfg(test)]
 mod loads;
 #[cfg(test)]
 mod loops;

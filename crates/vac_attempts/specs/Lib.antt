@@ -1,4 +1,4 @@
-pub mod GivenUp
+pub mod Noted
 pub mod Known
 pub mod Stamped
 pub mod Lines

@@ -1,12 +1,12 @@
 -- What is kept of a client's attempts.
-use Rattle.std.specs.Prelude.{ℕ, suc, Bool, List, [], ◌∷◌, ◌++◌, map, flat_map, Option, Some, None, is_some}
+use Rattle.std.specs.Prelude.{ℕ, suc, Bool, List, [], ◌∷◌, ◌++◌, map, flat_map, Option, Some, None}
 use Rattle.std.specs.Prelude.{◌&&◌}
 use Rattle.std.specs.List.{list_all}
 use Rattle.std.specs.Global.{Box}
 use Rattle.vac_manager.specs.declared.note.Note.{Note}
 use Rattle.vac_manager.specs.declared.note.AttemptNote.{AttemptNote}
 use Rattle.vac_attempts.specs.declared.ledger.Ledger.{Ledger}
-use Rattle.vac_attempts.specs.GivenUp.{none_committed}
+use Rattle.vac_attempts.specs.Noted.{all_noted, none_committed}
 use Rattle.vac_attempts.specs.Lines.{Entry}
 
 -- the answered calls of a client, and its attempts that were given up
@@ -33,10 +33,6 @@ attempt_of (Some a) = a.value ∷ []
 -- the attempts that answered these calls, as far as they are noted
 abbrev pub attempts_of : List Note → List AttemptNote
 attempts_of calls = flat_map (λ n. attempt_of n.attempt) calls
-
--- each call's attempt is noted
-abbrev pub all_noted : List Note → Bool
-all_noted calls = list_all (λ n. is_some n.attempt) calls
 
 -- each answered call has its attempt, and none of those that were given up committed
 abbrev pub is_told : Page → Bool

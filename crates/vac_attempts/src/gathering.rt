@@ -2,7 +2,8 @@
 
 ghost use Rattle.std.specs.Prelude.{◌≡◌, ◌+◌, ◌<◌, ◌^◌, ◌++◌, true, length, map, OnOk};
 ghost use Rattle.vac_attempts.specs.Lines.{entry_of};
-ghost use Rattle.vac_attempts.specs.Pages.{attempts_of, all_noted, page_of, pages_of, is_told, are_told};
+ghost use Rattle.vac_attempts.specs.Noted.{all_noted};
+ghost use Rattle.vac_attempts.specs.Pages.{attempts_of, page_of, pages_of, is_told, are_told};
 ghost use Rattle.vac_attempts.specs.Pages.{entries_of, entries_on, entries_from};
 
 use crate::ledger::Ledger;

@@ -1,7 +1,7 @@
 //! What keeps the answered calls of a client, and traces their attempts.
 
-ghost use Rattle.std.specs.Prelude.{◌≡◌, [], true};
-ghost use Rattle.vac_attempts.specs.Known.{is_whole};
+ghost use Rattle.std.specs.Prelude.{◌≡◌, true};
+ghost use Rattle.vac_attempts.specs.Noted.{all_noted};
 
 use crate::trail::Trail;
 use std::alloc::{AllocError, Global};
@@ -20,9 +20,13 @@ pub struct Ledger<W> {
     trail: Trail<W>,
     /// Whether each call that is kept has its attempt.
     is_whole: bool,
+    ghost noted: { is_whole ≡ true → all_noted journal.notes.items ≡ true },
 }
 
 impl<W: Watch + Copy + Drop> Ledger<W> {
+    ghost use Rattle.std.specs.Prelude.{[]};
+    ghost use Rattle.vac_attempts.specs.Known.{is_whole};
+
     /// An empty ledger, whose times are those of this watch.
     pub fn new(alloc: Global, watch: W) -> Ledger<W>
         ensures no_calls { result.journal.notes.items ≡ [] }

@@ -1,7 +1,7 @@
 //! What traces the attempts of a client's calls.
 
 ghost use Rattle.std.specs.Prelude.{◌≡◌, true};
-ghost use Rattle.vac_attempts.specs.GivenUp.{none_committed};
+ghost use Rattle.vac_attempts.specs.Noted.{none_committed};
 
 use crate::accesses::Accesses;
 use crate::places::first_place;
@@ -74,7 +74,7 @@ impl<W: Watch> Trail<W> {
         self.given_up.as_slice()
     }
 
-    /// Takes out the attempt that committed, where there is one and all is whole.
+    /// Takes out the attempt that committed, and hands it on where all is whole.
     pub(crate) fn take_committed(&mut self) -> Option<Box<AttemptNote>>
         ensures last { IfSome result (λ a. IsLast (ended_by self.old) (trace_of a.value)) }
         ensures taken { self.new.committed ≡ None }

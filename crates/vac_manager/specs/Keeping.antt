@@ -26,6 +26,7 @@ pub record HasKept (t : Task) (p : Placed) (traced : Option (List Trace))
 
 -- at most the last of the attempts that were traced was taken out; where not all of them are known
 -- any more, nothing is said
+-- Not said: that what was taken out is the attempt that the note has.
 abbrev pub HasTaken : Option (List Trace) → Option (List Trace) → Type 0
 HasTaken before after = (all : List Trace) → after ≡ Some all →
     (before ≡ Some all) ⊎ ((last : Trace) × (before ≡ Some (all ++ (last ∷ []))))

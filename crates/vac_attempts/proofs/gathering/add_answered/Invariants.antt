@@ -1,6 +1,7 @@
 use Rattle.std.proofs.Common.{◌≡◌, ◌++◌, true, take, map}
 use Rattle.vac_attempts.specs.Lines.{entry_of}
-use Rattle.vac_attempts.specs.Pages.{entries_of, attempts_of, all_noted}
+use Rattle.vac_attempts.specs.Noted.{all_noted}
+use Rattle.vac_attempts.specs.Pages.{entries_of, attempts_of}
 use Rattle.vac_attempts.proofs.gathering.add_answered.Given as goal
 
 -- the attempts of the calls so far, each of which has one
