@@ -135,7 +135,7 @@ loaded_kept leads notes s state last seats y end before kept words r n opened ke
         opened = ran.answered.added;
         rest = all.rest;
         opening_first = all.behind ∙ ap (λ (l : List Record). l ++ all.rest) records;
-        rounds_in_order = closes.ends.sorted;
+        in_order = closes.ends.sorted;
         versioned = all_versioned end.alone.manager.renewal after.records in_it closes.versioned;
         commands = ran.commands;
         drawn = last;
@@ -184,7 +184,7 @@ kept_on leads s draws_of drawing state ps qs t r before after befores afters e h
     opened = h.loaded.opened;
     rest = h.loaded.rest;
     opening_first = h.loaded.opening_first;
-    rounds_in_order = h.loaded.rounds_in_order;
+    in_order = h.loaded.in_order;
     versioned = h.loaded.versioned;
     commands = h.loaded.commands;
     drawn = h.loaded.drawn;

@@ -200,7 +200,7 @@ pub record HasOpened {D : Type 0} (leads : D → ℕ → D → Type 0) (s : Sett
   pub ran : Ran leads y.manager.renewal (opening s) opener.value y.client.value state left
   pub answered : IsAnswered y.manager y.client.value
 
--- the same of some manager and its client
+-- some manager was made so, and its client answered the opening whole
 -- Not said: that it was the manager of this load.
 abbrev pub WasOpened : {D : Type 0} → (D → ℕ → D → Type 0) → Settings → D → D → Type 0
 WasOpened leads s state left = (y : SessionShown) × HasOpened leads s state left y
@@ -270,7 +270,7 @@ pub record Loaded {D P : Type 0} (leads : D → ℕ → D → Type 0) (s : Setti
   pub opened : List Record
   pub rest : List Record
   pub opening_first : history ≡ opened ++ rest
-  pub rounds_in_order : Sorted history
+  pub in_order : Sorted history
   pub versioned : AreVersioned history
   pub commands : List Command
   pub drawn : D
