@@ -64,7 +64,7 @@ pub(crate) fn split_crew<'m, D: Drop, G: Drop, K: Drop>(
     requires some { 0 < vec_len seats }
     requires few { vec_len seats ≤ MOST_CLIENTS }
     requires tries { tries ≤ MOST_TRIES }
-    ensures crew { IfOk result (λ crew. IsCrew session.entry seats.items crew) }
+    ensures crew { IfOk result (λ crew. IsCrew session.entry tries seats.items crew) }
     ensures number { IfOk result (λ crew. vec_len crew.others + 1 ≡ vec_len seats) }
     ensures refused { IfErr result (λ fault. fault ≡ LoadFault.Memory) }
 {
