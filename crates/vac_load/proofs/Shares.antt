@@ -238,7 +238,8 @@ module _ {D G K : Type 0} (leads : D → ℕ → D → Type 0) (notes : K → Ke
       }
 
   pub ran_all : (seats left : List (Seat D G K)) (crew : Crew D G K) (done : Crew D G K)
-      (after : Client) (t : Tally) → IsReady s opener → IsCrew opener s.tries seats crew → DidAllWork leads notes s crew done →
+      (after : Client) (t : Tally) → IsReady s opener → IsCrew opener s.tries seats crew →
+      DidAllWork leads notes s crew done →
       Gathered records_of tally_of done.first done.others.items after.records t →
       Paired (λ r p. p ≡ r.seat) (done.first ∷ done.others.items) left →
       RanAll leads s (shown notes) s.tasks opener.client.value.records seats after.records left t

@@ -173,8 +173,8 @@ pub record RanAll {D P : Type 0} (leads : D → ℕ → D → Type 0) (s : Setti
   pub alone : length seats ≡ 1 → t.busy ≡ 0
   pub in_time : length seats ≡ 1 → HasTime s → t.spent ≡ 0
 
--- all clients ran n tasks each, from this manager, its client and these seats on, and that left the
--- round
+-- all clients ran n tasks each, in one round or in several, from the records of this session's
+-- client and from these seats on; the round has what they left, and how these tasks ended
 abbrev pub HasRun : {D G K : Type 0} → (D → ℕ → D → Type 0) → (K → Kept) → Settings → ℕ
     → SessionShown → List (Seat D G K) → Round D G K → Type 0
 HasRun leads notes s n y seats r = RanAll leads s (shown notes) n y.client.value.records seats
