@@ -191,7 +191,7 @@ recorded s opening clients all h merged =
     record {
       history = l.history;
       legal = l.legal;
-      sorted = l.rounds_in_order;
+      sorted = l.in_order;
       versioned = l.versioned;
       calls = subst (λ (rs : List Record). AreCallsOf (map (λ e. e.note) all) rs) (sym l.opening_first)
           (calls_of (entries_from 0 (opening ∷ clients)) all (l.opened ∷ shares)

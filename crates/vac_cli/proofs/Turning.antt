@@ -109,7 +109,7 @@ pub each_ordered : {C : Type 0} (s : Settings) (opening : Journal C) (clients : 
     HasNoted s (notes_of opening) (map notes_of clients) → EachOrdered (kept_by opening clients)
 each_ordered s opening clients h place =
     let sorted : Sorted (h.loaded.opened ++ h.loaded.rest) =
-    subst Sorted h.loaded.opening_first h.loaded.rounds_in_order in
+    subst Sorted h.loaded.opening_first h.loaded.in_order in
     go sorted place
   where
     go : Sorted (h.loaded.opened ++ h.loaded.rest) → (k : ℕ) → AreOrdered (list_at (kept_by opening clients) k)

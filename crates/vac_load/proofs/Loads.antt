@@ -8,7 +8,7 @@ use Rattle.stm_region.specs.Shown.{RegionShown}
 use Rattle.vac_model.specs.declared.replies.Report.{Report}
 use Rattle.vac_model.specs.State.{State, empty_state, report}
 use Rattle.vac_manager.specs.Law.{Shows}
-use Rattle.vac_manager.specs.Legal.{IsLegal, capacity_of}
+use Rattle.vac_manager.specs.Legal.{IsLegal, AreVersioned, capacity_of}
 use Rattle.vac_manager.specs.Called.{CallerShown}
 use Rattle.vac_manager.specs.Opening.{Opens}
 use Rattle.vac_manager.specs.Renewed.{ClosesSomewhere}
@@ -28,14 +28,13 @@ use Rattle.vac_load.specs.declared.load.LoadFault.TheVariants as load
 use Rattle.vac_draws.specs.Streams.{stream_of, streams_of, gives}
 use Rattle.vac_load.specs.Streams.{KeptBySeed}
 use Rattle.vac_load.specs.Lists.{Paired, none, both}
-use Rattle.vac_load.specs.Alone.{IsInRenewal, IsReady}
+use Rattle.vac_load.specs.Alone.{IsReady}
 use Rattle.vac_load.specs.Keeping.{Kept, AreKept, AllKept, none_kept, one_kept, SeatShown, shown, kept_at}
 use Rattle.vac_load.specs.Sums.{sum_of, added_up}
 use Rattle.vac_load.specs.Load.{InterleavedAll, Share, drawn_share, HasShare, HasKeptShare, HasOpened, HasRun}
 use Rattle.vac_load.specs.Load.{is_load, LoadedKept, WasOpened, WasStopped, IsTooShort, IsStopOfLoad}
 use Rattle.vac_load.specs.Load.{IsLoadFault}
 use Rattle.vac_load.proofs.Order.{added_known}
-use Rattle.vac_load.proofs.Eras.{all_versioned}
 use Rattle.vac_load.proofs.Joining.{ran_total}
 use Rattle.vac_load.proofs.Beginning.{long_opening}
 
@@ -108,13 +107,13 @@ pub loaded_kept : {D G K : Type 0} (leads : D → ℕ → D → Type 0) (notes :
     HasOpened leads s state last y →
     AreKept y.client.value.records before kept →
     HasRun leads notes s (s.rounds * s.tasks) y seats end →
-    IsInRenewal end.alone.manager.renewal end.alone.client.value.records →
+    AreVersioned end.alone.client.value.records →
     end.alone.manager.size ≡ y.manager.size →
     ClosesSomewhere end.alone.manager end.alone.client.value words →
     ((x : State) → Shows words x → report x ≡ r) →
     LoadedKept leads s (λ seat. seat.draws) state seats end.tally.tally r before kept (kept_at notes seats)
     (kept_at notes end.seats.items)
-loaded_kept leads notes s state last seats y end before kept words r n opened keeps all in_it size closed shows =
+loaded_kept leads notes s state last seats y end before kept words r n opened keeps all versioned size closed shows =
     let ran = opened.ran in
     let closes = closed.1 in
     let added = ran.answered.added in
@@ -135,8 +134,8 @@ loaded_kept leads notes s state last seats y end before kept words r n opened ke
         opened = ran.answered.added;
         rest = all.rest;
         opening_first = all.behind ∙ ap (λ (l : List Record). l ++ all.rest) records;
-        rounds_in_order = closes.ends.sorted;
-        versioned = all_versioned end.alone.manager.renewal after.records in_it closes.versioned;
+        in_order = closes.ends.sorted;
+        versioned = versioned;
         commands = ran.commands;
         drawn = last;
         opening_is = ran.drawn;
@@ -184,7 +183,7 @@ kept_on leads s draws_of drawing state ps qs t r before after befores afters e h
     opened = h.loaded.opened;
     rest = h.loaded.rest;
     opening_first = h.loaded.opening_first;
-    rounds_in_order = h.loaded.rounds_in_order;
+    in_order = h.loaded.in_order;
     versioned = h.loaded.versioned;
     commands = h.loaded.commands;
     drawn = h.loaded.drawn;

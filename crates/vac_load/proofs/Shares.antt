@@ -213,7 +213,7 @@ module _ {D G K : Type 0} (leads : D → ℕ → D → Type 0) (notes : K → Ke
 
   -- what the first one added, and the others behind it
   record Round (seats : List (Seat D G K)) (crew : Crew D G K) (done : Crew D G K) (all : List Record)
-      (h : IsCrew opener seats crew) : Type 0 where
+      (h : IsCrew opener s.tries seats crew) : Type 0 where
     mine : Did leads s opener.manager.renewal opener.client.value.floor opener.client.value.records
         (shown notes h.seat) (shown notes done.first.seat) done.first.session.client
         done.first.tally.tally
@@ -222,7 +222,7 @@ module _ {D G K : Type 0} (leads : D → ℕ → D → Type 0) (notes : K → Ke
         ++ all_merged (λ (x : Share (SeatShown D)). x.records) mine.added more.shares
 
   round : (seats : List (Seat D G K)) (crew : Crew D G K) (done : Crew D G K) (all : List Record)
-      (t : Tally) → IsReady s opener → (h : IsCrew opener seats crew) → DidAllWork leads notes s crew done →
+      (t : Tally) → IsReady s opener → (h : IsCrew opener s.tries seats crew) → DidAllWork leads notes s crew done →
       Gathered records_of tally_of done.first done.others.items all t → Round seats crew done all h
   round seats crew done all t ready h k g =
       let floor = opener.client.value.floor in
@@ -238,7 +238,8 @@ module _ {D G K : Type 0} (leads : D → ℕ → D → Type 0) (notes : K → Ke
       }
 
   pub ran_all : (seats left : List (Seat D G K)) (crew : Crew D G K) (done : Crew D G K)
-      (after : Client) (t : Tally) → IsReady s opener → IsCrew opener seats crew → DidAllWork leads notes s crew done →
+      (after : Client) (t : Tally) → IsReady s opener → IsCrew opener s.tries seats crew →
+      DidAllWork leads notes s crew done →
       Gathered records_of tally_of done.first done.others.items after.records t →
       Paired (λ r p. p ≡ r.seat) (done.first ∷ done.others.items) left →
       RanAll leads s (shown notes) s.tasks opener.client.value.records seats after.records left t
@@ -291,7 +292,7 @@ module _ {D G K : Type 0} (leads : D → ℕ → D → Type 0) (notes : K → Ke
 
   -- what they added is of this renewal
   pub ran_in : (seats : List (Seat D G K)) (crew : Crew D G K) (done : Crew D G K) (after : Client)
-      (t : Tally) → IsReady s opener → IsCrew opener seats crew → DidAllWork leads notes s crew done →
+      (t : Tally) → IsReady s opener → IsCrew opener s.tries seats crew → DidAllWork leads notes s crew done →
       Gathered records_of tally_of done.first done.others.items after.records t →
       IsInRenewal opener.manager.renewal opener.client.value.records → IsInRenewal opener.manager.renewal after.records
   ran_in seats crew done after t ready h k g in_it =
@@ -302,7 +303,7 @@ module _ {D G K : Type 0} (leads : D → ℕ → D → Type 0) (notes : K → Ke
 
   -- workers that ran their tasks can be gathered
   pub can_gather : (seats : List (Seat D G K)) (crew : Crew D G K) (done : Crew D G K) →
-      s.clients ≤ 64 → s.tasks ≤ 1000000 → length seats ≡ s.clients → IsCrew opener seats crew →
+      s.clients ≤ 64 → s.tasks ≤ 1000000 → length seats ≡ s.clients → IsCrew opener s.tries seats crew →
       DidAllWork leads notes s crew done → CanGather done
   can_gather seats crew done clients tasks number h k =
       let first = ap (λ (y : SessionShown). y.manager) k.first.session ∙ h.opening.manager_is in

@@ -31,7 +31,7 @@ pub record IsInRenewal (renewal : ℕ) (records : List Record) : Type 0 where
 -- ones
 pub record IsAlone (y : SessionShown) : Type 0 where
   pub own : IsOwn y
-  pub grants : HasAllGrants y.client.value
+  pub alone : HasAllGrants y.client.value
   pub era : IsInRenewal y.manager.renewal y.client.value.records
 
 -- a round of a load with these settings can begin: what its clients will add comes behind all

@@ -3,7 +3,7 @@ use Rattle.std.specs.Prelude.{◌≡◌, ◌≤◌, ℕ, ◌+◌, ◌*◌}
 use Rattle.vac_manager.specs.declared.placed.Effort.{Effort}
 use Rattle.vac_load.specs.declared.efforts.Efforts.{Efforts}
 use Rattle.vac_load.specs.declared.tally.Tally.{Tally}
-use Rattle.vac_load.specs.Looping.{total}
+use Rattle.vac_load.specs.Looping.{nothing, total}
 
 -- no attempt
 abbrev pub no_effort : Efforts
@@ -65,6 +65,10 @@ both_efforts d e = record {
 pub record CountsShown : Type 0 where
   pub tally : Tally
   pub tries : ℕ
+
+-- no task is counted yet, with this many tries for each
+abbrev pub uncounted : ℕ → CountsShown
+uncounted tries = record { tally = nothing; tries = tries }
 
 -- the calls of tasks that ended so, with `tries` tries each, took this: one attempt for each answer
 -- and each spent clock, at most one for each refusal of memory, which may come before the call, and

@@ -20,6 +20,7 @@ use Rattle.vac_load.specs.declared.workers.Worker.{Worker}
 use Rattle.vac_load.specs.declared.workers.WorkOf.{WorkOf}
 use Rattle.vac_load.specs.declared.workers.Crew.{Crew}
 use Rattle.vac_load.specs.declared.rounds.Round.{Round}
+use Rattle.vac_load.specs.Attempted.{uncounted}
 use Rattle.vac_load.specs.Looping.{Looped, Clocked, AreOf, total}
 use Rattle.vac_load.specs.Lists.{Paired, Interleaved}
 use Rattle.vac_load.specs.Keeping.{Kept, AreKept, AllKept, HasKeptAdded, SeatShown, shown}
@@ -94,9 +95,10 @@ pub record IsWorker {D G K : Type 0} (manager : RegionShown) (records : List Rec
   pub seat_is : w.seat ≡ seat
 
 -- each seat got a session with the opening session's manager: the first that session, the others
--- sessions of clients without records. The first one holds the grants of them all
-pub record IsCrew {D G K : Type 0} (opener : SessionShown) (seats : List (Seat D G K))
-    (crew : Crew D G K) : Type 0 where
+-- sessions of clients without records. The first one holds the grants of them all. None of them has
+-- counted a task, and each will ask for its tasks with so many tries
+pub record IsCrew {D G K : Type 0} (opener : SessionShown) (tries : ℕ)
+    (seats : List (Seat D G K)) (crew : Crew D G K) : Type 0 where
   pub seat : Seat D G K
   pub rest : List (Seat D G K)
   pub seats_are : seats ≡ seat ∷ rest
@@ -106,6 +108,8 @@ pub record IsCrew {D G K : Type 0} (opener : SessionShown) (seats : List (Seat D
       rest crew.others.items
   pub grants : crew.first.session.client.value.grants + vec_len crew.others ≡ MOST_GRANTS
   pub others_grants : All (λ w. w.session.client.value.grants ≡ 0) crew.others.items
+  pub tally : crew.first.tally ≡ uncounted tries
+  pub others_tallies : All (λ w. w.tally ≡ uncounted tries) crew.others.items
 
 -- the worker is one of those that the first one can take in: its session is with the same manager,
 -- it has no grants, and its tally can be added
@@ -169,8 +173,8 @@ pub record RanAll {D P : Type 0} (leads : D → ℕ → D → Type 0) (s : Setti
   pub alone : length seats ≡ 1 → t.busy ≡ 0
   pub in_time : length seats ≡ 1 → HasTime s → t.spent ≡ 0
 
--- all clients ran n tasks each, from this manager, its client and these seats on, and that left the
--- round
+-- all clients ran n tasks each, in one round or in several, from the records of this session's
+-- client and from these seats on; the round has what they left, and how these tasks ended
 abbrev pub HasRun : {D G K : Type 0} → (D → ℕ → D → Type 0) → (K → Kept) → Settings → ℕ
     → SessionShown → List (Seat D G K) → Round D G K → Type 0
 HasRun leads notes s n y seats r = RanAll leads s (shown notes) n y.client.value.records seats
@@ -200,7 +204,7 @@ pub record HasOpened {D : Type 0} (leads : D → ℕ → D → Type 0) (s : Sett
   pub ran : Ran leads y.manager.renewal (opening s) opener.value y.client.value state left
   pub answered : IsAnswered y.manager y.client.value
 
--- the same of some manager and its client
+-- some manager was made so, and its client answered the opening whole
 -- Not said: that it was the manager of this load.
 abbrev pub WasOpened : {D : Type 0} → (D → ℕ → D → Type 0) → Settings → D → D → Type 0
 WasOpened leads s state left = (y : SessionShown) × HasOpened leads s state left y
@@ -270,7 +274,7 @@ pub record Loaded {D P : Type 0} (leads : D → ℕ → D → Type 0) (s : Setti
   pub opened : List Record
   pub rest : List Record
   pub opening_first : history ≡ opened ++ rest
-  pub rounds_in_order : Sorted history
+  pub in_order : Sorted history
   pub versioned : AreVersioned history
   pub commands : List Command
   pub drawn : D

@@ -27,7 +27,7 @@ pub record Ran {D : Type 0} (leads : D → ℕ → D → Type 0) (renewal : ℕ)
   pub answered : Answered renewal (as_tasks commands) v v'
   pub near : v'.floor ≤ v.floor + length commands
 
--- the same of a session
+-- the client of a session ran the commands of this reader, in its manager's renewal
 abbrev pub RanIn : {D : Type 0} → (D → ℕ → D → Type 0) → Reader (List Command)
     → SessionShown → SessionShown → D → D → Type 0
 RanIn leads reader y y' state last =
@@ -85,7 +85,7 @@ pub record Stopped {D : Type 0} (leads : D → ℕ → D → Type 0) (renewal la
   pub kept : v'.records ≡ between.records
   pub why : IsOpeningFault last between.floor e
 
--- the same of a session, with its manager's last version
+-- the client of a session stopped within the commands of this reader, by its manager's clock
 abbrev pub StoppedIn : {D : Type 0} → (D → ℕ → D → Type 0) → Reader (List Command) → Fault
     → SessionShown → SessionShown → D → D → Type 0
 StoppedIn leads reader e y y' state left = Stopped leads y.manager.renewal y.manager.last reader e

@@ -3,6 +3,7 @@
 ghost use Rattle.std.specs.Prelude.{◌≡◌, ◌<◌, ◌+◌, true, IfOk, IfErr};
 ghost use Rattle.stm_core.specs.Event.{renewing};
 ghost use Rattle.vac_manager.specs.Called.{HasAllGrants};
+ghost use Rattle.vac_manager.specs.Legal.{AreVersioned};
 ghost use Rattle.vac_manager.specs.Renewed.{ClosesSomewhere};
 ghost use Rattle.vac_draws.specs.Setting.{is_settings};
 ghost use Rattle.vac_draws.specs.declared.settings.TheConstants.{MOST_ROUNDS};
@@ -38,7 +39,7 @@ impl Alone {
     /// The manager with its one client.
     pub(crate) fn of(manager: Manager, client: Client) -> Alone
         requires own { client.table ≡ manager.table }
-        requires grants { HasAllGrants client.value }
+        requires alone { HasAllGrants client.value }
         requires era { IsInRenewal manager.renewal client.value.records }
         ensures { result ≡ record { manager = manager; client = client } }
     {
@@ -49,7 +50,7 @@ impl Alone {
     pub(crate) fn apart(self) -> (Manager, Client)
         ensures same { self ≡ record { manager = result.0; client = result.1 } }
         ensures own { result.1.table ≡ result.0.table }
-        ensures grants { HasAllGrants result.1.value }
+        ensures alone { HasAllGrants result.1.value }
         ensures era { IsInRenewal result.0.renewal result.1.value.records }
     {
         (self.manager, self.client)
@@ -74,7 +75,7 @@ impl Alone {
     pub(crate) fn close(self) -> Result<Vec<u64>, LoadFault>
         ensures closes { IfOk result
             (λ words. ClosesSomewhere self.manager self.client.value words.items) }
-        ensures era { IsInRenewal self.manager.renewal self.client.value.records }
+        ensures versioned { IfOk result (λ _. AreVersioned self.client.value.records) }
         ensures refused { IfErr result (λ fault. fault ≡ LoadFault.Memory) }
     {
         let (manager, client) = self.apart();

@@ -2,7 +2,7 @@
 
 ghost use Rattle.std.specs.Prelude.{◌≡◌, ◌≢◌, ◌<◌, ◌≤◌, ◌^◌, ◌+◌, IfErr};
 ghost use Rattle.vac_model.specs.declared.limits.TheConstants.{MOST_TRIES};
-ghost use Rattle.vac_load.specs.Attempted.{IsEffort, no_effort, with_call};
+ghost use Rattle.vac_load.specs.Attempted.{IsEffort, no_effort, uncounted, with_call};
 ghost use Rattle.vac_load.specs.Looping.{nothing, counted, total};
 ghost use Rattle.vac_load.specs.Sums.{plus};
 
@@ -36,7 +36,7 @@ impl Counts {
     /// The counts of no task, with `tries` tries for each.
     pub(crate) fn new(tries: u32) -> Counts
         requires few { tries ≤ MOST_TRIES }
-        ensures { result ≡ record { tally = nothing; tries = tries } }
+        ensures { result ≡ uncounted tries }
     {
         Counts {
             tally: Tally::new(),

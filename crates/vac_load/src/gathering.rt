@@ -24,7 +24,7 @@ pub(crate) fn gather_all<D: Drop, G: Drop, K: Drop>(
     requires room { vec_len crew.others < vec_capacity seats }
     requires empty { seats.items ≡ [] }
     ensures own { result.0.table ≡ crew.entry.first.session.manager.table }
-    ensures grants { HasAllGrants result.0.value }
+    ensures alone { HasAllGrants result.0.value }
     ensures gathered { Gathered (λ w. w.session.client.value.records) (λ w. w.tally.tally)
         crew.entry.first crew.entry.others.items result.0.value.records
         result.2.tally }
@@ -64,7 +64,7 @@ pub(crate) fn split_crew<'m, D: Drop, G: Drop, K: Drop>(
     requires some { 0 < vec_len seats }
     requires few { vec_len seats ≤ MOST_CLIENTS }
     requires tries { tries ≤ MOST_TRIES }
-    ensures crew { IfOk result (λ crew. IsCrew session.entry seats.items crew) }
+    ensures crew { IfOk result (λ crew. IsCrew session.entry tries seats.items crew) }
     ensures number { IfOk result (λ crew. vec_len crew.others + 1 ≡ vec_len seats) }
     ensures refused { IfErr result (λ fault. fault ≡ LoadFault.Memory) }
 {

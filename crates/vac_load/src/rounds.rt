@@ -19,8 +19,8 @@ use stm_attempt::Gate;
 use vac_draws::{Draws, Settings};
 use vac_manager::{Keep, Session};
 
-/// What the last round of a load left: its manager with the client that took in all others, and the
-/// seats of the clients in their order; and how the tasks of all rounds so far ended.
+/// What a round left, or several of a load: the manager with the client that took in all others,
+/// the seats of the clients in their order, and how the tasks of these rounds ended.
 #[derive(Drop)]
 pub(crate) struct Round<D, G, K> {
     pub(crate) alone: Alone,

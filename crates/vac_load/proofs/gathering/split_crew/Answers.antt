@@ -1,6 +1,7 @@
-use Rattle.std.proofs.Common.{◌≡◌, ◌∙◌, sym, ℕ, ◌+◌, ◌≤◌, ◌∷◌, ap, refl, arith}
+use Rattle.std.proofs.Common.{rules, ◌≡◌, ◌∙◌, sym, ℕ, ◌+◌, ◌≤◌, ◌∷◌, ap, refl, arith}
 use Rattle.std.specs.Vec.Iter.{into_iter_items, into_iter_len}
 use Rattle.vac_manager.specs.Called.{CallerShown}
+use Rattle.vac_load.specs.Attempted.{uncounted}
 use Rattle.vac_load.proofs.Pairs.{paired_none, paired_step, paired_all, one_on, all_more, all_none, room_taken}
 use Rattle.vac_load.proofs.Pairs.{counted_on, handed_out, nothing_left}
 use Rattle.vac_load.proofs.Shares.{split_worker, split_keeps}
@@ -34,6 +35,7 @@ loop-another-init g c =
           c.in-Ok.others.cap made.len (ap (λ it. into_iter_len it) same) c.in-Some.ensures.cases.1
           c.into_iter-seats.ensures.len c.len.ensures made.capacity;
       others_grants = all_none (λ w. w.session.client.value.grants ≡ 0) c.in-Ok.others.items made.items;
+      tallies = all_none (λ w. w.tally ≡ uncounted c.args.tries) c.in-Ok.others.items made.items;
       crew = paired_none _ c.in-Ok.others.items made.items;
     }
 
@@ -56,6 +58,8 @@ loop-another-preserved g c =
           c.push_reserved.new.self.cap t.1 p.len p.capacity i.room;
       others_grants = all_more (λ w. w.session.client.value.grants ≡ 0) c.loop-another.others.items
           c.push_reserved.new.self.items _ p.items i.others_grants (ap (λ (x : CallerShown). x.value.grants) s.theirs);
+      tallies = all_more (λ w. w.tally ≡ uncounted c.args.tries) c.loop-another.others.items
+          c.push_reserved.new.self.items _ p.items i.tallies c.new.ensures;
       crew = paired_step _ _ c.loop-another.others.items c.push_reserved.new.self.items c.in-Some-another.another
           _ p.items i.crew (split_worker c.args.session c.loop-another.session c.split.new.self _ s
           c.in-Ok-split.ensures.theirs i.manager i.floor);
@@ -74,4 +78,6 @@ returns-clause-crew g c =
       others_are = paired_all _ _ _ _ _ i.all (nothing_left c.loop-another.another-iterator end.steps.0) i.crew;
       grants = i.grants;
       others_grants = i.others_grants;
+      tally = search rules;
+      others_tallies = i.tallies;
     }

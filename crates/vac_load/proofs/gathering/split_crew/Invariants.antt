@@ -2,6 +2,7 @@ use Rattle.std.proofs.Common.{◌≡◌, ◌≤◌, ◌+◌, ◌++◌, [], All, 
 use Rattle.stm_core.specs.declared.limits.TheConstants.{MOST_GRANTS}
 use Rattle.std.specs.Vec.Iter.{into_iter_items, into_iter_len}
 use Rattle.vac_load.specs.Lists.{Paired}
+use Rattle.vac_load.specs.Attempted.{uncounted}
 use Rattle.vac_load.specs.Load.{IsWorker}
 use Rattle.vac_load.proofs.gathering.split_crew.Given as goal
 
@@ -13,6 +14,7 @@ invariant-loop-another g l = record {
   floor : l.session.client.value.floor ≡ l.fn.session.client.value.floor;
   grants : l.session.client.value.grants + vec_len l.others ≡ MOST_GRANTS;
   others_grants : All (λ w. w.session.client.value.grants ≡ 0) l.others.items;
+  tallies : All (λ w. w.tally ≡ uncounted l.fn.tries) l.others.items;
   count : vec_len l.others + into_iter_len l.another-iterator + 1 ≡ vec_len l.fn.seats;
   room : vec_len l.others + into_iter_len l.another-iterator ≤ vec_capacity l.others;
   crew : Paired (IsWorker l.fn.session.manager [] l.fn.session.client.value.floor) l.yielded l.others.items;

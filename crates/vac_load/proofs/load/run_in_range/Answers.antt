@@ -17,7 +17,7 @@ returns-clause-kept g c =
     rw c.apart.ensures.tally (loaded_kept g.D.Draws.leads g.K.Keep.notes c.args.settings.now c.args.opening.now
     c.open_load.new.opening c.args.seats.items c.in-Ok.opened c.in_ok-round.round _ _ c.in-Ok-close.words.items
     c.report_of-report.result n c.in-Ok.ensures.opened c.in-Ok.ensures.kept c.in_ok-round.ensures.ran
-    c.close.ensures.era c.in_ok-round.ensures.size c.in-Ok-close.ensures.closes c.report_of-report.ensures)
+    c.in-Ok-close.ensures.versioned c.in_ok-round.ensures.size c.in-Ok-close.ensures.closes c.report_of-report.ensures)
 
 pub returns-clause-number : goal.returns-clause-number
 returns-clause-number g c = c.in_ok-round.ensures.round.number ∙ sym c.requires.number

@@ -34,7 +34,7 @@ of-alone-requires g c =
     (c.in_ok-crew.ensures.crew.opening.manager_is ∙ ap (λ (y : SessionShown). y.manager) same) in
     record {
       own = c.gather_all-client.ensures.own ∙ ap (λ (m : RegionShown). m.table) first;
-      grants = c.gather_all-client.ensures.grants;
+      alone = c.gather_all-client.ensures.alone;
       era = subst (λ (y : SessionShown). IsInRenewal y.manager.renewal c.gather_all-client.result.0.value.records) same
           (ran_in g.D.Draws.leads g.K.Keep.notes c.args.settings.now c.of-session.result _ _ _
           c.gather_all-client.result.0.value _ ready c.in_ok-crew.ensures.crew c.in_ok-crew-2.ensures.worked

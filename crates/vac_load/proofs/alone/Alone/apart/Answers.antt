@@ -5,6 +5,6 @@ pub returns : goal.returns
 returns c = record {
   same = sym c.self.view_is;
   own = c.self.invariant.own;
-  grants = c.self.invariant.grants;
+  alone = c.self.invariant.alone;
   era = c.self.invariant.era;
 }

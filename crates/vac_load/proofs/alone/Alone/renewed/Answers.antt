@@ -8,7 +8,7 @@ use Rattle.vac_load.proofs.alone.Alone.renewed.Goals as goal
 pub of-requires : goal.of-requires
 of-requires c = record {
   own = ap (λ (x : CallerShown). x.table) c.in-Ok.ensures.client;
-  grants = ap (λ (x : CallerShown). x.value.grants) c.in-Ok.ensures.client ∙ c.apart-manager.ensures.grants;
+  alone = ap (λ (x : CallerShown). x.value.grants) c.in-Ok.ensures.client ∙ c.apart-manager.ensures.alone;
   era = renewed_in c.apart-manager.result.0 c.in-Ok.manager c.apart-manager.result.1 c.in-Ok.client _
       c.in-Ok.ensures.words (ap (λ (r : RegionShown). r.renewal) c.in-Ok.ensures.manager)
       (ap (λ (x : CallerShown). x.value.records) c.in-Ok.ensures.client) c.apart-manager.ensures.era;
