@@ -16,16 +16,24 @@ fn ordered(alloc: Global, steps: u64, history: &str) -> Result<(Outcome, Vec<u8>
     Ok((outcome, text))
 }
 
-/// Only before the first call does the last one give its reply, and each of two orders of the first
-/// two leads to one state.
-const GOES_BACK: &str = "1 0 9 newcust 1 -> true\n2 0 9 newcust 2 -> true\n3 0 9 leave 1 -> -1\n";
+/// Only before the first call does the last one give its reply.
+const LAST_FIRST: &str = "1 0 9 newcust 1 -> true\n2 0 9 newcust 2 -> true\n3 0 9 leave 1 -> -1\n";
 
 /// Its lines in the order that is found.
-const GONE_BACK: &str = "2 0 9 newcust 2 -> true\n3 0 9 leave 1 -> -1\n1 0 9 newcust 1 -> true\n";
+const PUT_FIRST: &str = "3 0 9 leave 1 -> -1\n1 0 9 newcust 1 -> true\n2 0 9 newcust 2 -> true\n";
+
+/// Each of two orders of the third call and the fourth is right, and the bill tells that the one
+/// that ended later came first.
+const GOES_BACK: &str = "0 0 1 add car 1 9 50 -> true\n0 1 2 newcust 1 -> true\n\
+    1 3 8 reserve 1 car 1 -> true\n2 3 9 add car 1 1 80 -> true\n0 10 11 bill 1 -> 80\n";
+
+/// Its lines in the order that is found.
+const GONE_BACK: &str = "0 0 1 add car 1 9 50 -> true\n0 1 2 newcust 1 -> true\n\
+    2 3 9 add car 1 1 80 -> true\n1 3 8 reserve 1 car 1 -> true\n0 10 11 bill 1 -> 80\n";
 
 #[test]
 fn histories_that_have_an_order(rt: HostRuntime) -> Result<(), Fail> {
-    let rows: [(&str, &str); 7] = [
+    let rows: [(&str, &str); 8] = [
         ("", ""),
         (
             "1 0 5 newcust 1 -> true\n1 6 9 reserve 1 car 1 -> true\n2 1 6 add car 1 2 5 -> true\n\
@@ -46,6 +54,7 @@ fn histories_that_have_an_order(rt: HostRuntime) -> Result<(), Fail> {
             "0 0 1 add car 1 1 5 -> true\n2 4 5 free car 1 -> 1\n",
         ),
         ("1 2 - add car 1 1 5 -> ?\n", ""),
+        (LAST_FIRST, PUT_FIRST),
         (GOES_BACK, GONE_BACK),
     ];
     for (history, wanted) in rows {
@@ -139,11 +148,12 @@ fn lines_that_are_wrong(rt: HostRuntime) -> Result<(), Fail> {
 
 #[test]
 fn searches_that_are_cut_short(rt: HostRuntime) -> Result<(), Fail> {
-    let rows: [(&str, u64, &str); 4] = [
+    let rows: [(&str, u64, &str); 5] = [
         (NEVER_RIGHT, 0, "undecided 0\n"),
         (NEVER_RIGHT, 2, "undecided 2\n"),
         (NEVER_RIGHT, 4, "undecided 3\n"),
-        (GOES_BACK, 9, "undecided 2\n"),
+        (LAST_FIRST, 2, "undecided 2\n"),
+        (GOES_BACK, 6, "undecided 4\n"),
     ];
     for (history, steps, wanted) in rows {
         let (outcome, text) = ordered(rt.alloc(), steps, history)?;
@@ -178,15 +188,16 @@ fn searches(alloc: Global, steps: u64, history: &str) -> Result<(u64, Outcome), 
 
 #[test]
 fn searches_that_decide(rt: HostRuntime) -> Result<(), Fail> {
-    let rows: [(&str, u64, u64, Outcome); 6] = [
+    let rows: [(&str, u64, u64, Outcome); 7] = [
         // nothing is looked for
         ("1 2 - add car 1 1 5 -> ?\n", 10, 0, Outcome::Ordered),
         // the quick search finds an order, in just as many steps
-        (GOES_BACK, 10, 1, Outcome::Ordered),
+        (LAST_FIRST, 3, 1, Outcome::Ordered),
+        (GOES_BACK, 7, 1, Outcome::Ordered),
         // that there is none, only the exact one can tell
         (NEVER_RIGHT, 100, 2, Outcome::Illegal),
         (WRITE_SKEW, 100, 2, Outcome::Illegal),
-        (GOES_BACK, 9, 2, Outcome::Undecided),
+        (GOES_BACK, 6, 2, Outcome::Undecided),
         (GOES_BACK, 0, 0, Outcome::Undecided),
     ];
     for (history, steps, wanted, told) in rows {

@@ -3,123 +3,233 @@
 use crate::line::Line;
 use std::alloc::{AllocError, Global};
 use std::collections::BTreeMap;
+use vac_model::{Command, Kind, Task};
 
-/// Numbers for each place.
+/// How a call lies.
+#[derive(Clone, Copy)]
+pub(crate) struct Spot {
+    /// The number of its client.
+    pub(crate) client: usize,
+    /// The place of its client's next call, or the number of calls.
+    pub(crate) next: usize,
+    /// Where its keys begin and end.
+    from: usize,
+    to: usize,
+    /// A bit for each of its keys.
+    mask: u64,
+    /// Whether its reply says that no block is left.
+    pub(crate) is_full: bool,
+    /// Whether it may leave blocks to others.
+    pub(crate) is_freeing: bool,
+}
+
+/// How all calls lie.
 #[derive(Drop)]
 pub(crate) struct Layout {
-    /// That of its client.
-    clients: Vec<usize>,
-    /// How many calls of its client come before it.
-    ranks: Vec<usize>,
-    /// The first place after it whose call begins before that of this one.
-    sooner: Vec<usize>,
-    /// How many calls each client has.
-    pub(crate) sizes: Vec<usize>,
+    spots: Vec<Spot>,
+    /// The items and customers that the calls name, one call's after the other's.
+    keys: Vec<u64>,
+    /// The place of each client's first call.
+    firsts: Vec<usize>,
     /// How many calls were answered.
     pub(crate) answered: u64,
 }
 
-/// The number at a place, 0 where there is none.
-fn at(numbers: &[usize], place: usize) -> usize {
-    if place < numbers.len() {
-        numbers[place]
-    } else {
-        0
-    }
+/// The number of a customer among items and customers.
+fn customer_key(id: u32) -> u64 {
+    (id as u64).wrapping_mul(4)
 }
 
-/// Sets the number at a place, where there is one.
-fn set(numbers: &mut [usize], place: usize, number: usize) {
-    if place < numbers.len() {
-        numbers[place] = number;
-    }
+/// The number of an item among items and customers.
+fn item_key(kind: Kind, id: u32) -> u64 {
+    let place = match kind {
+        Kind::Car => 1,
+        Kind::Flight => 2,
+        Kind::Room => 3,
+    };
+    customer_key(id).wrapping_add(place)
 }
 
-/// The number of a client, which is a new one where it had none.
-fn number_of(
-    numbers: &mut BTreeMap<u32, usize>,
-    client: u32,
-    new: usize,
-) -> Result<usize, AllocError> {
-    if let Some(number) = numbers.get(&client) {
-        return Ok(*number);
-    }
-    numbers.insert(client, new)?;
-    Ok(new)
-}
-
-/// The first place after this one whose call begins before that of this one.
-fn sooner_than(lines: &[Line], sooner: &[usize], place: usize) -> usize {
-    if place >= lines.len() {
-        return place;
-    }
-    let begin = lines[place].begin;
-    let mut next = place + 1;
-    'places: for _ in place..lines.len() {
-        if next >= lines.len() || lines[next].begin < begin {
-            return next;
+/// Adds what a command names.
+fn add_command(command: &Command, keys: &mut Vec<u64>) -> Result<(), AllocError> {
+    match *command {
+        Command::Add { kind, id, .. }
+        | Command::Delete { kind, id, .. }
+        | Command::Free { kind, id }
+        | Command::Price { kind, id } => keys.push(item_key(kind, id))?,
+        Command::DropFlight { id } => keys.push(item_key(Kind::Flight, id))?,
+        Command::NewCustomer { id } | Command::DropCustomer { id } | Command::Bill { id } => {
+            keys.push(customer_key(id))?
         }
-        next = at(sooner, next);
+        Command::Reserve {
+            customer,
+            kind,
+            id,
+            ..
+        }
+        | Command::Cancel { customer, kind, id } => {
+            keys.push(customer_key(customer))?;
+            keys.push(item_key(kind, id))?
+        }
+        Command::Audit => {}
     }
-    lines.len()
+    Ok(())
 }
 
-/// The first place after each whose call begins before that of this one.
-fn sooner_places(alloc: Global, lines: &[Line]) -> Result<Vec<usize>, AllocError> {
-    let mut sooner = Vec::new(alloc);
-    'places: for _ in 0..lines.len() {
-        sooner.push(lines.len())?;
+/// Adds what a task names.
+fn add_keys(task: &Task, keys: &mut Vec<u64>) -> Result<(), AllocError> {
+    match task {
+        Task::One(command) => add_command(command, keys)?,
+        Task::Leave { customer } => keys.push(customer_key(*customer))?,
+        Task::Trip { customer, asks } => {
+            keys.push(customer_key(*customer))?;
+            for ask in asks.as_slice() {
+                keys.push(item_key(ask.0, ask.1))?;
+            }
+        }
+        Task::Update { changes } => {
+            for change in changes.as_slice() {
+                add_command(change, keys)?;
+            }
+        }
     }
-    'back: for back in 0..lines.len() {
-        let place = lines.len() - 1 - back;
-        let next = sooner_than(lines, sooner.as_slice(), place);
-        set(sooner.as_mut_slice(), place, next);
+    Ok(())
+}
+
+/// Whether a task may leave blocks to others.
+fn is_freeing(task: &Task) -> bool {
+    match task {
+        Task::Trip { .. } => false,
+        _ => true,
     }
-    Ok(sooner)
+}
+
+/// Whether a reply says that no block is left.
+fn says_full(reply: &Option<Vec<u8>>) -> bool {
+    let Some(text) = reply else {
+        return false;
+    };
+    let mut found = 0;
+    for byte in text.as_slice() {
+        found = match (found, *byte) {
+            (_, b'f') => 1,
+            (1, b'u') => 2,
+            (2, b'l') => 3,
+            (3, b'l') => return true,
+            _ => 0,
+        };
+    }
+    false
+}
+
+/// A bit for each of the keys from a place on.
+fn mask_of(keys: &[u64], from: usize) -> u64 {
+    let mut mask = 0;
+    'keys: for place in from..keys.len() {
+        mask |= 1 << (keys[place].wrapping_mul(0x9e37_79b9_7f4a_7c15) >> 58);
+    }
+    mask
+}
+
+/// Whether a key is among those of these places.
+fn is_among(keys: &[u64], from: usize, to: usize, key: u64) -> bool {
+    'keys: for place in from..to {
+        if place < keys.len() && keys[place] == key {
+            return true;
+        }
+    }
+    false
 }
 
 impl Layout {
     /// How these calls lie.
     pub(crate) fn new(alloc: Global, lines: &[Line]) -> Result<Layout, AllocError> {
+        let mut layout = Layout {
+            spots: Vec::new(alloc),
+            keys: Vec::new(alloc),
+            firsts: Vec::new(alloc),
+            answered: 0,
+        };
         let mut numbers = BTreeMap::new(alloc);
-        let mut clients = Vec::new(alloc);
-        let mut ranks = Vec::new(alloc);
-        let mut sizes = Vec::new(alloc);
-        let mut answered: u64 = 0;
+        let mut lasts = Vec::new(alloc);
         'lines: for place in 0..lines.len() {
-            let client = number_of(&mut numbers, lines[place].client, sizes.len())?;
-            if client == sizes.len() {
-                sizes.push(0)?;
+            let line = &lines[place];
+            let client = match numbers.get(&line.client) {
+                Some(number) => *number,
+                None => lasts.len(),
+            };
+            if client < lasts.len() {
+                layout.follow(lasts[client], place);
+                lasts.as_mut_slice()[client] = place;
+            } else {
+                numbers.insert(line.client, client)?;
+                lasts.push(place)?;
+                layout.firsts.push(place)?;
             }
-            let rank = at(sizes.as_slice(), client);
-            set(sizes.as_mut_slice(), client, rank.wrapping_add(1));
-            clients.push(client)?;
-            ranks.push(rank)?;
-            if lines[place].reply.is_some() {
-                answered = answered.wrapping_add(1);
+            layout.add(line, client, lines.len())?;
+        }
+        Ok(layout)
+    }
+
+    /// Adds a call, of which no next one is known.
+    fn add(&mut self, line: &Line, client: usize, count: usize) -> Result<(), AllocError> {
+        let from = self.keys.len();
+        add_keys(&line.task, &mut self.keys)?;
+        if line.reply.is_some() {
+            self.answered = self.answered.wrapping_add(1);
+        }
+        self.spots.push(Spot {
+            client,
+            next: count,
+            from,
+            to: self.keys.len(),
+            mask: mask_of(self.keys.as_slice(), from),
+            is_full: says_full(&line.reply),
+            is_freeing: is_freeing(&line.task),
+        })?;
+        Ok(())
+    }
+
+    /// Notes the next call of a client.
+    fn follow(&mut self, last: usize, place: usize) {
+        if last < self.spots.len() {
+            self.spots.as_mut_slice()[last].next = place;
+        }
+    }
+
+    /// How the call at a place lies.
+    pub(crate) fn spot(&self, place: usize) -> Spot {
+        if place < self.spots.len() {
+            return self.spots[place];
+        }
+        Spot {
+            client: self.firsts.len(),
+            next: place,
+            from: 0,
+            to: 0,
+            mask: 0,
+            is_full: false,
+            is_freeing: false,
+        }
+    }
+
+    /// Whether two calls name an item or a customer in common.
+    pub(crate) fn meets(&self, place: usize, other: usize) -> bool {
+        let (a, b) = (self.spot(place), self.spot(other));
+        if a.mask & b.mask == 0 {
+            return false;
+        }
+        let keys = self.keys.as_slice();
+        'keys: for number in a.from..a.to {
+            if number < keys.len() && is_among(keys, b.from, b.to, keys[number]) {
+                return true;
             }
         }
-        Ok(Layout {
-            clients,
-            ranks,
-            sooner: sooner_places(alloc, lines)?,
-            sizes,
-            answered,
-        })
+        false
     }
 
-    /// The number of the client of the call at a place.
-    pub(crate) fn client(&self, place: usize) -> usize {
-        at(self.clients.as_slice(), place)
-    }
-
-    /// How many calls of its client come before the one at a place.
-    pub(crate) fn rank(&self, place: usize) -> usize {
-        at(self.ranks.as_slice(), place)
-    }
-
-    /// The first place after this one whose call begins before that of this one.
-    pub(crate) fn sooner(&self, place: usize) -> usize {
-        at(self.sooner.as_slice(), place)
+    /// The place of each client's first call.
+    pub(crate) fn firsts(&self, alloc: Global) -> Result<Vec<usize>, AllocError> {
+        Vec::from_slice(alloc, self.firsts.as_slice())
     }
 }
