@@ -59,7 +59,7 @@ LegalUpToPrecedence = (n : ℕ) (calls : List Call) (last : State) → AreLegal 
 abbrev pub JudgedByPrecedence : ℕ → List ℕ → List Call → Type 0
 JudgedByPrecedence n text calls = (is_legal (verdict_on n text) ≡ true) ↔ KeepPrecedence calls
 
--- so it is for the text of such calls, where it is read as them
+-- the text of calls that are legal so, where it is read as them, is judged by precedence
 abbrev pub TextsAreLegalUpToPrecedence : Type 0
 TextsAreLegalUpToPrecedence = (n : ℕ) (calls : List Call) (last : State) →
     IsTheirHistory calls → AreLegal n calls last →

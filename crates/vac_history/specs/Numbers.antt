@@ -30,6 +30,7 @@ IsReply-prop (reply.No why) = hlevel props
 IsReply-prop (reply.Trip t) = hlevel props
 IsReply-prop (reply.Update u) = hlevel props
 
+-- so has this
 pub HaveReplies-prop : (notes : List Note) → IsProp (HaveReplies notes)
 HaveReplies-prop notes =
     Π_prop (λ k. Π_prop (λ n. Π_prop (λ _. IsReply-prop (slice_index_or notes k n).reply)))

@@ -17,8 +17,8 @@ pub fn legal_up_to_precedence()
     ensures { LegalUpToPrecedence }
 {}
 
-/// The text of calls that are legal in such an order, where it is read as them, is legal for the
-/// judge exactly then.
+/// The text of calls that are legal in the order of their records, where it is read as them, is
+/// legal for the judge exactly where no call that had ended before another began comes after it.
 pub fn texts_are_legal_up_to_precedence()
     ensures { TextsAreLegalUpToPrecedence }
 {}
