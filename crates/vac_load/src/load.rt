@@ -101,20 +101,14 @@ fn run_in_range<
     ensures stopped { IfErr result (λ fault.
         IsStopOfLoad D.leads settings.now opening.old opening.new fault) }
 {
-    let alone = match open_load(alloc, settings, opening, keep) {
-        Ok(opened) => opened,
-        Err(fault) => return Err(fault),
-    };
+    let alone = open_load(alloc, settings, opening, keep)?;
     let round = run_rounds(rt, alloc, settings, alone, seats, phases)?;
     let Round {
         alone,
         seats,
         tally,
     } = round;
-    let words = match alone.close() {
-        Ok(words) => words,
-        Err(fault) => return Err(fault),
-    };
+    let words = alone.close()?;
     let report = report_of(words);
     let (tally, efforts) = tally.apart();
     Ok((LoadReport { tally, report }, efforts, seats))

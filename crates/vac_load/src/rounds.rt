@@ -101,10 +101,7 @@ pub(crate) fn run_rounds<
             seats,
             tally,
         } = round;
-        let alone = match alone.renewed(settings) {
-            Ok(renewed) => renewed,
-            Err(fault) => return Err(fault),
-        };
+        let alone = alone.renewed(settings)?;
         let more = run_round(rt, alloc, settings, alone, seats, phases)?;
         round = Round {
             alone: more.alone,

@@ -31,7 +31,7 @@ pub run_round-requires-in-rounds-clause-number : goal.run_round-requires-in-roun
 run_round-requires-in-rounds-clause-number g c = λ _ _. c.rounds.invariant.round.number
 
 pub run_round-requires-in-rounds-clause-ready : goal.run_round-requires-in-rounds-clause-ready
-run_round-requires-in-rounds-clause-ready g c = λ _ _. c.in-Ok.ensures.renewed.ready
+run_round-requires-in-rounds-clause-ready g c = λ _ _. c.in_ok-alone.ensures.renewed.ready
 
 pub plus-requires : goal.plus-requires
 plus-requires g c =
@@ -52,7 +52,7 @@ plus-requires g c =
 pub rounds-preserved : goal.rounds-preserved
 rounds-preserved g c =
     let i = c.rounds.invariant in
-    let renewed = c.in-Ok.ensures.renewed in
+    let renewed = c.in_ok-alone.ensures.renewed in
     let more = c.in_ok-more.ensures in
     record {
       renewals = omega (arith, ap (λ (m : RegionShown). m.renewal) more.manager ∙ renewed.renewal, i.renewals);
@@ -61,7 +61,7 @@ rounds-preserved g c =
         number = more.round.number;
         tries = ap (λ (x : CountsShown). x.tries) c.plus.ensures ∙ i.round.tries;
       };
-      ran = ran_more g.D.Draws.leads g.K.Keep.notes c.args.settings.now c.rounds.done c.args.alone c.in-Ok.renewed
+      ran = ran_more g.D.Draws.leads g.K.Keep.notes c.args.settings.now c.rounds.done c.args.alone c.in_ok-alone.alone
           c.args.seats.items c.rounds.round c.in_ok-more.more c.plus.result.tally i.ran renewed.records more.ran
           (ap (λ (x : CountsShown). x.tally) c.plus.ensures);
     }
