@@ -18,7 +18,7 @@ use std::alloc::{AllocError, Global};
 use std::mem::replace;
 
 /// How many calls the search goes back at most.
-const MOST_BACK: usize = 16_384;
+const MOST_BACK: usize = 8_192;
 
 /// How often it goes back from where nothing fits, and how much farther each time.
 const MOST_FAILS: u64 = 120;
@@ -35,6 +35,9 @@ const FARTHEST: u64 = 128;
 
 /// How many calls it may look at beside the one that ends first, for each that there is.
 const LOOKS: u64 = 128;
+
+/// For how many of these one counts that it makes.
+const MADE: u64 = 16;
 
 /// A call that was made: its place, the machine before it, unless that is forgotten, the first
 /// place that had no place in the order there, and whether all blocks were in use.
@@ -354,6 +357,10 @@ impl<M: Machine + Drop> Trail<M> {
             if !meets && !(is_tight && layout.spot(place).is_full) {
                 continue;
             }
+            if self.looks < MADE {
+                return Ok(None);
+            }
+            self.looks -= MADE;
             let Some(now) = led_to(alloc, &self.machine, lines, place)? else {
                 continue;
             };
