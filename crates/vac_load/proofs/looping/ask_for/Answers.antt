@@ -22,7 +22,7 @@ pub returns-in-Ok-end-clause-kept : goal.returns-in-Ok-end-clause-kept
 returns-in-Ok-end-clause-kept g c = kept_answered c.args.session.now.manager c.in-Ok.task c.trace_call-end.result.0
     c.in-Ok-end.placed _ _ _ _ _ _ _ _ c.in-Ok-end.is c.trace_call-end.ensures.placed c.trace_call-end.ensures.traced
     (c.take_back.ensures.same ∙ c.lend-tracer.ensures.same ∙ c.begin.ensures.same) c.take_back.ensures.traced
-    c.keep.ensures
+    c.keep.ensures.kept
 
 pub returns-in-Err-clause-took : goal.returns-in-Err-clause-took
 returns-in-Err-clause-took g c =

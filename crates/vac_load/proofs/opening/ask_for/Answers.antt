@@ -13,5 +13,5 @@ returns-in-Ok-clause-answered g c = record {
   kept = kept_answered c.args.session.now.manager (One c.args.command) c.trace_call-end.result.0 c.in-Ok.placed
       _ _ _ _ _ _ _ _ c.in-Ok.is c.trace_call-end.ensures.placed c.trace_call-end.ensures.traced
       (c.take_back.ensures.same ∙ c.lend-tracer.ensures.same ∙ c.begin.ensures.same) c.take_back.ensures.traced
-      c.keep.ensures;
+      c.keep.ensures.kept;
 }
