@@ -36,7 +36,7 @@ use Rattle.vac_records.specs.Items.{mem}
 use Rattle.vac_records.specs.Heap.{Parts, IsHeap, used_in}
 use Rattle.vac_records.specs.InMemory.{HoldsState}
 use Rattle.vac_records.proofs.Single.{same_words}
-use Rattle.vac_records.specs.Represents.{Represents, items_in, customers_in, bookings_in, opened}
+use Rattle.vac_records.specs.Represents.{Represents, items_in, customers_in, bookings_in, opened_bookings}
 use Rattle.audit_rows.specs.Stock.{stock_words}
 
 -- the words
@@ -283,11 +283,11 @@ items_are Car = entries-from_sorted nat_cmp cars tt
 items_are Flight = entries-from_sorted nat_cmp [] tt
 items_are Room = entries-from_sorted nat_cmp rooms tt
 
-customers_are : opened (entries stock.customers) ≡ customers_in word lists user_rows
+customers_are : opened_bookings (entries stock.customers) ≡ customers_in word lists user_rows
 customers_are =
     let first : entries bookings ≡ bookings_in word booked_rows = entries-from_sorted place_cmp booked tt in
     let second : entries no_bookings ≡ [] = entries-from_sorted place_cmp [] tt in
-    ap opened (entries-from_sorted nat_cmp users tt) ∙ (λ j. (7, first j) ∷ (8, second j) ∷ [])
+    ap opened_bookings (entries-from_sorted nat_cmp users tt) ∙ (λ j. (7, first j) ∷ (8, second j) ∷ [])
 
 pub stock_represents : Represents word 72 [] stock
 stock_represents = record {

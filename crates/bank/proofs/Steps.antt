@@ -10,16 +10,16 @@ use Rattle.stm_region.specs.Shown.{RegionShown}
 use Rattle.stm_object.specs.History.{WasInOrder, Closes as ClosesObject}
 use Rattle.stm_object.specs.Keeping.{kept, found}
 use Rattle.stm_object.specs.Bodies.{HasFitting, Did}
-use Rattle.stm_object.specs.Steps.{Step, load_step, two_steps, so_step, has_done, known_le}
+use Rattle.stm_object.specs.Steps.{WordStep, load_step, two_steps, so_step, has_done, known_le}
 use Rattle.bank.specs.declared.entry.Entry.{Entry}
 use Rattle.bank.specs.declared.entry.Entry.TheVariants.{Transfer, Sum}
 use Rattle.bank.specs.declared.law.TheConstants.{ACCOUNTS}
-use Rattle.bank.specs.Accounts.{IsBank, Finds, after, code, Closes}
+use Rattle.bank.specs.Accounts.{IsBank, Finds, after, code, ClosesBalanced}
 use Rattle.bank.specs.Keeping.{sum_taken, same_sum}
 
 -- the first so many balances have this sum
 abbrev pub Counted : View → View → ℕ → ℕ → Type 0
-Counted s s' done total = Step ACCOUNTS s s' (λ xs. total ≡ sum (take done xs)) (λ xs. xs)
+Counted s s' done total = WordStep ACCOUNTS s s' (λ xs. total ≡ sum (take done xs)) (λ xs. xs)
 
 -- what is put to an account that has so much
 pub room : (xs : List ℕ) (from to amount left there : ℕ) → IsBank xs → from < ACCOUNTS → to < ACCOUNTS → amount ≤ left
@@ -69,7 +69,7 @@ opening_sum region v v' (Ok total) w =
     told_sum f.entry total f.words (sym w.adds.tag_is ∙ f.told) f.found ∙ f.kept
 
 pub closes : (region : RegionShown) (v : Client) (words : List ℕ) (version : ℕ) →
-    ClosesObject IsBank code Finds after region v words version → Closes region v words version
+    ClosesObject IsBank code Finds after region v words version → ClosesBalanced region v words version
 closes region v words version k = record {
   closes = k;
   total = kept code Finds after (λ ys. sum ys ≡ sum region.first) (λ e xs h s. same_sum e xs h ∙ s)

@@ -42,6 +42,7 @@ code (Sum total) = 1 ∷ total ∷ []
 
 -- the closing teller's records are a history that leads from the opening to the words, which add up
 -- to the same
-pub record Closes (region : RegionShown) (v : Client) (words : List ℕ) (version : ℕ) : Type 0 where
+pub record ClosesBalanced (region : RegionShown) (v : Client) (words : List ℕ) (version : ℕ)
+    : Type 0 where
   pub closes : ClosesObject IsBank code Finds after region v words version
   pub total : sum words ≡ sum region.first

@@ -8,7 +8,7 @@ ghost use Rattle.stm_region.specs.declared.fault.RegionFault.TheVariants.{Client
 ghost use Rattle.stm_object.specs.History.{HasRun, HasAsked, IsAlone};
 ghost use Rattle.bank.specs.declared.entry.Entry.TheVariants.{Transfer, Sum};
 ghost use Rattle.bank.specs.declared.law.TheConstants.{ACCOUNTS};
-ghost use Rattle.bank.specs.Accounts.{IsBank, Finds, after, code, Closes};
+ghost use Rattle.bank.specs.Accounts.{IsBank, Finds, after, code, ClosesBalanced};
 
 use crate::bodies::{AddUp, Move};
 use crate::law::{ACCOUNTS, BankObject};
@@ -112,7 +112,7 @@ impl Bank {
     /// refusal gives the bank and the teller back as they were.
     pub fn close(self, teller: Teller) -> Result<(Vec<u64>, Version), (Bank, Teller, RegionFault)>
         requires { teller.table ≡ self.table }
-        ensures closes { IfOk result (λ r. Closes self teller.value r.0.items r.1) }
+        ensures closes { IfOk result (λ r. ClosesBalanced self teller.value r.0.items r.1) }
         ensures alone { IfOk result (λ _. IsAlone teller.value) }
         ensures kept { IfErr result
             (λ r. (r.0 ≡ self) × (r.1 ≡ teller) × ClosesNot teller.value.grants r.2) }

@@ -6,7 +6,7 @@ use Rattle.tx_memory.specs.Image.{In}
 use Rattle.stm_core.specs.Client.{Record}
 use Rattle.stm_core.specs.History.{Sub, done, keep, skip}
 use Rattle.booking_desk.specs.declared.desk.Desk.{Desk}
-use Rattle.booking_desk.specs.Desks.{asked, Ascend, AreTrips, Booked, HasBooked, Paid}
+use Rattle.booking_desk.specs.Desks.{asked, Ascend, AreTrips, BookedTrips, HasBooked, Paid}
 use Rattle.booking_desk.specs.Rounds.{IsNextPaid, ArePaid}
 
 pub ascend_more : (low : ℕ) (ns : List ℕ) (n high : ℕ) → Ascend low ns n → n < high → Ascend low (ns ++ (n ∷ [])) high
@@ -137,7 +137,7 @@ booked_none d =
     record { same = refl; ascend = l; booked = omega arith; given_up = omega arith; are_of = tt }
 
 -- in some rounds, and then in others
-pub booked_both : (d e f : Desk) (x y : Booked) → HasBooked d e x → HasBooked e f y →
+pub booked_both : (d e f : Desk) (x y : BookedTrips) → HasBooked d e x → HasBooked e f y →
     HasBooked d f (record { trips = x.trips ++ y.trips; records = x.records ++ y.records })
 booked_both d e f x y h k = record {
   same = k.same ∙ h.same;

@@ -15,9 +15,10 @@ use Rattle.vac_manager.specs.Session.{SessionShown}
 use Rattle.vac_manager.proofs.Adding.{not_earlier}
 use Rattle.booking_desk.specs.declared.desk.Desk.{Desk}
 use Rattle.booking_desk.specs.declared.settings.DeskSettings.{DeskSettings}
-use Rattle.booking_desk.specs.Desks.{asked, price_of, AreOf, Booked, HasBooked, MayServe, HasServed, new_desks}
+use Rattle.booking_desk.specs.Desks.{asked, cost_of_giving_up, AreOfRenewal, BookedTrips, HasBooked, MayServe}
+use Rattle.booking_desk.specs.Desks.{HasServed, new_desks}
 use Rattle.booking_desk.specs.Desks.{new_desk}
-use Rattle.booking_desk.specs.Rounds.{AreOld, ArePaid, WentOn, booked_by, RoundRan, MayRun, HasRun}
+use Rattle.booking_desk.specs.Rounds.{AreOld, ArePaid, WentOn, booked_by, RoundRan, MayRun, HasRunRound}
 use Rattle.booking_desk.specs.Run.{IsStock, Went}
 use Rattle.booking_desk.proofs.Booking.{in_none, booked_none, booked_both, sub_both, sub_beyond, length_trips}
 use Rattle.booking_desk.proofs.Booking.{paid_between, paid_both}
@@ -55,11 +56,11 @@ older_first n x y old now =
     not_earlier y.renewal (rank y) y.point x.renewal (rank x) x.point (omega (arith, old, now))
     (λ e. absurd (omega (arith, old, now, e)))
 
-apart : (n : ℕ) (old now : List Record) → AreOld n old → AreOf n now → (r : Record) → In r now → In r old → ⊥
+apart : (n : ℕ) (old now : List Record) → AreOld n old → AreOfRenewal n now → (r : Record) → In r now → In r old → ⊥
 apart n old now f g r i j = let p = f r j in let q = g r i in omega (arith, p, q)
 
 -- how many records a desk's trips have
-counted : (d d' : Desk) (x : Booked) → HasBooked d d' x → length x.records + d.booked ≡ d'.booked
+counted : (d d' : Desk) (x : BookedTrips) → HasBooked d d' x → length x.records + d.booked ≡ d'.booked
 counted d d' x h = let n = length_trips d.number x.trips x.records h.are_of in omega (arith, n, h.booked)
 
 booked_more : (ds : List Desk) (d : Desk) → booked_by (ds ++ d ∷ []) ≡ booked_by ds + d.booked
@@ -86,8 +87,9 @@ each_among price rest all p (d ∷ ds) (d' ∷ ds') h = (
 )
 
 -- one client more was gathered
-round_more : (price n : ℕ) (ds ds' : List Desk) (d d' : Desk) (old now all : List Record) (x : Booked) → AreOld n old →
-    RoundRan price n ds ds' old now → HasBooked d d' x → ArePaid price x.trips x.records → AreOf n x.records →
+round_more : (price n : ℕ) (ds ds' : List Desk) (d d' : Desk) (old now all : List Record) (x : BookedTrips) →
+    AreOld n old →
+    RoundRan price n ds ds' old now → HasBooked d d' x → ArePaid price x.trips x.records → AreOfRenewal n x.records →
     all ≡ merged now x.records → Sub x.records all → RoundRan price n (ds ++ d ∷ []) (ds' ++ d' ∷ []) old all
 round_more price n ds ds' d d' old now all x past h b paid new e s =
     let rest : List Record = merged h.rest x.records in
@@ -115,7 +117,7 @@ round_more price n ds ds' d d' old now all x past h b paid new e s =
 
 -- no desk is left
 pub has_run_none : (s : DeskSettings) (ds ds' : List Desk) (y : SessionShown) → length ds ≡ 0 → ds ≡ ds' ++ [] →
-    HasRun s ds ds' y y
+    HasRunRound s ds ds' y y
 has_run_none s [] [] y none e = record {
   manager = refl;
   own = refl;
@@ -155,10 +157,10 @@ may_rest s all ds d y a other e h same split =
 pub has_run_more : (s : DeskSettings) (all ds ds' : List Desk) (d d' : Desk) (y a b c o o' : SessionShown) →
     all ≡ ds ++ d ∷ [] → MayRun s all y →
     a.manager ≡ y.manager → Splits y.client a.client o.client → o.manager ≡ y.manager → HasServed s d d' o o' →
-    HasRun s ds ds' a b →
+    HasRunRound s ds ds' a b →
     c ≡ record b { client = record b.client { value = joined b.client.value o'.client.value } } →
     Sub o'.client.value.records c.client.value.records →
-    HasRun s all (ds' ++ d' ∷ []) y c
+    HasRunRound s all (ds' ++ d' ∷ []) y c
 has_run_more s all ds ds' d d' y a b c o o' e may am split om one run taken theirs =
     let left : a.client.value.grants ≡ y.client.value.grants - 1 =
     ap (λ (x : CallerShown). x.value.grants) split.mine in
@@ -172,23 +174,25 @@ has_run_more s all ds ds' d d' y a b c o o' e may am split om one run taken thei
     let gathered : c.client.value.records ≡ merged b.client.value.records one.serves.done.records =
     ap (λ (x : SessionShown). x.client.value.records) taken ∙
     ap (λ (l : List Record). merged b.client.value.records l) mine in
-    let ran : RoundRan (price_of s) y.manager.renewal ds ds' y.client.value.records b.client.value.records =
-    subst (λ (l : List Record). RoundRan (price_of s) y.manager.renewal ds ds' l b.client.value.records) kept
-    (subst (λ (m : RegionShown). RoundRan (price_of s) m.renewal ds ds' a.client.value.records b.client.value.records)
+    let ran : RoundRan (cost_of_giving_up s) y.manager.renewal ds ds' y.client.value.records b.client.value.records =
+    subst (λ (l : List Record). RoundRan (cost_of_giving_up s) y.manager.renewal ds ds' l b.client.value.records) kept
+    (subst (λ (m : RegionShown). RoundRan (cost_of_giving_up s) m.renewal ds ds' a.client.value.records
+    b.client.value.records)
     am run.ran) in
-    let paid : ArePaid (price_of s) one.serves.done.trips one.serves.done.records =
-    paid_between (price_of s) o.client.value.attempt.number (asked d) one.serves.done.trips one.serves.done.records
+    let paid : ArePaid (cost_of_giving_up s) one.serves.done.trips one.serves.done.records =
+    paid_between (cost_of_giving_up s) o.client.value.attempt.number
+    (asked d) one.serves.done.trips one.serves.done.records
     (asked d') o'.client.value.attempt.number one.serves.paid in
     record {
       manager = ap (λ (x : SessionShown). x.manager) taken ∙ (run.manager ∙ am);
       own = ap (λ (x : SessionShown). x.client.table) taken ∙ (run.own ∙ ap (λ (x : CallerShown). x.table) split.mine);
       grants = omega (arith, held, run.grants, one.serves.grants, left, none, split.some, may.most);
       desks = All-push (MayServe s) ds' d' run.desks one.serves.may;
-      ran = subst (λ (l : List Desk). RoundRan (price_of s) y.manager.renewal l
+      ran = subst (λ (l : List Desk). RoundRan (cost_of_giving_up s) y.manager.renewal l
           (ds' ++ d' ∷ []) y.client.value.records c.client.value.records) (sym e)
-          (round_more (price_of s) y.manager.renewal ds ds' d d' y.client.value.records b.client.value.records
+          (round_more (cost_of_giving_up s) y.manager.renewal ds ds' d d' y.client.value.records b.client.value.records
           c.client.value.records one.serves.done may.old ran one.serves.booked paid
-          (subst (λ (m : RegionShown). AreOf m.renewal one.serves.done.records) om one.serves.renewals)
+          (subst (λ (m : RegionShown). AreOfRenewal m.renewal one.serves.done.records) om one.serves.renewals)
           gathered (subst (λ (l : List Record). Sub l c.client.value.records) mine theirs));
     }
 
@@ -223,25 +227,25 @@ went_none s ds r records e h one = record {
   stock_is = h;
   rest = [];
   stock_first = one;
-  each = subst (λ (l : List Desk). AllZip (WentOn (price_of s) []) new_desks l) (sym e) (
+  each = subst (λ (l : List Desk). AllZip (WentOn (cost_of_giving_up s) []) new_desks l) (sym e) (
     none (new_desk 0),
     (none (new_desk 1), (none (new_desk 2), (none (new_desk 3), tt))),
   );
   number = sym (ap booked_by e);
 }
   where
-    none : (d : Desk) → WentOn (price_of s) [] d d
+    none : (d : Desk) → WentOn (cost_of_giving_up s) [] d d
     none d = record { done = record { trips = []; records = [] }; booked = booked_none d; among = done; paid = tt }
 
 -- one round more
 pub went_more : (s : DeskSettings) (n : ℕ) (ds ds' : List Desk) (old all : List Record) → AreOld n old → Went s ds old →
-    RoundRan (price_of s) n ds ds' old all → Went s ds' all
+    RoundRan (cost_of_giving_up s) n ds ds' old all → Went s ds' all
 went_more s n ds ds' old all past h k = record {
   stock = h.stock;
   stock_is = h.stock_is;
   rest = h.rest ++ k.rest;
   stock_first = k.behind ∙ ap (λ (l : List Record). l ++ k.rest) h.stock_first;
-  each = each_both (price_of s) new_desks ds ds' h.rest k.rest
+  each = each_both (cost_of_giving_up s) new_desks ds ds' h.rest k.rest
       (λ r q i j same. (let p = past r (subst (λ (l : List Record). In r l) (sym h.stock_first) (suc i.0, i.1)) in
       let o = k.renewals q j in omega (arith, p, o, same))) h.each k.each;
   number = omega (arith, length-append h.rest k.rest, h.number, k.number);

@@ -16,7 +16,7 @@ use Rattle.vac_manager.specs.declared.fault.Fault.{Fault}
 use Rattle.vac_manager.specs.declared.fault.Fault.TheVariants as fault
 use Rattle.vac_manager.specs.Law.{Shows}
 use Rattle.vac_manager.specs.Called.{CallerShown, HasCalled}
-use Rattle.vac_manager.specs.Opening.{Opens, Closes}
+use Rattle.vac_manager.specs.Opening.{Opens, ClosesInState}
 use Rattle.vac_manager.specs.Renewed.{ClosesSomewhere}
 use Rattle.vac_manager.specs.Session.{SessionShown}
 use Rattle.booking_desk.specs.declared.desk.Desk.{Desk}
@@ -24,8 +24,8 @@ use Rattle.booking_desk.specs.declared.settings.DeskSettings.{DeskSettings}
 use Rattle.booking_desk.specs.declared.rounds.Progress.{Progress}
 use Rattle.booking_desk.specs.declared.run.DeskReport.{DeskReport}
 use Rattle.booking_desk.specs.Trips.{stock_of}
-use Rattle.booking_desk.specs.Desks.{asked, price_of, MayServe, new_desk, new_desks}
-use Rattle.booking_desk.specs.Rounds.{WentOn, RoundRan, MayRun, HasRun}
+use Rattle.booking_desk.specs.Desks.{asked, cost_of_giving_up, MayServe, new_desk, new_desks}
+use Rattle.booking_desk.specs.Rounds.{WentOn, RoundRan, MayRun, HasRunRound}
 use Rattle.booking_desk.specs.Run.{AreOn, AreEnded, Desked}
 use Rattle.booking_desk.proofs.Rounding.{went_none, went_more, renewed_old}
 
@@ -81,7 +81,7 @@ pub may_run : (s : DeskSettings) (p : Progress) (m : RegionShown) (c : CallerSho
     c ≡ record p.client { table = m.table; value = renewing p.client.value } →
     MayRun s p.desks.items (record { manager = m; client = c })
 may_run s p m c words on closes next same =
-    let four = length_all_zip (WentOn (price_of s) on.went.rest) new_desks p.desks.items on.went.each in
+    let four = length_all_zip (WentOn (cost_of_giving_up s) on.went.rest) new_desks p.desks.items on.went.each in
     let all : c.value.grants ≡ p.client.value.grants = ap (λ (x : CallerShown). x.value.grants) same in
     record {
       desks = on.within;
@@ -112,15 +112,18 @@ pub on_more : (s : DeskSettings) (p q : Progress) (m : RegionShown) (c : CallerS
     (words : List ℕ) → AreOn s p → p.rounds < s.rounds → ClosesSomewhere p.manager p.client.value words →
     m.size ≡ p.manager.size → m.renewal ≡ p.manager.renewal + 1 →
     c ≡ record p.client { table = m.table; value = renewing p.client.value } →
-    HasRun s p.desks.items q.desks.items (record { manager = m; client = c }) y → q.manager ≡ m → q.client ≡ y.client →
+    HasRunRound s p.desks.items q.desks.items (record { manager = m; client = c }) y → q.manager ≡ m →
+    q.client ≡ y.client →
     q.rounds ≡ p.rounds + 1 → AreOn s q
 on_more s p q m c y words on less closes size next same run manager client rounds =
     let grants : q.client.value.grants ≡ y.client.value.grants = ap (λ (x : CallerShown). x.value.grants) client in
     let all : c.value.grants ≡ p.client.value.grants = ap (λ (x : CallerShown). x.value.grants) same in
     let before : c.value.records ≡ p.client.value.records = ap (λ (x : CallerShown). x.value.records) same in
-    let ran : RoundRan (price_of s) m.renewal p.desks.items q.desks.items p.client.value.records y.client.value.records
+    let ran : RoundRan (cost_of_giving_up s) m.renewal p.desks.items q.desks.items p.client.value.records
+    y.client.value.records
     =
-    subst (λ (l : List Record). RoundRan (price_of s) m.renewal p.desks.items q.desks.items l y.client.value.records)
+    subst (λ (l : List Record). RoundRan (cost_of_giving_up s) m.renewal p.desks.items q.desks.items l
+    y.client.value.records)
     before run.ran in
     record {
       own = ap (λ (x : CallerShown). x.table) client ∙ (run.own ∙
@@ -133,13 +136,13 @@ on_more s p q m c y words on less closes size next same run manager client round
       within = run.desks;
       went = went_more s m.renewal p.desks.items q.desks.items p.client.value.records q.client.value.records
           (renewed_old p.manager m p.client p.client words closes next refl) on.went
-          (subst (λ (x : CallerShown). RoundRan (price_of s) m.renewal p.desks.items q.desks.items
+          (subst (λ (x : CallerShown). RoundRan (cost_of_giving_up s) m.renewal p.desks.items q.desks.items
           p.client.value.records x.value.records) (sym client) ran);
     }
 
 -- the manager was closed
 pub desked : (s : DeskSettings) (p : Progress) (words : List ℕ) (version : ℕ) (r : DeskReport) → AreOn s p →
-    AreEnded s p.desks.items p.rounds → Closes p.manager p.client.value words version →
+    AreEnded s p.desks.items p.rounds → ClosesInState p.manager p.client.value words version →
     ((x : State) → Shows words x → report x ≡ r.report) → r.desks ≡ p.desks → r.rounds ≡ p.rounds → Desked s r
 desked s p words version r on ended closes shows desks rounds = rw (desks, rounds) (record {
   region = p.manager;

@@ -16,11 +16,12 @@ use Rattle.vac_manager.specs.Called.{CallerShown, Adds, HasCalled, IsFault}
 use Rattle.booking_desk.specs.declared.desk.Desk.{Desk}
 use Rattle.booking_desk.specs.declared.settings.DeskSettings.{DeskSettings}
 use Rattle.booking_desk.specs.Trips.{trip_of}
-use Rattle.booking_desk.specs.Desks.{asked, AreTrips, MayServe, session_of, Serves, HasServed, price_of, IsRefusal}
+use Rattle.booking_desk.specs.Desks.{asked, AreTrips, MayServe, session_of, ServesTrips, HasServed, cost_of_giving_up}
+use Rattle.booking_desk.specs.Desks.{IsTripRefusal}
 use Rattle.booking_desk.proofs.Booking.{ascend_more, ascend_on, are_both, in_none, in_both, in_one, booked_none}
 use Rattle.booking_desk.proofs.Booking.{same_desk, paid_none, paid_same, paid_on, paid_more}
 
-pub serves_none : (s : DeskSettings) (d : Desk) (y : SessionShown) → MayServe s d → Serves s d d y y
+pub serves_none : (s : DeskSettings) (d : Desk) (y : SessionShown) → MayServe s d → ServesTrips s d d y y
 serves_none s d y may = record {
   session = refl;
   grants = refl;
@@ -30,7 +31,7 @@ serves_none s d y may = record {
   records = sym (append-nil y.client.value.records);
   renewals = λ r i. absurd (in_none r i);
   attempts = omega arith;
-  paid = paid_none (price_of s) y.client.value.attempt.number (asked d);
+  paid = paid_none (cost_of_giving_up s) y.client.value.attempt.number (asked d);
 }
 
 -- a call left all but its client's value, and made some attempts
@@ -45,8 +46,8 @@ on y z z' e k = k.session ∙ ap (λ (x : SessionShown). record x {
 }) e
 
 -- a call that ended the round
-pub serves_same : (s : DeskSettings) (d e : Desk) (y z z' : SessionShown) → Serves s d e y z → Called z z' →
-    z'.client.value.records ≡ z.client.value.records → Serves s d e y z'
+pub serves_same : (s : DeskSettings) (d e : Desk) (y z z' : SessionShown) → ServesTrips s d e y z → Called z z' →
+    z'.client.value.records ≡ z.client.value.records → ServesTrips s d e y z'
 serves_same s d e y z z' h k same = record {
   session = on y z z' h.session k;
   grants = k.grants ∙ h.grants;
@@ -56,7 +57,7 @@ serves_same s d e y z z' h k same = record {
   records = same ∙ h.records;
   renewals = h.renewals;
   attempts = omega (arith, h.attempts, k.attempts);
-  paid = paid_same (price_of s) y.client.value.attempt.number (asked d) h.done.trips h.done.records
+  paid = paid_same (cost_of_giving_up s) y.client.value.attempt.number (asked d) h.done.trips h.done.records
       (asked e) z.client.value.attempt.number z'.client.value.attempt.number h.paid (omega (arith, k.attempts));
 }
 
@@ -64,10 +65,10 @@ one_more : (n k : ℕ) → (n + 1) * k ≡ n * k + k
 one_more n k = grind arith
 
 -- a trip was given up
-pub serves_busy : (s : DeskSettings) (d e : Desk) (y z z' : SessionShown) → Serves s d e y z → asked e < s.trips →
+pub serves_busy : (s : DeskSettings) (d e : Desk) (y z z' : SessionShown) → ServesTrips s d e y z → asked e < s.trips →
     Called z z' → z'.client.value.records ≡ z.client.value.records →
     z'.client.value.attempt.number ≡ z.client.value.attempt.number + s.asks * 16 →
-    Serves s d (record e { given_up = e.given_up + 1 }) y z'
+    ServesTrips s d (record e { given_up = e.given_up + 1 }) y z'
 serves_busy s d e y z z' h less k same cost = record {
   session = on y z z' h.session k;
   grants = k.grants ∙ h.grants;
@@ -83,16 +84,16 @@ serves_busy s d e y z z' h less k same cost = record {
   records = same ∙ h.records;
   renewals = h.renewals;
   attempts = omega (arith, h.attempts, cost, one_more e.given_up (s.asks * 16));
-  paid = paid_on (price_of s) y.client.value.attempt.number (asked d) h.done.trips h.done.records (asked e)
+  paid = paid_on (cost_of_giving_up s) y.client.value.attempt.number (asked d) h.done.trips h.done.records (asked e)
       (e.booked + (e.given_up + 1)) z.client.value.attempt.number z'.client.value.attempt.number h.paid
       (omega arith) cost;
 }
 
 -- a trip was booked
-serves_booked : (s : DeskSettings) (d e : Desk) (y z z' : SessionShown) (reply : Reply) → Serves s d e y z →
+serves_booked : (s : DeskSettings) (d e : Desk) (y z z' : SessionShown) (reply : Reply) → ServesTrips s d e y z →
     asked e < s.trips → Called z z' →
     Adds y.manager.renewal (code (trip_of e.number (asked e)) reply) z.client.value z'.client.value →
-    Serves s d (record e { booked = e.booked + 1 }) y z'
+    ServesTrips s d (record e { booked = e.booked + 1 }) y z'
 serves_booked s d e y z z' reply h less k a =
     let one : AreTrips e.number (asked e ∷ []) (a.added ∷ []) = ((reply, a.tag_is), tt) in
     let more : asked e < e.booked + 1 + e.given_up = omega arith in
@@ -116,16 +117,16 @@ serves_booked s d e y z z' reply h less k a =
         | inr j ↦ subst (λ (x : Record). x.renewal ≡ y.manager.renewal) (in_one a.added r j) a.renewal_is
       ];
       attempts = omega (arith, h.attempts, k.attempts);
-      paid = paid_more (price_of s) y.client.value.attempt.number (asked d) h.done.trips h.done.records a.added
+      paid = paid_more (cost_of_giving_up s) y.client.value.attempt.number (asked d) h.done.trips h.done.records a.added
           (asked e) (e.booked + 1 + e.given_up) z.client.value.attempt.number z'.client.value.attempt.number h.paid
           (omega arith) k.attempts a.attempt_is;
     }
 
 -- a task was answered that is the desk's next trip
 pub next_booked : (s : DeskSettings) (d e : Desk) (y z z' : SessionShown) (t : Task) (reply : Reply) →
-    Serves s d e y z → asked e < s.trips → Called z z' →
+    ServesTrips s d e y z → asked e < s.trips → Called z z' →
     t ≡ trip_of e.number (asked e) → Adds z.manager.renewal (code t reply) z.client.value z'.client.value →
-    Serves s d (record e { booked = e.booked + 1 }) y z'
+    ServesTrips s d (record e { booked = e.booked + 1 }) y z'
 next_booked s d e y z z' t reply h less k trip a =
     serves_booked s d e y z z' reply h less k
     (subst (λ (x : Task). Adds y.manager.renewal (code x reply) z.client.value z'.client.value) trip
@@ -133,7 +134,7 @@ next_booked s d e y z z' t reply h less k trip a =
     (ap (λ (x : SessionShown). x.manager.renewal) h.session) a))
 
 -- the clock was found at its last version
-pub served_spent : (s : DeskSettings) (d e : Desk) (y z z' : SessionShown) → Serves s d e y z → Called z z' →
+pub served_spent : (s : DeskSettings) (d e : Desk) (y z z' : SessionShown) → ServesTrips s d e y z → Called z z' →
     z'.client.value.records ≡ z.client.value.records → z'.client.value.attempt.next_from ≡ z.manager.last →
     HasServed s d e y z'
 served_spent s d e y z z' h k same spent = record {
@@ -169,7 +170,7 @@ pub refused_as : (region region' : RegionShown) (t : Task) (asks : ℕ) (v : Cli
     region' ≡ region → is_task t ≡ true →
     HasCalled region' t 16 (Err why) c c' → ((conflict : Conflict) → why ≡ fault.Busy conflict →
     c'.value.attempt.number ≡ v.attempt.number + asks * 16) →
-    IsRefusal region t asks why v c'.value
+    IsTripRefusal region t asks why v c'.value
 refused_as region region' t asks v c c' fault.Arguments same range k all =
     absurd (some_false (is_task t && (nat_le 1 16 && nat_le 16 1048576)) (rw range refl) (k.arguments.0 refl))
 refused_as region region' t asks v c c' fault.Memory same range k all =

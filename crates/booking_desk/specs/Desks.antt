@@ -49,17 +49,17 @@ AreTrips desk (n ∷ ns) (r ∷ rs) =
     ((reply : Reply) × (r.tag ≡ code (trip_of desk n) reply)) × AreTrips desk ns rs
 
 -- the records are of this renewal
-abbrev pub AreOf : ℕ → List Record → Type 0
-AreOf renewal records = (r : Record) → In r records → r.renewal ≡ renewal
+abbrev pub AreOfRenewal : ℕ → List Record → Type 0
+AreOfRenewal renewal records = (r : Record) → In r records → r.renewal ≡ renewal
 
 -- the trips that a desk booked, by their numbers, and their records
-pub record Booked : Type 0 where
+pub record BookedTrips : Type 0 where
   pub trips : List ℕ
   pub records : List Record
 
 -- between two states of a desk these trips were booked, each once and in their order, and each has
 -- its record; the others that were asked for were given up
-pub record HasBooked (d d' : Desk) (x : Booked) : Type 0 where
+pub record HasBooked (d d' : Desk) (x : BookedTrips) : Type 0 where
   pub same : d'.number ≡ d.number
   pub ascend : Ascend (asked d) x.trips (asked d')
   pub booked : d'.booked ≡ d.booked + length x.trips
@@ -71,13 +71,13 @@ abbrev pub session_of : RegionShown → CallerShown → SessionShown
 session_of region client = record { manager = region; client = client }
 
 -- how many attempts are spent on a trip that is given up: all tries of all calls that ask for it
-abbrev pub price_of : DeskSettings → ℕ
-price_of s = s.asks * TRIES
+abbrev pub cost_of_giving_up : DeskSettings → ℕ
+cost_of_giving_up s = s.asks * TRIES
 
 -- the least number of attempts for the trips that a desk asked for: one for each that was booked,
 -- and the whole price for each that was given up
 abbrev pub cost_of : DeskSettings → Desk → ℕ
-cost_of s d = d.booked + d.given_up * price_of s
+cost_of s d = d.booked + d.given_up * cost_of_giving_up s
 
 -- trips were asked for one after the other, from the number low to the number high, by the attempts
 -- from one number to another. Those with these numbers were booked, each by the attempt that its
@@ -92,34 +92,35 @@ Paid price from low (n ∷ ns) (r ∷ rs) high to =
 -- a desk went on with its trips in this session: the records of what it booked, of this renewal,
 -- are all that the client got. Each trip that was booked cost an attempt of its own, and each that
 -- was given up all its attempts
-pub record Serves (s : DeskSettings) (d d' : Desk) (y y' : SessionShown) : Type 0 where
+pub record ServesTrips (s : DeskSettings) (d d' : Desk) (y y' : SessionShown) : Type 0 where
   pub session : GoesOn y y'
   pub grants : y'.client.value.grants ≡ y.client.value.grants
   pub may : MayServe s d'
-  pub done : Booked
+  pub done : BookedTrips
   pub booked : HasBooked d d' done
   pub records : y'.client.value.records ≡ y.client.value.records ++ done.records
-  pub renewals : AreOf y.manager.renewal done.records
+  pub renewals : AreOfRenewal y.manager.renewal done.records
   pub attempts : y.client.value.attempt.number + cost_of s d'
       ≤ y'.client.value.attempt.number + cost_of s d
-  pub paid : Paid (price_of s) y.client.value.attempt.number (asked d) done.trips done.records
+  pub paid : Paid (cost_of_giving_up s) y.client.value.attempt.number (asked d) done.trips
+      done.records
       (asked d') y'.client.value.attempt.number
 
 -- a desk served in a round: until no trip was left, or the clock was found to be at its last
 -- version
 pub record HasServed (s : DeskSettings) (d d' : Desk) (y y' : SessionShown) : Type 0 where
-  pub serves : Serves s d d' y y'
+  pub serves : ServesTrips s d d' y y'
   pub why : (asked d' ≡ s.trips) ⊎ (y'.client.value.attempt.next_from ≡ y.manager.last)
 
 -- why a trip was not booked: never for its numbers; all attempts of all calls met a conflict, and
 -- the last one showed this one; or what a call of the manager says of refused memory, and of a
 -- clock that was found at its last version
 -- Not said: that `Memory` is returned only where memory was refused.
-abbrev pub IsRefusal : RegionShown → Task → ℕ → Fault → Client → Client → Type 0
-IsRefusal region t asks fault.Arguments v v' = ⊥
-IsRefusal region t asks fault.Memory v v' = IsFault region t TRIES fault.Memory v v'
-IsRefusal region t asks (fault.Busy conflict) v v' =
+abbrev pub IsTripRefusal : RegionShown → Task → ℕ → Fault → Client → Client → Type 0
+IsTripRefusal region t asks fault.Arguments v v' = ⊥
+IsTripRefusal region t asks fault.Memory v v' = IsFault region t TRIES fault.Memory v v'
+IsTripRefusal region t asks (fault.Busy conflict) v v' =
     (v'.attempt.number ≡ v.attempt.number + asks * TRIES)
     × IsFault region t TRIES (fault.Busy conflict) v v'
-IsRefusal region t asks (fault.Spent version) v v' =
+IsTripRefusal region t asks (fault.Spent version) v v' =
     IsFault region t TRIES (fault.Spent version) v v'

@@ -8,7 +8,7 @@ use Rattle.stm_core.specs.declared.limits.TheConstants.{MOST_GRANTS}
 use Rattle.vac_manager.specs.Session.{SessionShown}
 use Rattle.booking_desk.specs.declared.desk.Desk.{Desk}
 use Rattle.booking_desk.specs.declared.settings.DeskSettings.{DeskSettings}
-use Rattle.booking_desk.specs.Desks.{MayServe, AreOf, Booked, HasBooked, price_of}
+use Rattle.booking_desk.specs.Desks.{MayServe, AreOfRenewal, BookedTrips, HasBooked, cost_of_giving_up}
 
 -- the records are of earlier renewals than this one
 abbrev pub AreOld : ℕ → List Record → Type 0
@@ -34,7 +34,7 @@ ArePaid price (n ∷ ns) (r ∷ rs) = IsNextPaid price n r ns rs × ArePaid pric
 -- else of it, are in this list, in their order. Those that it gave up between two of one round cost
 -- this price each
 pub record WentOn (price : ℕ) (rest : List Record) (d d' : Desk) : Type 0 where
-  pub done : Booked
+  pub done : BookedTrips
   pub booked : HasBooked d d' done
   pub among : Sub done.records rest
   pub paid : ArePaid price done.trips done.records
@@ -50,7 +50,7 @@ pub record RoundRan (price renewal : ℕ) (ds ds' : List Desk) (before after : L
     Type 0 where
   pub rest : List Record
   pub behind : after ≡ before ++ rest
-  pub renewals : AreOf renewal rest
+  pub renewals : AreOfRenewal renewal rest
   pub each : AllZip (WentOn price rest) ds ds'
   pub number : length rest + booked_by ds ≡ booked_by ds'
 
@@ -64,10 +64,10 @@ pub record MayRun (s : DeskSettings) (ds : List Desk) (y : SessionShown) : Type 
 
 -- one round of the desks, whose clients were split off from this session's client and gathered into
 -- it again
-pub record HasRun (s : DeskSettings) (ds ds' : List Desk) (y y' : SessionShown) : Type 0 where
+pub record HasRunRound (s : DeskSettings) (ds ds' : List Desk) (y y' : SessionShown) : Type 0 where
   pub manager : y'.manager ≡ y.manager
   pub own : y'.client.table ≡ y.client.table
   pub grants : y'.client.value.grants ≡ y.client.value.grants
   pub desks : All (MayServe s) ds'
-  pub ran : RoundRan (price_of s) y.manager.renewal ds ds'
+  pub ran : RoundRan (cost_of_giving_up s) y.manager.renewal ds ds'
       y.client.value.records y'.client.value.records

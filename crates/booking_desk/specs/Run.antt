@@ -8,13 +8,13 @@ use Rattle.vac_model.specs.Code.{code}
 use Rattle.vac_model.specs.State.{report}
 use Rattle.vac_manager.specs.Legal.{capacity_of}
 use Rattle.vac_manager.specs.Called.{HasAllGrants}
-use Rattle.vac_manager.specs.Opening.{Closes}
+use Rattle.vac_manager.specs.Opening.{ClosesInState}
 use Rattle.booking_desk.specs.declared.desk.Desk.{Desk}
 use Rattle.booking_desk.specs.declared.settings.DeskSettings.{DeskSettings}
 use Rattle.booking_desk.specs.declared.rounds.Progress.{Progress}
 use Rattle.booking_desk.specs.declared.run.DeskReport.{DeskReport}
 use Rattle.booking_desk.specs.Trips.{stock_of}
-use Rattle.booking_desk.specs.Desks.{asked, new_desks, MayServe, price_of}
+use Rattle.booking_desk.specs.Desks.{asked, new_desks, MayServe, cost_of_giving_up}
 use Rattle.booking_desk.specs.Rounds.{WentOn, booked_by}
 
 -- the record is of the stock, with this many units of each item, and of some reply
@@ -32,7 +32,7 @@ pub record Went (s : DeskSettings) (ds : List Desk) (records : List Record) : Ty
   pub stock_is : IsStock s.units stock
   pub rest : List Record
   pub stock_first : records ≡ stock ∷ rest
-  pub each : AllZip (WentOn (price_of s) rest) new_desks ds
+  pub each : AllZip (WentOn (cost_of_giving_up s) rest) new_desks ds
   pub number : length rest ≡ booked_by ds
 
 -- the desks after some rounds, with as many renewals of the manager, which has room for as many
@@ -69,7 +69,7 @@ pub record Desked (s : DeskSettings) (r : DeskReport) : Type 0 where
   pub client : Client
   pub words : List ℕ
   pub version : ℕ
-  pub closes : Closes region client words version
+  pub closes : ClosesInState region client words version
   pub alone : HasAllGrants client
   pub room : capacity_of region ≡ s.blocks
   pub shown : report closes.last ≡ r.report

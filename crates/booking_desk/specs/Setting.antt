@@ -6,8 +6,8 @@ use Rattle.booking_desk.specs.declared.settings.DeskSettings.{DeskSettings}
 use Rattle.booking_desk.specs.declared.settings.TheConstants.{MOST_TRIPS, MOST_ASKS, MOST_ROUNDS}
 
 -- all numbers are in their ranges
-abbrev pub is_settings : DeskSettings → Bool
-is_settings s =
+abbrev pub is_desk_settings : DeskSettings → Bool
+is_desk_settings s =
     nat_le 1 s.blocks && nat_le s.blocks MOST_BLOCKS
     && nat_le 1 s.last && nat_lt s.last VERSION_LIMIT
     && nat_le s.units MOST_AMOUNT && nat_le s.trips MOST_TRIPS

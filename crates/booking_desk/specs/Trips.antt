@@ -9,8 +9,8 @@ use Rattle.vac_model.specs.declared.tasks.Task.TheVariants.{Trip, Update}
 use Rattle.booking_desk.specs.declared.trips.TheConstants.{DESKS, ITEMS, PRICE}
 
 -- the item of each kind that a desk asks for in its trip of this number
-abbrev pub item_of : ℕ → ℕ → ℕ
-item_of desk number = 1 + (desk + number) % ITEMS
+abbrev pub item_asked_for : ℕ → ℕ → ℕ
+item_asked_for desk number = 1 + (desk + number) % ITEMS
 
 -- the customer of a desk's trip of this number, which is that of no other trip
 abbrev pub customer_of : ℕ → ℕ → ℕ
@@ -19,7 +19,8 @@ customer_of desk number = 1 + desk + DESKS * number
 -- the trip of this number of a desk: a car, a flight and a room for its customer
 abbrev pub trip_of : ℕ → ℕ → Task
 trip_of desk number = Trip (customer_of desk number)
-    ((Car, item_of desk number) ∷ (Flight, item_of desk number) ∷ (Room, item_of desk number) ∷ [])
+    ((Car, item_asked_for desk number) ∷ (Flight, item_asked_for desk number)
+    ∷ (Room, item_asked_for desk number) ∷ [])
 
 -- this many units of an item are added, at the one price of all items
 abbrev pub stocked : ℕ → Kind → ℕ → Command

@@ -4,8 +4,8 @@ ghost use Rattle.std.specs.Prelude.{◌≡◌, ◌<◌, ◌≤◌, true, IfOk, I
 ghost use Rattle.vac_model.specs.Ranges.{is_task};
 ghost use Rattle.vac_manager.specs.Called.{Records};
 ghost use Rattle.vac_manager.specs.Session.{GoesOn};
-ghost use Rattle.booking_desk.specs.Setting.{is_settings};
-ghost use Rattle.booking_desk.specs.Desks.{session_of, HasServed, IsRefusal, MayServe};
+ghost use Rattle.booking_desk.specs.Setting.{is_desk_settings};
+ghost use Rattle.booking_desk.specs.Desks.{session_of, HasServed, IsTripRefusal, MayServe};
 
 use crate::desk::Desk;
 use crate::run::DeskFault;
@@ -30,7 +30,7 @@ fn ask(session: &mut Session<'_>, task: &Task, asks: u32) -> Result<Reply, Fault
         < session.new.client.value.attempt.number }
     ensures records { Records session.old.manager task.now result
         session.old.client.value session.new.client.value }
-    ensures refused { IfErr result (λ fault. IsRefusal session.old.manager task.now asks fault
+    ensures refused { IfErr result (λ fault. IsTripRefusal session.old.manager task.now asks fault
         session.old.client.value session.new.client.value) }
 {
     let backoff = Backoff::new();
@@ -61,7 +61,7 @@ pub fn serve(
     mut desk: Desk,
 ) -> Result<Served, DeskFault>
     requires own { client.table ≡ manager.now.table }
-    requires settings { is_settings settings ≡ true }
+    requires settings { is_desk_settings settings ≡ true }
     requires desk { MayServe settings desk }
     ensures served { IfOk result (λ r. HasServed settings desk r.desk
         (session_of manager.now client) (session_of manager.now r.client)) }

@@ -2,7 +2,7 @@
 
 ghost use Rattle.std.specs.Prelude.{◌≡◌, ◌<◌, ◌^◌, true, nat_lt, IfOk, All};
 ghost use Rattle.std.specs.List.{list_any};
-ghost use Rattle.booking_desk.specs.Setting.{is_settings};
+ghost use Rattle.booking_desk.specs.Setting.{is_desk_settings};
 ghost use Rattle.booking_desk.specs.Desks.{asked, new_desk, new_desks, MayServe};
 
 use crate::settings::DeskSettings;
@@ -50,7 +50,7 @@ pub(crate) fn new_desks(alloc: Global) -> Result<Vec<Desk>, AllocError>
 
 /// Whether a trip of some desk is left.
 pub(crate) fn is_left(desks: &[Desk], settings: DeskSettings) -> bool
-    requires settings { is_settings settings ≡ true }
+    requires settings { is_desk_settings settings ≡ true }
     requires desks { All (MayServe settings) desks.now }
     ensures { result ≡ list_any (λ d. nat_lt (asked d) settings.trips) desks.now }
 {

@@ -1,9 +1,9 @@
 //! Rounds of all desks: each gets a client and a thread of its own, and the clients are gathered.
 
 ghost use Rattle.std.specs.Prelude.{◌≡◌, ◌≤◌, ◌<◌, ◌+◌, true, IfOk, IfErr};
-ghost use Rattle.booking_desk.specs.Setting.{is_settings};
+ghost use Rattle.booking_desk.specs.Setting.{is_desk_settings};
 ghost use Rattle.booking_desk.specs.Desks.{session_of, HasServed, MayServe};
-ghost use Rattle.booking_desk.specs.Rounds.{HasRun, MayRun};
+ghost use Rattle.booking_desk.specs.Rounds.{HasRunRound, MayRun};
 ghost use Rattle.booking_desk.specs.Run.{AreOn};
 
 use crate::asking::{Served, serve};
@@ -43,9 +43,9 @@ fn serve_all<R: Threads + Sync>(
     mut desks: Vec<Desk>,
 ) -> Result<Round, DeskFault>
     requires own { client.table ≡ manager.now.table }
-    requires settings { is_settings settings ≡ true }
+    requires settings { is_desk_settings settings ≡ true }
     requires may { MayRun settings desks.items (session_of manager.now client) }
-    ensures ran { IfOk result (λ r. HasRun settings desks.items r.desks.items
+    ensures ran { IfOk result (λ r. HasRunRound settings desks.items r.desks.items
         (session_of manager.now client) (session_of manager.now r.client)) }
     ensures refused { IfErr result (λ fault. fault ≡ DeskFault.Memory) }
 {
@@ -56,16 +56,16 @@ fn serve_all<R: Threads + Sync>(
         unreachable!()
     };
     let serve_one = move || -> Result<Served, DeskFault>
-        requires { (own.table ≡ manager.now.table) × (is_settings settings ≡ true)
+        requires { (own.table ≡ manager.now.table) × (is_desk_settings settings ≡ true)
             × MayServe settings desk }
         ensures { IfOk result (λ r. HasServed settings desk r.desk
             (session_of manager.entry.now own) (session_of manager.entry.now r.client))
             × IfErr result (λ fault. fault ≡ DeskFault.Memory) }
     { serve(alloc, manager, settings, own, desk) };
     let serve_others = move || -> Result<Round, DeskFault>
-        requires { (client.table ≡ manager.now.table) × (is_settings settings ≡ true)
+        requires { (client.table ≡ manager.now.table) × (is_desk_settings settings ≡ true)
             × MayRun settings desks.items (session_of manager.now client) }
-        ensures { IfOk result (λ r. HasRun settings desks.items r.desks.items
+        ensures { IfOk result (λ r. HasRunRound settings desks.items r.desks.items
             (session_of manager.entry.now client) (session_of manager.entry.now r.client))
             × IfErr result (λ fault. fault ≡ DeskFault.Memory) }
     { serve_all(rt, alloc, manager, settings, client, desks) };
@@ -85,7 +85,7 @@ pub(crate) fn go_on<R: Threads + Sync>(
     settings: DeskSettings,
     progress: Progress,
 ) -> Result<Progress, DeskFault>
-    requires settings { is_settings settings ≡ true }
+    requires settings { is_desk_settings settings ≡ true }
     requires on { AreOn settings progress }
     requires rounds { progress.rounds < settings.rounds }
     ensures on { IfOk result (λ r. AreOn settings r) }

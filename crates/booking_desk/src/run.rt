@@ -1,7 +1,7 @@
 //! The desks from the opening of their manager to its end.
 
 ghost use Rattle.std.specs.Prelude.{◌≡◌, ◌⊎◌, ◌↔◌, true, false, IfOk, IfErr, IsErrOf};
-ghost use Rattle.booking_desk.specs.Setting.{is_settings};
+ghost use Rattle.booking_desk.specs.Setting.{is_desk_settings};
 ghost use Rattle.booking_desk.specs.Run.{AreOn, AreEnded, Desked};
 
 use crate::desk::{Desk, is_left, new_desks};
@@ -37,7 +37,7 @@ pub enum DeskFault {
 
 /// Opens a manager, and adds the stock as its first task.
 fn open(alloc: Global, settings: DeskSettings) -> Result<Progress, DeskFault>
-    requires settings { is_settings settings ≡ true }
+    requires settings { is_desk_settings settings ≡ true }
     ensures on { IfOk result (λ r. AreOn settings r) }
     ensures refused { IfErr result (λ fault. fault ≡ DeskFault.Memory) }
 {
@@ -91,7 +91,7 @@ fn run_rounds<R: Threads + Sync>(
     alloc: Global,
     settings: DeskSettings,
 ) -> Result<DeskReport, DeskFault>
-    requires settings { is_settings settings ≡ true }
+    requires settings { is_desk_settings settings ≡ true }
     ensures ran { IfOk result (λ r. Desked settings r) }
     ensures refused { IfErr result (λ fault. fault ≡ DeskFault.Memory) }
 {
@@ -110,7 +110,7 @@ pub fn run_desks<R: Threads + Sync + AllocGlobal>(
     rt: &R,
     settings: DeskSettings,
 ) -> Result<DeskReport, DeskFault>
-    ensures arguments { IsErrOf result DeskFault.Arguments ↔ (is_settings settings ≡ false) }
+    ensures arguments { IsErrOf result DeskFault.Arguments ↔ (is_desk_settings settings ≡ false) }
     ensures ran { IfOk result (λ r. Desked settings r) }
     ensures refused { IfErr result
         (λ fault. (fault ≡ DeskFault.Arguments) ⊎ (fault ≡ DeskFault.Memory)) }

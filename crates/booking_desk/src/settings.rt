@@ -1,7 +1,7 @@
 //! The settings of the desks.
 
 ghost use Rattle.std.specs.Prelude.{◌≡◌};
-ghost use Rattle.booking_desk.specs.Setting.{is_settings};
+ghost use Rattle.booking_desk.specs.Setting.{is_desk_settings};
 
 use stm_core::MOST_RENEWALS;
 use stm_words::VERSION_LIMIT;
@@ -36,7 +36,7 @@ pub struct DeskSettings {
 impl DeskSettings {
     /// Whether all numbers are in their ranges.
     pub fn is_in_range(&self) -> bool
-        ensures { result ≡ is_settings self.now }
+        ensures { result ≡ is_desk_settings self.now }
     {
         (1..=MOST_BLOCKS).contains(&self.blocks)
             && (1..VERSION_LIMIT).contains(&self.last)

@@ -1,7 +1,7 @@
 //! A desk that gives its trips up, since another client holds the locks of all items.
 ghost use Rattle.std.specs.Prelude.{◌≡◌, true};
 ghost use Rattle.booking_desk.specs.Desks.{MayServe};
-ghost use Rattle.booking_desk.specs.Setting.{is_settings};
+ghost use Rattle.booking_desk.specs.Setting.{is_desk_settings};
 
 use booking_desk::{Desk, DeskFault, DeskSettings, Served, serve};
 use std::alloc::{AllocError, Global};
@@ -30,7 +30,7 @@ struct Waiting<'a> {
     client: Client,
     desk: Desk,
     ghost own: { client.table ≡ manager.now.table },
-    ghost in_range: { is_settings settings ≡ true },
+    ghost in_range: { is_desk_settings settings ≡ true },
     ghost may: { MayServe settings desk },
 }
 

@@ -9,7 +9,7 @@ use Rattle.ring.specs.Queue.{IsRing, code, head, tail, values, content, pushing,
 use Rattle.ring.specs.Keeping.{pushing_head, pushing_tail, popping_head, popping_tail, ring_after}
 use Rattle.stm_region.specs.Shown.{RegionShown}
 use Rattle.stm_core.specs.Client.{Client, Record}
-use Rattle.stm_object.specs.History.{IsHistory, Closes}
+use Rattle.stm_object.specs.History.{IsHistoryOfEntries, Closes}
 use Rattle.ring.specs.Turns.{IsFifo, ClosesInOrder}
 
 -- values whose slots are all the same are the same
@@ -74,7 +74,7 @@ popped_content xs b some =
 
 -- what is in, and then what is put in, is what is taken out, and then what is in at the end
 flows : (xs : List ℕ) (rs : List Record) (es : List Entry) (last : List ℕ) → IsRing xs
-    → IsHistory code Finds after xs rs es last → content xs ++ pushed es ≡ popped es ++ content last
+    → IsHistoryOfEntries code Finds after xs rs es last → content xs ++ pushed es ≡ popped es ++ content last
 flows xs [] [] last b h = rw h (search rules)
 flows xs [] (e ∷ es) last b h = absurd h
 flows xs (r ∷ rs) [] last b h = absurd h

@@ -2,7 +2,7 @@
 use Rattle.std.specs.Prelude.{◌≡◌, ℕ, List, ◌++◌, replicate}
 use Rattle.stm_core.specs.Client.{Client, Record}
 use Rattle.stm_region.specs.Shown.{RegionShown}
-use Rattle.stm_object.specs.History.{IsHistory, Closes}
+use Rattle.stm_object.specs.History.{IsHistoryOfEntries, Closes}
 use Rattle.ring.specs.declared.entry.Entry.{Entry}
 use Rattle.ring.specs.declared.law.TheConstants.{WORDS}
 use Rattle.ring.specs.Queue.{IsRing, Finds, after, code, content, pushed, popped}
@@ -12,7 +12,7 @@ use Rattle.ring.specs.Queue.{IsRing, Finds, after, code, content, pushed, popped
 -- Not said: that a value that was put in comes out
 abbrev pub IsFifo : Type 0
 IsFifo = (records : List Record) (entries : List Entry) (last : List ℕ) →
-    IsHistory code Finds after (replicate WORDS 0) records entries last →
+    IsHistoryOfEntries code Finds after (replicate WORDS 0) records entries last →
     pushed entries ≡ popped entries ++ content last
 
 -- the history of a closed ring, and its values in their turn

@@ -8,7 +8,7 @@ use Rattle.stm_words.specs.LockWord.{free_word}
 use Rattle.tx_memory.specs.Paired.{in_later}
 use Rattle.stm_core.specs.Client.{Client, probed, locked, writes_to, word_before, version_of, IsFree, Stamp, RecordLaw}
 use Rattle.stm_core.specs.Event.{probe, lock, after, stepping, holding, failing, Bounds}
-use Rattle.stm_attempt.specs.Conflicts.{IsHeld}
+use Rattle.stm_attempt.specs.Conflicts.{SaysHeld}
 use Rattle.stm_attempt.specs.Begun.{address_of, addresses}
 use Rattle.stm_attempt.specs.Committing.{settling}
 use Rattle.stm_attempt.specs.CommitParts.{IsAbove, HasTaken}
@@ -24,7 +24,7 @@ not_mine (p ∷ ps) k above =
 
 module _ (lawful : RecordLaw) (t : Stamp) (lk : ℕ → ℕ) (b : Bounds) (v w : Client) (k n : ℕ)
     (stepped : w ≡ after t lk (probe k) n v) (above : IsAbove v k) where
-  pub held_shown : IsHeld n → (k ≡ k) × (w.attempt.last ≡ probed k n) × IsHeld n × (w.attempt.mine ≡ false)
+  pub held_shown : SaysHeld n → (k ≡ k) × (w.attempt.last ≡ probed k n) × SaysHeld n × (w.attempt.mine ≡ false)
   held_shown h = (
     refl,
     ap (λ (x : Client). x.attempt.last) stepped,

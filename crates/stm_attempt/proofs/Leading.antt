@@ -1,10 +1,10 @@
 -- A record keeps fitting images, where its transaction leaves the words of one where it found some.
 use Rattle.std.proofs.Common.{◌≡◌, ℕ, suc, ◌<◌, List, [], ◌∷◌, length, slice_index, refl, sym, subst, ◌∙◌, arith}
 use Rattle.tx_memory.specs.Image.{laid}
-use Rattle.stm_attempt.specs.Leading.{IsLocal, Leads, IsFitting, KeepsFitting}
+use Rattle.stm_attempt.specs.Leading.{IsLocal, LeadsFitting, AreFittingWords, KeepsFitting}
 
 module _ (fits : List ℕ → Type 0) where
-  pub fitting_local : IsLocal (IsFitting fits)
+  pub fitting_local : IsLocal (AreFittingWords fits)
   fitting_local m m' n same h = record {
     image = h.image;
     fitting = h.fitting;
@@ -22,7 +22,8 @@ module _ (fits : List ℕ → Type 0) where
       let tail : xs ≡ ys = same_list xs ys (omega (arith, l)) (λ a less. same (suc a) (omega (arith, less))) in
       rw (head, tail) refl
 
-  pub keeps_fitting : (reads writes : List (ℕ × ℕ)) → Leads fits (IsFitting fits) (IsFitting fits) reads writes →
+  pub keeps_fitting : (reads writes : List (ℕ × ℕ)) → LeadsFitting fits (AreFittingWords fits)
+      (AreFittingWords fits) reads writes →
       KeepsFitting fits reads writes
   keeps_fitting reads writes leads image f agrees =
       let after = leads image f agrees (record { image = image; fitting = f; length_is = refl; same = λ a less. refl })

@@ -3,9 +3,9 @@ use Rattle.std.proofs.Common.{◌≡◌, ◌⊎◌, inl, inr, ℕ, ◌*◌, ◌/
 use Rattle.std.proofs.lemmas.Bool.{cases_lt}
 use Rattle.stm_words.specs.LockWord.{free_word, held_word}
 use Rattle.stm_core.specs.Client.{IsFree}
-use Rattle.stm_attempt.specs.Conflicts.{IsHeld}
+use Rattle.stm_attempt.specs.Conflicts.{SaysHeld}
 
-pub parity : (w : ℕ) → IsFree w ⊎ IsHeld w
+pub parity : (w : ℕ) → IsFree w ⊎ SaysHeld w
 parity w = elim (cases_lt (2 * (w / 2)) w) [ inl odd ↦ inr (omega arith) | inr even ↦ inl (omega arith) ]
 
 opposite : {A : Type 0} (b : Bool) → b ≡ true → b ≡ false → A
@@ -13,7 +13,7 @@ opposite b t f = cc
 
 -- what a decoded word says
 pub says_held : (w v : ℕ) (held : Bool) → ((u : ℕ) → w ≡ free_word u → (v ≡ u) × (held ≡ false)) → held ≡ true →
-    IsHeld w
+    SaysHeld w
 says_held w v held free h =
     elim (parity w) [ inl even ↦ opposite held h (free (w / 2) even).1 | inr odd ↦ odd ]
 

@@ -13,10 +13,10 @@ use Rattle.stm_attempt.specs.Begun.{HasReadWord}
 use Rattle.stm_attempt.specs.Conflicts.{IsReadConflict}
 
 -- the clock is at the last version, as far as the answer tells
-abbrev pub IsSpent : Stop → Type 0
-IsSpent Memory = ⊥
-IsSpent (Conflicting conflict) = ⊥
-IsSpent (Spent version) = Unit {0}
+abbrev pub IsSpentStop : Stop → Type 0
+IsSpentStop Memory = ⊥
+IsSpentStop (Conflicting conflict) = ⊥
+IsSpentStop (Spent version) = Unit {0}
 
 -- a read showed a conflict, which the attempt keeps, and read nothing
 abbrev pub HasMetOne : (ℕ → ℕ) → ℕ → Client → Client → Option Conflict → Type 0

@@ -9,7 +9,7 @@ use Rattle.stm_logs.specs.Log.{LogValue, empty_log, log_pairs}
 use Rattle.stm_region.specs.Shown.{ClientShown}
 use Rattle.stm_core.specs.Guards.{stripe_of}
 use Rattle.stm_attempt.specs.Meaning.{memory_of, Origin, origin_of}
-use Rattle.stm_attempt.specs.Conflicts.{refused, most_steps}
+use Rattle.stm_attempt.specs.Conflicts.{reads_refused, most_steps}
 use Rattle.stm_attempt.specs.Answers.{HasReadRegion, HasWritten}
 use Rattle.stm_attempt.specs.Committing.{HasCommitted, HasStopped, commit_record}
 use Rattle.stm_attempt.specs.declared.attempt.Attempt.{Attempt}
@@ -84,7 +84,8 @@ module _ {L R A : Type 0} {l : Law.Ghosts L} where
   -- how many steps it takes at most
   abbrev pub step_bound : Attempt L R A l → ℕ
   step_bound s =
-      most_steps (length (client_of s).attempt.reads + refused s.stopped) (len (log_of s).words)
+      most_steps (length (client_of s).attempt.reads + reads_refused s.stopped)
+      (len (log_of s).words)
 
 -- the client that an attempt leaves where it ends
 abbrev pub client_left : {B C : Type 0} → B × (MutBor ClientShown × C) → ClientShown

@@ -7,7 +7,7 @@ use Rattle.stm_core.specs.Event.{forgetting}
 use Rattle.stm_logs.specs.Log.{LogValue}
 use Rattle.stm_region.specs.Shown.{RegionShown}
 use Rattle.stm_core.specs.Guards.{stripe_of}
-use Rattle.stm_attempt.specs.Conflicts.{HasMet, refused}
+use Rattle.stm_attempt.specs.Conflicts.{HasMet, reads_refused}
 use Rattle.stm_attempt.specs.declared.conflict.Conflict.{Conflict}
 
 -- the client's value without what a read changes
@@ -91,4 +91,4 @@ pub record IsRunning (region : RegionShown) (v : Client) (rv : ℕ)
   pub shown : HasMet (stripe_of region.stripes) stopped v
   pub quiet : stopped ≡ None → IsQuiet v
   pub lone : IsUnstopped v stopped
-  pub steps : v.attempt.steps ≤ 1 + 3 * (length v.attempt.reads + refused stopped)
+  pub steps : v.attempt.steps ≤ 1 + 3 * (length v.attempt.reads + reads_refused stopped)

@@ -77,8 +77,8 @@ pub record HasTakenAll (v v' : Client) (log : LogValue) (taken : ℕ) : Type 0 w
   pub steps : v'.attempt.steps ≡ v.attempt.steps + 2 * taken
 
 -- it may give back what it holds
-abbrev pub CanGiveBack : Client → Type 0
-CanGiveBack v = (v.is_gathered ≡ false) × ((v.attempt.phase ≡ running) ⊎ (v.attempt.phase ≡ ending))
+abbrev pub MayGiveBack : Client → Type 0
+MayGiveBack v = (v.is_gathered ≡ false) × ((v.attempt.phase ≡ running) ⊎ (v.attempt.phase ≡ ending))
 
 -- a step of a commit failed: the locks are held as before
 pub record HasFailed (v v' : Client) : Type 0 where
@@ -86,7 +86,7 @@ pub record HasFailed (v v' : Client) : Type 0 where
   pub records : v'.records ≡ v.records
   pub held : v'.attempt.held ≡ v.attempt.held
   pub floor : v'.floor ≡ v.floor
-  pub able : CanGiveBack v'
+  pub able : MayGiveBack v'
   pub unversioned : v'.attempt.wv ≡ 0
 
 -- a lock could not be taken, after this many that are held
@@ -94,7 +94,7 @@ pub record HasFailedLocking (v v' : Client) (taken : ℕ) : Type 0 where
   pub same : IsSameAttempt v v'
   pub records : v'.records ≡ v.records
   pub floor : v'.floor ≡ v.floor
-  pub able : CanGiveBack v'
+  pub able : MayGiveBack v'
   pub unversioned : v'.attempt.wv ≡ 0
   pub steps : v'.attempt.steps ≤ v.attempt.steps + 2 * taken + 2
 
@@ -127,7 +127,7 @@ pub record IsReturning (v v' : Client) (count left : ℕ) (rest all : List ℕ) 
   pub gone : List ℕ
   pub order : gone ++ rest ≡ all
   pub same : returned v' ≡ returned v
-  pub able : CanGiveBack v'
+  pub able : MayGiveBack v'
   pub held : addresses v'.attempt.held ≡ take left rest
   pub few : left ≤ length rest
   pub gave_back : left < count → v'.attempt.gave_back ≡ true
@@ -175,7 +175,7 @@ pub record HasFailedValidating (v v' : Client) : Type 0 where
   pub records : v'.records ≡ v.records
   pub held : v'.attempt.held ≡ v.attempt.held
   pub floor : v'.floor ≡ v.floor
-  pub able : CanGiveBack v'
+  pub able : MayGiveBack v'
   pub steps : v'.attempt.steps ≤ v.attempt.steps + length v.attempt.reads
 
 -- every written value is stored
@@ -217,7 +217,7 @@ pub record HasFailedDeciding (region : RegionShown) (log : LogValue) (stop : Sto
   pub records : v'.records ≡ v.records
   pub held : v'.attempt.held ≡ v.attempt.held
   pub floor : v.floor ≤ v'.floor
-  pub able : CanGiveBack v'
+  pub able : MayGiveBack v'
   pub shown : IsCommitStop region log stop v'
   pub counted : IsCounted stop v.attempt.steps v'
   pub steps : v'.attempt.steps ≤ v.attempt.steps + length v.attempt.reads + MOST_TICKS

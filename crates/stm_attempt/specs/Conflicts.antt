@@ -11,8 +11,8 @@ use Rattle.stm_attempt.specs.declared.conflict.Conflict.{Conflict}
 use Rattle.stm_attempt.specs.declared.conflict.Conflict.TheVariants.{Held, Newer, Moved, LostLock, LostTick}
 
 -- a lock word that says held
-abbrev pub IsHeld : ℕ → Type 0
-IsHeld word = word ≡ held_word (version_of word)
+abbrev pub SaysHeld : ℕ → Type 0
+SaysHeld word = word ≡ held_word (version_of word)
 
 -- a conflict of a read at an address: the probe of its lock found it held, and not by the client
 -- itself, or free with a version above the read version; or the check found another word
@@ -20,7 +20,7 @@ IsHeld word = word ≡ held_word (version_of word)
 -- alone.
 abbrev pub IsReadConflict : (ℕ → ℕ) → ℕ → Conflict → Client → Type 0
 IsReadConflict lk address (Held lock word) v =
-    (lock ≡ lk address) × (v.attempt.last ≡ probed lock word) × IsHeld word
+    (lock ≡ lk address) × (v.attempt.last ≡ probed lock word) × SaysHeld word
     × (v.attempt.mine ≡ false)
 IsReadConflict lk address (Newer lock version rv) v =
     (lock ≡ lk address) × (v.attempt.last ≡ probed lock (free_word version))
@@ -34,7 +34,7 @@ IsReadConflict lk address (LostTick found) v = ⊥
 -- by the client itself, or the exchange lost
 abbrev pub IsLockConflict : ℕ → Conflict → Client → Type 0
 IsLockConflict wanted (Held lock word) v =
-    (lock ≡ wanted) × (v.attempt.last ≡ probed lock word) × IsHeld word × (v.attempt.mine ≡ false)
+    (lock ≡ wanted) × (v.attempt.last ≡ probed lock word) × SaysHeld word × (v.attempt.mine ≡ false)
 IsLockConflict wanted (Newer lock version rv) v = ⊥
 IsLockConflict wanted (Moved lock first second) v = ⊥
 IsLockConflict wanted (LostLock lock found) v =
@@ -45,7 +45,7 @@ IsLockConflict wanted (LostTick found) v = ⊥
 -- the client's own, with a version above the read version
 abbrev pub IsValidateConflict : ℕ → Conflict → Client → Type 0
 IsValidateConflict wanted (Held lock word) v =
-    (lock ≡ wanted) × (v.attempt.last ≡ validated lock word) × IsHeld word
+    (lock ≡ wanted) × (v.attempt.last ≡ validated lock word) × SaysHeld word
     × (v.attempt.mine ≡ false)
 IsValidateConflict wanted (Newer lock version rv) v =
     (lock ≡ wanted) × ((word : ℕ) × (v.attempt.last ≡ validated lock word) ×
@@ -88,9 +88,9 @@ HasMet lk stopped v = (conflict : Conflict) → stopped ≡ Some conflict →
     ∥ ((address : ℕ) × IsReadConflict lk address conflict v) ∥₁
 
 -- how many reads a conflict ended: one, where there is one
-abbrev pub refused : Option Conflict → ℕ
-refused None = 0
-refused (Some conflict) = 1
+abbrev pub reads_refused : Option Conflict → ℕ
+reads_refused None = 0
+reads_refused (Some conflict) = 1
 
 -- how many steps an attempt takes at most, by the number of reads that its write log did not serve,
 -- and the number of words to write

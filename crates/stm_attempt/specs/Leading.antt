@@ -16,8 +16,8 @@ abbrev pub Property : Type 1
 Property = (ℕ → ℕ) → ℕ → Type 0
 
 -- an image as a function from an address to its word
-abbrev pub words_of : List ℕ → ℕ → ℕ
-words_of image address = slice_index image address
+abbrev pub image_as_memory : List ℕ → ℕ → ℕ
+image_as_memory image address = slice_index image address
 
 -- whether it holds rests on these words alone
 abbrev pub IsLocal : Property → Type 0
@@ -30,10 +30,11 @@ Carries P Q s s' = (image : List ℕ) → Sees s' image →
 
 -- every fitting image with P that agrees with the reads is one with Q where the writes are laid
 -- over it
-abbrev pub Leads : (fits : List ℕ → Type 0) (P Q : Property) (reads writes : List (ℕ × ℕ)) → Type 0
-Leads fits P Q reads writes = (image : List ℕ) → fits image → Agrees image reads →
-    P (words_of image) (length image) →
-    Q (words_of (laid image writes)) (length (laid image writes))
+abbrev pub LeadsFitting : (fits : List ℕ → Type 0) (P Q : Property) (reads writes : List (ℕ × ℕ))
+    → Type 0
+LeadsFitting fits P Q reads writes = (image : List ℕ) → fits image → Agrees image reads →
+    P (image_as_memory image) (length image) →
+    Q (image_as_memory (laid image writes)) (length (laid image writes))
 
 -- a transaction that began with nothing written, and carries P to Q, makes a record that leads
 -- from P to Q
@@ -44,7 +45,7 @@ RecordsLead fits P Q =
     origin_of in_use' region' name' logs' c' ≡ origin_of in_use region name logs c →
     Carries P Q (memory_of in_use region fits c.value w)
     (memory_of in_use' region' fits c'.value w') →
-    Leads fits P Q c'.value.attempt.reads (log_pairs w')
+    LeadsFitting fits P Q c'.value.attempt.reads (log_pairs w')
 
 -- a transaction that only reads, and carries P to Q, makes a record that leads from P to Q
 abbrev pub ReadingsLead : (fits : List ℕ → Type 0) (P Q : Property) → Type 0
@@ -54,10 +55,10 @@ ReadingsLead fits P Q =
     origin_of running' region' name' 0 c' ≡ origin_of running region name 0 c →
     Carries P Q (memory_of running region fits c.value empty_log)
     (memory_of running' region' fits c'.value empty_log) →
-    Leads fits P Q c'.value.attempt.reads []
+    LeadsFitting fits P Q c'.value.attempt.reads []
 
 -- they are the words of a fitting image
-pub record IsFitting (fits : List ℕ → Type 0) (m : ℕ → ℕ) (n : ℕ) : Type 0 where
+pub record AreFittingWords (fits : List ℕ → Type 0) (m : ℕ → ℕ) (n : ℕ) : Type 0 where
   pub image : List ℕ
   pub fitting : fits image
   pub length_is : length image ≡ n
@@ -86,16 +87,16 @@ nothing_logged =
 module _ (fits : List ℕ → Type 0) (P Q : Property) (local_p : IsLocal P) (local_q : IsLocal Q) where
   leads_on : (region region' : RegionShown) (v v' : Client) (w w' : LogValue) → w ≡ empty_log →
       Carries P Q (memory_of true region fits v w) (memory_of true region' fits v' w') →
-      Leads fits P Q v'.attempt.reads (log_pairs w')
+      LeadsFitting fits P Q v'.attempt.reads (log_pairs w')
   leads_on region region' v v' w w' e carries image f agrees p =
       let seen : Sees (memory_of true region' fits v' w') image =
       record { fits = f; agrees = agrees-map_of image v'.attempt.reads agrees } in
       let before : P (memory image w.words) (length image) =
-      local_p (words_of image) (memory image w.words) (length image)
+      local_p (image_as_memory image) (memory image w.words) (length image)
       (λ a less. rw e (unwritten image a)) p in
       let after : Q (memory image w'.words) (length image) = carries image seen before in
       let long = length-laid image (log_pairs w') in
-      rw long (local_q (memory image w'.words) (words_of (laid image (log_pairs w')))
+      rw long (local_q (memory image w'.words) (image_as_memory (laid image (log_pairs w')))
       (length image) (λ a less. laid-entries w'.words image a less) after)
 
   -- every record leads from P to Q where its transaction carries P to Q
@@ -110,6 +111,6 @@ module _ (fits : List ℕ → Type 0) (P Q : Property) (local_p : IsLocal P) (lo
   -- every reader's record leads from P to Q where its transaction carries P to Q
   pub readings_lead : ReadingsLead fits P Q
   readings_lead running running' region region' name name' c c' runs origin carries =
-      subst (λ (ps : List (ℕ × ℕ)). Leads fits P Q c'.value.attempt.reads ps) nothing_logged
+      subst (λ (ps : List (ℕ × ℕ)). LeadsFitting fits P Q c'.value.attempt.reads ps) nothing_logged
       (records_lead running running' region region' name name' 0 0 c c' empty_log empty_log runs
       refl origin carries)

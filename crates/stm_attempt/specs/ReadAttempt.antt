@@ -7,7 +7,7 @@ use Rattle.stm_logs.specs.Log.{empty_log}
 use Rattle.stm_core.specs.Guards.{stripe_of}
 use Rattle.stm_attempt.specs.Begun.{is_unfinished}
 use Rattle.stm_attempt.specs.Meaning.{memory_of, Origin, origin_of}
-use Rattle.stm_attempt.specs.Conflicts.{refused, most_steps}
+use Rattle.stm_attempt.specs.Conflicts.{reads_refused, most_steps}
 use Rattle.stm_attempt.specs.Answers.{HasReadOnly}
 use Rattle.stm_attempt.specs.declared.conflict.Stopped.{Stopped}
 use Rattle.stm_attempt.specs.declared.read_attempt.ReadAttempt.{ReadAttempt}
@@ -44,4 +44,4 @@ module _ {L R : Type 0} {l : Law.Ghosts L} where
 
   -- how many steps it takes at most
   abbrev pub step_bound : ReadAttempt L R l → ℕ
-  step_bound s = most_steps (length (client_of s).attempt.reads + refused s.stopped) 0
+  step_bound s = most_steps (length (client_of s).attempt.reads + reads_refused s.stopped) 0

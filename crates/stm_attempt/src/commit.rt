@@ -6,7 +6,7 @@ ghost use Rattle.stm_core.specs.Core.{IsFreeHanded};
 ghost use Rattle.stm_logs.specs.Log.{SameAddresses, log_pairs, log_locks};
 ghost use Rattle.stm_attempt.specs.Begun.{AreInside, IsPlaced, IsRunning, addresses};
 ghost use Rattle.stm_attempt.specs.Conflicts.{HasMet};
-ghost use Rattle.stm_attempt.specs.Answers.{IsSpent};
+ghost use Rattle.stm_attempt.specs.Answers.{IsSpentStop};
 ghost use Rattle.stm_attempt.specs.Committing.{HasWonLock, HasCommitted, HasStopped, DecidesWith, WasDecided};
 ghost use Rattle.stm_attempt.specs.Committing.{commit_record, ticked_record};
 ghost use Rattle.stm_attempt.specs.Attempt.{AreEmpty};
@@ -59,7 +59,7 @@ fn decide<L: Law, R: Allocator, A: Allocator + Copy, T: Tag, G: Gate>(
     ensures decides { IfOk result (λ version. DecidesWith L.fits L.lawful region.now
         (ticked_record region.now (T.numbers tag.now) client.old.value
         (log_pairs logs.now.writes) version) client.new.value) }
-    ensures lone { client.old.value.attempt.lone ≡ true → IfErr result (λ stop. IsSpent stop) }
+    ensures lone { client.old.value.attempt.lone ≡ true → IfErr result (λ stop. IsSpentStop stop) }
     ensures next { client.old.value.attempt.lone ≡ true →
         MatchResult result (λ version. version ≡ rv + 1) (λ _. rv ≡ region.now.last) }
     ensures failed { IfErr result (λ stop. HasFailedDeciding region.now logs.now.writes stop
@@ -117,7 +117,7 @@ fn commit_writes<L: Law, R: Allocator, A: Allocator + Copy, T: Tag, G: Gate>(
     ensures decides { IfOk result (λ version. WasDecided L.fits L.lawful region.now
         (commit_record region.now (T.numbers tag.now) client.old.value
         (log_pairs logs.now.writes) version) client.new.value) }
-    ensures lone { client.old.value.attempt.lone ≡ true → IfErr result (λ stop. IsSpent stop) }
+    ensures lone { client.old.value.attempt.lone ≡ true → IfErr result (λ stop. IsSpentStop stop) }
     ensures next { client.old.value.attempt.lone ≡ true →
         MatchResult result (λ version. version ≡ rv + 1) (λ _. rv ≡ region.now.last) }
     ensures stopped { IfErr result (λ stop. HasStopped region.now logs.now.writes stop
@@ -170,7 +170,7 @@ fn end<L: Law, R: Allocator, A: Allocator + Copy, T: Tag, G: Gate>(
         (log_pairs logs.old.writes) version) client.new.value) }
     ensures refused { stopped ≡ None → IfErr result (λ stop.
         HasStopped region.now logs.old.writes stop client.old.value client.new.value) }
-    ensures lone { client.old.value.attempt.lone ≡ true → IfErr result (λ stop. IsSpent stop) }
+    ensures lone { client.old.value.attempt.lone ≡ true → IfErr result (λ stop. IsSpentStop stop) }
     ensures next { client.old.value.attempt.lone ≡ true →
         MatchResult result (λ version. version ≤ rv + 1) (λ _. rv ≡ region.now.last) }
     ensures logs { IfErr result (λ _. AreEmpty logs.new) }
@@ -216,7 +216,7 @@ impl<'a, L: Law, R: Allocator, A: Allocator + Copy> Attempt<'a, L, R, A> {
             (client_left self.exit ≡ self.entry.client.now) }
         ensures met { HasMet (lock_of self.entry) self.entry.stopped (value_left self.exit) }
         ensures lone { (client_of self.entry).attempt.lone ≡ true
-            → IfErr result (λ stop. IsSpent stop) }
+            → IfErr result (λ stop. IsSpentStop stop) }
         ensures next { (client_of self.entry).attempt.lone ≡ true → MatchResult result
             (λ version. version ≤ (client_of self.entry).attempt.rv + 1)
             (λ _. (client_of self.entry).attempt.rv ≡ self.entry.region.now.last) }

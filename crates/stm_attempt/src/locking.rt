@@ -4,7 +4,7 @@ ghost use Rattle.stm_logs.specs.Log.{log_locks};
 ghost use Rattle.stm_core.specs.Guards.{stripe_of};
 ghost use Rattle.stm_attempt.specs.Begun.{IsPlaced, addresses};
 ghost use Rattle.stm_attempt.specs.Conflicts.{IsLockConflict, IsCommitConflict};
-ghost use Rattle.stm_attempt.specs.CommitParts.{returned, IsAbove, CanLock, HasTaken, HasTakenAll, CanGiveBack, HasFailed, HasFailedLocking};
+ghost use Rattle.stm_attempt.specs.CommitParts.{returned, IsAbove, CanLock, HasTaken, HasTakenAll, MayGiveBack, HasFailed, HasFailedLocking};
 
 use crate::conflict::Conflict;
 use crate::reading::free_version;
@@ -83,7 +83,7 @@ pub(crate) fn give_back_first<L: Law, R: Allocator, A: Allocator + Copy>(
     count: usize,
 )
     requires own { client.old.table ≡ region.now.table }
-    requires able { CanGiveBack client.old.value }
+    requires able { MayGiveBack client.old.value }
     requires held { addresses client.old.value.attempt.held ≡ take count (log_locks writes.now) }
     requires few { count ≤ length (log_locks writes.now) }
     requires placed { IsPlaced region.now writes.now }

@@ -5,7 +5,7 @@ ghost use Rattle.stm_core.specs.Client.{running};
 ghost use Rattle.stm_core.specs.Guards.{stripe_of};
 ghost use Rattle.stm_region.specs.Findings.{StandsOn};
 ghost use Rattle.stm_attempt.specs.Begun.{still, IsBegun, HasReadWord, is_unfinished};
-ghost use Rattle.stm_attempt.specs.Conflicts.{IsHeld, IsReadConflict};
+ghost use Rattle.stm_attempt.specs.Conflicts.{SaysHeld, IsReadConflict};
 ghost use Rattle.stm_attempt.specs.declared.conflict.Conflict.TheVariants.{Newer};
 
 use crate::conflict::Conflict;
@@ -19,7 +19,7 @@ use tx_memory::Addr;
 pub(crate) fn free_version(word: u64) -> Option<Version>
     requires { word < 2 ^ 63 }
     ensures free { IfSome result (λ v. word ≡ free_word v) }
-    ensures held { IfNone result (IsHeld word) }
+    ensures held { IfNone result (SaysHeld word) }
 {
     let (version, held) = LockWord::decode(word);
     if held { None } else { Some(version) }

@@ -2,7 +2,7 @@
 //! nothing.
 
 ghost use Rattle.std.specs.Prelude.{ℕ, List};
-ghost use Rattle.stm_attempt.specs.Leading.{IsFitting, KeepsFitting, Leads, ReadingsLead, RecordsLead};
+ghost use Rattle.stm_attempt.specs.Leading.{AreFittingWords, KeepsFitting, LeadsFitting, ReadingsLead, RecordsLead};
 
 use stm_words::Law;
 
@@ -11,9 +11,9 @@ use stm_words::Law;
 /// image where it found some, its record keeps fitting images that agree with its reads. The same
 /// lemmas are there for any property of the words (`specs/Leading.antt`).
 pub fn records_keep_fitting<L: Law>()
-    ensures records { RecordsLead L.fits (IsFitting L.fits) (IsFitting L.fits) }
-    ensures readings { ReadingsLead L.fits (IsFitting L.fits) (IsFitting L.fits) }
+    ensures records { RecordsLead L.fits (AreFittingWords L.fits) (AreFittingWords L.fits) }
+    ensures readings { ReadingsLead L.fits (AreFittingWords L.fits) (AreFittingWords L.fits) }
     ensures keeps { (reads writes : List (ℕ × ℕ)) →
-        Leads L.fits (IsFitting L.fits) (IsFitting L.fits) reads writes →
+        LeadsFitting L.fits (AreFittingWords L.fits) (AreFittingWords L.fits) reads writes →
         KeepsFitting L.fits reads writes }
 {}

@@ -5,7 +5,7 @@ ghost use Rattle.stm_core.specs.declared.limits.TheConstants.{MOST_TICKS};
 ghost use Rattle.stm_core.specs.Guards.{may_write, stripe_of};
 ghost use Rattle.stm_logs.specs.Log.{log_pairs};
 ghost use Rattle.stm_region.specs.Findings.{Decides};
-ghost use Rattle.stm_attempt.specs.Answers.{IsSpent};
+ghost use Rattle.stm_attempt.specs.Answers.{IsSpentStop};
 ghost use Rattle.stm_attempt.specs.Committing.{HasWonLock, IsCommitStop, IsCounted};
 ghost use Rattle.stm_attempt.specs.CommitParts.{IsReady, HasTicked, HasFailed};
 
@@ -43,7 +43,7 @@ pub(crate) fn tick<L: Law, R: Allocator, A: Allocator + Copy, T: Tag>(
     ensures counted { IfErr result (λ stop.
         IsCounted stop client.old.value.attempt.steps client.new.value) }
     ensures lone { client.old.value.attempt.lone ≡ true →
-        MatchResult result (λ _. decided client.new.value ≡ true) (λ stop. IsSpent stop) }
+        MatchResult result (λ _. decided client.new.value ≡ true) (λ stop. IsSpentStop stop) }
     ensures next { client.old.value.attempt.lone ≡ true →
         MatchResult result (λ version. version ≡ rv + 1) (λ _. rv ≡ region.now.last) }
     ensures steps { client.new.value.attempt.steps ≤ client.old.value.attempt.steps + MOST_TICKS }

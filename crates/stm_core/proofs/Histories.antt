@@ -7,7 +7,7 @@ use lib.ListN.{get_elem?}
 use Rattle.std.proofs.lemmas.Bool.Decides.{nat_tests}
 use Rattle.tx_memory.specs.Image.{In, Agrees, laid}
 use Rattle.stm_core.specs.Client.{Record, rank, base, RecordLaw}
-use Rattle.stm_core.specs.Records.{over, value_of, wrote_in}
+use Rattle.stm_core.specs.Records.{value_over, value_of, wrote_in}
 use Rattle.stm_core.specs.History.{Serial, image_after, image_at}
 use Rattle.stm_core.proofs.Lists.{by_bool, clash, nothing_in, not_true}
 use Rattle.stm_core.proofs.Orders.{in_cons}
@@ -19,9 +19,9 @@ over_one m k v a h true e = let same : k ≡ a = grind (arith, nat_tests) in rw 
 over_one m k v a h false e = let other : a ≢ k = grind (arith, nat_tests) in get_or-set_other m k a v 0 other
 
 pub laid_value : (m : List ℕ) (w : List (ℕ × ℕ)) (a : ℕ) → a < length m →
-    slice_index (laid m w) a ≡ over (slice_index m a) w a
+    slice_index (laid m w) a ≡ value_over (slice_index m a) w a
 laid_value m [] a h = refl
-laid_value m (p ∷ ps) a h = laid_value (set m p.0 p.1) ps a (rw length-set h) ∙ ap (λ d. over d ps a)
+laid_value m (p ∷ ps) a h = laid_value (set m p.0 p.1) ps a (rw length-set h) ∙ ap (λ d. value_over d ps a)
     (over_one m p.0 p.1 a h (eqb p.0 a) refl)
 
 pub laid_length : (m : List ℕ) (w : List (ℕ × ℕ)) → length (laid m w) ≡ length m
@@ -98,7 +98,7 @@ module _ (image : List ℕ) (story : List (List (ℕ × ℕ))) where
         let b : slice_index m a ≡ value_of image story (r.version - 1) a =
         just_before a l ∙ ap (λ c. value_of image story (cond c (r.version - 1) r.version) a) t in
         let s : suc (r.version - 1) ≡ r.version = (let z = w.0 in omega arith) in
-        laid_value m r.writes a (rw h.size l) ∙ (ap (λ d. over d r.writes a) b ∙
+        laid_value m r.writes a (rw h.size l) ∙ (ap (λ d. value_over d r.writes a) b ∙
         (sym (value_next story (r.version - 1) r.writes (slice_index image a) a w.1) ∙
         ap (λ k. value_of image story k a) s)))
         (λ t. let e = me.reader t in rw e (just_before a l ∙

@@ -16,7 +16,7 @@ use Rattle.stm_core.specs.Event.{decides_at_once, won, passes, passing, after, g
 use Rattle.stm_core.specs.Event.{counting}
 use Rattle.stm_core.specs.Core.{Core, bounds_of, stepped, divided, gathered}
 use Rattle.stm_core.specs.Version.{At}
-use Rattle.stm_core.specs.Invariant.{Inv, now, Unmoved, IsLone, Lone, GoesOn}
+use Rattle.stm_core.specs.Invariant.{Inv, now, Unmoved, IsLone, Lone, GoesOnAlone}
 use Rattle.stm_core.proofs.Lists.{at_set, at_snoc, clash, nothing_in}
 use Rattle.stm_core.proofs.Facts.{grants_of_two, others_gathered}
 use Rattle.stm_core.proofs.Steps.{by_case, undecided_at, undecided_end}
@@ -201,7 +201,7 @@ module _ (lawful : RecordLaw) (lk : ℕ → ℕ) (c : Core) (h : Inv lawful lk (
     this : IsLone lk c.clock c.locks v
     this = l i v at y
 
-    pub goes_on : GoesOn lawful lk c v
+    pub goes_on : GoesOnAlone lawful lk c v
     goes_on = record {
       probes = λ k. (free_or_mine k, (let q = h.version.versions k in let s = (this.still undecided).1 in omega arith));
       checks = λ a may. let m = can_act lk lawful (bounds_of c) v.attempt (check a) may in let p = m.3 in

@@ -4,7 +4,7 @@ use Rattle.std.proofs.Common.{◌||◌, ◌&&◌, List, [], ◌∷◌, refl, sym
 use Rattle.std.proofs.lemmas.Bool.Decides.{nat_tests}
 use Rattle.tx_memory.specs.Image.{In}
 use Rattle.stm_core.specs.Client.{Record, before, rank, inserted, merged}
-use Rattle.stm_core.specs.Records.{Follows, Ordered}
+use Rattle.stm_core.specs.Records.{MayFollow, Ordered}
 pub use Rattle.stm_core.specs.Merging.{in_cons, in_inserted, in_merged, inserted_in, inserted_old, merged_left}
 pub use Rattle.stm_core.specs.Merging.{merged_right}
 use Rattle.stm_core.proofs.Lists.{nothing_in, not_true, clash, by_bool}
@@ -72,7 +72,7 @@ pub inserted_ordered : (r : Record) (l : List Record) → Ordered l →
 inserted_ordered r [] o f = (λ y i. absurd (nothing_in y i), tt)
 inserted_ordered r (x ∷ xs) o f = go (before r x) refl (inserted_ordered r xs o.1 (λ y i. f y (suc i.0, i.1)))
   where
-    follow : before r x ≡ true → (y : Record) → In y (x ∷ xs) → Follows r y
+    follow : before r x ≡ true → (y : Record) → In y (x ∷ xs) → MayFollow r y
     follow t y i = (
       ⊎_elim (λ e. subst (λ z. before z r ≡ false) e (before_asym r x t)) (λ j. behind r x y t (o.0 y j).0)
           (in_cons x y xs i),
@@ -82,7 +82,7 @@ inserted_ordered r (x ∷ xs) o f = go (before r x) refl (inserted_ordered r xs 
     go : (b : Bool) → before r x ≡ b → Ordered (inserted r xs) → Ordered (cond b (r ∷ x ∷ xs) (x ∷ inserted r xs))
     go true t k = (follow t, o)
     go false t k = (
-      λ y i. ⊎_elim (λ e. subst (λ z. Follows x z) e (t, λ p q. f x (0, refl) p q)) (λ j. o.0 y j)
+      λ y i. ⊎_elim (λ e. subst (λ z. MayFollow x z) e (t, λ p q. f x (0, refl) p q)) (λ j. o.0 y j)
           (in_inserted r xs y i),
       k,
     )

@@ -5,18 +5,18 @@ use mathlib.Core.Option.{some, some-injective, some-ne-none}
 use lib.ListN.{get_elem?}
 use Rattle.std.proofs.lemmas.Bool.Decides.{nat_tests}
 use Rattle.stm_core.specs.Client.{writes_to}
-use Rattle.stm_core.specs.Records.{over, value_in, value_of, wrote_in}
+use Rattle.stm_core.specs.Records.{value_over, value_in, value_of, wrote_in}
 use Rattle.stm_core.proofs.Lists.{clash}
 use Rattle.stm_core.proofs.Deciding.{Decides}
 use Rattle.stm_core.specs.Guards.{is_map}
 
 -- writes that do not name an address leave it
-pub over_else : (w : List (ℕ × ℕ)) (d a : ℕ) → writes_to w a ≡ false → over d w a ≡ d
+pub over_else : (w : List (ℕ × ℕ)) (d a : ℕ) → writes_to w a ≡ false → value_over d w a ≡ d
 over_else [] d a e = refl
 over_else (p ∷ ps) d a e = go (eqb p.0 a) refl (λ h. over_else ps d a h)
   where
-    go : (b : Bool) → eqb p.0 a ≡ b → (writes_to ps a ≡ false → over d ps a ≡ d) →
-        over (cond (eqb p.0 a) p.1 d) ps a ≡ d
+    go : (b : Bool) → eqb p.0 a ≡ b → (writes_to ps a ≡ false → value_over d ps a ≡ d) →
+        value_over (cond (eqb p.0 a) p.1 d) ps a ≡ d
     go true h k = clash refl (sym (ap (λ c. c || writes_to ps a) h) ∙ e)
     go false h k = rw h (k (sym (ap (λ c. c || writes_to ps a) h) ∙ e))
 
@@ -33,11 +33,11 @@ pub steady : (ws : List (List (ℕ × ℕ))) (d a v w : ℕ) → v ≤ w → ((u
 steady [] d a v w l q = refl
 steady (x ∷ xs) d a zero zero l q = refl
 steady (x ∷ xs) d a zero (suc w) l q =
-    let first : over d x a ≡ d = over_else x d a (q 1 (omega arith) (omega arith)) in
+    let first : value_over d x a ≡ d = over_else x d a (q 1 (omega arith) (omega arith)) in
     rw first (sym (at_zero xs d a) ∙ steady xs d a 0 w zero-le
     (λ u p r. sym (next x xs u a p) ∙ q (suc u) (omega arith) (omega arith)))
 steady (x ∷ xs) d a (suc v) zero l q = absurd (omega arith)
-steady (x ∷ xs) d a (suc v) (suc w) l q = steady xs (over d x a) a v w (omega arith)
+steady (x ∷ xs) d a (suc v) (suc w) l q = steady xs (value_over d x a) a v w (omega arith)
     (λ u p r. sym (next x xs u a (omega arith)) ∙ q (suc u) (omega arith) (omega arith))
 
 others : (ws : List (List (ℕ × ℕ))) (n : ℕ) (w : List (ℕ × ℕ)) (u a : ℕ) → u ≢ suc n →
@@ -61,7 +61,7 @@ before [] n w d b a l = refl
 before (x ∷ xs) zero w d zero a l = refl
 before (x ∷ xs) zero w d (suc b) a l = absurd (omega arith)
 before (x ∷ xs) (suc n) w d zero a l = refl
-before (x ∷ xs) (suc n) w d (suc b) a l = before xs n w (over d x a) b a (omega arith)
+before (x ∷ xs) (suc n) w d (suc b) a l = before xs n w (value_over d x a) b a (omega arith)
 
 beside : (ws : List (List (ℕ × ℕ))) (n : ℕ) (w : List (ℕ × ℕ)) (d b a : ℕ) → wrote_in ws (suc n) a ≡ false →
     writes_to w a ≡ false → value_in (set ws n w) d b a ≡ value_in ws d b a
@@ -69,7 +69,7 @@ beside [] n w d b a e f = refl
 beside (x ∷ xs) zero w d zero a e f = refl
 beside (x ∷ xs) zero w d (suc b) a e f = ap (λ z. value_in xs z b a) (over_else w d a f ∙ sym (over_else x d a e))
 beside (x ∷ xs) (suc n) w d zero a e f = refl
-beside (x ∷ xs) (suc n) w d (suc b) a e f = beside xs n w (over d x a) b a e f
+beside (x ∷ xs) (suc n) w d (suc b) a e f = beside xs n w (value_over d x a) b a e f
 
 pub is_written : (w : List (ℕ × ℕ)) (a x j : ℕ) → get_elem? w j ≡ some (a, x) → writes_to w a ≡ true
 is_written [] a x j e = absurd (some-ne-none (a, x) (sym e))
@@ -89,7 +89,7 @@ once p ps h = go (writes_to ps p.0) (is_map ps) h
     go true b h = clash h refl
 
 -- the value of a pair, where no address stands twice
-pub over_pair : (w : List (ℕ × ℕ)) (d a x j : ℕ) → is_map w ≡ true → get_elem? w j ≡ some (a, x) → over d w a ≡ x
+pub over_pair : (w : List (ℕ × ℕ)) (d a x j : ℕ) → is_map w ≡ true → get_elem? w j ≡ some (a, x) → value_over d w a ≡ x
 over_pair [] d a x j m e = absurd (some-ne-none (a, x) (sym e))
 over_pair (p ∷ ps) d a x zero m e =
     let same : p.0 ≡ a = ap (λ (q : ℕ × ℕ). q.0) (some-injective p (a, x) e) in
@@ -101,10 +101,10 @@ over_pair (p ∷ ps) d a x (suc j) m e = over_pair ps (cond (eqb p.0 a) p.1 d) a
 
 -- the image of a version is that of the version before with its writes
 pub value_next : (ws : List (List (ℕ × ℕ))) (n : ℕ) (w : List (ℕ × ℕ)) (d a : ℕ) → get_elem? ws n ≡ some w →
-    value_in ws d (suc n) a ≡ over (value_in ws d n a) w a
+    value_in ws d (suc n) a ≡ value_over (value_in ws d n a) w a
 value_next [] n w d a e = absurd (some-ne-none w (sym e))
-value_next (x ∷ xs) zero w d a e = at_zero xs (over d x a) a ∙ ap (λ y. over d y a) (some-injective x w e)
-value_next (x ∷ xs) (suc n) w d a e = value_next xs n w (over d x a) a e
+value_next (x ∷ xs) zero w d a e = at_zero xs (value_over d x a) a ∙ ap (λ y. value_over d y a) (some-injective x w e)
+value_next (x ∷ xs) (suc n) w d a e = value_next xs n w (value_over d x a) a e
 
 pub wrote_at : (ws : List (List (ℕ × ℕ))) (n : ℕ) (w : List (ℕ × ℕ)) (a : ℕ) → get_elem? ws n ≡ some w →
     wrote_in ws (suc n) a ≡ writes_to w a
@@ -150,7 +150,7 @@ pub tick_value : (ws : List (List (ℕ × ℕ))) (d b a : ℕ) → value_in (ws 
 tick_value [] d zero a = refl
 tick_value [] d (suc b) a = refl
 tick_value (w ∷ ws) d zero a = refl
-tick_value (w ∷ ws) d (suc b) a = tick_value ws (over d w a) b a
+tick_value (w ∷ ws) d (suc b) a = tick_value ws (value_over d w a) b a
 
 pub tick_wrote : (ws : List (List (ℕ × ℕ))) (u a : ℕ) → wrote_in (ws ++ [] ∷ []) u a ≡ wrote_in ws u a
 tick_wrote [] zero a = refl

@@ -8,16 +8,16 @@ use Rattle.stm_core.specs.Guards.{stripe_of}
 use Rattle.stm_core.specs.Listed.{decisions, begins}
 
 -- the image on which the worked lists open: 32 words, all of them 0
-abbrev pub zeros : List ℕ
-zeros = replicate 32 0
+abbrev pub zero_words : List ℕ
+zero_words = replicate 32 0
 
 -- the list is allowed from that image on, with 32 lock words and the last version 100
 abbrev pub IsAllowedList : List Event → Type 0
-IsAllowedList events = (c : Core) × Reaches free_law zeros 100 32 events c
+IsAllowedList events = (c : Core) × Reaches free_law zero_words 100 32 events c
 
 -- the records that the events of a list decide from there on
 abbrev pub decided_by : List Event → List Record
-decided_by = decisions (stripe_of 32) (opened zeros 100 32)
+decided_by = decisions (stripe_of 32) (opened zero_words 100 32)
 
 -- client 1 reads word 8, loses a tick to client 2 and wins the next; client 2 commits once more
 -- before client 1 has validated what it read

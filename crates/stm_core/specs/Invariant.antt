@@ -106,7 +106,7 @@ pub record Rule (lawful : RecordLaw) (lk : ℕ → ℕ) (c : Core) : Type 0 wher
   pub past : Past lawful c.first c.opening c.past c.renewal c.clients
 
 -- what a lone attempt that is not decided finds: nothing that could abort it
-pub record GoesOn (lawful : RecordLaw) (lk : ℕ → ℕ) (c : Core) (v : Client) : Type 0 where
+pub record GoesOnAlone (lawful : RecordLaw) (lk : ℕ → ℕ) (c : Core) (v : Client) : Type 0 where
   -- each lock word is free or held by itself, with a version of at most its read version
   pub probes : (k : ℕ)
       → (IsFree (slice_index c.locks k) ⊎ Holds v.attempt.held k)

@@ -9,15 +9,15 @@ use Rattle.stm_core.specs.Guards.{is_map}
 use Rattle.stm_core.specs.Version.{At, IsOpen}
 
 -- the value at a after the pairs, where d was the value before them
-abbrev pub over : ℕ → List (ℕ × ℕ) → ℕ → ℕ
-over d [] a = d
-over d (p ∷ ps) a = over (cond (eqb p.0 a) p.1 d) ps a
+abbrev pub value_over : ℕ → List (ℕ × ℕ) → ℕ → ℕ
+value_over d [] a = d
+value_over d (p ∷ ps) a = value_over (cond (eqb p.0 a) p.1 d) ps a
 
 -- the value at a in the image of a version, where d was the value at the opening
 abbrev pub value_in : List (List (ℕ × ℕ)) → ℕ → ℕ → ℕ → ℕ
 value_in [] d b a = d
 value_in (w ∷ ws) d zero a = d
-value_in (w ∷ ws) d (suc b) a = value_in ws (over d w a) b a
+value_in (w ∷ ws) d (suc b) a = value_in ws (value_over d w a) b a
 
 -- the value at a in the image of version b, where this was the opening image
 abbrev pub value_of : List ℕ → List (List (ℕ × ℕ)) → ℕ → ℕ → ℕ
@@ -31,13 +31,13 @@ wrote_in (w ∷ ws) (suc zero) a = writes_to w a
 wrote_in (w ∷ ws) (suc (suc u)) a = wrote_in ws (suc u) a
 
 -- r may come after x: it is not ordered before x, and is no second writer of its version
-abbrev pub Follows : Record → Record → Type 0
-Follows x r = (before r x ≡ false) × (x.writer ≡ true → r.writer ≡ true → x.version ≢ r.version)
+abbrev pub MayFollow : Record → Record → Type 0
+MayFollow x r = (before r x ≡ false) × (x.writer ≡ true → r.writer ≡ true → x.version ≢ r.version)
 
 -- each record may come after all before it
 abbrev pub Ordered : List Record → Type 0
 Ordered [] = Unit {0}
-Ordered (x ∷ xs) = ((r : Record) → In r xs → Follows x r) × Ordered xs
+Ordered (x ∷ xs) = ((r : Record) → In r xs → MayFollow x r) × Ordered xs
 
 -- each pair's address is an address of the region
 abbrev pub AllInside : ℕ → List (ℕ × ℕ) → Type 0

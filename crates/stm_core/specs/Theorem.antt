@@ -4,7 +4,7 @@ use Rattle.tx_memory.specs.Image.{In, Agrees}
 use Rattle.stm_core.specs.Client.{Client, Record, decided, Phase, running, ending, RecordLaw}
 use Rattle.stm_core.specs.Core.{Core, Event, Leads, opened}
 use Rattle.stm_core.specs.Version.{At}
-use Rattle.stm_core.specs.Invariant.{Rule, GoesOn}
+use Rattle.stm_core.specs.Invariant.{Rule, GoesOnAlone}
 use Rattle.stm_core.specs.History.{Serial, image_after, image_at, Ascending, ByPoint}
 use Rattle.stm_core.specs.Guards.{stripe_of}
 use Rattle.stm_core.specs.Listed.{IsOfList}
@@ -54,7 +54,7 @@ pub record IsSerializable
       → Agrees (image_at c.opening v.attempt.rv present) v.attempt.reads
   -- nothing aborts a lone attempt that is no decided writer
   pub lone : (i : ℕ) (v : Client) → At c.clients i v → v.attempt.lone ≡ true → decided v ≡ false
-      → GoesOn lawful lk c v
+      → GoesOnAlone lawful lk c v
   -- when no lock is held the data words are the newest image
   pub words : ((i : ℕ) (v : Client) → At c.clients i v → v.attempt.held ≡ [])
       → c.cells ≡ image_after start.first (earlier ++ present)

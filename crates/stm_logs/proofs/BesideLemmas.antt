@@ -3,7 +3,7 @@ use Rattle.std.proofs.Common.{◌≡◌, ℕ, zero, suc, ◌<◌, List, [], ◌�
 use Rattle.stm_logs.specs.declared.nodes.Entry.{Entry}
 use Rattle.stm_logs.specs.declared.nodes.Slot.{Slot}
 use Rattle.stm_logs.specs.declared.nodes.TheConstants.{BLANK, FREE}
-use Rattle.stm_logs.specs.Nodes.{Node, Block, at, blank, beside, bare, entry_of, with_entry, with_node}
+use Rattle.stm_logs.specs.Nodes.{Node, Block, at, blank_node, beside, bare, entry_of, with_entry, with_node}
 
 pub len_beside : (es : List Entry) (ss : List Slot) → length es ≡ length ss → length (beside es ss) ≡ length es
 len_beside [] ss e = refl
@@ -92,7 +92,7 @@ slot_put es ss n r b i s more e l is put =
 
 pub blank_beside : (es : List Entry) (ss : List Slot) → length es ≡ length ss → ((k : ℕ) → get_or es k BLANK ≡ BLANK) →
     ((k : ℕ) → get_or ss k FREE ≡ FREE)
-    → (k : ℕ) → at (beside es ss) k ≡ blank
+    → (k : ℕ) → at (beside es ss) k ≡ blank_node
 blank_beside [] ss e x s k = refl
 blank_beside (y ∷ es) [] e x s k = absurd (omega arith)
 blank_beside (y ∷ es) (t ∷ ss) e x s zero =

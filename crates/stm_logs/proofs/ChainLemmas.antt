@@ -9,8 +9,8 @@ use Rattle.std.proofs.lemmas.Bool.{cases_lt}
 use Rattle.stm_logs.specs.declared.nodes.TheConstants.{TOP}
 use Rattle.stm_logs.specs.Nodes.{Node, at}
 use Rattle.stm_logs.specs.Log.{LogValue, empty_log, log_groups, log_pairs, log_locks, is_number, pairs_of}
-use Rattle.stm_logs.specs.Order.{rank_of, rank_in, Least, IsChained, IsBefore, log_value}
-use Rattle.stm_logs.specs.Chain.{Ends, pair_of, goes_on, words_from, locks_from, groups_from}
+use Rattle.stm_logs.specs.Order.{rank_of_number, rank_in, Least, IsChained, IsBefore, log_value}
+use Rattle.stm_logs.specs.Chain.{EndsWithin, pair_of, goes_on, words_from, locks_from, groups_from}
 use Rattle.stm_logs.proofs.NodeLemmas.{same_or}
 use Rattle.stm_logs.proofs.OrderLemmas.{after_node, rank_number}
 use Rattle.stm_logs.proofs.TableLemmas.{both_bool, true_false, get_source}
@@ -20,16 +20,16 @@ use Rattle.stm_logs.proofs.LockLemmas.{locks_rise, locks_in, in_locks}
 use Rattle.stm_logs.proofs.LogLemmas.{eq_zero, not_zero, numbers, values_at, locks_at, get_word, get_lock}
 
 -- ---- ranks and locks
-lock_up : (l k a b : ℕ) → a ≤ TOP → b ≤ TOP → rank_of l a < rank_of k b → l ≤ k
+lock_up : (l k a b : ℕ) → a ≤ TOP → b ≤ TOP → rank_of_number l a < rank_of_number k b → l ≤ k
 lock_up l k a b ma mb less = omega arith
 
-lock_first : (l k a : ℕ) → a ≤ TOP → rank_of l 0 ≤ rank_of k a → l ≤ k
+lock_first : (l k a : ℕ) → a ≤ TOP → rank_of_number l 0 ≤ rank_of_number k a → l ≤ k
 lock_first l k a ma le = omega arith
 
-first_of_lock : (l k a : ℕ) → l ≤ k → rank_of l 0 ≤ rank_of k a
+first_of_lock : (l k a : ℕ) → l ≤ k → rank_of_number l 0 ≤ rank_of_number k a
 first_of_lock l k a le = omega arith
 
-next_lock : (l k a : ℕ) → a ≤ TOP → l < k → rank_of l a + 1 ≤ rank_of k 0
+next_lock : (l k a : ℕ) → a ≤ TOP → l < k → rank_of_number l a + 1 ≤ rank_of_number k 0
 next_lock l k a ma less = omega arith
 
 -- ---- whether a chain goes on with a lock
@@ -127,7 +127,7 @@ module _ (ns : List Node) (n : ℕ) (c : IsChained ns n) (room : n < length ns) 
   behind : (p : ℕ) → 0 < p → p ≤ n → Least ns n (rank_in (at ns p) + 1) (at ns p).next
   behind p z m = subst (λ l. Least ns n l (at ns p).next) (after_node ns p z) (c.next p m)
 
-  ends_from : (most low p : ℕ) → Least ns n low p → above ns low n ≤ most → Ends ns most p
+  ends_from : (most low p : ℕ) → Least ns n low p → above ns low n ≤ most → EndsWithin ns most p
   ends_from zero low p l few = elim (same_or p 0) [
     | inl is ↦ is
     | inr ne ↦ (
@@ -144,7 +144,7 @@ module _ (ns : List Node) (n : ℕ) (c : IsChained ns n) (room : n < length ns) 
             (omega (arith, few, less)),
       ))
 
-  pub ends : (low p : ℕ) → Least ns n low p → Ends ns n p
+  pub ends : (low p : ℕ) → Least ns n low p → EndsWithin ns n p
   ends low p l = ends_from n low p l (above_le ns low n)
 
   -- a node from low on is the least one, or lies behind it
@@ -176,7 +176,7 @@ module _ (ns : List Node) (n : ℕ) (c : IsChained ns n) (room : n < length ns) 
         (x ≡ pair_of (at ns e)))
     complete : (e : ℕ) → 0 < e → e ≤ n → (at ns e).lock ≡ lock → low ≤ rank_in (at ns e) → In (pair_of (at ns e)) xs
 
-  no_words : (lock low p : ℕ) → rank_of lock 0 ≤ low → Least ns n low p → (0 < p → (at ns p).lock ≢ lock) →
+  no_words : (lock low p : ℕ) → rank_of_number lock 0 ≤ low → Least ns n low p → (0 < p → (at ns p).lock ≢ lock) →
       AreWords lock low []
   no_words lock low p from l other = record {
     rising = tt;
@@ -195,7 +195,7 @@ module _ (ns : List Node) (n : ℕ) (c : IsChained ns n) (room : n < length ns) 
         ]));
   }
 
-  words_are : (lock most low p : ℕ) → rank_of lock 0 ≤ low → Least ns n low p → Ends ns most p →
+  words_are : (lock most low p : ℕ) → rank_of_number lock 0 ≤ low → Least ns n low p → EndsWithin ns most p →
       AreWords lock low (words_from ns lock most p)
   words_are lock zero low p from l ends = no_words lock low p from l (λ some. absurd (omega (arith, ends)))
   words_are lock (suc most) low p from l ends = elim (both_bool (goes_on ns lock p)) [
@@ -239,12 +239,12 @@ module _ (ns : List Node) (n : ℕ) (c : IsChained ns n) (room : n < length ns) 
   this_is o lock e = ap (λ p. is_number p lock) e ∙ (let s : nat_eq lock lock ≡ true = grind (arith, nat_tests) in s)
 
   -- the words from the first one of a lock on are the pairs of the lock
-  pub pairs_are : (lock most p : ℕ) → Least ns n (rank_of lock 0) p → Ends ns most p →
+  pub pairs_are : (lock most p : ℕ) → Least ns n (rank_of_number lock 0) p → EndsWithin ns most p →
       words_from ns lock most p ≡ pairs_of (log_value ns n) lock
   pairs_are lock most p l ends =
       let w : LogValue = log_value ns n in
       let test : ℕ × ℕ → Bool = λ x. is_number (get w.locks x.0) lock in
-      let words = words_are lock most (rank_of lock 0) p (omega arith) l ends in
+      let words = words_are lock most (rank_of_number lock 0) p (omega arith) l ends in
       rising_same (λ (x : ℕ × ℕ). x.0) (words_from ns lock most p) (pairs_of w lock) words.rising
       (rising_filter (λ (x : ℕ × ℕ). x.0) test (log_pairs w) (rising_entries w.words))
       (λ x i. (
@@ -300,7 +300,7 @@ module _ (ns : List Node) (n : ℕ) (c : IsChained ns n) (room : n < length ns) 
       ] in
       omega (arith, other, step, on)
 
-  locks_are : (most low p : ℕ) → Least ns n low p → Ends ns most p → AreLocks low (locks_from ns most p)
+  locks_are : (most low p : ℕ) → Least ns n low p → EndsWithin ns most p → AreLocks low (locks_from ns most p)
   locks_are zero low p l ends = no_locks low p ends l
   locks_are (suc most) low p l ends = elim (same_or p 0) [
     | inl none ↦ subst (AreLocks low) (sym (ap (λ b. cond b []
@@ -352,7 +352,8 @@ module _ (ns : List Node) (n : ℕ) (c : IsChained ns n) (room : n < length ns) 
   ]
 
   -- the locks from the first node on are those of the log
-  pub all_locks : (most p : ℕ) → Least ns n 0 p → Ends ns most p → locks_from ns most p ≡ log_locks (log_value ns n)
+  pub all_locks : (most p : ℕ) → Least ns n 0 p → EndsWithin ns most p →
+      locks_from ns most p ≡ log_locks (log_value ns n)
   all_locks most p l ends =
       let w : LogValue = log_value ns n in
       let locks = locks_are most 0 p l ends in
@@ -366,7 +367,7 @@ module _ (ns : List Node) (n : ℕ) (c : IsChained ns n) (room : n < length ns) 
       (locks.complete source.node source.some source.inside (omega arith))))
 
   -- ---- the locks with their words
-  groups_are : (whole start most low p : ℕ) → Least ns n low p → Ends ns most p →
+  groups_are : (whole start most low p : ℕ) → Least ns n low p → EndsWithin ns most p →
       (0 < p → words_from ns (at ns p).lock whole start ≡ pairs_of (log_value ns n) (at ns p).lock)
       → groups_from ns whole start most p ≡ map (λ lock. (lock, pairs_of (log_value ns n) lock)) (locks_from ns most p)
   groups_are whole start zero low p l ends words = refl
@@ -405,13 +406,13 @@ module _ (ns : List Node) (n : ℕ) (c : IsChained ns n) (room : n < length ns) 
       ]
     where
       least_of_lock : (p : ℕ) → 0 < p → p ≤ n → goes_on ns (at ns p).lock (at ns p).next ≡ false → 0 < (at ns p).next →
-          Least ns n (rank_of (at ns ((at ns p).next)).lock 0) (at ns p).next
+          Least ns n (rank_of_number (at ns ((at ns p).next)).lock 0) (at ns p).next
       least_of_lock p some m stops there =
           let q : ℕ = (at ns p).next in
           let old = behind p some m in
           let s = old.some there in
           let up = lock_ends p some m stops q there s.0 s.1 in
-          let low : rank_in (at ns p) + 1 ≤ rank_of (at ns q).lock 0 =
+          let low : rank_in (at ns p) + 1 ≤ rank_of_number (at ns q).lock 0 =
           next_lock (at ns p).lock (at ns q).lock (at ns p).number (c.fits p m) up in
           record {
             none = λ z. absurd (omega arith);
@@ -420,13 +421,13 @@ module _ (ns : List Node) (n : ℕ) (c : IsChained ns n) (room : n < length ns) 
           }
 
   -- the locks with their words from the first node on are those of the log
-  pub all_groups : (most p : ℕ) → Least ns n 0 p → Ends ns most p →
+  pub all_groups : (most p : ℕ) → Least ns n 0 p → EndsWithin ns most p →
       groups_from ns most p most p ≡ log_groups (log_value ns n)
   all_groups most p l ends =
       groups_are most p most 0 p l ends (λ some. pairs_are (at ns p).lock most p (first_lock p l some) ends)
       ∙ ap (map (λ lock. (lock, pairs_of (log_value ns n) lock))) (all_locks most p l ends)
     where
-      first_lock : (p : ℕ) → Least ns n 0 p → 0 < p → Least ns n (rank_of (at ns p).lock 0) p
+      first_lock : (p : ℕ) → Least ns n 0 p → 0 < p → Least ns n (rank_of_number (at ns p).lock 0) p
       first_lock p l some = record {
         none = λ z. absurd (omega arith);
         some = λ _. ((l.some some).0, first_of_lock (at ns p).lock (at ns p).lock (at ns p).number (omega arith));
@@ -449,17 +450,17 @@ module _ (ns : List Node) (n : ℕ) (c : IsChained ns n) (room : n < length ns) 
   least_first = c.next 0 (omega arith)
 
   -- the first node from a lock on tells whether a word has the lock
-  pub lock_there : (lock p : ℕ) → Least ns n (rank_of lock 0) p → 0 < p → (at ns p).lock ≡ lock →
+  pub lock_there : (lock p : ℕ) → Least ns n (rank_of_number lock 0) p → 0 < p → (at ns p).lock ≡ lock →
       (a : ℕ) × (get (log_value ns n).locks a ≡ Some lock)
   lock_there lock p l some is = ((at ns p).number, get_lock ns n p _ c some (l.some some).0 refl ∙ ap Some is)
 
-  pub there_lock : (lock p a : ℕ) → Least ns n (rank_of lock 0) p → get (log_value ns n).locks a ≡ Some lock →
+  pub there_lock : (lock p a : ℕ) → Least ns n (rank_of_number lock 0) p → get (log_value ns n).locks a ≡ Some lock →
       (0 < p) × ((at ns p).lock ≡ lock)
   there_lock lock p a l is =
       let source = get_source (numbers ns) (locks_at ns) n a lock is in
       let e : ℕ = source.node in
       let lock_is = source.value_is in
-      let f = first_or (rank_of lock 0) p e l source.some source.inside
+      let f = first_or (rank_of_number lock 0) p e l source.some source.inside
       (first_of_lock lock (at ns e).lock (at ns e).number (omega (arith, lock_is))) in
       let s = l.some f.0 in
       let from = s.1 in
@@ -527,15 +528,16 @@ next_some None xs ys zs n h e l = let few = drop_none zs n (sym e ∙ h.0) in ab
 next_some (Some x) xs ys zs n h e l = ap Some (sym (drop_more zs ys n x (sym e ∙ h)).1)
 
 -- ---- one step along a chain
-pub step_inside : (ns : List Node) (most p : ℕ) → 0 < p → Ends ns most p →
-    (0 < most) × (p < length ns) × Ends ns (most - 1) (at ns p).next
+pub step_inside : (ns : List Node) (most p : ℕ) → 0 < p → EndsWithin ns most p →
+    (0 < most) × (p < length ns) × EndsWithin ns (most - 1) (at ns p).next
 step_inside ns zero p some ends = absurd (omega (arith, ends))
 step_inside ns (suc most) p some ends =
     let up : suc most - 1 ≡ most = omega arith in
-    (omega arith, (ends some).0, subst (λ k. Ends ns k (at ns p).next) (sym up) (ends some).1)
+    (omega arith, (ends some).0, subst (λ k. EndsWithin ns k (at ns p).next) (sym up) (ends some).1)
 
 -- the same lock goes on
-pub step_on : (ns : List Node) (most p : ℕ) → 0 < p → Ends ns most p → goes_on ns (at ns p).lock (at ns p).next ≡ true
+pub step_on : (ns : List Node) (most p : ℕ) → 0 < p → EndsWithin ns most p →
+    goes_on ns (at ns p).lock (at ns p).next ≡ true
     → (locks_from ns most p ≡ locks_from ns (most - 1) (at ns p).next)
     × ((whole first : ℕ) → groups_from ns whole first most p ≡ groups_from ns whole first (most - 1) (at ns p).next)
 step_on ns zero p some ends goes = absurd (omega (arith, ends))
@@ -556,7 +558,7 @@ step_on ns (suc most) p some ends goes =
     )
 
 -- another lock follows, or none
-pub step_last : (ns : List Node) (most p : ℕ) → 0 < p → Ends ns most p →
+pub step_last : (ns : List Node) (most p : ℕ) → 0 < p → EndsWithin ns most p →
     goes_on ns (at ns p).lock (at ns p).next ≡ false
     → (locks_from ns most p ≡ (at ns p).lock ∷ locks_from ns (most - 1) (at ns p).next)
     × ((whole first : ℕ) → groups_from ns whole first most p ≡ (
@@ -582,14 +584,16 @@ step_last ns (suc most) p some ends stops =
     )
 
 -- a node that leads on lies in the block
-pub next_inside : (ns : List Node) (left here next : ℕ) → 0 < here → Ends ns left here → next ≡ (at ns here).next →
+pub next_inside : (ns : List Node) (left here next : ℕ) → 0 < here → EndsWithin ns left here →
+    next ≡ (at ns here).next →
     0 < next → next < length ns
 next_inside ns left here next some ends is more =
-    let rest : Ends ns (left - 1) next = subst (Ends ns (left - 1)) (sym is) (step_inside ns left here some ends).2 in
+    let rest : EndsWithin ns (left - 1) next = subst (EndsWithin ns (left - 1)) (sym is)
+    (step_inside ns left here some ends).2 in
     (step_inside ns (left - 1) next more rest).1
 
 -- the locks behind the last node of a lock
-pub locks_past : (ns : List Node) (most start left here lock next : ℕ) (b : Bool) → 0 < here → Ends ns left here →
+pub locks_past : (ns : List Node) (most start left here lock next : ℕ) (b : Bool) → 0 < here → EndsWithin ns left here →
     (at ns here).lock ≡ (at ns start).lock → next ≡ (at ns here).next
     → lock ≡ (at ns start).lock → b ≡ goes_on ns lock next → b ≡ false →
     locks_from ns most start ≡ locks_from ns left here

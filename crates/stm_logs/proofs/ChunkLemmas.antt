@@ -6,7 +6,8 @@ use Rattle.std.proofs.lemmas.List.{append-nil, get_or-append_right, get_or-set_o
 use Rattle.std.proofs.lemmas.List.{length-take-le, take_more_set, take-append-le}
 use Rattle.std.proofs.lemmas.Grind.{get_or-set_at}
 use Rattle.stm_logs.proofs.NodeLemmas.{same_or}
-use Rattle.stm_logs.specs.Chunks.{joined, in_hand, logged, AreWhole, HasRoom, IsLonger, IsRoomier, IsSetAside}
+use Rattle.stm_logs.specs.Chunks.{joined_chunks, in_hand, logged, AreWhole, HasRoomInChunks, IsLonger, IsRoomier}
+use Rattle.stm_logs.specs.Chunks.{IsSetAside}
 
 abbrev AllFull : List (List ℕ) → Type 0
 AllFull cs = (k : ℕ) → k < length cs → length (get_or cs k []) ≡ 1024
@@ -18,29 +19,30 @@ first : (c : List ℕ) (cs : List (List ℕ)) → AllFull (c ∷ cs) → length 
 first c cs full = full 0 (omega arith)
 
 pub length-joined : (cs : List (List ℕ)) → ((k : ℕ) → k < length cs → length (get_or cs k []) ≡ 1024) →
-    length (joined cs) ≡ 1024 * length cs
+    length (joined_chunks cs) ≡ 1024 * length cs
 length-joined [] full = refl
 length-joined (c ∷ cs) full =
     let rest = length-joined cs (behind c cs full) in
     let one = first c cs full in
-    omega (arith, rest, one, length-append c (joined cs))
+    omega (arith, rest, one, length-append c (joined_chunks cs))
 
 pub joined_at : (cs : List (List ℕ)) (q r : ℕ) → AllFull cs → q < length cs → r < 1024 →
-    get_or (joined cs) (1024 * q + r) 0 ≡ get_or (get_or cs q []) r 0
+    get_or (joined_chunks cs) (1024 * q + r) 0 ≡ get_or (get_or cs q []) r 0
 joined_at [] q r full l m = absurd (omega arith)
 joined_at (c ∷ cs) zero r full l m =
     let one = first c cs full in
     let e : 1024 * 0 + r ≡ r = omega arith in
-    rw e (get_or-append c (joined cs) 0 r (omega (arith, one)))
+    rw e (get_or-append c (joined_chunks cs) 0 r (omega (arith, one)))
 joined_at (c ∷ cs) (suc q) r full l m =
     let one = first c cs full in
     let e : 1024 * suc q + r - 1024 ≡ 1024 * q + r = omega arith in
-    get_or-append_right c (joined cs) 1024 (1024 * suc q + r) 0 one (omega arith)
-    ∙ ap (λ k. get_or (joined cs) k 0) e ∙ joined_at cs q r (behind c cs full) (omega arith) m
+    get_or-append_right c (joined_chunks cs) 1024 (1024 * suc q + r) 0 one (omega arith)
+    ∙ ap (λ k. get_or (joined_chunks cs) k 0) e ∙ joined_at cs q r (behind c cs full) (omega arith) m
 
-pub joined-append : (cs ds : List (List ℕ)) → joined (cs ++ ds) ≡ joined cs ++ joined ds
+pub joined-append : (cs ds : List (List ℕ)) → joined_chunks (cs ++ ds) ≡ joined_chunks cs ++ joined_chunks ds
 joined-append [] ds = refl
-joined-append (c ∷ cs) ds = ap (λ ys. c ++ ys) (joined-append cs ds) ∙ sym (append_assoc c (joined cs) (joined ds))
+joined-append (c ∷ cs) ds = ap (λ ys. c ++ ys) (joined-append cs ds) ∙
+    sym (append_assoc c (joined_chunks cs) (joined_chunks ds))
 
 first_whole : (rest : List (List ℕ)) (full : ℕ) → AreWhole rest → full ≤ length rest → AllFull (take full rest)
 first_whole rest full whole few k below =
@@ -49,23 +51,24 @@ first_whole rest full whole few k below =
     ap length (get_or-take full rest k [] under) ∙ whole.each k (omega (arith, under, few))
 
 length-first : (rest : List (List ℕ)) (full : ℕ) → AreWhole rest → full ≤ length rest →
-    length (joined (take full rest)) ≡ 1024 * full
+    length (joined_chunks (take full rest)) ≡ 1024 * full
 length-first rest full whole few =
     length-joined (take full rest) (first_whole rest full whole few) ∙ ap (λ n. 1024 * n) (length-take-le full rest few)
 
-pub length-logged : (rest : List (List ℕ)) (full : ℕ) (hand : Option (List ℕ)) (used : ℕ) → HasRoom rest full hand →
+pub length-logged : (rest : List (List ℕ)) (full : ℕ) (hand : Option (List ℕ)) (used : ℕ) →
+    HasRoomInChunks rest full hand →
     used ≤ length (in_hand hand)
     → length (logged rest full hand used) ≡ 1024 * full + used
 length-logged rest full hand used room few =
     omega (
       arith,
-      length-append (joined (take full rest)) (take used (in_hand hand)),
+      length-append (joined_chunks (take full rest)) (take used (in_hand hand)),
       length-first rest full room.whole room.count,
       length-take-le used (in_hand hand) few,
     )
 
 -- a value of a full chunk
-pub full_at : (rest : List (List ℕ)) (full : ℕ) (hand : Option (List ℕ)) (used i : ℕ) → HasRoom rest full hand →
+pub full_at : (rest : List (List ℕ)) (full : ℕ) (hand : Option (List ℕ)) (used i : ℕ) → HasRoomInChunks rest full hand →
     i / 1024 < full
     → get_or (get_or rest (i / 1024) []) (i % 1024) 0 ≡ get_or (logged rest full hand used) i 0
 full_at rest full hand used i room below =
@@ -75,11 +78,11 @@ full_at rest full hand used i room below =
     ap (λ (c : List ℕ). get_or c (i % 1024) 0) (sym (get_or-take full rest (i / 1024) [] below))
     ∙ sym (joined_at (take full rest) (i / 1024) (i % 1024) (first_whole rest full room.whole room.count) few
     (omega arith))
-    ∙ ap (λ k. get_or (joined (take full rest)) k 0) e
-    ∙ sym (get_or-append (joined (take full rest)) (take used (in_hand hand)) 0 i (omega (arith, len, below)))
+    ∙ ap (λ k. get_or (joined_chunks (take full rest)) k 0) e
+    ∙ sym (get_or-append (joined_chunks (take full rest)) (take used (in_hand hand)) 0 i (omega (arith, len, below)))
 
 -- a value of the chunk at hand
-pub hand_at : (rest : List (List ℕ)) (full : ℕ) (hand : Option (List ℕ)) (used i : ℕ) → HasRoom rest full hand
+pub hand_at : (rest : List (List ℕ)) (full : ℕ) (hand : Option (List ℕ)) (used i : ℕ) → HasRoomInChunks rest full hand
     → used ≤ length (in_hand hand) → length (in_hand hand) ≤ 1024 → full ≤ i / 1024 →
     i < length (logged rest full hand used)
     → get_or (in_hand hand) (i % 1024) 0 ≡ get_or (logged rest full hand used) i 0
@@ -90,7 +93,7 @@ hand_at rest full hand used i room few small over inside =
     let under : i - 1024 * full < used = omega (arith, below, over) in
     ap (λ k. get_or (in_hand hand) k 0) e
     ∙ sym (get_or-take used (in_hand hand) (i - 1024 * full) 0 under)
-    ∙ sym (get_or-append_right (joined (take full rest)) (take used (in_hand hand)) (1024 * full) i 0 len
+    ∙ sym (get_or-append_right (joined_chunks (take full rest)) (take used (in_hand hand)) (1024 * full) i 0 len
     (omega (arith, over)))
 
 set_whole : (chunks : List (List ℕ)) (i : ℕ) (chunk : List ℕ) (k : ℕ) → AreWhole chunks → length chunk ≡ 1024 →
@@ -122,7 +125,7 @@ set_aside rest more full chunk spare roomier places found = record {
   inside = omega (arith, roomier.inside, length-set more full chunk);
   places = ap length found ∙ roomier.whole.each full roomier.inside;
   same =
-      ap joined (take_more_set more full chunk roomier.inside) ∙ joined-append (take full more) (chunk ∷ [])
-      ∙ ap (λ ys. joined (take full more) ++ ys) (append-nil chunk) ∙
-      ap (λ (cs : List (List ℕ)). joined cs ++ chunk) roomier.same;
+      ap joined_chunks (take_more_set more full chunk roomier.inside) ∙ joined-append (take full more) (chunk ∷ [])
+      ∙ ap (λ ys. joined_chunks (take full more) ++ ys) (append-nil chunk) ∙
+      ap (λ (cs : List (List ℕ)). joined_chunks cs ++ chunk) roomier.same;
 }

@@ -1,11 +1,11 @@
 -- The nodes leave the index one after the other.
 use Rattle.std.proofs.Common.{◌≡◌, ◌≢◌, inl, inr, ℕ, ◌+◌, ◌<◌, List, length, set, length-set, refl, sym, ap, ◌∙◌, arith}
 use Rattle.stm_logs.specs.Nodes.{Node, Block, at, with_next}
-use Rattle.stm_logs.specs.Held.{IsReady, IsLog, Cleared}
+use Rattle.stm_logs.specs.Held.{IsIndexedAndChained, IsLog, Cleared}
 use Rattle.stm_logs.proofs.NodeLemmas.{same_or, put_here, put_other, field_kept}
 use Rattle.stm_logs.proofs.LogLemmas.{none_log}
 
-pub cleared_place : (old new : List Node) (n e : ℕ) → IsReady old n → Cleared old new n e → e < n →
+pub cleared_place : (old new : List Node) (n e : ℕ) → IsIndexedAndChained old n → Cleared old new n e → e < n →
     (at new (e + 1)).place < length new
 cleared_place old new n e ready c l = omega (
   arith,

@@ -4,7 +4,8 @@ use Rattle.std.proofs.Common.{refl, sym, ap, ◌∙◌, arith, length-set, subst
 use Rattle.std.proofs.lemmas.Bool.{cases_lt}
 use Rattle.std.proofs.lemmas.Bool.Decides.{nat_tests}
 use Rattle.stm_logs.specs.Nodes.{Node, at}
-use Rattle.stm_logs.specs.Index.{home, Along, IsTaken, IsOther, HasNone, IsFound, taken, IsIndexed, Answers, SameNode}
+use Rattle.stm_logs.specs.Index.{home, Along, IsTaken, IsOther, HasNoNumber, IsFoundNode, places_taken, IsIndexed}
+use Rattle.stm_logs.specs.Index.{Answers, SameNode}
 use Rattle.stm_logs.specs.Index.{Entered}
 use Rattle.stm_logs.specs.Order.{SameKeys}
 use Rattle.stm_logs.proofs.NodeLemmas.{same_or, put_here, put_other, field_kept, taken_put, free_place, none_taken, bit}
@@ -66,7 +67,7 @@ pub record Written (ns ns' : List Node) (n q : ℕ) (y : Node) : Type 0 where
   pub place_other : (j : ℕ) → j ≢ n + 1 → (at ns' j).place ≡ (at ns j).place
   pub others : (e : ℕ) → e ≢ n + 1 → SameNode (at ns e) (at ns' e)
   pub here : SameNode y (at ns' (n + 1))
-  pub count : taken ns' ≡ taken ns + 1
+  pub count : places_taken ns' ≡ places_taken ns + 1
 
 same_home : (a b : Node) (len len' : ℕ) → SameNode a b → len' ≡ len → home b.number len' ≡ home a.number len
 same_home a b len len' s e = ap (λ k. home k len') s.number ∙ ap (λ j. home a.number j) e
@@ -229,7 +230,7 @@ stepped ns n k start place next ix s l on round a here =
 
 -- ---- what is kept where no key, place or slot changes
 taken_same : (ns ns' : List Node) → length ns' ≡ length ns → ((q : ℕ) → (at ns' q).slot ≡ (at ns q).slot) →
-    taken ns' ≡ taken ns
+    places_taken ns' ≡ places_taken ns
 taken_same [] [] l h = refl
 taken_same [] (m ∷ ns') l h = absurd (omega arith)
 taken_same (n ∷ ns) [] l h = absurd (omega arith)
@@ -270,7 +271,7 @@ indexed_none ns some limit free = record {
 }
 
 -- where no node has the number, the index answers with a free place
-pub free_answer : (ns : List Node) (n k q : ℕ) → Answers ns n k q → HasNone ns n k → (at ns q).slot ≡ 0
+pub free_answer : (ns : List Node) (n k q : ℕ) → Answers ns n k q → HasNoNumber ns n k → (at ns q).slot ≡ 0
 free_answer ns n k q an none = elim (same_or (at ns q).slot 0) [
   | inl is ↦ is
   | inr ne ↦ (
@@ -280,6 +281,6 @@ free_answer ns n k q an none = elim (same_or (at ns q).slot 0) [
 ]
 
 -- a taken one leads to the word
-pub found_at : (ns : List Node) (n x a q : ℕ) → Answers ns n a q → x ≡ (at ns q).slot → 0 < x → IsFound ns n a x
+pub found_at : (ns : List Node) (n x a q : ℕ) → Answers ns n a q → x ≡ (at ns q).slot → 0 < x → IsFoundNode ns n a x
 found_at ns n x a q an node some =
-    subst (IsFound ns n a) (sym node) (an.found (omega (arith, some, node)))
+    subst (IsFoundNode ns n a) (sym node) (an.found (omega (arith, some, node)))

@@ -7,11 +7,11 @@ use Rattle.std.proofs.lemmas.Cmp.{nat_cmp_total}
 use Rattle.std.proofs.lemmas.Bool.Decides.{nat_tests}
 use Rattle.tx_memory.specs.View.{Words}
 use Rattle.stm_logs.specs.declared.nodes.TheConstants.{TOP}
-use Rattle.stm_logs.specs.Nodes.{Node, Block, at, bare, blank, entry_of, with_entry, with_next}
+use Rattle.stm_logs.specs.Nodes.{Node, Block, at, bare, blank_node, entry_of, with_entry, with_next}
 use Rattle.stm_logs.specs.Log.{LogValue, empty_log}
-use Rattle.stm_logs.specs.Index.{HasNone, SameNode, IsIndexed, Answers, Entered}
-use Rattle.stm_logs.specs.Order.{IsChained, IsBefore, OnlyFingers, rank_of, rank_in, log_value, block_log}
-use Rattle.stm_logs.specs.Held.{IsReady, IsLog, held_value, with_word, Copied}
+use Rattle.stm_logs.specs.Index.{HasNoNumber, SameNode, IsIndexed, Answers, Entered}
+use Rattle.stm_logs.specs.Order.{IsChained, IsBefore, OnlyFingers, rank_of_number, rank_in, log_value, block_log}
+use Rattle.stm_logs.specs.Held.{IsIndexedAndChained, IsLog, held_value, with_word, Copied}
 use Rattle.stm_logs.proofs.NodeLemmas.{same_or, put_here, put_other, field_kept}
 use Rattle.stm_logs.specs.Index.{home, IsTaken}
 use Rattle.stm_logs.proofs.IndexLemmas.{indexed_kept, indexed_none, along_at, along_map}
@@ -52,13 +52,13 @@ get_lock ns n e a c z m key =
     ap (get (log_value ns n).locks) (sym key) ∙ get_there (numbers ns) (locks_at ns) n e
     (apart ns n (locks_at ns) c) z m
 
-pub no_word : (ns : List Node) (n a : ℕ) → HasNone ns n a → get (log_value ns n).words a ≡ None
+pub no_word : (ns : List Node) (n a : ℕ) → HasNoNumber ns n a → get (log_value ns n).words a ≡ None
 no_word ns n a none = get_none (numbers ns) (values_at ns) n a none
 
-pub no_lock : (ns : List Node) (n a : ℕ) → HasNone ns n a → get (log_value ns n).locks a ≡ None
+pub no_lock : (ns : List Node) (n a : ℕ) → HasNoNumber ns n a → get (log_value ns n).locks a ≡ None
 no_lock ns n a none = get_none (numbers ns) (locks_at ns) n a none
 
-pub has_no_word : (ns : List Node) (n a : ℕ) → IsChained ns n → get (log_value ns n).words a ≡ None → HasNone ns n a
+pub has_no_word : (ns : List Node) (n a : ℕ) → IsChained ns n → get (log_value ns n).words a ≡ None → HasNoNumber ns n a
 has_no_word ns n a c none e z m key = some_none _ (sym (get_word ns n e a c z m key) ∙ none)
 
 -- what a log says of two nodes is the same
@@ -76,10 +76,11 @@ sights_value ns ns' n s = same_log _ _
     (λ e z m. (s e m).lock))
 
 -- ---- a log by its parts
-pub log_of : (b : Block) (ns : List Node) (n r : ℕ) → b.list ≡ ns → b.count ≡ n → b.recent ≡ r → IsReady ns n →
+pub log_of : (b : Block) (ns : List Node) (n r : ℕ) → b.list ≡ ns → b.count ≡ n → b.recent ≡ r →
+    IsIndexedAndChained ns n →
     4 ≤ length ns → r ≤ n → IsLog b
 log_of b ns n r list count recent ready places inside = record {
-  ready = subst (λ xs. IsReady xs b.count) (sym list) (subst (IsReady ns) (sym count) ready);
+  ready = subst (λ xs. IsIndexedAndChained xs b.count) (sym list) (subst (IsIndexedAndChained ns) (sym count) ready);
   places = subst (λ (xs : List Node). 4 ≤ length xs) (sym list) places;
   recent = omega (arith, count, recent, inside);
 }
@@ -88,7 +89,8 @@ log_of b ns n r list count recent ready places inside = record {
 abbrev pub with_value : Node → ℕ → Node
 with_value y v = record y { value = v }
 
-pub replaced_ready : (ns : List Node) (n e v : ℕ) → IsReady ns n → e ≤ n → IsReady (set ns e (with_value (at ns e) v)) n
+pub replaced_ready : (ns : List Node) (n e v : ℕ) → IsIndexedAndChained ns n → e ≤ n →
+    IsIndexedAndChained (set ns e (with_value (at ns e) v)) n
 replaced_ready ns n e v ready m =
     let y : Node = with_value (at ns e) v in
     let new : List Node = set ns e y in
@@ -110,7 +112,7 @@ replaced_ready ns n e v ready m =
     value_indexed ns ns' n len number place slot ix = indexed_kept ns ns' n len
         (λ j. record { number = number j; place = place j; slot = slot j }) ix
 
-pub replaced_value : (ns : List Node) (n e a v : ℕ) → IsReady ns n → 0 < e → e ≤ n → (at ns e).number ≡ a
+pub replaced_value : (ns : List Node) (n e a v : ℕ) → IsIndexedAndChained ns n → 0 < e → e ≤ n → (at ns e).number ≡ a
     → log_value (set ns e (with_value (at ns e) v)) n ≡ record (log_value ns n) {
       words = insert (log_value ns n).words a v;
     }
@@ -130,10 +132,11 @@ replaced_value ns n e a v ready z m key =
 -- ---- a word enters
 -- the node of a word, before it has a place of the index
 abbrev pub entering : ℕ → ℕ → ℕ → ℕ → Node
-entering value number lock next = record blank { value = value; number = number; lock = lock; next = next }
+entering value number lock next = record blank_node { value = value; number = number; lock = lock; next = next }
 
-module _ (ns mid : List Node) (n b a l v : ℕ) (ready : IsReady ns n) (before : IsBefore ns n (rank_of l a) b)
-    (none : HasNone ns n a) (fits : a ≤ TOP)
+module _ (ns mid : List Node) (n b a l v : ℕ) (ready : IsIndexedAndChained ns n)
+    (before : IsBefore ns n (rank_of_number l a) b)
+    (none : HasNoNumber ns n a) (fits : a ≤ TOP)
     (w : Entered ns mid n (entering v a l (at ns b).next)) where
   abbrev y : Node
   y = with_next (at mid b) (n + 1)
@@ -159,8 +162,8 @@ module _ (ns mid : List Node) (n b a l v : ℕ) (ready : IsReady ns n) (before :
   lock_here : (at new (n + 1)).lock ≡ l
   lock_here = lock_kept (n + 1) ∙ w.here.lock
 
-  rank_here : rank_in (at new (n + 1)) ≡ rank_of l a
-  rank_here = ap (λ k. rank_of k (at new (n + 1)).number) lock_here ∙ ap (rank_of l) number_here
+  rank_here : rank_in (at new (n + 1)) ≡ rank_of_number l a
+  rank_here = ap (λ k. rank_of_number k (at new (n + 1)).number) lock_here ∙ ap (rank_of_number l) number_here
 
   other : n + 1 ≢ b
   other e = absurd (omega (arith, before.below.inside))
@@ -173,7 +176,7 @@ module _ (ns mid : List Node) (n b a l v : ℕ) (ready : IsReady ns n) (before :
     here = ap (λ x. x.next) (put_other mid b (n + 1) y other) ∙ w.here.next;
   }
 
-  pub entered_ready : IsReady new (n + 1)
+  pub entered_ready : IsIndexedAndChained new (n + 1)
   entered_ready = record {
     indexed = indexed_kept mid new (n + 1) (length-set mid b y) (λ j. record {
       number = number_kept j;
@@ -217,7 +220,8 @@ none_log ns some limit free number lock next = record {
 }
 
 -- ---- a copy
-pub copied_ready : (old new : List Node) (n : ℕ) → IsReady old n → Copied old new n → IsReady new n
+pub copied_ready : (old new : List Node) (n : ℕ) → IsIndexedAndChained old n → Copied old new n →
+    IsIndexedAndChained new n
 copied_ready old new n ready c = record {
   indexed = c.indexed;
   chained = chain_kept old new n (λ e m. ((c.same e m).number, (c.same e m).lock))
@@ -229,8 +233,8 @@ copied_value old new n c = sights_value old new n (λ e m. let s = c.same e m in
     record { value = s.value; number = s.number; lock = s.lock })
 
 -- the node behind those that were copied has a number of its own
-pub copy_is_new : (old new : List Node) (n e : ℕ) → IsReady old n → e < n → Copied old new e →
-    HasNone new e (at old (e + 1)).number
+pub copy_is_new : (old new : List Node) (n e : ℕ) → IsIndexedAndChained old n → e < n → Copied old new e →
+    HasNoNumber new e (at old (e + 1)).number
 copy_is_new old new n e ready l c i z m key =
     let s = c.same i m in
     absurd (omega (
@@ -279,7 +283,8 @@ copied_start old new some limit free =
     }
 
 -- ---- the fingers alone have changed
-pub fingers_ready : (ns ns' : List Node) (n : ℕ) → OnlyFingers ns ns' → IsReady ns n → IsReady ns' n
+pub fingers_ready : (ns ns' : List Node) (n : ℕ) → OnlyFingers ns ns' → IsIndexedAndChained ns n →
+    IsIndexedAndChained ns' n
 fingers_ready ns ns' n f ready = record {
   indexed = indexed_kept ns ns' n f.len f.same ready.indexed;
   chained = chain_kept ns ns' n (λ e _. ((f.same e).number, f.locks e)) (λ e _. f.nexts e) ready.chained;
@@ -292,7 +297,7 @@ fingers_log b b' f count recent log =
     (omega (arith, f.len, log.places)) log.recent
 
 pub fingers_none : (b b' : Block) (number : ℕ) → OnlyFingers b.list b'.list → b'.count ≡ b.count →
-    HasNone b.list b.count number → HasNone b'.list b'.count number
+    HasNoNumber b.list b.count number → HasNoNumber b'.list b'.count number
 fingers_none b b' number f count none e z m is = none e z (omega (arith, count)) (sym (f.same e).number ∙ is)
 
 pub fingers_answer : (b b' : Block) (number q : ℕ) → OnlyFingers b.list b'.list → b'.count ≡ b.count →

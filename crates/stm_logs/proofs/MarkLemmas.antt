@@ -4,7 +4,7 @@ use Rattle.std.proofs.Common.{length, get_or, set, sym, ap, ◌∙◌, get_or-se
 use Rattle.std.specs.FinMap.{get}
 use Rattle.stm_logs.specs.declared.write.TheConstants.{MARKS}
 use Rattle.stm_logs.specs.Log.{LogValue}
-use Rattle.stm_logs.specs.Held.{IsMarked, with_word}
+use Rattle.stm_logs.specs.Held.{MarksCover, with_word}
 use Rattle.stm_logs.proofs.NodeLemmas.{same_or}
 use Rattle.stm_logs.proofs.TableLemmas.{get_other, true_false}
 
@@ -18,13 +18,13 @@ was_away marks i j l away = elim (same_or j i) [
 ]
 
 -- one mark more does no harm
-pub more_marked : (marks : List Bool) (i : ℕ) (log : LogValue) → i < length marks → IsMarked marks log.words →
-    IsMarked (set marks i true) log.words
+pub more_marked : (marks : List Bool) (i : ℕ) (log : LogValue) → i < length marks → MarksCover marks log.words →
+    MarksCover (set marks i true) log.words
 more_marked marks i log l was b away = was b (was_away marks i (b % MARKS) l away)
 
 -- an address enters with its mark
 pub enters_marked : (marks : List Bool) (i a lock v : ℕ) (old new : LogValue) → i ≡ a % MARKS → i < length marks →
-    IsMarked marks old.words → new ≡ with_word old a lock v → IsMarked (set marks i true) new.words
+    MarksCover marks old.words → new ≡ with_word old a lock v → MarksCover (set marks i true) new.words
 enters_marked marks i a lock v old new at_i l was is b away =
     ap (λ (w : LogValue). get w.words b) is ∙ elim (same_or b a) [
       | inl here ↦ absurd (true_false _ (ap (λ k. get_or (set marks i true) k false)
@@ -35,8 +35,8 @@ enters_marked marks i a lock v old new at_i l was is b away =
 
 -- a put, or one that was refused, leaves the marks right
 pub put_marked : {U E : Type 0} (r : Result U E) (marks : List Bool) (i a lock v : ℕ) (old new : LogValue) →
-    i ≡ a % MARKS → i < length marks → IsMarked marks old.words
-    → MatchResult r (λ _. new ≡ with_word old a lock v) (λ _. new ≡ old) → IsMarked (set marks i true) new.words
+    i ≡ a % MARKS → i < length marks → MarksCover marks old.words
+    → MatchResult r (λ _. new ≡ with_word old a lock v) (λ _. new ≡ old) → MarksCover (set marks i true) new.words
 put_marked (Ok u) marks i a lock v old new at_i l was is = enters_marked marks i a lock v old new at_i l was is
 put_marked (Err e) marks i a lock v old new at_i l was is = subst
-    (λ (w : LogValue). IsMarked (set marks i true) w.words) (sym is) (more_marked marks i old l was)
+    (λ (w : LogValue). MarksCover (set marks i true) w.words) (sym is) (more_marked marks i old l was)

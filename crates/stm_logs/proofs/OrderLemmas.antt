@@ -4,27 +4,27 @@ use Rattle.std.proofs.lemmas.Bool.{cases_lt}
 use Rattle.std.proofs.lemmas.Bool.Decides.{nat_tests}
 use Rattle.stm_logs.specs.declared.nodes.TheConstants.{TOP}
 use Rattle.stm_logs.specs.Nodes.{Node, at}
-use Rattle.stm_logs.specs.Index.{HasNone}
-use Rattle.stm_logs.specs.Order.{rank_of, rank_in, after, Least, IsChained, IsBefore}
+use Rattle.stm_logs.specs.Index.{HasNoNumber}
+use Rattle.stm_logs.specs.Order.{rank_of_number, rank_in, least_after, Least, IsChained, IsBefore}
 use Rattle.stm_logs.proofs.NodeLemmas.{same_or}
 
 -- ---- ranks
-pub after_root : (ns : List Node) (e : ℕ) → e ≡ 0 → after ns e ≡ 0
+pub after_root : (ns : List Node) (e : ℕ) → e ≡ 0 → least_after ns e ≡ 0
 after_root ns e is = grind (arith, nat_tests, is)
 
-pub after_node : (ns : List Node) (e : ℕ) → 0 < e → after ns e ≡ rank_in (at ns e) + 1
+pub after_node : (ns : List Node) (e : ℕ) → 0 < e → least_after ns e ≡ rank_in (at ns e) + 1
 after_node ns e some = grind (arith, nat_tests, some)
 
 -- numbers below the greatest with their locks have ranks of their own
-pub rank_number : (l k a b : ℕ) → a ≤ TOP → b ≤ TOP → rank_of l a ≡ rank_of k b → (l ≡ k) × (a ≡ b)
+pub rank_number : (l k a b : ℕ) → a ≤ TOP → b ≤ TOP → rank_of_number l a ≡ rank_of_number k b → (l ≡ k) × (a ≡ b)
 rank_number l k a b ma mb e = (omega arith, omega arith)
 
 -- no rank that there is lies above the root's
-pub rank_most : (l a : ℕ) → l ≤ TOP → a ≤ TOP → rank_of l a ≤ rank_of TOP TOP
+pub rank_most : (l a : ℕ) → l ≤ TOP → a ≤ TOP → rank_of_number l a ≤ rank_of_number TOP TOP
 rank_most l a ml ma = omega arith
 
-pub root_rank : (ns : List Node) (n : ℕ) → IsChained ns n → rank_in (at ns 0) ≡ rank_of TOP TOP
-root_rank ns n c = ap (λ l. rank_of l (at ns 0).number) c.top.1 ∙ ap (rank_of TOP) c.top.0
+pub root_rank : (ns : List Node) (n : ℕ) → IsChained ns n → rank_in (at ns 0) ≡ rank_of_number TOP TOP
+root_rank ns n c = ap (λ l. rank_of_number l (at ns 0).number) c.top.1 ∙ ap (rank_of_number TOP) c.top.0
 
 -- ---- what the nodes of a chain keep
 -- the numbers and locks of the first n nodes are the same
@@ -32,9 +32,10 @@ abbrev pub SameRanks : List Node → List Node → ℕ → Type 0
 SameRanks ns ns' n = (e : ℕ) → e ≤ n → ((at ns' e).number ≡ (at ns e).number) × ((at ns' e).lock ≡ (at ns e).lock)
 
 rank_same : (ns ns' : List Node) (n e : ℕ) → SameRanks ns ns' n → e ≤ n → rank_in (at ns' e) ≡ rank_in (at ns e)
-rank_same ns ns' n e s m = ap (λ l. rank_of l (at ns' e).number) (s e m).1 ∙ ap (rank_of (at ns e).lock) (s e m).0
+rank_same ns ns' n e s m = ap (λ l. rank_of_number l (at ns' e).number) (s e m).1 ∙ ap (rank_of_number (at ns e).lock)
+    (s e m).0
 
-after_same : (ns ns' : List Node) (n e : ℕ) → SameRanks ns ns' n → e ≤ n → after ns' e ≡ after ns e
+after_same : (ns ns' : List Node) (n e : ℕ) → SameRanks ns ns' n → e ≤ n → least_after ns' e ≡ least_after ns e
 after_same ns ns' n e s m = ap (λ r. cond (nat_eq e 0) 0 (r + 1)) (rank_same ns ns' n e s m)
 
 least_same : (ns ns' : List Node) (n low low' p p' : ℕ) → SameRanks ns ns' n → low' ≡ low → p' ≡ p → Least ns n low p →
@@ -94,7 +95,7 @@ pub record IsBehind (ns ns' : List Node) (n b : ℕ) : Type 0 where
   pub here : (at ns' (n + 1)).next ≡ (at ns b).next
 
 module _ (ns ns' : List Node) (n b : ℕ) (c : IsChained ns n) (h : IsBehind ns ns' n b)
-    (fits : (at ns' (n + 1)).number ≤ TOP) (new : HasNone ns n (at ns' (n + 1)).number)
+    (fits : (at ns' (n + 1)).number ≤ TOP) (new : HasNoNumber ns n (at ns' (n + 1)).number)
     (is_before : IsBefore ns n (rank_in (at ns' (n + 1))) b) where
   abbrev x : ℕ
   x = rank_in (at ns' (n + 1))
@@ -106,7 +107,7 @@ module _ (ns ns' : List Node) (n b : ℕ) (c : IsChained ns n) (h : IsBehind ns 
   apart f z m e = new f z m (rank_number _ _ _ _ (c.fits f m) fits e).1
 
   -- the ranks that come behind b lie above the new one
-  gap : (f : ℕ) → 0 < f → f ≤ n → after ns b ≤ rank_in (at ns f) → x < rank_in (at ns f)
+  gap : (f : ℕ) → 0 < f → f ≤ n → least_after ns b ≤ rank_in (at ns f) → x < rank_in (at ns f)
   gap f z m up =
       let old = c.next b inside_b in
       elim (same_or (at ns b).next 0) [
@@ -115,7 +116,7 @@ module _ (ns ns' : List Node) (n b : ℕ) (c : IsChained ns n) (h : IsBehind ns 
       ]
 
   -- a node other than b lies above the new rank, or leads to a node up to b
-  side : (e : ℕ) → e ≤ n → e ≢ b → (x < after ns e) ⊎ ((0 < b) × (after ns e ≤ rank_in (at ns b)))
+  side : (e : ℕ) → e ≤ n → e ≢ b → (x < least_after ns e) ⊎ ((0 < b) × (least_after ns e ≤ rank_in (at ns b)))
   side e m ne = elim (same_or b 0) [
     | inl root ↦ (
         let some : 0 < e = omega arith in
@@ -169,7 +170,7 @@ module _ (ns ns' : List Node) (n b : ℕ) (c : IsChained ns n) (h : IsBehind ns 
         ];
       }
 
-  next_before : Least ns' (n + 1) (after ns b) (n + 1)
+  next_before : Least ns' (n + 1) (least_after ns b) (n + 1)
   next_before =
       let less = is_before.below.less in
       record {
@@ -185,7 +186,7 @@ module _ (ns ns' : List Node) (n b : ℕ) (c : IsChained ns n) (h : IsBehind ns 
         ];
       }
 
-  next_other : (e : ℕ) → e ≤ n → e ≢ b → Least ns' (n + 1) (after ns e) (at ns e).next
+  next_other : (e : ℕ) → e ≤ n → e ≢ b → Least ns' (n + 1) (least_after ns e) (at ns e).next
   next_other e m ne =
       let old = c.next e m in
       let beside = side e m ne in
@@ -241,18 +242,18 @@ module _ (ns ns' : List Node) (n b : ℕ) (c : IsChained ns n) (h : IsBehind ns 
     next = λ e m. elim (same_or e (n + 1)) [
       | inl is ↦
           let next : (at ns' e).next ≡ (at ns b).next = ap (λ j. (at ns' j).next) is ∙ h.here in
-          let low : after ns' e ≡ x + 1 = after_node ns' e (omega arith) ∙ ap (λ j. rank_in (at ns' j) + 1) is in
+          let low : least_after ns' e ≡ x + 1 = after_node ns' e (omega arith) ∙ ap (λ j. rank_in (at ns' j) + 1) is in
           subst (λ l. Least ns' (n + 1) l (at ns' e).next) (sym low)
           (subst (λ p. Least ns' (n + 1) (x + 1) p) (sym next) next_here)
       | inr old ↦
           let k : e ≤ n = omega arith in
-          let low : after ns' e ≡ after ns e = after_same ns ns' n e h.same k in
+          let low : least_after ns' e ≡ least_after ns e = after_same ns ns' n e h.same k in
           subst (λ l. Least ns' (n + 1) l (at ns' e).next) (sym low) (elim (same_or e b) [
             | inl is ↦
                 let next : (at ns' e).next ≡ n + 1 = ap (λ j. (at ns' j).next) is ∙ h.before in
-                subst (λ p. Least ns' (n + 1) (after ns e) p) (sym next)
-                (subst (λ j. Least ns' (n + 1) (after ns j) (n + 1)) (sym is) next_before)
-            | inr ne ↦ subst (λ p. Least ns' (n + 1) (after ns e) p) (sym (h.others e k ne)) (next_other e k ne)
+                subst (λ p. Least ns' (n + 1) (least_after ns e) p) (sym next)
+                (subst (λ j. Least ns' (n + 1) (least_after ns j) (n + 1)) (sym is) next_before)
+            | inr ne ↦ subst (λ p. Least ns' (n + 1) (least_after ns e) p) (sym (h.others e k ne)) (next_other e k ne)
           ])
     ];
   }

@@ -5,7 +5,7 @@ use Rattle.std.specs.List.{flat_map}
 use Rattle.stm_logs.specs.Nodes.{Node, at}
 use Rattle.stm_logs.specs.Log.{LogValue, empty_log, log_locks, pairs_of, pairs_by_lock}
 use Rattle.stm_logs.specs.Order.{Least, IsChained, log_value}
-use Rattle.stm_logs.specs.Chain.{Ends, pair_of, goes_on, words_from, groups_from, pairs_from}
+use Rattle.stm_logs.specs.Chain.{EndsWithin, pair_of, goes_on, words_from, groups_from, pairs_from}
 use Rattle.stm_logs.proofs.NodeLemmas.{same_or}
 use Rattle.stm_logs.proofs.TableLemmas.{both_bool}
 use Rattle.stm_logs.proofs.LogLemmas.{eq_zero, not_zero}
@@ -35,7 +35,7 @@ no_pairs ns (suc most) p none = ap (λ b. cond b [] (pair_of (at ns p) ∷ pairs
     (eq_zero p none)
 
 -- within a lock, of which some words lie behind
-flat_within : (ns : List Node) (whole start most p : ℕ) (done : List (ℕ × ℕ)) → Ends ns most p → 0 < p
+flat_within : (ns : List Node) (whole start most p : ℕ) (done : List (ℕ × ℕ)) → EndsWithin ns most p → 0 < p
     → words_from ns (at ns p).lock whole start ≡ done ++ words_from ns (at ns p).lock most p
     → flat_map beside (groups_from ns whole start most p) ≡ done ++ pairs_from ns most p
 flat_within ns whole start zero p done ends some words = absurd (omega (arith, ends, some))
@@ -74,7 +74,7 @@ flat_within ns whole start (suc most) p done ends some words =
           ∙ ap (λ (ws : List (ℕ × ℕ)). done ++ pair ∷ ws) rest)
     ] ∙ sym (ap (λ b. done ++ theirs b) (not_zero p some))
 
-flat_from : (ns : List Node) (most p : ℕ) → Ends ns most p →
+flat_from : (ns : List Node) (most p : ℕ) → EndsWithin ns most p →
     flat_map beside (groups_from ns most p most p) ≡ pairs_from ns most p
 flat_from ns most p ends = elim (same_or p 0) [
   | inl none ↦ ap (flat_map beside) (no_groups ns most p most p none) ∙ sym (no_pairs ns most p none)
@@ -88,7 +88,7 @@ flat_groups w (k ∷ ks) = ap (λ (ws : List (ℕ × ℕ)). pairs_of w k ++ ws) 
 
 -- the words from the first node on are those of the log
 pub all_pairs : (ns : List Node) (n : ℕ) (c : IsChained ns n) (room : n < length ns) (most p : ℕ) → Least ns n 0 p →
-    Ends ns most p → pairs_from ns most p ≡ pairs_by_lock (log_value ns n)
+    EndsWithin ns most p → pairs_from ns most p ≡ pairs_by_lock (log_value ns n)
 all_pairs ns n c room most p l ends =
     sym (flat_from ns most p ends) ∙ ap (flat_map beside) (all_groups ns n c room most p l ends) ∙
     flat_groups (log_value ns n) (log_locks (log_value ns n))

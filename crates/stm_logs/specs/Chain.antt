@@ -5,9 +5,9 @@ use Rattle.std.specs.Borrow.{Bor}
 use Rattle.stm_logs.specs.Nodes.{Node, Block, at}
 
 -- the chain from p on ends within `most` nodes, all of them in the block
-abbrev pub Ends : List Node → ℕ → ℕ → Type 0
-Ends ns zero p = p ≡ 0
-Ends ns (suc most) p = 0 < p → (p < length ns) × Ends ns most (at ns p).next
+abbrev pub EndsWithin : List Node → ℕ → ℕ → Type 0
+EndsWithin ns zero p = p ≡ 0
+EndsWithin ns (suc most) p = 0 < p → (p < length ns) × EndsWithin ns most (at ns p).next
 
 abbrev pub pair_of : Node → ℕ × ℕ
 pair_of node = (node.number, node.value)
@@ -67,4 +67,4 @@ pairs_in (Some block) most p = pairs_from block.now.list most p
 
 abbrev pub EndsIn : Option (Bor Block) → ℕ → ℕ → Type 0
 EndsIn None most p = Unit {0}
-EndsIn (Some block) most p = Ends block.now.list most p
+EndsIn (Some block) most p = EndsWithin block.now.list most p

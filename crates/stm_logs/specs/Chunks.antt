@@ -3,9 +3,9 @@ use Rattle.std.specs.Prelude.{◌≡◌, ℕ, ◌<◌, ◌≤◌, Option, Some, 
 use Rattle.stm_logs.specs.declared.read.TheConstants.{PLACES, MAX_CHUNKS}
 
 -- the values of the chunks, one chunk after the other
-abbrev pub joined : List (List ℕ) → List ℕ
-joined [] = []
-joined (chunk ∷ chunks) = chunk ++ joined chunks
+abbrev pub joined_chunks : List (List ℕ) → List ℕ
+joined_chunks [] = []
+joined_chunks (chunk ∷ chunks) = chunk ++ joined_chunks chunks
 
 -- the places of the chunk at hand
 abbrev pub in_hand : Option (List ℕ) → List ℕ
@@ -14,7 +14,7 @@ in_hand (Some chunk) = chunk
 
 -- the values of the first full chunks, and after them the first `used` of the chunk at hand
 abbrev pub logged : List (List ℕ) → ℕ → Option (List ℕ) → ℕ → List ℕ
-logged rest full hand used = joined (take full rest) ++ take used (in_hand hand)
+logged rest full hand used = joined_chunks (take full rest) ++ take used (in_hand hand)
 
 -- each chunk has all places, and there are no more chunks than a log may have
 pub record AreWhole (chunks : List (List ℕ)) : Type 0 where
@@ -22,7 +22,7 @@ pub record AreWhole (chunks : List (List ℕ)) : Type 0 where
   pub limit : length chunks ≤ MAX_CHUNKS
 
 -- each chunk has all places, the one at hand too, and of the others there are at least `full`
-pub record HasRoom (rest : List (List ℕ)) (full : ℕ) (hand : Option (List ℕ)) : Type 0 where
+pub record HasRoomInChunks (rest : List (List ℕ)) (full : ℕ) (hand : Option (List ℕ)) : Type 0 where
   pub whole : AreWhole rest
   pub count : full ≤ length rest
   pub here : (chunk : List ℕ) → hand ≡ Some chunk → length chunk ≡ PLACES
@@ -45,12 +45,12 @@ pub record IsSetAside (rest : List (List ℕ)) (full : ℕ) (chunk : List ℕ)
   pub whole : AreWhole more
   pub inside : count ≤ length more
   pub places : length spare ≡ PLACES
-  pub same : joined (take count more) ≡ joined (take full rest) ++ chunk
+  pub same : joined_chunks (take count more) ≡ joined_chunks (take full rest) ++ chunk
 
 -- a whole chunk is at hand, and the values of the one that was there come after those of the full
 -- ones
 pub record IsTurned (rest : List (List ℕ)) (full : ℕ) (hand : Option (List ℕ))
     (more : List (List ℕ)) (count : ℕ) (spare : Option (List ℕ)) : Type 0 where
-  pub room : HasRoom more count spare
+  pub room : HasRoomInChunks more count spare
   pub places : length (in_hand spare) ≡ PLACES
-  pub same : joined (take count more) ≡ joined (take full rest) ++ in_hand hand
+  pub same : joined_chunks (take count more) ≡ joined_chunks (take full rest) ++ in_hand hand

@@ -9,13 +9,13 @@ use Rattle.stm_logs.specs.Index.{IsIndexed, SameNode, IsTaken}
 use Rattle.stm_logs.specs.Order.{IsChained, block_log}
 
 -- nodes 1 to n are indexed and chained
-pub record IsReady (ns : List Node) (n : ℕ) : Type 0 where
+pub record IsIndexedAndChained (ns : List Node) (n : ℕ) : Type 0 where
   pub indexed : IsIndexed ns n
   pub chained : IsChained ns n
 
 -- the nodes of a block are a log
 pub record IsLog (b : Block) : Type 0 where
-  pub ready : IsReady b.list b.count
+  pub ready : IsIndexedAndChained b.list b.count
   pub places : 4 ≤ length b.list
   pub recent : b.recent ≤ b.count
 
@@ -25,8 +25,8 @@ held_value None = empty_log
 held_value (Some table) = table
 
 -- an address without the mark of its remainder has no value
-abbrev pub IsMarked : List Bool → Words → Type 0
-IsMarked marks words =
+abbrev pub MarksCover : List Bool → Words → Type 0
+MarksCover marks words =
     (a : ℕ) → slice_index_or marks (a % MARKS) false ≡ false → get words a ≡ None
 
 -- the log with one word more
@@ -37,7 +37,7 @@ with_word w address lock value = record {
 }
 
 -- new is a log that says one word more
-pub record HasMore (address lock value : ℕ) (old new : Block) : Type 0 where
+pub record HasOneMoreWord (address lock value : ℕ) (old new : Block) : Type 0 where
   pub log : IsLog new
   pub same : block_log new ≡ with_word (block_log old) address lock value
 

@@ -8,8 +8,8 @@ abbrev pub home : ℕ → ℕ → ℕ
 home number len = (number * 2654435769 % 4294967296) * len / 4294967296
 
 -- node e is one of the first n, and has the number
-abbrev pub IsFound : List Node → ℕ → ℕ → ℕ → Type 0
-IsFound ns n number e = (e ≤ n) × ((at ns e).number ≡ number)
+abbrev pub IsFoundNode : List Node → ℕ → ℕ → ℕ → Type 0
+IsFoundNode ns n number e = (e ≤ n) × ((at ns e).number ≡ number)
 
 -- P holds at each place from start on and before end, where the places go round
 pub record Along (P : ℕ → Type 0) (len start end : ℕ) : Type 0 where
@@ -26,9 +26,9 @@ abbrev pub IsOther : List Node → ℕ → ℕ → Type 0
 IsOther ns number q = IsTaken ns q × ((at ns ((at ns q).slot)).number ≢ number)
 
 -- how many places lead somewhere
-abbrev pub taken : List Node → ℕ
-taken [] = 0
-taken (node ∷ ns) = cond (nat_eq node.slot 0) 0 1 + taken ns
+abbrev pub places_taken : List Node → ℕ
+places_taken [] = 0
+places_taken (node ∷ ns) = cond (nat_eq node.slot 0) 0 1 + places_taken ns
 
 -- place q leads to one of the first n nodes, which knows its place
 abbrev pub LeadsTo : List Node → ℕ → ℕ → Type 0
@@ -39,28 +39,28 @@ abbrev pub HasPlace : List Node → ℕ → Type 0
 HasPlace ns e = ((at ns e).place < length ns) × ((at ns ((at ns e).place)).slot ≡ e)
 
 -- a search for the number finds no free place before q
-abbrev pub Reaches : List Node → ℕ → ℕ → Type 0
-Reaches ns number q = Along (IsTaken ns) (length ns) (home number (length ns)) q
+abbrev pub SearchReaches : List Node → ℕ → ℕ → Type 0
+SearchReaches ns number q = Along (IsTaken ns) (length ns) (home number (length ns)) q
 
 -- nodes 1 to n are indexed, and nothing else
 pub record IsIndexed (ns : List Node) (n : ℕ) : Type 0 where
   pub room : n < length ns
   pub limit : length ns ≤ MAX_PLACES
-  pub count : taken ns ≡ n
+  pub count : places_taken ns ≡ n
   pub places : (e : ℕ) → 0 < e → e ≤ n → HasPlace ns e
   pub slots : (q : ℕ) → q < length ns → IsTaken ns q → LeadsTo ns n q
-  pub reached : (e : ℕ) → 0 < e → e ≤ n → Reaches ns (at ns e).number (at ns e).place
+  pub reached : (e : ℕ) → 0 < e → e ≤ n → SearchReaches ns (at ns e).number (at ns e).place
 
 -- no node has the number
-abbrev pub HasNone : List Node → ℕ → ℕ → Type 0
-HasNone ns n number = (e : ℕ) → 0 < e → e ≤ n → (at ns e).number ≢ number
+abbrev pub HasNoNumber : List Node → ℕ → ℕ → Type 0
+HasNoNumber ns n number = (e : ℕ) → 0 < e → e ≤ n → (at ns e).number ≢ number
 
 -- a place of the index is the one for a number: it leads to the node with the number, or it is the
 -- free one where that node would enter
 pub record Answers (ns : List Node) (n : ℕ) (number q : ℕ) : Type 0 where
   pub inside : q < length ns
-  pub found : IsTaken ns q → IsFound ns n number (at ns q).slot
-  pub free : (at ns q).slot ≡ 0 → HasNone ns n number × Reaches ns number q
+  pub found : IsTaken ns q → IsFoundNode ns n number (at ns q).slot
+  pub free : (at ns q).slot ≡ 0 → HasNoNumber ns n number × SearchReaches ns number q
 
 -- all but the places of two nodes is the same
 pub record SameNode (old new : Node) : Type 0 where

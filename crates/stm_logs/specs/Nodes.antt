@@ -16,8 +16,8 @@ pub record Node : Type 0 where
   pub finger : ℕ
 
 -- a node before anything was put there
-abbrev pub blank : Node
-blank = record {
+abbrev pub blank_node : Node
+blank_node = record {
   value = 0;
   number = TOP;
   lock = TOP;
@@ -51,7 +51,7 @@ with_entry n e = record {
 
 -- a node beside a place of the index that leads nowhere
 abbrev pub bare : Entry → Node
-bare e = with_entry blank e
+bare e = with_entry blank_node e
 
 abbrev pub with_slot : Node → ℕ → Node
 with_slot n slot = record n { slot = slot }
@@ -71,7 +71,7 @@ beside (e ∷ es) (s ∷ slots) =
 
 -- the node at a position
 abbrev pub at : List Node → ℕ → Node
-at nodes e = slice_index_or nodes e blank
+at nodes e = slice_index_or nodes e blank_node
 
 -- a block of nodes: what its places hold, how many nodes there are beside the root, and which of
 -- them was chained last
@@ -87,4 +87,4 @@ with_node b e node = record b { list = slice_set b.list e node }
 -- a block of blank places
 abbrev pub IsBlank : Block → ℕ → Type 0
 IsBlank b len =
-    (length b.list ≡ len) × (b.count ≡ 0) × (b.recent ≡ 0) × ((k : ℕ) → at b.list k ≡ blank)
+    (length b.list ≡ len) × (b.count ≡ 0) × (b.recent ≡ 0) × ((k : ℕ) → at b.list k ≡ blank_node)

@@ -8,11 +8,11 @@ use Rattle.stm_logs.specs.Nodes.{Node, Block, at}
 use Rattle.stm_logs.specs.Log.{LogValue}
 
 -- the place in the order of a number with its lock
-abbrev pub rank_of : ℕ → ℕ → ℕ
-rank_of lock number = lock * 4294967296 + number
+abbrev pub rank_of_number : ℕ → ℕ → ℕ
+rank_of_number lock number = lock * 4294967296 + number
 
 abbrev pub rank_in : Node → ℕ
-rank_in node = rank_of node.lock node.number
+rank_in node = rank_of_number node.lock node.number
 
 -- p is the node of the least rank from low on, or 0 where there is none
 pub record Least (ns : List Node) (n low p : ℕ) : Type 0 where
@@ -22,8 +22,8 @@ pub record Least (ns : List Node) (n low p : ℕ) : Type 0 where
       → (f : ℕ) → 0 < f → f ≤ n → low ≤ rank_in (at ns f) → rank_in (at ns p) ≤ rank_in (at ns f)
 
 -- the least rank that may come after a node; after the root it is 0
-abbrev pub after : List Node → ℕ → ℕ
-after ns e = cond (nat_eq e 0) 0 (rank_in (at ns e) + 1)
+abbrev pub least_after : List Node → ℕ → ℕ
+least_after ns e = cond (nat_eq e 0) 0 (rank_in (at ns e) + 1)
 
 -- nodes 1 to n have numbers of their own, and each leads to the one that comes next in the order,
 -- the root to the first; no rank is greater than the root's
@@ -32,7 +32,7 @@ pub record IsChained (ns : List Node) (n : ℕ) : Type 0 where
   pub fits : (e : ℕ) → e ≤ n → (at ns e).number ≤ TOP
   pub alone : (e f : ℕ) → 0 < e → e ≤ n → 0 < f → f ≤ n
       → (at ns e).number ≡ (at ns f).number → e ≡ f
-  pub next : (e : ℕ) → e ≤ n → Least ns n (after ns e) (at ns e).next
+  pub next : (e : ℕ) → e ≤ n → Least ns n (least_after ns e) (at ns e).next
 
 -- a node has the lock
 abbrev pub HasLock : List Node → ℕ → ℕ → Type 0
@@ -41,7 +41,7 @@ HasLock ns n lock = (e : ℕ) × ((0 < e) × (e ≤ n) × ((at ns e).lock ≡ lo
 -- e is the root, or a node with a rank below x
 pub record IsBelow (ns : List Node) (n x e : ℕ) : Type 0 where
   pub inside : e ≤ n
-  pub less : after ns e ≤ x
+  pub less : least_after ns e ≤ x
 
 -- e is the last node with a rank below x, or the root where there is none
 pub record IsBefore (ns : List Node) (n x e : ℕ) : Type 0 where

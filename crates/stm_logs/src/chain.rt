@@ -2,7 +2,7 @@
 ghost use Rattle.std.specs.Prelude.{◌≡◌, ℕ, ◌<◌, ◌∷◌, length};
 ghost use Rattle.std.specs.Iterator.{YieldsFirst, YieldsFirstBy, item_count};
 ghost use Rattle.stm_logs.specs.Nodes.{at};
-ghost use Rattle.stm_logs.specs.Chain.{Ends, goes_on, words_from, locks_from, groups_from};
+ghost use Rattle.stm_logs.specs.Chain.{EndsWithin, goes_on, words_from, locks_from, groups_from};
 
 use crate::nodes::Nodes;
 use std::alloc::{Allocator, Global};
@@ -186,8 +186,8 @@ impl<'a, A: Allocator> Iterator for Pairs<'a, A> {
 #[inline]
 fn past<A: Allocator>(nodes: &Nodes<A>, start: usize, most: usize) -> (usize, usize)
     requires some { 0 < start }
-    requires ends { Ends nodes.now.list most start }
-    ensures ends { Ends nodes.now.list result.1 result.0 }
+    requires ends { EndsWithin nodes.now.list most start }
+    ensures ends { EndsWithin nodes.now.list result.1 result.0 }
     ensures locks { locks_from nodes.now.list most start
         ≡ (at nodes.now.list start).lock ∷ locks_from nodes.now.list result.1 result.0 }
     ensures groups { (whole first : ℕ) → groups_from nodes.now.list whole first most start

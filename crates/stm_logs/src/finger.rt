@@ -2,7 +2,7 @@
 //! is looked at before it is followed.
 ghost use Rattle.std.specs.Prelude.{◌≡◌, ℕ, ◌+◌, ◌<◌, ◌≤◌, length, true};
 ghost use Rattle.stm_logs.specs.declared.nodes.TheConstants.{MAX_PLACES};
-ghost use Rattle.stm_logs.specs.Order.{rank_of, HasLock, IsChained, IsBelow, OnlyFingers};
+ghost use Rattle.stm_logs.specs.Order.{rank_of_number, HasLock, IsChained, IsBelow, OnlyFingers};
 
 use crate::index::start;
 use crate::nodes::{Entry, NUMBERS, Nodes};
@@ -150,8 +150,8 @@ pub(crate) fn nearer<A: Allocator>(nodes: &Nodes<A>, near: usize, lock: u32, num
     requires chained { IsChained nodes.now.list nodes.now.count }
     requires room { nodes.now.count < length nodes.now.list }
     requires limit { length nodes.now.list ≤ MAX_PLACES }
-    requires near { IsBelow nodes.now.list nodes.now.count (rank_of lock number) near }
-    ensures { IsBelow nodes.now.list nodes.now.count (rank_of lock number) result }
+    requires near { IsBelow nodes.now.list nodes.now.count (rank_of_number lock number) near }
+    ensures { IsBelow nodes.now.list nodes.now.count (rank_of_number lock number) result }
 {
     if number > 0 && shows(nodes, lock) {
         let found = nearer_among(nodes, Among::WordsOf(lock), near, lock, number);
@@ -173,8 +173,8 @@ fn nearer_among<A: Allocator>(
     requires chained { IsChained nodes.now.list nodes.now.count }
     requires room { nodes.now.count < length nodes.now.list }
     requires limit { length nodes.now.list ≤ MAX_PLACES }
-    requires near { IsBelow nodes.now.list nodes.now.count (rank_of lock number) near }
-    ensures { IsBelow nodes.now.list nodes.now.count (rank_of lock number) result }
+    requires near { IsBelow nodes.now.list nodes.now.count (rank_of_number lock number) near }
+    ensures { IsBelow nodes.now.list nodes.now.count (rank_of_number lock number) result }
 {
     for scale in 0..SCALES {
         let range = Range::at(among, scale, nodes.len(), lock, number);
@@ -198,8 +198,8 @@ fn nearer_in<A: Allocator>(
     requires room { nodes.now.count < length nodes.now.list }
     requires limit { length nodes.now.list ≤ MAX_PLACES }
     requires bits { range.bits ≤ ALL }
-    requires near { IsBelow nodes.now.list nodes.now.count (rank_of lock number) near }
-    ensures { IsBelow nodes.now.list nodes.now.count (rank_of lock number) result }
+    requires near { IsBelow nodes.now.list nodes.now.count (rank_of_number lock number) near }
+    ensures { IsBelow nodes.now.list nodes.now.count (rank_of_number lock number) result }
 {
     let rank = rank(lock, number);
     let finger = finger_of(nodes, range);

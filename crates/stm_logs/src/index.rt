@@ -2,7 +2,7 @@
 ghost use Rattle.std.specs.Prelude.{◌≡◌, ◌≢◌, ℕ, ◌+◌, ◌*◌, ◌<◌, ◌≤◌, List, length, slice_set};
 ghost use Rattle.stm_logs.specs.declared.nodes.TheConstants.{MAX_PLACES};
 ghost use Rattle.stm_logs.specs.Nodes.{Block, at, bare};
-ghost use Rattle.stm_logs.specs.Index.{home, IsFound, IsIndexed, HasNone, Answers, Entered};
+ghost use Rattle.stm_logs.specs.Index.{home, IsFoundNode, IsIndexed, HasNoNumber, Answers, Entered};
 
 use crate::nodes::{Entry, NUMBERS, Nodes};
 use std::alloc::Allocator;
@@ -57,8 +57,8 @@ pub(crate) fn probe<A: Allocator>(nodes: &Nodes<A>, number: u32) -> usize
 #[inline]
 pub(crate) fn find<A: Allocator>(nodes: &Nodes<A>, number: u32) -> usize
     requires { IsIndexed nodes.now.list nodes.now.count }
-    ensures there { 0 < result → IsFound nodes.now.list nodes.now.count number result }
-    ensures none { result ≡ 0 → HasNone nodes.now.list nodes.now.count number }
+    ensures there { 0 < result → IsFoundNode nodes.now.list nodes.now.count number result }
+    ensures none { result ≡ 0 → HasNoNumber nodes.now.list nodes.now.count number }
 {
     let place = probe(nodes, number);
     nodes.slot(place)

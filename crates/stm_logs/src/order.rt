@@ -2,7 +2,7 @@
 ghost use Rattle.std.specs.Prelude.{◌≡◌, ◌↔◌, ℕ, ◌+◌, ◌*◌, ◌<◌, ◌≤◌, List, length};
 ghost use Rattle.stm_logs.specs.declared.nodes.TheConstants.{MAX_PLACES};
 ghost use Rattle.stm_logs.specs.Nodes.{Block, at, bare, with_node, with_next};
-ghost use Rattle.stm_logs.specs.Order.{rank_of, rank_in, IsChained, IsBelow, IsBefore};
+ghost use Rattle.stm_logs.specs.Order.{rank_of_number, rank_in, IsChained, IsBelow, IsBefore};
 
 use crate::finger::nearer;
 use crate::nodes::{Entry, NUMBERS, Nodes};
@@ -11,7 +11,7 @@ use std::alloc::Allocator;
 /// The place of a number with its lock in the order.
 #[inline]
 pub(crate) fn rank(lock: u32, number: u32) -> u64
-    ensures { result ≡ rank_of lock number }
+    ensures { result ≡ rank_of_number lock number }
 {
     lock as u64 * NUMBERS + number as u64
 }
@@ -48,7 +48,7 @@ pub(crate) fn seek<A: Allocator>(nodes: &Nodes<A>, lock: u32, number: u32, is_lo
     requires room { nodes.now.count < length nodes.now.list }
     requires limit { length nodes.now.list ≤ MAX_PLACES }
     requires recent { nodes.now.recent ≤ nodes.now.count }
-    ensures { IsBefore nodes.now.list nodes.now.count (rank_of lock number) result }
+    ensures { IsBefore nodes.now.list nodes.now.count (rank_of_number lock number) result }
 {
     let rank = rank(lock, number);
     let start = near(nodes, rank);
@@ -112,8 +112,8 @@ fn seek_far<A: Allocator>(nodes: &Nodes<A>, start: usize, lock: u32, number: u32
     requires chained { IsChained nodes.now.list nodes.now.count }
     requires room { nodes.now.count < length nodes.now.list }
     requires limit { length nodes.now.list ≤ MAX_PLACES }
-    requires start { IsBelow nodes.now.list nodes.now.count (rank_of lock number) start }
-    ensures { IsBefore nodes.now.list nodes.now.count (rank_of lock number) result }
+    requires start { IsBelow nodes.now.list nodes.now.count (rank_of_number lock number) start }
+    ensures { IsBefore nodes.now.list nodes.now.count (rank_of_number lock number) result }
 {
     let start = nearer(nodes, start, lock, number);
     walk(nodes, start, rank(lock, number))

@@ -1,5 +1,5 @@
 //! The read log: the addresses that a transaction has read.
-ghost use Rattle.stm_logs.specs.Chunks.{AreWhole, HasRoom, IsLonger, IsRoomier, IsSetAside, IsTurned};
+ghost use Rattle.stm_logs.specs.Chunks.{AreWhole, HasRoomInChunks, IsLonger, IsRoomier, IsSetAside, IsTurned};
 ghost use Rattle.stm_logs.specs.Refusals.{OrSame, Becomes};
 ghost use Rattle.stm_logs.specs.declared.read.TheConstants.{PLACES};
 ghost use Rattle.std.specs.Prelude.{◌≡◌, ℕ, ◌+◌, ◌*◌, ◌<◌, ◌≤◌, List, [], ◌∷◌, ◌++◌, length, take, slice_index, slice_set, IfOk, MatchResult};
@@ -87,13 +87,13 @@ pub struct ReadLog<A: Allocator + Copy = Global> {
 
 impl<A: Allocator + Copy> Model for ReadLog<A> {
     ghost use Rattle.std.specs.Prelude.{◌≡◌, ◌≤◌, ℕ, List, length};
-    ghost use Rattle.stm_logs.specs.Chunks.{in_hand, logged, HasRoom};
+    ghost use Rattle.stm_logs.specs.Chunks.{in_hand, logged, HasRoomInChunks};
 
     ghost Value = { List ℕ };
 
     ghost view = { λ c. logged c.rest.items c.full c.hand c.used };
 
-    ghost invariant = { λ c. HasRoom c.rest.items c.full c.hand
+    ghost invariant = { λ c. HasRoomInChunks c.rest.items c.full c.hand
         × (c.end ≡ length (in_hand c.hand)) × (c.used ≤ c.end) };
 }
 
@@ -171,7 +171,7 @@ fn turn<A: Allocator + Copy>(
     rest: &mut Vec<Chunk<A>, A>,
     full: &mut usize,
 ) -> Result<(), AllocError>
-    requires { HasRoom rest.old.items full.old hand.old }
+    requires { HasRoomInChunks rest.old.items full.old hand.old }
     ensures { MatchResult result
         (λ _. IsTurned rest.old.items full.old hand.old rest.new.items full.new hand.new)
         (λ _. (rest.new.items ≡ rest.old.items) × (full.new ≡ full.old) × (hand.new ≡ hand.old)) }

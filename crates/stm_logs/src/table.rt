@@ -2,10 +2,10 @@
 ghost use Rattle.std.specs.Prelude.{◌≡◌, ◌≢◌, ◌↔◌, ℕ, ◌+◌, ◌*◌, ◌<◌, ◌≤◌, true, false, None, Some, Ok, length, IsOk, IfOk};
 ghost use Rattle.std.specs.FinMap.{get, len};
 ghost use Rattle.stm_logs.specs.Nodes.{Block, at};
-ghost use Rattle.stm_logs.specs.Index.{HasNone, Answers};
+ghost use Rattle.stm_logs.specs.Index.{HasNoNumber, Answers};
 ghost use Rattle.stm_logs.specs.Order.{OnlyFingers, block_log};
-ghost use Rattle.stm_logs.specs.Held.{IsLog, HasMore, with_word};
-ghost use Rattle.stm_logs.specs.Chain.{Ends, words_from};
+ghost use Rattle.stm_logs.specs.Held.{IsLog, HasOneMoreWord, with_word};
+ghost use Rattle.stm_logs.specs.Chain.{EndsWithin, words_from};
 ghost use Rattle.stm_logs.specs.Log.{LogValue, empty_log, log_groups, log_locks, pairs_by_lock, pairs_of, SameAddresses};
 ghost use Rattle.stm_logs.specs.Refusals.{OrSame, Becomes};
 
@@ -187,7 +187,7 @@ impl<A: Allocator + Copy> Table<A> {
 fn first_from<A: Allocator>(nodes: &Nodes<A>, lock: u32) -> usize
     requires { IsLog nodes.now }
     ensures inside { result ≤ nodes.now.count }
-    ensures ends { Ends nodes.now.list nodes.now.count result }
+    ensures ends { EndsWithin nodes.now.list nodes.now.count result }
     ensures words { words_from nodes.now.list lock nodes.now.count result
         ≡ pairs_of (block_log nodes.now) lock }
     ensures there { ((0 < result) × ((at nodes.now.list result).lock ≡ lock))
@@ -224,8 +224,8 @@ fn put_new<A: Allocator + Copy>(
 ) -> Result<(), AllocError>
     requires log { IsLog nodes.old }
     requires place { Answers nodes.old.list nodes.old.count number place }
-    requires new { HasNone nodes.old.list nodes.old.count number }
-    ensures { OrSame result (HasMore number lock value) nodes.old nodes.new }
+    requires new { HasNoNumber nodes.old.list nodes.old.count number }
+    ensures { OrSame result (HasOneMoreWord number lock value) nodes.old nodes.new }
 {
     if is_full(nodes) {
         return put_grown(nodes, number, lock, value);
@@ -243,8 +243,8 @@ fn put_grown<A: Allocator + Copy>(
     value: u64,
 ) -> Result<(), AllocError>
     requires log { IsLog nodes.old }
-    requires new { HasNone nodes.old.list nodes.old.count number }
-    ensures { OrSame result (HasMore number lock value) nodes.old nodes.new }
+    requires new { HasNoNumber nodes.old.list nodes.old.count number }
+    ensures { OrSame result (HasOneMoreWord number lock value) nodes.old nodes.new }
 {
     *nodes = grown(nodes)?;
     let place = probe(nodes, number);
@@ -257,8 +257,8 @@ fn put_roomy<A: Allocator>(nodes: &mut Nodes<A>, place: usize, number: u32, lock
     requires log { IsLog nodes.old }
     requires room { nodes.old.count + 1 < length nodes.old.list }
     requires place { Answers nodes.old.list nodes.old.count number place }
-    requires new { HasNone nodes.old.list nodes.old.count number }
-    ensures { HasMore number lock value nodes.old nodes.new }
+    requires new { HasNoNumber nodes.old.list nodes.old.count number }
+    ensures { HasOneMoreWord number lock value nodes.old nodes.new }
 {
     if is_long(nodes) {
         put_long(nodes, place, number, lock, value);
@@ -273,8 +273,8 @@ fn put_long<A: Allocator>(nodes: &mut Nodes<A>, place: usize, number: u32, lock:
     requires log { IsLog nodes.old }
     requires room { nodes.old.count + 1 < length nodes.old.list }
     requires place { Answers nodes.old.list nodes.old.count number place }
-    requires new { HasNone nodes.old.list nodes.old.count number }
-    ensures { HasMore number lock value nodes.old nodes.new }
+    requires new { HasNoNumber nodes.old.list nodes.old.count number }
+    ensures { HasOneMoreWord number lock value nodes.old nodes.new }
 {
     let is_first = nodes.count() == SHORT;
     point_all_if(nodes, is_first);
@@ -295,8 +295,8 @@ fn put_word<A: Allocator>(
     requires log { IsLog nodes.old }
     requires room { nodes.old.count + 1 < length nodes.old.list }
     requires place { Answers nodes.old.list nodes.old.count number place }
-    requires new { HasNone nodes.old.list nodes.old.count number }
-    ensures more { HasMore number lock value nodes.old nodes.new }
+    requires new { HasNoNumber nodes.old.list nodes.old.count number }
+    ensures more { HasOneMoreWord number lock value nodes.old nodes.new }
     ensures len { length nodes.new.list ≡ length nodes.old.list }
     ensures count { nodes.new.count ≡ nodes.old.count + 1 }
 {

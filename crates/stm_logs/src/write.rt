@@ -41,11 +41,11 @@ impl<A: Allocator + Copy> Model for WriteLog<A> {
 
     ghost coded = { log_code };
 
-    ghost use Rattle.stm_logs.specs.Held.{held_value, IsMarked};
+    ghost use Rattle.stm_logs.specs.Held.{held_value, MarksCover};
 
     ghost view = { λ w. held_value w.table };
 
-    ghost invariant = { λ w. IsMarked w.marks (held_value w.table).words };
+    ghost invariant = { λ w. MarksCover w.marks (held_value w.table).words };
 }
 
 impl<A: Allocator + Copy> WriteLog<A> {

@@ -10,7 +10,7 @@ use Rattle.stm_logs.specs.Log.{LogValue, empty_log, log_pairs}
 use Rattle.stm_region.specs.Shown.{RegionShown, ClientShown}
 use Rattle.stm_attempt.specs.Meaning.{memory_of, Origin, origin_of}
 use Rattle.stm_attempt.specs.Leading.{Property, IsLocal, nothing_logged, records_lead, readings_lead}
-use Rattle.stm_object.specs.Object.{IsLawful}
+use Rattle.stm_object.specs.Object.{IsLawfulEntry}
 use Rattle.stm_object.specs.Bodies.{Are, HasFitting, Did}
 
 -- an attempt that has not written has the words of a fitting image
@@ -80,7 +80,7 @@ module _ {E : Type 0} (fits : List ℕ → Type 0) (code : E → List ℕ) (find
       (w w' : LogValue) (e : E) → in_use ≡ true → w ≡ empty_log →
       origin_of in_use' region' n' l' c' ≡ origin_of in_use region n l c →
       Did fits finds after (memory_of in_use region fits c.value w) (memory_of in_use' region' fits c'.value w') e
-      → IsLawful fits code finds after (code e) c'.value.attempt.reads (log_pairs w')
+      → IsLawfulEntry fits code finds after (code e) c'.value.attempt.reads (log_pairs w')
   lawful in_use in_use' region region' n n' l l' c c' w w' e runs empty origin did = record {
     entry = e;
     told = refl;
@@ -95,7 +95,7 @@ module _ {E : Type 0} (fits : List ℕ → Type 0) (code : E → List ℕ) (find
       origin_of running' region' n' 0 c' ≡ origin_of running region n 0 c →
       Did fits finds after (memory_of running region fits c.value empty_log)
       (memory_of running' region' fits c'.value empty_log) e
-      → IsLawful fits code finds after (code e) c'.value.attempt.reads []
+      → IsLawfulEntry fits code finds after (code e) c'.value.attempt.reads []
   lawful_reading running running' region region' n n' c c' e runs origin did = record {
     entry = e;
     told = refl;

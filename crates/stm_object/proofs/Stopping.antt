@@ -11,9 +11,11 @@ use Rattle.stm_attempt.specs.Committing.{HasStopped}
 use Rattle.stm_attempt.specs.declared.conflict.Conflict.{Conflict}
 use Rattle.stm_attempt.specs.declared.conflict.Stop.{Stop}
 use Rattle.stm_attempt.specs.declared.conflict.Stop.TheVariants as stop
-use Rattle.stm_object.specs.Object.{IsLawful}
-use Rattle.stm_object.specs.History.{Adds, Spares, Records, WasInOrder, IsAlone, IsNoConflict, WasRead, WasShown}
-use Rattle.stm_object.specs.History.{WouldWrite, IsStop, IsConflict, Missed, Misses, AreTries, HasRun, HasAsked}
+use Rattle.stm_object.specs.Object.{IsLawfulEntry}
+use Rattle.stm_object.specs.History.{AddsEntry, SparesWrites, RecordsEntry, WasInOrder, IsAlone, IsNoConflict, WasRead}
+use Rattle.stm_object.specs.History.{ConflictWasShown}
+use Rattle.stm_object.specs.History.{WouldWriteEntry, IsStopOfEntry, IsConflict, Missed, Misses, AreTries, HasRun}
+use Rattle.stm_object.specs.History.{HasAsked}
 
 -- a read showed the conflict that the attempt kept
 pub shown_by_read : (region region' : RegionShown) (conflict : Conflict) (v v' : Client) → region' ≡ region
@@ -72,14 +74,14 @@ module _ {E : Type 0} (fits : List ℕ → Type 0) (code : E → List ℕ) (find
     (after : E → List ℕ → List ℕ) where
   would_write : {A : Type 0} (entry : A → E) (changes : A → Bool) (a : A) (region : RegionShown) (log : LogValue)
       (s : Stop) (v v' : Client) → (changes a ≡ false → log_pairs log ≡ []) → IsPlaced region log
-      → IsLawful fits code finds after (code (entry a)) v.attempt.reads (log_pairs log)
-      → HasStopped region log s v v' → WouldWrite fits code finds after region entry changes log v'
+      → IsLawfulEntry fits code finds after (code (entry a)) v.attempt.reads (log_pairs log)
+      → HasStopped region log s v v' → WouldWriteEntry fits code finds after region entry changes log v'
   would_write entry changes a region log s v v' wrote placed l h = record {
     answer = a;
     changing = is_true (changes a) (λ no. h.written (wrote no));
     some = h.written;
     placed = placed;
-    lawful = subst (λ (rs : List (ℕ × ℕ)). IsLawful fits code finds after (code (entry a)) rs (log_pairs log))
+    lawful = subst (λ (rs : List (ℕ × ℕ)). IsLawfulEntry fits code finds after (code (entry a)) rs (log_pairs log))
         (sym h.same.reads) l;
   }
 
@@ -87,8 +89,8 @@ module _ {E : Type 0} (fits : List ℕ → Type 0) (code : E → List ℕ) (find
   stop_is : {A : Type 0} (entry : A → E) (changes : A → Bool) (a : A) (region : RegionShown) (log : LogValue)
       (s : Stop) (v0 v v' : Client) → v'.attempt.number ≡ v0.attempt.number + 1
       → (changes a ≡ false → log_pairs log ≡ []) → IsPlaced region log
-      → IsLawful fits code finds after (code (entry a)) v.attempt.reads (log_pairs log)
-      → HasStopped region log s v v' → IsStop fits code finds after region entry changes 1 s v0 v'
+      → IsLawfulEntry fits code finds after (code (entry a)) v.attempt.reads (log_pairs log)
+      → HasStopped region log s v v' → IsStopOfEntry fits code finds after region entry changes 1 s v0 v'
   stop_is entry changes a region log stop.Memory v0 v v' next wrote placed l h = absurd h.shown
   stop_is entry changes a region log (stop.Conflict conflict) v0 v v' next wrote placed l h = (
     next,
@@ -108,17 +110,17 @@ module _ {E : Type 0} (fits : List ℕ → Type 0) (code : E → List ℕ) (find
       (log : LogValue) (s : Stop) (v0 v w w' : Client) → region' ≡ region
       → w.attempt.number ≡ v0.attempt.number + 1 → (changes a ≡ false → log_pairs log ≡ [])
       → IsPlaced region' log
-      → IsLawful fits code finds after (code (entry a)) v.attempt.reads (log_pairs log)
-      → HasStopped region' log s v w → w' ≡ w → IsStop fits code finds after region entry changes 1 s v0 w'
+      → IsLawfulEntry fits code finds after (code (entry a)) v.attempt.reads (log_pairs log)
+      → HasStopped region' log s v w → w' ≡ w → IsStopOfEntry fits code finds after region entry changes 1 s v0 w'
   commit_stop entry changes a region region' log s v0 v w w' same next wrote placed l h e =
-      subst (λ (x : Client). IsStop fits code finds after region entry changes 1 s v0 x) (sym e)
-      (subst (λ (r : RegionShown). IsStop fits code finds after r entry changes 1 s v0 w) same
+      subst (λ (x : Client). IsStopOfEntry fits code finds after region entry changes 1 s v0 x) (sym e)
+      (subst (λ (r : RegionShown). IsStopOfEntry fits code finds after r entry changes 1 s v0 w) same
       (stop_is entry changes a region' log s v0 v w next wrote placed l h))
 
   pub conflict_shown : {A B : Type 0} (entry : A → E) (changes : A → Bool) (region : RegionShown)
       (conflict : Conflict) (v v' : Client) (result : Result B Stop) → result ≡ Err (stop.Conflict conflict)
-      → IfErr result (λ s. IsStop fits code finds after region entry changes 1 s v v')
-      → WasShown fits code finds after region entry changes conflict v'
+      → IfErr result (λ s. IsStopOfEntry fits code finds after region entry changes 1 s v v')
+      → ConflictWasShown fits code finds after region entry changes conflict v'
   conflict_shown entry changes region conflict v v' result is h = let k = (rw is at h) in k.1
 
   -- where the last attempt met a conflict no other try was left
@@ -126,8 +128,8 @@ module _ {E : Type 0} (fits : List ℕ → Type 0) (code : E → List ℕ) (find
       (v0 v v' : Client)
       (result : Result B Stop) → v.attempt.number + left ≡ v0.attempt.number + tries
       → ((conflict : Conflict) → result ≡ Err (stop.Conflict conflict) → left ≡ 1)
-      → IfErr result (λ s. IsStop fits code finds after region entry changes 1 s v v')
-      → IfErr result (λ s. IsStop fits code finds after region entry changes tries s v0 v')
+      → IfErr result (λ s. IsStopOfEntry fits code finds after region entry changes 1 s v v')
+      → IfErr result (λ s. IsStopOfEntry fits code finds after region entry changes tries s v0 v')
   last_stop entry changes region tries left v0 v v' (Ok moved) count last h = tt
   last_stop entry changes region tries left v0 v v' (Err stop.Memory) count last h = h
   last_stop entry changes region tries left v0 v v' (Err (stop.Conflict conflict)) count last h = let one =
@@ -135,7 +137,7 @@ module _ {E : Type 0} (fits : List ℕ → Type 0) (code : E → List ℕ) (find
   last_stop entry changes region tries left v0 v v' (Err (stop.Spent version)) count last h = h
 
   adds_from : (region : RegionShown) (entry : E) (v w v' : Client) → w.records ≡ v.records
-      → Adds code region entry w v' → Adds code region entry v v'
+      → AddsEntry code region entry w v' → AddsEntry code region entry v v'
   adds_from region entry v w v' start a = record {
     made = a.made;
     tag_is = a.tag_is;
@@ -145,7 +147,7 @@ module _ {E : Type 0} (fits : List ℕ → Type 0) (code : E → List ℕ) (find
   }
 
   records_from : {A X : Type 0} (region : RegionShown) (entry : A → E) (v w v' : Client) (result : Result A X)
-      → w.records ≡ v.records → Records code region entry result w v' → Records code region entry result v v'
+      → w.records ≡ v.records → RecordsEntry code region entry result w v' → RecordsEntry code region entry result v v'
   records_from region entry v w v' (Ok a) start h = adds_from region (entry a) v w v' start h
   records_from region entry v w v' (Err e) start h = h ∙ start
 
@@ -165,7 +167,7 @@ module _ {E : Type 0} (fits : List ℕ → Type 0) (code : E → List ℕ) (find
   order_from region entry v w v' (Err e) start k = tt
 
   spares_from : {A X : Type 0} (changes : A → Bool) (v w v' : Client) (result : Result A X) → w.records ≡ v.records
-      → Spares changes result w v' → Spares changes result v v'
+      → SparesWrites changes result w v' → SparesWrites changes result v v'
   spares_from changes v w v' (Ok a) start k = λ no. let r = k no in record {
     made = r.made;
     reader = r.reader;
@@ -177,13 +179,13 @@ module _ {E : Type 0} (fits : List ℕ → Type 0) (code : E → List ℕ) (find
   -- a call, by its last attempt
   pub has_run : {A : Type 0} (region : RegionShown) (entry : A → E) (changes : A → Bool) (tries left left' : ℕ)
       (v w v' : Client) (answer result : Result A Stop) → answer ≡ result
-      → Trying (λ conflict x. WasShown fits code finds after region entry changes conflict x) tries left v w
+      → Trying (λ conflict x. ConflictWasShown fits code finds after region entry changes conflict x) tries left v w
       → left ≡ left' + 1 →
       w.grants ≡ v.grants → w.records ≡ v.records → v'.grants ≡ w.grants → v'.attempt.number ≡ w.attempt.number + 1
-      → Records code region entry result w v'
-      → IfOk result (λ a. WasInOrder fits code finds after region (entry a) w v') → Spares changes result w v' →
+      → RecordsEntry code region entry result w v'
+      → IfOk result (λ a. WasInOrder fits code finds after region (entry a) w v') → SparesWrites changes result w v' →
       (IsAlone w → IfErr result (λ s. IsNoConflict s))
-      → IfErr result (λ s. IsStop fits code finds after region entry changes 1 s w v')
+      → IfErr result (λ s. IsStopOfEntry fits code finds after region entry changes 1 s w v')
       → ((conflict : Conflict) → result ≡ Err (stop.Conflict conflict) → left' ≡ 0)
       → HasRun fits code finds after region entry changes tries answer v v'
   has_run region entry changes tries left left' v w v' answer result is t less grants start same next records order
@@ -193,11 +195,12 @@ module _ {E : Type 0} (fits : List ℕ → Type 0) (code : E → List ℕ) (find
         order = order_from region entry v w v' result start order;
         spares = spares_from changes v w v' result start spares;
         alone = λ a. alone (grants ∙ a);
-        attempts = tried (λ conflict x. WasShown fits code finds after region entry changes conflict x) tries left left'
+        attempts = tried (λ conflict x. ConflictWasShown fits code finds after region entry changes conflict x) tries
+            left left'
             v w v'
             t less next;
         stopped = last_stop entry changes region tries left v w v' result
-            (let n = misses_count (λ conflict x. WasShown fits code finds after region entry changes conflict x)
+            (let n = misses_count (λ conflict x. ConflictWasShown fits code finds after region entry changes conflict x)
             t.missed v w
             t.misses in let c = t.count in omega (arith, n, c))
             (λ conflict met. let none = last conflict met in omega (arith, less, none)) stopped;
@@ -216,7 +219,7 @@ module _ {E : Type 0} (fits : List ℕ → Type 0) (code : E → List ℕ) (find
       (answer result : Result A Conflict) → answer ≡ result
       → Trying (λ conflict x. WasRead region conflict x) tries left v w → left ≡ left' + 1 →
       w.grants ≡ v.grants → w.records ≡ v.records → v'.grants ≡ w.grants → v'.attempt.number ≡ w.attempt.number + 1
-      → Records code region entry result w v'
+      → RecordsEntry code region entry result w v'
       → IfOk result (λ a. WasInOrder fits code finds after region (entry a) w v') →
       (IsAlone w → IsOk result) → IfErr result (λ s. IsConflict region 1 s w v')
       → ((conflict : Conflict) → result ≡ Err conflict → left' ≡ 0)

@@ -15,25 +15,28 @@ use Rattle.stm_attempt.specs.Committing.{WasDecided, HasWonLock, HasLostTick}
 use Rattle.stm_attempt.specs.declared.conflict.Conflict.{Conflict as ConflictMet}
 use Rattle.stm_attempt.specs.declared.conflict.Stop.{Stop}
 use Rattle.stm_attempt.specs.declared.conflict.Stop.TheVariants.{Memory, Conflict, Spent}
-use Rattle.stm_object.specs.Object.{IsLawful}
+use Rattle.stm_object.specs.Object.{IsLawfulEntry}
 
 -- one after the other, the records tell these entries, each finds what it says, and the last words
 -- are these
-abbrev pub IsHistory : {E : Type 0} → (E → List ℕ) → (E → List ℕ → Type 0) → (E → List ℕ → List ℕ) →
+abbrev pub IsHistoryOfEntries : {E : Type 0} → (E → List ℕ) → (E → List ℕ → Type 0)
+    → (E → List ℕ → List ℕ) →
     List ℕ → List Record → List E → List ℕ → Type 0
-IsHistory code finds after xs [] [] last = xs ≡ last
-IsHistory code finds after xs [] (e ∷ es) last = ⊥
-IsHistory code finds after xs (r ∷ rs) [] last = ⊥
-IsHistory code finds after xs (r ∷ rs) (e ∷ es) last =
-    (r.tag ≡ code e) × finds e xs × IsHistory code finds after (after e xs) rs es last
+IsHistoryOfEntries code finds after xs [] [] last = xs ≡ last
+IsHistoryOfEntries code finds after xs [] (e ∷ es) last = ⊥
+IsHistoryOfEntries code finds after xs (r ∷ rs) [] last = ⊥
+IsHistoryOfEntries code finds after xs (r ∷ rs) (e ∷ es) last =
+    (r.tag ≡ code e) × finds e xs × IsHistoryOfEntries code finds after (after e xs) rs es last
 
 -- a region of this size that was opened on a fitting image
-pub record IsOpened (fits : List ℕ → Type 0) (size : ℕ) (region : RegionShown) : Type 0 where
+pub record IsOpenedOnFitting (fits : List ℕ → Type 0) (size : ℕ) (region : RegionShown)
+    : Type 0 where
   pub size_is : region.size ≡ size
   pub first : fits region.first
 
 -- this is the record of the entry, by the client's last attempt, and exactly it was added
-pub record Adds {E : Type 0} (code : E → List ℕ) (region : RegionShown) (entry : E) (v v' : Client)
+pub record AddsEntry {E : Type 0} (code : E → List ℕ) (region : RegionShown) (entry : E)
+    (v v' : Client)
     : Type 0 where
   pub made : Record
   pub tag_is : made.tag ≡ code entry
@@ -42,21 +45,21 @@ pub record Adds {E : Type 0} (code : E → List ℕ) (region : RegionShown) (ent
   pub records : v'.records ≡ inserted made v.records
 
 -- exactly one record was added, which writes nothing
-pub record AddsReader (v v' : Client) : Type 0 where
+pub record AddsWithoutWrites (v v' : Client) : Type 0 where
   pub made : Record
   pub reader : made.writer ≡ false
   pub writes : made.writes ≡ []
   pub records : v'.records ≡ inserted made v.records
 
 -- an answer that changes nothing left a record that writes nothing
-abbrev pub Spares : {A X : Type 0} → (A → Bool) → Result A X → Client → Client → Type 0
-Spares changes result v v' = IfOk result (λ a. changes a ≡ false → AddsReader v v')
+abbrev pub SparesWrites : {A X : Type 0} → (A → Bool) → Result A X → Client → Client → Type 0
+SparesWrites changes result v v' = IfOk result (λ a. changes a ≡ false → AddsWithoutWrites v v')
 
 -- at an answer the record of its entry was added, at a refusal none
-abbrev pub Records : {E A X : Type 0} → (E → List ℕ) → RegionShown → (A → E) → Result A X →
+abbrev pub RecordsEntry : {E A X : Type 0} → (E → List ℕ) → RegionShown → (A → E) → Result A X →
     Client → Client → Type 0
-Records code region entry (Ok a) v v' = Adds code region (entry a) v v'
-Records code region entry (Err e) v v' = v'.records ≡ v.records
+RecordsEntry code region entry (Ok a) v v' = AddsEntry code region (entry a) v v'
+RecordsEntry code region entry (Err e) v v' = v'.records ≡ v.records
 
 -- the client's last attempt added the record of the entry; and in the core state of the region
 -- right after the step that decided it, the records of all clients were a history from the opening,
@@ -64,11 +67,12 @@ Records code region entry (Err e) v v' = v'.records ≡ v.records
 pub record WasInOrder {E : Type 0} (fits : List ℕ → Type 0) (code : E → List ℕ)
     (finds : E → List ℕ → Type 0) (after : E → List ℕ → List ℕ)
     (region : RegionShown) (entry : E) (v v' : Client) : Type 0 where
-  pub adds : Adds code region entry v v'
-  pub decided : WasDecided fits (IsLawful fits code finds after) region adds.made v'
+  pub adds : AddsEntry code region entry v v'
+  pub decided : WasDecided fits (IsLawfulEntry fits code finds after) region adds.made v'
   pub entries : List E
   pub last : List ℕ
-  pub history : IsHistory code finds after region.first (all_records decided.decides.core.clients)
+  pub history : IsHistoryOfEntries code finds after region.first
+      (all_records decided.decides.core.clients)
       entries last
   pub own : In adds.made (all_records decided.decides.core.clients)
   pub among : Sub v'.records (all_records decided.decides.core.clients)
@@ -78,9 +82,9 @@ pub record WasInOrder {E : Type 0} (fits : List ℕ → Type 0) (code : E → Li
 pub record Closes {E : Type 0} (fits : List ℕ → Type 0) (code : E → List ℕ)
     (finds : E → List ℕ → Type 0) (after : E → List ℕ → List ℕ)
     (region : RegionShown) (v : Client) (words : List ℕ) (version : ℕ) : Type 0 where
-  pub ends : Ends (IsLawful fits code finds after) region v words version
+  pub ends : Ends (IsLawfulEntry fits code finds after) region v words version
   pub entries : List E
-  pub history : IsHistory code finds after region.first v.records entries words
+  pub history : IsHistoryOfEntries code finds after region.first v.records entries words
 
 -- no other client is out
 abbrev pub IsAlone : Client → Type 0
@@ -100,21 +104,23 @@ WasRead region conflict v =
 -- the client's attempt was to write what this log has, which is not nothing: the record of the
 -- entry of an answer that changes something, with what the attempt has read and these writes, would
 -- have been lawful
-pub record WouldWrite {E A : Type 0} (fits : List ℕ → Type 0) (code : E → List ℕ)
+pub record WouldWriteEntry {E A : Type 0} (fits : List ℕ → Type 0) (code : E → List ℕ)
     (finds : E → List ℕ → Type 0) (after : E → List ℕ → List ℕ) (region : RegionShown)
     (entry : A → E) (changes : A → Bool) (log : LogValue) (v : Client) : Type 0 where
   pub answer : A
   pub changing : changes answer ≡ true
   pub some : log_pairs log ≢ []
   pub placed : IsPlaced region log
-  pub lawful : IsLawful fits code finds after (code (entry answer)) v.attempt.reads (log_pairs log)
+  pub lawful : IsLawfulEntry fits code finds after (code (entry answer)) v.attempt.reads
+      (log_pairs log)
 
 -- the client's last step, but for giving back its locks, showed the conflict: in a read, or in a
 -- commit, over the lock of an address that it has read or was to write, or over the clock
-abbrev pub WasShown : {E A : Type 0} → (List ℕ → Type 0) → (E → List ℕ) → (E → List ℕ → Type 0) →
+abbrev pub ConflictWasShown : {E A : Type 0} → (List ℕ → Type 0) → (E → List ℕ)
+    → (E → List ℕ → Type 0) →
     (E → List ℕ → List ℕ) → RegionShown → (A → E) → (A → Bool) → ConflictMet → Client → Type 0
-WasShown fits code finds after region entry changes conflict v = WasRead region conflict v
-    ⊎ ((log : LogValue) × (WouldWrite fits code finds after region entry changes log v
+ConflictWasShown fits code finds after region entry changes conflict v = WasRead region conflict v
+    ⊎ ((log : LogValue) × (WouldWriteEntry fits code finds after region entry changes log v
     × IsCommitConflict (stripe_of region.stripes) log conflict v))
 
 -- one attempt was made, which left no record, and showed a conflict
@@ -148,7 +154,7 @@ AreAllTries tries v v' = v'.attempt.number ≡ v.attempt.number + tries
 -- the clock was found at its last version, and there was something to write. The locks had been
 -- taken, and were given back: the last step but that won one, or is the tick that lost to that
 -- version
-pub record IsSpent {E A : Type 0} (fits : List ℕ → Type 0) (code : E → List ℕ)
+pub record ClockIsSpent {E A : Type 0} (fits : List ℕ → Type 0) (code : E → List ℕ)
     (finds : E → List ℕ → Type 0) (after : E → List ℕ → List ℕ) (region : RegionShown)
     (entry : A → E) (changes : A → Bool) (version : ℕ) (v : Client) : Type 0 where
   pub version_is : version ≡ region.last
@@ -156,20 +162,21 @@ pub record IsSpent {E A : Type 0} (fits : List ℕ → Type 0) (code : E → Lis
   pub gave_back : v.attempt.gave_back ≡ true
   pub found : HasWonLock v ⊎ HasLostTick version v
   pub log : LogValue
-  pub written : WouldWrite fits code finds after region entry changes log v
+  pub written : WouldWriteEntry fits code finds after region entry changes log v
 
 -- why a transaction of such an entry stopped: a log could not grow, and the last step shows no
 -- conflict; or all tries were made, and the last one showed the conflict; or the clock was found at
 -- the last version, with something to write
 -- Not said: which growth of a log was refused
-abbrev pub IsStop : {E A : Type 0} → (List ℕ → Type 0) → (E → List ℕ) → (E → List ℕ → Type 0) →
+abbrev pub IsStopOfEntry : {E A : Type 0} → (List ℕ → Type 0) → (E → List ℕ)
+    → (E → List ℕ → Type 0) →
     (E → List ℕ → List ℕ) → RegionShown → (A → E) → (A → Bool) → ℕ → Stop → Client → Client →
     Type 0
-IsStop fits code finds after region entry changes tries Memory v v' = IsQuiet v'
-IsStop fits code finds after region entry changes tries (Conflict conflict) v v' =
-    AreAllTries tries v v' × WasShown fits code finds after region entry changes conflict v'
-IsStop fits code finds after region entry changes tries (Spent version) v v' =
-    IsSpent fits code finds after region entry changes version v'
+IsStopOfEntry fits code finds after region entry changes tries Memory v v' = IsQuiet v'
+IsStopOfEntry fits code finds after region entry changes tries (Conflict conflict) v v' =
+    AreAllTries tries v v' × ConflictWasShown fits code finds after region entry changes conflict v'
+IsStopOfEntry fits code finds after region entry changes tries (Spent version) v v' =
+    ClockIsSpent fits code finds after region entry changes version v'
 
 -- why a transaction that only reads stopped: all tries were made, and the last one showed the
 -- conflict
@@ -185,14 +192,15 @@ pub record HasRun {E A : Type 0} (fits : List ℕ → Type 0) (code : E → List
     (entry : A → E) (changes : A → Bool) (tries : ℕ) (result : Result A Stop) (v v' : Client)
     : Type 0 where
   pub grants : v'.grants ≡ v.grants
-  pub records : Records code region entry result v v'
+  pub records : RecordsEntry code region entry result v v'
   pub order : IfOk result (λ a. WasInOrder fits code finds after region (entry a) v v')
-  pub spares : Spares changes result v v'
+  pub spares : SparesWrites changes result v v'
   pub alone : IsAlone v → IfErr result (λ stop. IsNoConflict stop)
   pub attempts : AreTries
-      (λ conflict w. WasShown fits code finds after region entry changes conflict w) tries v v'
+      (λ conflict w. ConflictWasShown fits code finds after region entry changes conflict w)
+      tries v v'
   pub stopped : IfErr result
-      (λ stop. IsStop fits code finds after region entry changes tries stop v v')
+      (λ stop. IsStopOfEntry fits code finds after region entry changes tries stop v v')
 
 -- what a call of a transaction that only reads does, by at most `tries` attempts: what it records
 -- and where, how many attempts it makes, and that a conflict alone stops it
@@ -200,7 +208,7 @@ pub record HasAsked {E A : Type 0} (fits : List ℕ → Type 0) (code : E → Li
     (finds : E → List ℕ → Type 0) (after : E → List ℕ → List ℕ) (region : RegionShown)
     (entry : A → E) (tries : ℕ) (result : Result A ConflictMet) (v v' : Client) : Type 0 where
   pub grants : v'.grants ≡ v.grants
-  pub records : Records code region entry result v v'
+  pub records : RecordsEntry code region entry result v v'
   pub order : IfOk result (λ a. WasInOrder fits code finds after region (entry a) v v')
   pub alone : IsAlone v → IsOk result
   pub attempts : AreTries (λ conflict w. WasRead region conflict w) tries v v'

@@ -3,7 +3,7 @@ use Rattle.std.proofs.Common.{◌≡◌, ℕ, zero, suc, List, [], ◌∷◌, sy
 use mathlib.Core.Option.{some-injective, some-ne-none}
 use Rattle.tx_memory.specs.Image.{In}
 use Rattle.stm_core.specs.Client.{Record}
-use Rattle.stm_object.specs.History.{IsHistory}
+use Rattle.stm_object.specs.History.{IsHistoryOfEntries}
 
 -- where a history has this record, the record's entry found what it says in words with P
 pub record WasFound {E : Type 0} (code : E → List ℕ) (finds : E → List ℕ → Type 0)
@@ -19,7 +19,7 @@ module _ {E : Type 0} (code : E → List ℕ) (finds : E → List ℕ → Type 0
     (keeps : (e : E) (xs : List ℕ) → finds e xs → P xs → P (after e xs)) where
   -- the last words have what the first ones had
   pub kept : (xs : List ℕ) (rs : List Record) (es : List E) (last : List ℕ) →
-      IsHistory code finds after xs rs es last → P xs → P last
+      IsHistoryOfEntries code finds after xs rs es last → P xs → P last
   kept xs [] [] last h p = subst P h p
   kept xs [] (e ∷ es) last h p = absurd h
   kept xs (r ∷ rs) [] last h p = absurd h
@@ -27,7 +27,8 @@ module _ {E : Type 0} (code : E → List ℕ) (finds : E → List ℕ → Type 0
 
   -- and so have those that each record's entry found
   pub found : (xs : List ℕ) (rs : List Record) (es : List E) (last : List ℕ) (r : Record) →
-      IsHistory code finds after xs rs es last → P xs → In r rs → WasFound code finds P r.tag
+      IsHistoryOfEntries code finds after xs rs es last → P xs → In r rs
+      → WasFound code finds P r.tag
   found xs [] [] last r h p i = absurd (some-ne-none r (sym i.1))
   found xs [] (e ∷ es) last r h p i = absurd h
   found xs (x ∷ rs) [] last r h p i = absurd h
@@ -43,9 +44,11 @@ module _ {E : Type 0} (code : E → List ℕ) (finds : E → List ℕ → Type 0
 
 -- one after the other, these operations with their answers lead from a value of the object to
 -- another one
-abbrev pub Runs : {E M : Type 0} → (E → M → Type 0) → (E → M → M) → M → List E → M → Type 0
-Runs answers next m [] last = m ≡ last
-Runs answers next m (e ∷ es) last = answers e m × Runs answers next (next e m) es last
+abbrev pub RunsOperations : {E M : Type 0} → (E → M → Type 0) → (E → M → M) → M → List E
+    → M → Type 0
+RunsOperations answers next m [] last = m ≡ last
+RunsOperations answers next m (e ∷ es) last =
+    answers e m × RunsOperations answers next (next e m) es last
 
 -- where the words mean a value, and each entry is an operation on it, so is each history
 module _ {E M : Type 0} (code : E → List ℕ) (finds : E → List ℕ → Type 0)
@@ -55,12 +58,13 @@ module _ {E M : Type 0} (code : E → List ℕ) (finds : E → List ℕ → Type
     (answered : (e : E) (xs : List ℕ) → finds e xs → P xs → answers e (of xs))
     (moved : (e : E) (xs : List ℕ) → finds e xs → P xs → of (after e xs) ≡ next e (of xs)) where
   pub runs : (xs : List ℕ) (rs : List Record) (es : List E) (last : List ℕ) →
-      IsHistory code finds after xs rs es last → P xs → Runs answers next (of xs) es (of last)
+      IsHistoryOfEntries code finds after xs rs es last → P xs
+      → RunsOperations answers next (of xs) es (of last)
   runs xs [] [] last h p = ap of h
   runs xs [] (e ∷ es) last h p = absurd h
   runs xs (r ∷ rs) [] last h p = absurd h
   runs xs (r ∷ rs) (e ∷ es) last h p = (
     answered e xs h.1 p,
-    subst (λ (m : M). Runs answers next m es (of last)) (moved e xs h.1 p)
+    subst (λ (m : M). RunsOperations answers next m es (of last)) (moved e xs h.1 p)
         (runs (after e xs) rs es last h.2 (keeps e xs h.1 p)),
   )

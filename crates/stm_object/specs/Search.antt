@@ -2,19 +2,19 @@
 use Rattle.std.proofs.Common.{◌≡◌, ◌≢◌, ℕ, ◌+◌, ◌<◌, ◌≤◌, ◌⊎◌, inl, inr, List, Option, Some, None, IfSome, slice_index, refl, sym, ◌∙◌, arith}
 use Rattle.tx_memory.specs.View.{View, Sees, Loaded, mem}
 use Rattle.tx_memory.specs.Seen.{same_or}
-use Rattle.stm_object.specs.Steps.{OnlyRead, Step, then_read, read_by, read_step}
+use Rattle.stm_object.specs.Steps.{WroteNothing, WordStep, then_read, read_by, read_step}
 
 -- of the addresses from one up to another, this is the first whose word is this one, or none is
-abbrev pub IsFirst : (ℕ → ℕ) → ℕ → ℕ → ℕ → Option ℕ → Type 0
-IsFirst m from end word None = (a : ℕ) → from ≤ a → a < end → m a ≢ word
-IsFirst m from end word (Some b) = (from ≤ b) × (b < end) × (m b ≡ word)
+abbrev pub IsFirstWithWord : (ℕ → ℕ) → ℕ → ℕ → ℕ → Option ℕ → Type 0
+IsFirstWithWord m from end word None = (a : ℕ) → from ≤ a → a < end → m a ≢ word
+IsFirstWithWord m from end word (Some b) = (from ≤ b) × (b < end) × (m b ≡ word)
     × ((a : ℕ) → from ≤ a → a < b → m a ≢ word)
 
 -- only reads were made, and the search found this, under each image that there may be
 pub record Searched (s s' : View) (from end word : ℕ) (found : Option ℕ) : Type 0 where
-  pub only : OnlyRead s s'
+  pub only : WroteNothing s s'
   pub range : IfSome found (λ a. (from ≤ a) × (a < end))
-  pub first : (image : List ℕ) → Sees s' image → IsFirst (mem s image) from end word found
+  pub first : (image : List ℕ) → Sees s' image → IsFirstWithWord (mem s image) from end word found
 
 -- one address more has another word
 pub passed : {s s' s'' : View} {from a v word : ℕ} → Searched s s' from a word None →
@@ -43,8 +43,8 @@ met {s} {s'} {s''} {from} {a} {end} {word} h l ge less = record {
 }
 
 same_first : (m m' : ℕ → ℕ) (from end word : ℕ) (found : Option ℕ) →
-    ((a : ℕ) → a < end → m a ≡ m' a) → IsFirst m' from end word found →
-    IsFirst m from end word found
+    ((a : ℕ) → a < end → m a ≡ m' a) → IsFirstWithWord m' from end word found →
+    IsFirstWithWord m from end word found
 same_first m m' from end word None same h = λ a ge less e. h a ge less (sym (same a less) ∙ e)
 same_first m m' from end word (Some b) same h = (
   h.0,
@@ -56,7 +56,7 @@ same_first m m' from end word (Some b) same h = (
 -- a search as a step
 pub find_step : {n : ℕ} {s s' : View} {from end word : ℕ} {found : Option ℕ} →
     Searched s s' from end word found → end ≤ n →
-    Step n s s' (λ xs. IsFirst (λ a. slice_index xs a) from end word found) (λ xs. xs)
+    WordStep n s s' (λ xs. IsFirstWithWord (λ a. slice_index xs a) from end word found) (λ xs. xs)
 find_step {s = s} {from = from} {end = end} {word = word} {found = found} h le =
     read_step h.only (λ image i xs are.
     same_first (λ a. slice_index xs a) (mem s image) from end word found
@@ -65,26 +65,27 @@ find_step {s = s} {from = from} {end = end} {word = word} {found = found} h le =
 -- of these addresses, this one is for the word: it is the first that has it, or none has it and it
 -- is the first that has 0; or none has either
 abbrev pub IsSlot : (ℕ → ℕ) → ℕ → ℕ → ℕ → Option ℕ → Type 0
-IsSlot m from end word None = IsFirst m from end word None × IsFirst m from end 0 None
+IsSlot m from end word None =
+    IsFirstWithWord m from end word None × IsFirstWithWord m from end 0 None
 IsSlot m from end word (Some b) =
-    IsFirst m from end word (Some b)
-    ⊎ (IsFirst m from end word None × IsFirst m from end 0 (Some b))
+    IsFirstWithWord m from end word (Some b)
+    ⊎ (IsFirstWithWord m from end word None × IsFirstWithWord m from end 0 (Some b))
 
 -- only reads were made, and the search for a slot found this, under each image that there may be
-pub record Sought (s s' : View) (from end word : ℕ) (found : Option ℕ) : Type 0 where
-  pub only : OnlyRead s s'
+pub record SoughtSlot (s s' : View) (from end word : ℕ) (found : Option ℕ) : Type 0 where
+  pub only : WroteNothing s s'
   pub range : IfSome found (λ a. (from ≤ a) × (a < end))
   pub slot : (image : List ℕ) → Sees s' image → IsSlot (mem s image) from end word found
 
 -- the word is found
 pub found_one : {s s' : View} {from end word a : ℕ} → Searched s s' from end word (Some a) →
-    Sought s s' from end word (Some a)
+    SoughtSlot s s' from end word (Some a)
 found_one h = record { only = h.only; range = h.range; slot = λ image i. inl (h.first image i) }
 
 -- it is not, and the first 0 is looked for
 pub found_free : {s s' s'' : View} {from end word : ℕ} {found : Option ℕ} →
     Searched s s' from end word None → Searched s' s'' from end 0 found →
-    Sought s s'' from end word found
+    SoughtSlot s s'' from end word found
 found_free {s} {s'} {s''} {from} {end} {word} {found = None} h k = record {
   only = then_read s s' s'' h.only k.only;
   range = k.range;
@@ -122,8 +123,8 @@ same_slot m m' from end word (Some b) same (inr h) = inr (
 
 -- the search for a slot as a step
 pub seek_step : {n : ℕ} {s s' : View} {from end word : ℕ} {found : Option ℕ} →
-    Sought s s' from end word found → end ≤ n →
-    Step n s s' (λ xs. IsSlot (λ a. slice_index xs a) from end word found) (λ xs. xs)
+    SoughtSlot s s' from end word found → end ≤ n →
+    WordStep n s s' (λ xs. IsSlot (λ a. slice_index xs a) from end word found) (λ xs. xs)
 seek_step {s = s} {from = from} {end = end} {word = word} {found = found} h le =
     read_step h.only (λ image i xs are.
     same_slot (λ a. slice_index xs a) (mem s image) from end word found

@@ -7,7 +7,7 @@ use Rattle.std.proofs.lemmas.Cmp.{nat_cmp_total}
 use Rattle.std.proofs.lemmas.Bool.Decides.{nat_tests}
 use Rattle.tx_memory.specs.View.{Words}
 use Rattle.tx_memory.specs.Seen.{same_or, get_here, get_other}
-use Rattle.stm_object.specs.Search.{IsFirst, IsSlot}
+use Rattle.stm_object.specs.Search.{IsFirstWithWord, IsSlot}
 
 -- a map, and what a slot has beside it
 abbrev with_slot : ℕ → ℕ → Words → Words
@@ -20,20 +20,20 @@ map_in key value zero = empty
 map_in key value (suc n) = with_slot (key n) (value n) (map_in key value n)
 
 -- none of the first n slots has this word
-abbrev pub HasNone : (ℕ → ℕ) → ℕ → ℕ → Type 0
-HasNone key n word = (j : ℕ) → j < n → key j ≢ word
+abbrev pub HasNoSlot : (ℕ → ℕ) → ℕ → ℕ → Type 0
+HasNoSlot key n word = (j : ℕ) → j < n → key j ≢ word
 
 -- no other one of the first n slots has this word
 abbrev pub NoOther : (ℕ → ℕ) → ℕ → ℕ → ℕ → Type 0
 NoOther key n i word = (j : ℕ) → j < n → j ≢ i → key j ≢ word
 
 -- two of the first n slots that have one word are free
-abbrev pub AreApart : (ℕ → ℕ) → ℕ → Type 0
-AreApart key n = (i j : ℕ) → i < n → j < n → i ≢ j → key i ≡ key j → key i ≡ 0
+abbrev pub KeysAreApart : (ℕ → ℕ) → ℕ → Type 0
+KeysAreApart key n = (i j : ℕ) → i < n → j < n → i ≢ j → key i ≡ key j → key i ≡ 0
 
 -- this slot is for the word: it has it, or it is free, and none has it
 abbrev pub IsPlace : (ℕ → ℕ) → ℕ → ℕ → ℕ → Type 0
-IsPlace key n word i = (i < n) × ((key i ≡ word) ⊎ ((key i ≡ 0) × HasNone key n word))
+IsPlace key n word i = (i < n) × ((key i ≡ word) ⊎ ((key i ≡ 0) × HasNoSlot key n word))
 
 -- of the first n, this one is set, and the others are as they were
 pub record IsSet (n : ℕ) (f f' : ℕ → ℕ) (i w : ℕ) : Type 0 where
@@ -160,7 +160,8 @@ set_slot key key' value value' (suc n) i k v less ks vs alone place = elim (same
       (alone n (omega arith) (omega (arith, before)))))
 ]
 
-no_slot : (key value : ℕ → ℕ) (n k : ℕ) → HasNone key n (suc k) → get (map_in key value n) k ≡ None
+no_slot : (key value : ℕ → ℕ) (n k : ℕ) → HasNoSlot key n (suc k)
+    → get (map_in key value n) k ≡ None
 unfolding map_in
 no_slot key value zero k none = get-empty nat_cmp k
 no_slot key value (suc n) k none =
@@ -192,13 +193,13 @@ free_slot key key' value value' (suc n) i k less ks vs alone is = elim (same_or 
 ]
 
 -- a key stands in one slot
-alone_at : (key : ℕ → ℕ) (n i k : ℕ) → AreApart key n → i < n → key i ≡ suc k →
+alone_at : (key : ℕ → ℕ) (n i k : ℕ) → KeysAreApart key n → i < n → key i ≡ suc k →
     NoOther key n i (suc k)
 alone_at key n i k apart less is = λ j l ne e.
     let free = apart j i l less ne (e ∙ sym is) in
     let never : suc k ≡ 0 = sym e ∙ free in omega (arith, never)
 
-alone_in : (key : ℕ → ℕ) (n i k : ℕ) → AreApart key n → IsPlace key n (suc k) i →
+alone_in : (key : ℕ → ℕ) (n i k : ℕ) → KeysAreApart key n → IsPlace key n (suc k) i →
     NoOther key n i (suc k)
 alone_in key n i k apart (less, inl is) = alone_at key n i k apart less is
 alone_in key n i k apart (less, inr free) = λ j l ne. free.1 j l
@@ -211,7 +212,7 @@ next_number : (k : ℕ) → k + 1 ≡ suc k
 next_number k = omega arith
 
 -- a key and its value in their slot are an insertion
-pub put_in : (key key' value value' : ℕ → ℕ) (n i k v : ℕ) → AreApart key n →
+pub put_in : (key key' value value' : ℕ → ℕ) (n i k v : ℕ) → KeysAreApart key n →
     IsPlace key n (k + 1) i → IsSet n key key' i (k + 1) → IsSet n value value' i v →
     map_in key' value' n ≡ insert (map_in key value n) k v
 put_in key key' value value' n i k v apart place ks vs =
@@ -221,7 +222,7 @@ put_in key key' value value' n i k v apart place ks vs =
     (taken_or_free key n i (suc k) spot)
 
 -- a slot that is freed is a removal
-pub freed_in : (key key' value value' : ℕ → ℕ) (n i k : ℕ) → AreApart key n → i < n →
+pub freed_in : (key key' value value' : ℕ → ℕ) (n i k : ℕ) → KeysAreApart key n → i < n →
     key i ≡ k + 1 → IsSet n key key' i 0 → ((j : ℕ) → j < n → value' j ≡ value j) →
     map_in key' value' n ≡ remove (map_in key value n) k
 freed_in key key' value value' n i k apart less is ks vs =
@@ -229,7 +230,7 @@ freed_in key key' value value' n i k apart less is ks vs =
     free_slot key key' value value' n i k less ks vs (alone_at key n i k apart less spot) spot
 
 -- the map has the value of a key that is in a slot
-pub value_in : (key value : ℕ → ℕ) (n i k : ℕ) → AreApart key n → i < n → key i ≡ k + 1 →
+pub value_in : (key value : ℕ → ℕ) (n i k : ℕ) → KeysAreApart key n → i < n → key i ≡ k + 1 →
     get (map_in key value n) k ≡ Some (value i)
 value_in key value n i k apart less is =
     let ks : IsSet n key key i (k + 1) = record { here = is; others = λ j l ne. refl } in
@@ -239,12 +240,12 @@ value_in key value n i k apart less is =
     ∙ get_here (map_in key value n) k (value i)
 
 -- a key that no slot has is not in the map
-pub none_in : (key value : ℕ → ℕ) (n k : ℕ) → HasNone key n (k + 1) →
+pub none_in : (key value : ℕ → ℕ) (n k : ℕ) → HasNoSlot key n (k + 1) →
     get (map_in key value n) k ≡ None
 none_in key value n k none = no_slot key value n k (λ j l e. none j l (e ∙ sym (next_number k)))
 
 -- with no slot free the map is full
-pub full_in : (key value : ℕ → ℕ) (n : ℕ) → AreApart key n → HasNone key n 0 →
+pub full_in : (key value : ℕ → ℕ) (n : ℕ) → KeysAreApart key n → HasNoSlot key n 0 →
     len (map_in key value n) ≡ n
 unfolding map_in
 full_in key value zero apart none = len-empty nat_cmp ℕ
@@ -297,8 +298,8 @@ empty_in key value (suc n) free =
     let here : key n ≡ 0 = free n (omega arith) in
     rw here (empty_in key value n (λ j l. free j (omega (arith, l))))
 
-apart_set : (key key' : ℕ → ℕ) (n i w : ℕ) → AreApart key n → IsSet n key key' i w →
-    (w ≡ 0) ⊎ NoOther key n i w → AreApart key' n
+apart_set : (key key' : ℕ → ℕ) (n i w : ℕ) → KeysAreApart key n → IsSet n key key' i w →
+    (w ≡ 0) ⊎ NoOther key n i w → KeysAreApart key' n
 apart_set key key' n i w apart set (inl free) = λ a b l m ne e. elim (same_or a i) [
   | inl here ↦ rw here (set.here ∙ free)
   | inr else ↦ elim (same_or b i) [
@@ -322,15 +323,15 @@ apart_set key key' n i w apart set (inr alone) = λ a b l m ne e. elim (same_or 
 ]
 
 -- the slots stay apart where one gets a key, or is freed
-pub put_apart : (key key' : ℕ → ℕ) (n i k : ℕ) → AreApart key n → IsPlace key n (k + 1) i →
-    IsSet n key key' i (k + 1) → AreApart key' n
+pub put_apart : (key key' : ℕ → ℕ) (n i k : ℕ) → KeysAreApart key n → IsPlace key n (k + 1) i →
+    IsSet n key key' i (k + 1) → KeysAreApart key' n
 put_apart key key' n i k apart place set =
     let spot = rw (next_number k) at place in
     apart_set key key' n i (suc k) apart (rw (next_number k) at set)
     (inr (alone_in key n i k apart spot))
 
-pub freed_apart : (key key' : ℕ → ℕ) (n i : ℕ) → AreApart key n → IsSet n key key' i 0 →
-    AreApart key' n
+pub freed_apart : (key key' : ℕ → ℕ) (n i : ℕ) → KeysAreApart key n → IsSet n key key' i 0 →
+    KeysAreApart key' n
 freed_apart key key' n i apart set = apart_set key key' n i 0 apart set (inl refl)
 
 -- a search for a slot, where the keys are the first words, finds a place
@@ -339,11 +340,11 @@ place_in key n word i (inl h) = (h.1, inl h.2)
 place_in key n word i (inr h) = (h.1.1, inr (h.1.2, λ j less. h.0 j (omega arith) less))
 
 -- one that finds none of a word
-pub none_at : (key : ℕ → ℕ) (n word : ℕ) → IsFirst key 0 n word None → HasNone key n word
+pub none_at : (key : ℕ → ℕ) (n word : ℕ) → IsFirstWithWord key 0 n word None → HasNoSlot key n word
 none_at key n word h = λ j less. h j (omega arith) less
 
 -- what the map has of a key, for which this is the place
-pub had_in : (key value : ℕ → ℕ) (n i k : ℕ) → AreApart key n → IsPlace key n (k + 1) i →
+pub had_in : (key value : ℕ → ℕ) (n i k : ℕ) → KeysAreApart key n → IsPlace key n (k + 1) i →
     (key i ≡ k + 1 → get (map_in key value n) k ≡ Some (value i))
     × (key i ≢ k + 1 → get (map_in key value n) k ≡ None)
 had_in key value n i k apart (less, inl is) =

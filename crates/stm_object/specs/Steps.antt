@@ -6,7 +6,7 @@ use Rattle.tx_memory.specs.Seen.{same_or, some_le}
 use Rattle.stm_object.specs.Bodies.{Are, HasFitting, Did}
 
 -- from s to s' nothing was written
-pub record OnlyRead (s s' : View) : Type 0 where
+pub record WroteNothing (s s' : View) : Type 0 where
   pub kept : Kept s s'
   pub writes : s'.writes ≡ s.writes
 
@@ -17,27 +17,27 @@ kept_then s s' s'' k l = record {
 }
 
 -- nor was it in two parts of which each only read
-pub then_read : (s s' s'' : View) → OnlyRead s s' → OnlyRead s' s'' → OnlyRead s s''
+pub then_read : (s s' s'' : View) → WroteNothing s s' → WroteNothing s' s'' → WroteNothing s s''
 then_read s s' s'' o p = record {
   kept = kept_then s s' s'' o.kept p.kept;
   writes = p.writes ∙ o.writes;
 }
 
 -- a load only reads
-pub read_by : {s s' : View} {a v : ℕ} → Loaded s s' a v → OnlyRead s s'
+pub read_by : {s s' : View} {a v : ℕ} → Loaded s s' a v → WroteNothing s s'
 read_by l = record { kept = l.kept; writes = l.writes }
 
 -- from s to s': of the n words that there were this holds, and this makes those that there are now
-pub record Step (n : ℕ) (s s' : View) (holds : List ℕ → Type 0) (makes : List ℕ → List ℕ)
+pub record WordStep (n : ℕ) (s s' : View) (holds : List ℕ → Type 0) (makes : List ℕ → List ℕ)
     : Type 0 where
   pub kept : Kept s s'
   pub does : (image : List ℕ) → Sees s' image → (xs : List ℕ) → Are xs (mem s image) n →
       holds xs × Are (makes xs) (mem s' image) n
 
 -- what only reads leaves the words as they were
-pub read_step : {n : ℕ} {s s' : View} {holds : List ℕ → Type 0} → OnlyRead s s' →
+pub read_step : {n : ℕ} {s s' : View} {holds : List ℕ → Type 0} → WroteNothing s s' →
     ((image : List ℕ) → Sees s' image → (xs : List ℕ) → Are xs (mem s image) n → holds xs) →
-    Step n s s' holds (λ xs. xs)
+    WordStep n s s' holds (λ xs. xs)
 read_step {s = s} {s' = s'} o told = record {
   kept = o.kept;
   does = λ image i xs h. (told image i xs h, rw o.writes h);
@@ -45,7 +45,7 @@ read_step {s = s} {s' = s'} o told = record {
 
 -- a load answers the word
 pub load_step : {n a v : ℕ} {s s' : View} → Loaded s s' a v → a < n →
-    Step n s s' (λ xs. slice_index xs a ≡ v) (λ xs. xs)
+    WordStep n s s' (λ xs. slice_index xs a ≡ v) (λ xs. xs)
 load_step l less = read_step (read_by l) (λ image i xs h. h.each _ less ∙ l.answer image i)
 
 wrote : (xs : List ℕ) (m m' : ℕ → ℕ) (n i v : ℕ) → Are xs m n → IsWrite m m' i v →
@@ -62,7 +62,7 @@ wrote xs m m' n i v h w = record {
 
 -- a store sets the word
 pub store_step : {n a v : ℕ} {s s' : View} → Stored s s' a v →
-    Step n s s' (λ xs. Unit {0}) (λ xs. slice_set xs a v)
+    WordStep n s s' (λ xs. Unit {0}) (λ xs. slice_set xs a v)
 store_step {n = n} {a = a} {v = v} {s = s} {s' = s'} st = record {
   kept = st.kept;
   does = λ image i xs h. (tt, wrote xs (mem s image) (mem s' image) n a v h (st.written image));
@@ -70,8 +70,9 @@ store_step {n = n} {a = a} {v = v} {s = s} {s' = s'} st = record {
 
 -- one step after another
 pub two_steps : {n : ℕ} {s s' s'' : View} {holds holds' : List ℕ → Type 0}
-    {makes makes' : List ℕ → List ℕ} → Step n s s' holds makes → Step n s' s'' holds' makes' →
-    Step n s s'' (λ xs. holds xs × holds' (makes xs)) (λ xs. makes' (makes xs))
+    {makes makes' : List ℕ → List ℕ} → WordStep n s s' holds makes
+    → WordStep n s' s'' holds' makes' →
+    WordStep n s s'' (λ xs. holds xs × holds' (makes xs)) (λ xs. makes' (makes xs))
 two_steps {s = s} {s' = s'} {s'' = s''} {makes = makes} p q = record {
   kept = kept_then s s' s'' p.kept q.kept;
   does = λ image i xs h.
@@ -82,8 +83,8 @@ two_steps {s = s} {s' = s'} {s'' = s''} {makes = makes} p q = record {
 
 -- what follows from what holds
 pub so_step : {n : ℕ} {s s' : View} {holds : List ℕ → Type 0} {makes : List ℕ → List ℕ}
-    (so : List ℕ → Type 0) → Step n s s' holds makes →
-    ((xs : List ℕ) → length xs ≡ n → holds xs → so xs) → Step n s s' so makes
+    (so : List ℕ → Type 0) → WordStep n s s' holds makes →
+    ((xs : List ℕ) → length xs ≡ n → holds xs → so xs) → WordStep n s s' so makes
 so_step so p follows = record {
   kept = p.kept;
   does = λ image i xs h. let d = p.does image i xs h in (follows xs h.count d.0, d.1);
@@ -94,7 +95,7 @@ so_step so p follows = record {
 pub has_done : {E : Type 0} (n : ℕ) (fits : List ℕ → Type 0) (finds : E → List ℕ → Type 0)
     (after : E → List ℕ → List ℕ) (e : E) {s s' : View} {holds : List ℕ → Type 0}
     {makes : List ℕ → List ℕ} → ((xs : List ℕ) → fits xs → length xs ≡ n) →
-    Step n s s' holds makes →
+    WordStep n s s' holds makes →
     ((xs : List ℕ) → fits xs → holds xs → finds e xs × (makes xs ≡ after e xs)) →
     Did fits finds after s s' e
 has_done n fits finds after e {s} {s'} {holds} {makes} size p shown = λ image i xs b h.
@@ -109,7 +110,7 @@ has_done n fits finds after e {s} {s'} {holds} {makes} size p shown = λ image i
 
 -- an order that follows on each fitting image from what holds, follows: some image there is
 pub known_le : {n : ℕ} {fits : List ℕ → Type 0} {s s' : View} {holds : List ℕ → Type 0}
-    {makes : List ℕ → List ℕ} (a b : ℕ) → HasFitting fits n s → Step n s s' holds makes →
+    {makes : List ℕ → List ℕ} (a b : ℕ) → HasFitting fits n s → WordStep n s s' holds makes →
     ∥ ((image : List ℕ) × RestsOn s' image) ∥₁ →
     ((xs : List ℕ) → fits xs → holds xs → a ≤ b) → a ≤ b
 known_le {n = n} {s = s} a b held p some follows = some_le a b some (λ w.

@@ -33,12 +33,12 @@ pub struct ObjectLaw<S> {
 }
 
 impl<S: Object> Law for ObjectLaw<S> {
-    ghost use Rattle.stm_object.specs.Object.{IsLawful, keeps_fitting};
+    ghost use Rattle.stm_object.specs.Object.{IsLawfulEntry, keeps_fitting};
 
     ghost fits = { λ image. S.fits image };
 
     ghost lawful = { λ tag reads writes.
-        IsLawful S.fits S.Entry.numbers S.finds S.after tag reads writes };
+        IsLawfulEntry S.fits S.Entry.numbers S.finds S.after tag reads writes };
 
     ghost keeps = { λ tag image reads writes f a l.
         keeps_fitting S.fits S.Entry.numbers S.finds S.after S.keeps tag image reads writes f a l };

@@ -3,8 +3,8 @@
 ghost use Rattle.std.specs.Prelude.{◌≡◌, ◌+◌, ◌≤◌, Bool, false, IfOk, IfErr, IsOk};
 ghost use Rattle.stm_core.specs.Core.{IsFreeHanded};
 ghost use Rattle.stm_object.specs.Bodies.{HasFitting, Did};
-ghost use Rattle.stm_object.specs.History.{IsOpened, Records, WasInOrder, IsAlone, IsNoConflict};
-ghost use Rattle.stm_object.specs.History.{IsConflict, IsStop, HasRun, HasAsked, Spares};
+ghost use Rattle.stm_object.specs.History.{IsOpenedOnFitting, RecordsEntry, WasInOrder, IsAlone, IsNoConflict};
+ghost use Rattle.stm_object.specs.History.{IsConflict, IsStopOfEntry, HasRun, HasAsked, SparesWrites};
 
 use crate::object::{Object, ObjectLaw};
 use crossbeam_utils::Backoff;
@@ -47,18 +47,20 @@ pub fn attempt_once<S: Object, B: Body<S>>(
 ) -> Result<B::Answer, Stop>
     requires own { client.old.table ≡ region.now.table }
     requires free_handed { IsFreeHanded client.old.value }
-    requires opened { IsOpened S.fits S.size region.now }
+    requires opened { IsOpenedOnFitting S.fits S.size region.now }
     ensures own { client.new.table ≡ client.old.table }
     ensures grants { client.new.value.grants ≡ client.old.value.grants }
     ensures free_handed { IsFreeHanded client.new.value }
-    ensures records { Records S.Entry.numbers region.now (λ a. B.entry_of body.now a) result
+    ensures records { RecordsEntry S.Entry.numbers region.now (λ a. B.entry_of body.now a) result
         client.old.value client.new.value }
     ensures order { IfOk result (λ a. WasInOrder S.fits S.Entry.numbers S.finds S.after region.now
         (B.entry_of body.now a) client.old.value client.new.value) }
-    ensures spares { Spares (λ a. B.changes body.now a) result client.old.value client.new.value }
+    ensures spares { SparesWrites (λ a. B.changes body.now a) result client.old.value
+        client.new.value }
     ensures alone { IsAlone client.old.value → IfErr result (λ stop. IsNoConflict stop) }
     ensures attempt { client.new.value.attempt.number ≡ client.old.value.attempt.number + 1 }
-    ensures stopped { IfErr result (λ stop. IsStop S.fits S.Entry.numbers S.finds S.after region.now
+    ensures stopped { IfErr result
+        (λ stop. IsStopOfEntry S.fits S.Entry.numbers S.finds S.after region.now
         (λ a. B.entry_of body.now a) (λ a. B.changes body.now a) 1 stop client.old.value
         client.new.value) }
 {
@@ -89,7 +91,7 @@ pub fn transact<S: Object, B: Body<S>>(
 ) -> Result<B::Answer, Stop>
     requires own { client.old.table ≡ region.now.table }
     requires free_handed { IsFreeHanded client.old.value }
-    requires opened { IsOpened S.fits S.size region.now }
+    requires opened { IsOpenedOnFitting S.fits S.size region.now }
     requires tries { 1 ≤ tries }
     ensures own { client.new.table ≡ client.old.table }
     ensures free_handed { IsFreeHanded client.new.value }
@@ -136,11 +138,11 @@ pub fn ask_once<S: Object, B: Query<S>>(
 ) -> Result<B::Answer, Conflict>
     requires own { client.old.table ≡ region.now.table }
     requires free_handed { IsFreeHanded client.old.value }
-    requires opened { IsOpened S.fits S.size region.now }
+    requires opened { IsOpenedOnFitting S.fits S.size region.now }
     ensures own { client.new.table ≡ client.old.table }
     ensures grants { client.new.value.grants ≡ client.old.value.grants }
     ensures free_handed { IsFreeHanded client.new.value }
-    ensures records { Records S.Entry.numbers region.now (λ a. B.entry_of body.now a) result
+    ensures records { RecordsEntry S.Entry.numbers region.now (λ a. B.entry_of body.now a) result
         client.old.value client.new.value }
     ensures order { IfOk result (λ a. WasInOrder S.fits S.Entry.numbers S.finds S.after region.now
         (B.entry_of body.now a) client.old.value client.new.value) }
@@ -172,7 +174,7 @@ pub fn ask<S: Object, B: Query<S>>(
 ) -> Result<B::Answer, Conflict>
     requires own { client.old.table ≡ region.now.table }
     requires free_handed { IsFreeHanded client.old.value }
-    requires opened { IsOpened S.fits S.size region.now }
+    requires opened { IsOpenedOnFitting S.fits S.size region.now }
     requires tries { 1 ≤ tries }
     ensures own { client.new.table ≡ client.old.table }
     ensures free_handed { IsFreeHanded client.new.value }

@@ -1,7 +1,7 @@
 //! A search through the words of a memory.
 
 ghost use Rattle.std.specs.Prelude.{◌≡◌, ◌≤◌, IfOk, IfErr};
-ghost use Rattle.stm_object.specs.Search.{Searched, Sought};
+ghost use Rattle.stm_object.specs.Search.{Searched, SoughtSlot};
 
 use tx_memory::{Addr, TxRead, load};
 
@@ -43,7 +43,7 @@ pub fn seek<M: TxRead>(
     requires { end ≤ (M.view memory.old).size }
     ensures origin { M.origin memory.new ≡ M.origin memory.old }
     ensures answer { IfOk result (λ found.
-        Sought (M.view memory.old) (M.view memory.new) from end word found) }
+        SoughtSlot (M.view memory.old) (M.view memory.new) from end word found) }
     ensures stopped { IfErr result (λ stop. M.stopped_for memory.new stop) }
 {
     match find(memory, from, end, word)? {

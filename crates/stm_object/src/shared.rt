@@ -24,13 +24,13 @@ pub struct Shared<S: Object> {
 
 impl<S: Object> Model for Shared<S> {
     ghost use Rattle.stm_region.specs.Shown.{RegionShown};
-    ghost use Rattle.stm_object.specs.History.{IsOpened};
+    ghost use Rattle.stm_object.specs.History.{IsOpenedOnFitting};
 
     ghost Value = { RegionShown };
 
     ghost view = { λ b. b.region };
 
-    ghost invariant = { λ b. IsOpened S.fits S.size b.region };
+    ghost invariant = { λ b. IsOpenedOnFitting S.fits S.size b.region };
 }
 
 /// A user: the right to use the memory, from one thread at a time. Between calls it holds no lock.

@@ -20,9 +20,9 @@ use Rattle.stm_core.specs.Theorem.{free_law, IsHistory}
 use Rattle.stm_core.specs.Invariant.{Inv, now, Rule}
 use Rattle.stm_replay.specs.Seat.{blank, seat_after}
 use Rattle.stm_replay.specs.Running.{Running, IsSane, stripes_of, may_run, has_number, entered, run_acts, run_played}
-use Rattle.stm_replay.specs.Running.{run_opened, found_of, shown, ran}
+use Rattle.stm_replay.specs.Running.{run_opened, found_of, shown_core, ran}
 use Rattle.stm_replay.specs.Placing.{Placed}
-use Rattle.stm_replay.specs.Follows.{IsOrderOf, IsReached, FollowsCore, RunningFollows}
+use Rattle.stm_replay.specs.Follows.{IsOrderOfCore, IsReached, FollowsCore, RunningFollows}
 use Rattle.stm_core.proofs.Lists.{clash, nothing_in, by_bool}
 use Rattle.stm_core.proofs.Steps.{by_case, word_inside}
 use Rattle.stm_core.proofs.Held.{old_in}
@@ -53,10 +53,10 @@ map_length : (l : List Client) → length (map blank l) ≡ length l
 map_length [] = refl
 map_length (x ∷ l) = ap suc (map_length l)
 
-client_shown : (c : Core) (k : ℕ) → client_of (shown c) k ≡ blank (client_of c k)
+client_shown : (c : Core) (k : ℕ) → client_of (shown_core c) k ≡ blank (client_of c k)
 client_shown c k = get_map c.clients (k - 1)
 
-found_shown : (lk : ℕ → ℕ) (c : Core) (e : Action) → found lk (shown c) e ≡ found lk c e
+found_shown : (lk : ℕ → ℕ) (c : Core) (e : Action) → found lk (shown_core c) e ≡ found lk c e
 found_shown lk c begin = refl
 found_shown lk c _ = refl
 
@@ -103,7 +103,7 @@ after_shown t lk (validate k) n v =
 after_shown t lk _ n v = refl
 
 written_shown : (e : Action) (m : ℕ) (c : Core) (cs : List Client) →
-    record (written e m (shown c)) { clients = map blank cs; events = c.events + 1 } ≡ shown
+    record (written e m (shown_core c)) { clients = map blank cs; events = c.events + 1 } ≡ shown_core
     (record (written e m c) { clients = cs; events = c.events + 1 })
 written_shown begin m c cs = refl
 written_shown _ m c cs = refl
@@ -113,20 +113,21 @@ entered_core [] s = refl
 entered_core (r ∷ rs) s = refl
 
 -- an event leads both to what shows the same
-play_shown : (e : Event) (c : Core) (s : Running) → s.core ≡ shown c →
-    (run_played e s).core ≡ shown (played (stripes_of c) e c)
+play_shown : (e : Event) (c : Core) (s : Running) → s.core ≡ shown_core c →
+    (run_played e s).core ≡ shown_core (played (stripes_of c) e c)
 play_shown (acts k e) c s same =
-    let t = stamp_of (shown c) k in
+    let t = stamp_of (shown_core c) k in
     let v = client_of c k in
     let n = found (stripes_of c) c e in
     let w = after (record { client = k; place = c.events; renewal = c.renewal }) (stripes_of c) e n v in
-    subst (λ d. (run_acts k e (record s { core = d })).core ≡ shown (played (stripes_of c) (acts k e) c)) (sym same)
-    (entered_core (decision t e (found (stripes_of c) (shown c) e) (client_of (shown c) k))
+    subst (λ d. (run_acts k e (record s { core = d })).core ≡ shown_core (played (stripes_of c) (acts k e) c))
+    (sym same)
+    (entered_core (decision t e (found (stripes_of c) (shown_core c) e) (client_of (shown_core c) k))
     (record s {
-      core = record (written e (left e (found (stripes_of c) (shown c) e) (client_of (shown c) k))
-          (shown c)) {
+      core = record (written e (left e (found (stripes_of c) (shown_core c) e) (client_of (shown_core c) k))
+          (shown_core c)) {
             clients = slice_set (map blank c.clients) (k - 1) (seat_after c.events e
-                (found (stripes_of c) (shown c) e) (client_of (shown c) k));
+                (found (stripes_of c) (shown_core c) e) (client_of (shown_core c) k));
             events = c.events + 1;
           };
     })
@@ -138,27 +139,28 @@ play_shown (acts k e) c s same =
       ← map_set c.clients (k - 1) w,
     ) (written_shown e (left e n v) c (set c.clients (k - 1) w))))
 play_shown (splits k) c s same =
-    subst (λ d. (run_played (splits k) (record s { core = d })).core ≡ shown (played (stripes_of c) (splits k) c))
+    subst (λ d. (run_played (splits k) (record s { core = d })).core ≡ shown_core (played (stripes_of c) (splits k) c))
     (sym same)
-    (rw (client_shown c k) (λ i. record (shown c) {
+    (rw (client_shown c k) (λ i. record (shown_core c) {
       clients = sym (map_snoc
           (set c.clients (k - 1) (giving (client_of c k))) (fresh (client_of c k)) ∙
           ap (λ l. l ++ blank (fresh (client_of c k)) ∷ []) (map_set c.clients (k - 1) (giving (client_of c k)))) i;
       events = c.events + 1;
     }))
 play_shown (gathers k j) c s same =
-    subst (λ d. (run_played (gathers k j) (record s { core = d })).core ≡ shown (played (stripes_of c) (gathers k j) c))
+    subst (λ d. (run_played (gathers k j) (record s { core = d })).core ≡ shown_core
+    (played (stripes_of c) (gathers k j) c))
     (sym same)
-    (rw (client_shown c k, client_shown c j) (λ i. record (shown c) {
+    (rw (client_shown c k, client_shown c j) (λ i. record (shown_core c) {
       clients = sym (map_set (set c.clients (k - 1) (taking (client_of c k) (client_of c j))) (j - 1) gone ∙
           ap (λ l. set l (j - 1) gone) (map_set c.clients (k - 1) (taking (client_of c k) (client_of c j)))) i;
       events =
           c.events + 1;
     }))
 play_shown (renews k last) c s same =
-    subst (λ d. (run_played (renews k last) (record s { core = d })).core ≡ shown
+    subst (λ d. (run_played (renews k last) (record s { core = d })).core ≡ shown_core
     (played (stripes_of c) (renews k last) c)) (sym same)
-    (rw (client_shown c k) (λ i. record (shown (played (stripes_of c) (renews k last) c)) {
+    (rw (client_shown c k) (λ i. record (shown_core (played (stripes_of c) (renews k last) c)) {
       clients = sym (map_set c.clients (k - 1) (renewing (client_of c k))) i;
     }))
 
@@ -175,28 +177,28 @@ filed_behind [] old h f = refl
 filed_behind (r ∷ rs) old h f = placed_behind r old h (λ x i. f x r i (placed_in r h))
 
 -- an event brings what it decides to its place in the order
-play_order : (e : Event) (c : Core) (s : Running) (old h : List Record) → s.core ≡ shown c → ByPoint (old ++ h) →
+play_order : (e : Event) (c : Core) (s : Running) (old h : List Record) → s.core ≡ shown_core c → ByPoint (old ++ h) →
     s.order ≡ order_of (old ++ h) → ((x y : Record) → In x (earlier_after e old h) →
     In y (history_after (stripes_of c) e c h) → x.point < y.point)
     → (run_played e s).order ≡ order_of (earlier_after e old h ++ history_after (stripes_of c) e c h)
 play_order (acts k e) c s old h same by o f =
     let t : Stamp = record { client = k; place = c.events; renewal = c.renewal } in
     let rs = decision t e (found (stripes_of c) c e) (client_of c k) in
-    let kept : decision (stamp_of (shown c) k) e (found (stripes_of c) (shown c) e)
-    (client_of (shown c) k) ≡ map as_kept rs = rw (found_shown (stripes_of c) c e, client_shown c k)
+    let kept : decision (stamp_of (shown_core c) k) e (found (stripes_of c) (shown_core c) e)
+    (client_of (shown_core c) k) ≡ map as_kept rs = rw (found_shown (stripes_of c) c e, client_shown c k)
     (decision_shown t e (found (stripes_of c) c e) (client_of c k)) in
     subst (λ d. (run_acts k e (record s { core = d })).order ≡ order_of (filed rs (old ++ h))) (sym same)
     (entered_order _ rs kept _ (old ++ h) by o) ∙ ap order_of (filed_behind rs old h f)
 play_order (renews k last) c s old h same by o f = o ∙ ap order_of (sym (append-nil (old ++ h)))
 play_order _ c s old h same by o f = o
 
-out_shown : (c : Core) (k : ℕ) → is_out (shown c) k ≡ is_out c k
+out_shown : (c : Core) (k : ℕ) → is_out (shown_core c) k ≡ is_out c k
 out_shown c k = rw (map_length c.clients, client_shown c k) refl
 
-last_found_shown : (c : Core) (k : ℕ) → found_of (shown c) k ≡ found_of c k
+last_found_shown : (c : Core) (k : ℕ) → found_of (shown_core c) k ≡ found_of c k
 last_found_shown c k = rw (map_length c.clients, client_shown c k) refl
 
-may_shown : (lk : ℕ → ℕ) (e : Event) (c : Core) → may_play lk e (shown c) ≡ may_play lk e c
+may_shown : (lk : ℕ → ℕ) (e : Event) (c : Core) → may_play lk e (shown_core c) ≡ may_play lk e c
 may_shown lk (acts k e) c = rw (out_shown c k, client_shown c k) (ap (λ b. is_out c k && b) (same e))
   where
     same : (e : Action) → may_act lk (bounds_of c) e (blank (client_of c k)).attempt ≡ may_act lk (bounds_of c) e
@@ -216,7 +218,7 @@ may_shown lk (renews k last) c = rw (out_shown c k, client_shown c k, others_sho
     others_shown (v ∷ vs) zero = are_shown vs
     others_shown (v ∷ vs) (suc i) = ap (λ b. v.is_gathered && b) (others_shown vs i)
 
-number_shown : (e : Event) (c : Core) → has_number e (shown c) ≡ has_number e c
+number_shown : (e : Event) (c : Core) → has_number e (shown_core c) ≡ has_number e c
 number_shown (splits k) c = rw (map_length c.clients) refl
 number_shown _ c = refl
 
@@ -289,7 +291,7 @@ module _ (c : Core) (h : Inv free_law (stripes_of c) c) (low : c.last < 2 ^ 62) 
       grants_of_two free_law (stripes_of c) c h (k - 1) (j - 1) (client_of c k) (client_of c j) (λ e. n (let x = a.0 in
       let y = b.0 in omega arith)) a.1 b.1 a.2 b.2
 
-  sane_shown : IsSane (shown c)
+  sane_shown : IsSane (shown_core c)
   sane_shown = record {
     last = low;
     some = some';
@@ -313,7 +315,7 @@ leads_small lk (a ∷ es) c d e l = leads_small lk es (played lk a c) d e.1 (las
 
 -- the running core beside the core and its histories
 record RunsBeside (old h : List Record) (s : Running) (c : Core) : Type 0 where
-  shows : s.core ≡ shown c
+  shows : s.core ≡ shown_core c
   orders : s.order ≡ order_of (old ++ h)
   beside : Beside free_law (stripes_of c) old h c
 
@@ -341,7 +343,7 @@ ran_beside (a ∷ es) old h s c d b e =
 
 -- what stands beside a history has it for its order
 order_beside : (old h : List Record) (s : Running) (c : Core) → RunsBeside old h s c →
-    IsOrderOf c s.order.entries s.order.points
+    IsOrderOfCore c s.order.entries s.order.points
 order_beside old h s c b =
     let own : IsHistory c (old ++ h) = is_history free_law (stripes_of c) c old h b.beside in
     record {
@@ -406,7 +408,7 @@ reached_follows s r = subst (λ x. FollowsCore (stripe_of r.stripes) x r.core) (
     (running_follows r.image r.last r.stripes r.events r.core r.leads)
 
 -- however the running core was reached, its order is the history of the core that the events lead to
-pub reached_order : (s : Running) (r : IsReached s) → IsOrderOf r.core s.order.entries s.order.points
+pub reached_order : (s : Running) (r : IsReached s) → IsOrderOfCore r.core s.order.entries s.order.points
 reached_order s r = (reached_follows s r).order
 
 pub leads_snoc : (lk : ℕ → ℕ) (es : List Event) (e : Event) (c d : Core) → Leads free_law lk c es d →
@@ -434,8 +436,8 @@ reached_next e s r may = record {
 }
 
 -- a reached core is sane
-shown_now : (c : Core) → shown (now c) ≡ shown c
-shown_now c = ap (λ l. record (shown c) { clients = l }) (go c.clients)
+shown_now : (c : Core) → shown_core (now c) ≡ shown_core c
+shown_now c = ap (λ l. record (shown_core c) { clients = l }) (go c.clients)
   where
     go : (l : List Client) → map blank (map (shed c.renewal) l) ≡ map blank l
     go [] = refl

@@ -8,7 +8,7 @@ use Rattle.stm_core.specs.Client.{Client, Record, RecordLaw, shed, running, writ
 use Rattle.stm_core.specs.Event.{Action, begin}
 use Rattle.stm_core.specs.Core.{Core, Event, acts, splits, gathers, renews, client_of, played, Leads, opened}
 use Rattle.stm_core.specs.Version.{At, IsOpen, runs}
-use Rattle.stm_core.specs.Records.{over}
+use Rattle.stm_core.specs.Records.{value_over}
 use Rattle.stm_core.specs.Invariant.{now}
 use Rattle.stm_core.specs.Guards.{stripe_of}
 use Rattle.stm_core.specs.History.{image_after, image_at}
@@ -30,7 +30,7 @@ use Rattle.stm_replay.proofs.Placing.{one_history}
 -- the value at an address behind some records, where d stood before them
 abbrev over_all : ℕ → List Record → ℕ → ℕ
 over_all d [] a = d
-over_all d (r ∷ rs) a = over_all (over d r.writes a) rs a
+over_all d (r ∷ rs) a = over_all (value_over d r.writes a) rs a
 
 image_value : (rs : List Record) (m : List ℕ) (a : ℕ) → a < length m
     → slice_index (image_after m rs) a ≡ over_all (slice_index m a) rs a
@@ -43,18 +43,18 @@ image_long : (rs : List Record) (m : List ℕ) → length (image_after m rs) ≡
 image_long [] m = refl
 image_long (r ∷ rs) m = image_long rs (laid m r.writes) ∙ laid_length m r.writes
 
-over_none : (ws : List (ℕ × ℕ)) (a d : ℕ) → writes_to ws a ≡ false → over d ws a ≡ d
+over_none : (ws : List (ℕ × ℕ)) (a d : ℕ) → writes_to ws a ≡ false → value_over d ws a ≡ d
 over_none [] a d e = refl
 over_none (p ∷ ps) a d e = go (eqb p.0 a) e (λ f. over_none ps a d f)
   where
-    go : (b : Bool) → (b || writes_to ps a) ≡ false → (writes_to ps a ≡ false → over d ps a ≡ d)
-        → over (cond b p.1 d) ps a ≡ d
+    go : (b : Bool) → (b || writes_to ps a) ≡ false → (writes_to ps a ≡ false → value_over d ps a ≡ d)
+        → value_over (cond b p.1 d) ps a ≡ d
     go true f rest = absurd (let k : true ≡ false = f in cc)
     go false f rest = rest f
 
 over_append : (xs ys : List Record) (d a : ℕ) → over_all d (xs ++ ys) a ≡ over_all (over_all d xs a) ys a
 over_append [] ys d a = refl
-over_append (x ∷ xs) ys d a = over_append xs ys (over d x.writes a) a
+over_append (x ∷ xs) ys d a = over_append xs ys (value_over d x.writes a) a
 
 before_append : (p : ℕ) (xs ys : List Record) → before_place p (xs ++ ys) ≡ before_place p xs ++ before_place p ys
 before_append p [] ys = refl
@@ -80,13 +80,14 @@ parted p old h d a =
 
 -- a record that is of no concern: it stands behind the place, or does not write the address
 abbrev Spares : Record → ℕ → ℕ → Type 0
-Spares r p a = ltb r.point p ≡ true → (d : ℕ) → over d r.writes a ≡ d
+Spares r p a = ltb r.point p ≡ true → (d : ℕ) → value_over d r.writes a ≡ d
 
 in_front : (r : Record) (p a : ℕ) → Spares r p a → (rs : List Record) (d : ℕ)
     → over_all d (cond (ltb r.point p) (r ∷ rs) rs) a ≡ over_all d rs a
 in_front r p a s rs d = go (ltb r.point p) s
   where
-    go : (b : Bool) → (b ≡ true → (d : ℕ) → over d r.writes a ≡ d) → over_all d (cond b (r ∷ rs) rs) a ≡ over_all d rs a
+    go : (b : Bool) → (b ≡ true → (d : ℕ) → value_over d r.writes a ≡ d) →
+        over_all d (cond b (r ∷ rs) rs) a ≡ over_all d rs a
     go true f = ap (λ e. over_all e rs a) (f refl d)
     go false f = refl
 
@@ -95,7 +96,7 @@ both_front : (x : Record) (p a : ℕ) (l k : List Record) → ((e : ℕ) → ove
 both_front x p a l k f d = go (ltb x.point p)
   where
     go : (b : Bool) → over_all d (cond b (x ∷ l) l) a ≡ over_all d (cond b (x ∷ k) k) a
-    go true = f (over d x.writes a)
+    go true = f (value_over d x.writes a)
     go false = f d
 
 placed_same : (r : Record) (p a : ℕ) → Spares r p a → (l : List Record) (d : ℕ)
@@ -146,7 +147,7 @@ module _ (lawful : RecordLaw) (lk : ℕ → ℕ) (start : Core) (es : List Event
       (let s = q.2 in let l : r.point < p = grind (arith, nat_tests) in omega (arith, s, l)) i)))
       (λ q. absurd (let s = f.past in let l : r.point < p = grind (arith, nat_tests) in omega (arith, s, l, q)))
       (decided_since lawful lk start es c (old ++ h) t k e may r m w))
-      (λ w. ap (λ ws. over d ws a) (reader w))
+      (λ w. ap (λ ws. value_over d ws a) (reader w))
 
   filed_same : (rs : List Record) → (rs ≡ []) ⊎ ((r : Record) × (rs ≡ r ∷ [])) → (a : ℕ)
       → ((r : Record) → In r rs → In r (filed rs h) → Spares r p a) → (d : ℕ)
@@ -215,9 +216,10 @@ image_before v p (r ∷ rs) f m a l =
     go true false s rest = ⊎_elim (λ e. absurd (let k : true ≡ false = e in cc))
         (λ e. rest (laid m r.writes) inside
         ∙ ap (λ d. over_all d (before_place p rs) a) (laid_value m r.writes a l ∙
-        ap (λ ws. over (slice_index m a) ws a) e)) s
+        ap (λ ws. value_over (slice_index m a) ws a) e)) s
     go false true s rest = ⊎_elim (λ e. absurd (let k : false ≡ true = e in cc))
-        (λ e. rest m l ∙ sym (ap (λ d. over_all d (before_place p rs) a) (ap (λ ws. over (slice_index m a) ws a) e))) s
+        (λ e. rest m l ∙ sym (ap (λ d. over_all d (before_place p rs) a)
+        (ap (λ ws. value_over (slice_index m a) ws a) e))) s
 
 -- it is so while the attempt may read on
 module _ (lawful : RecordLaw) (lk : ℕ → ℕ) (c : Core) (old h : List Record) (b : Beside lawful lk old h c) (i : ℕ)

@@ -11,8 +11,8 @@ use Rattle.stm_core.specs.Core.{Core}
 use Rattle.stm_core.specs.History.{ByPoint}
 use Rattle.stm_core.specs.Theorem.{IsHistory}
 use Rattle.stm_replay.specs.Seat.{blank}
-use Rattle.stm_replay.specs.Placing.{Placed, place_in, put_in}
-use Rattle.stm_replay.specs.Running.{Running, entry_of, entered}
+use Rattle.stm_replay.specs.Placing.{Placed, place_among, put_in}
+use Rattle.stm_replay.specs.Running.{Running, entry_of_record, entered}
 use Rattle.stm_core.proofs.Lists.{nothing_in, by_bool}
 use Rattle.stm_core.proofs.Orders.{in_cons}
 use Rattle.stm_core.proofs.Steps.{by_case}
@@ -24,7 +24,7 @@ points_of h = map (λ (r : Record). r.point) h
 
 -- the order of a history
 abbrev pub order_of : List Record → Placed
-order_of h = record { entries = map entry_of h; points = points_of h }
+order_of h = record { entries = map entry_of_record h; points = points_of h }
 
 later_all : (p : ℕ) (h : List Record) → ((x : Record) → In x h → p < x.point) → list_all (ltb p) (points_of h) ≡ true
 later_all p [] f = refl
@@ -33,17 +33,17 @@ later_all p (x ∷ h) f = let e : ltb p x.point ≡ true = (let l = f x (0, refl
 
 -- a record placed by its point is an insertion at the place among the points
 placed_map : {X : Type 0} (f : Record → X) (r : Record) (h : List Record) → ByPoint h →
-    map f (placed r h) ≡ insert (map f h) (place_in (points_of h) r.point) (f r)
+    map f (placed r h) ≡ insert (map f h) (place_among (points_of h) r.point) (f r)
 placed_map f r [] o = refl
 placed_map f r (x ∷ h) o = by_bool (ltb r.point x.point)
     (λ e. let all : list_all (ltb r.point) (points_of h) ≡ true =
     later_all r.point h (λ y i. (let a = o.0 y i in let b : r.point < x.point = grind (arith, nat_tests) in
     omega arith)) in rw (e, all) refl)
-    (λ e. rw (e, add-one (place_in (points_of h) r.point)) (ap (λ l. f x ∷ l) (placed_map f r h o.1)))
+    (λ e. rw (e, add-one (place_among (points_of h) r.point)) (ap (λ l. f x ∷ l) (placed_map f r h o.1)))
 
 -- the place found from the back: all from there on are later, and the one before is not
 pub place_found : (l : List ℕ) (p n : ℕ) → n ≤ length l → ((i : ℕ) → n ≤ i → i < length l → p < get_or l i 0) →
-    (0 < n → get_or l (n - 1) 0 ≤ p) → n ≡ place_in l p
+    (0 < n → get_or l (n - 1) 0 ≤ p) → n ≡ place_among l p
 place_found [] p n w f g = omega arith
 place_found (x ∷ xs) p zero w f g = let all : list_all (ltb p) (x ∷ xs) ≡ true =
     later (x ∷ xs) (λ i l. f i (omega arith) l) in rw all refl
@@ -56,7 +56,7 @@ place_found (x ∷ xs) p (suc n) w f g =
     let last : get_or (x ∷ xs) n 0 ≤ p = subst (λ m. get_or (x ∷ xs) m 0 ≤ p) (let e : suc n - 1 ≡ n = omega arith in
     e) (g (omega arith)) in
     let some : list_all (ltb p) (x ∷ xs) ≡ false = earlier (x ∷ xs) n (omega arith) last in
-    rw (some, add-one (place_in xs p)) (ap suc (place_found xs p n (omega arith)
+    rw (some, add-one (place_among xs p)) (ap suc (place_found xs p n (omega arith)
     (λ i a b. f (suc i) (omega arith) (omega arith)) (λ a. before n a last)))
   where
     earlier : (l : List ℕ) (i : ℕ) → i < length l → get_or l i 0 ≤ p → list_all (ltb p) l ≡ false
@@ -98,8 +98,8 @@ entered_order kept rs same s h by o = subst (λ l. (entered l s).order ≡ order
   where
     go : (l : List Record) → (entered (map as_kept l) s).order ≡ order_of (filed l h)
     go [] = o
-    go (r ∷ l) = ap (put_in (entry_of r) r.point) o ∙ (λ i. record {
-      entries = sym (placed_map entry_of r h by) i;
+    go (r ∷ l) = ap (put_in (entry_of_record r) r.point) o ∙ (λ i. record {
+      entries = sym (placed_map entry_of_record r h by) i;
       points = sym (placed_map (λ (x : Record). x.point) r h by) i;
     })
 

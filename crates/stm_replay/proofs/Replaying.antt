@@ -11,7 +11,8 @@ use Rattle.stm_core.specs.Guards.{stripe_of}
 use Rattle.stm_replay.specs.Running.{has_number, run_opened, ran}
 use Rattle.stm_replay.specs.declared.event.Event.TheVariants.{Begin, Probe, Fetch, Check, Lock, Tick, Validate, Put}
 use Rattle.stm_replay.specs.declared.event.Event.TheVariants.{Release, GiveBack, Finish, Split, Gather, Renew}
-use Rattle.stm_replay.specs.Numbered.{numbered_event, numbered_client, numbered_core, EveryEventIsPlayable, MayRun}
+use Rattle.stm_replay.specs.Numbered.{numbered_event, numbered_client, numbered_core, EveryEventIsPlayable}
+use Rattle.stm_replay.specs.Numbered.{MayRunInTurn}
 use Rattle.stm_replay.specs.Numbered.{PlayedWithNumbers}
 use Rattle.stm_replay.proofs.Following.{running_follows, leads_snoc, ran_snoc}
 use Rattle.stm_replay.proofs.Numbering.{allowed_with_numbers}
@@ -65,11 +66,11 @@ module _ (image : List ℕ) (last stripes : ℕ) where
   -- what is allowed next may be played next
   may_run : (past es : List Event) (c d : Core) → length d.clients ≤ 4294967295 →
       Leads free_law (stripe_of stripes) (opened image last stripes) past c →
-      Leads free_law (stripe_of stripes) c es d → MayRun es (ran past (run_opened image last stripes))
+      Leads free_law (stripe_of stripes) c es d → MayRunInTurn es (ran past (run_opened image last stripes))
   may_run past [] c d l h g = tt
   may_run past (e ∷ es) c d l h g = (
     ((running_follows image last stripes past c h).allows e).1 (g.0, numbers (stripe_of stripes) e es c d g l),
-    subst (MayRun es) (ran_snoc past e (run_opened image last stripes))
+    subst (MayRunInTurn es) (ran_snoc past e (run_opened image last stripes))
         (may_run (past ++ e ∷ []) es (played (stripe_of stripes) e c) d l
         (leads_snoc (stripe_of stripes) past e (opened image last stripes) c h g.0) g.1),
   )

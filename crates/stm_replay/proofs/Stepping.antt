@@ -9,7 +9,7 @@ use Rattle.stm_core.specs.Event.{Action, tick, validate, finish, decision, gone,
 use Rattle.stm_core.specs.Event.{decides_at_once, writer_record}
 use Rattle.stm_core.specs.Core.{Core, found, left, written, client_of, stamp_of}
 use Rattle.stm_replay.specs.Seat.{seat_after, tag_number}
-use Rattle.stm_replay.specs.Running.{Running, stripes_of, entered, entry_of, run_acts}
+use Rattle.stm_replay.specs.Running.{Running, stripes_of, entered, entry_of_record, run_acts}
 use Rattle.stm_replay.specs.Placing.{Placed, put_in}
 use Rattle.stm_replay.specs.StateView.{running_of}
 use Rattle.stm_replay.specs.declared.state.State.TheInside.{Inside}
@@ -86,7 +86,7 @@ pub exchange : (n m : ℕ) → cond (eqb n m) (n + 1) n ≡ cond (eqb n m) (m + 
 exchange n m = grind (arith, nat_tests)
 
 -- a record that two tests decide
-twice : (a b : Bool) (r : Record) (s : Running) → cond (a && b) (put_in (entry_of r) r.point s.order) s.order ≡
+twice : (a b : Bool) (r : Record) (s : Running) → cond (a && b) (put_in (entry_of_record r) r.point s.order) s.order ≡
     (entered (cond a (cond b (r ∷ []) []) []) s).order
 twice true true r s = refl
 twice true false r s = refl

@@ -4,17 +4,17 @@ use Rattle.stm_core.specs.Client.{Record}
 use Rattle.stm_core.specs.Core.{Core, Event, Allowed}
 use Rattle.stm_core.specs.Theorem.{free_law, Reaches, IsHistory}
 use Rattle.stm_core.specs.Guards.{stripe_of}
-use Rattle.stm_replay.specs.Running.{Running, entry_of, stripes_of, may_run, has_number, shown, run_opened, found_of, ran}
+use Rattle.stm_replay.specs.Running.{Running, entry_of_record, stripes_of, may_run, has_number, shown_core, run_opened, found_of, ran}
 use Rattle.stm_replay.specs.declared.event.Entry.{Entry}
 use Rattle.stm_words.specs.declared.version.TheConstants.{VERSION_LIMIT}
 
 -- the core has one history, and these are the entries and the points of its records, in its order
 -- Not said: what a record read and wrote: an entry has its client, tag, version and kind.
-pub record IsOrderOf (c : Core) (entries : List Entry) (points : List ℕ) : Type 0 where
+pub record IsOrderOfCore (c : Core) (entries : List Entry) (points : List ℕ) : Type 0 where
   pub history : List Record
   pub is_history : IsHistory c history
   pub only : (rs : List Record) → IsHistory c rs → rs ≡ history
-  pub listed : entries ≡ map entry_of history
+  pub listed : entries ≡ map entry_of_record history
   pub dated : points ≡ map (λ r. r.point) history
 
 -- a list of allowed events leads from an opening to a core, and the running core is what the same
@@ -33,8 +33,8 @@ pub record IsReached (s : Running) : Type 0 where
 
 -- the running core shows the core, and its order is the core's history
 pub record FollowsCore (lk : ℕ → ℕ) (s : Running) (c : Core) : Type 0 where
-  pub shows : s.core ≡ shown c
-  pub order : IsOrderOf c s.order.entries s.order.points
+  pub shows : s.core ≡ shown_core c
+  pub order : IsOrderOfCore c s.order.entries s.order.points
   -- the last step of each client found the same word
   pub finds : (client : ℕ) → found_of s.core client ≡ found_of c client
   -- it plays just the events that are allowed in the core, and have their number

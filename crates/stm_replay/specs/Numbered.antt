@@ -8,7 +8,7 @@ use Rattle.stm_core.specs.Core.{Core, Event, acts}
 use Rattle.stm_core.specs.Version.{At}
 use Rattle.stm_core.specs.History.{Serial}
 use Rattle.stm_core.specs.Theorem.{free_law, Reaches, IsHistory}
-use Rattle.stm_replay.specs.Running.{Running, stripes_of, may_run, run_played, run_opened, ran, shown}
+use Rattle.stm_replay.specs.Running.{Running, stripes_of, may_run, run_played, run_opened, ran, shown_core}
 use Rattle.stm_replay.specs.Played.{event_of}
 use Rattle.stm_replay.specs.declared.event.Event as declared
 use Rattle.stm_replay.specs.declared.limits.TheConstants.{MOST_CLIENTS}
@@ -70,9 +70,10 @@ EveryEventIsPlayable A =
     → (d : declared.Event A) × (event_of d ≡ numbered_event number e)
 
 -- each event may be played in its turn
-abbrev pub MayRun : List Event → Running → Type 0
-MayRun [] s = Unit {0}
-MayRun (e ∷ es) s = (may_run (stripes_of s.core) e s.core ≡ true) × MayRun es (run_played e s)
+abbrev pub MayRunInTurn : List Event → Running → Type 0
+MayRunInTurn [] s = Unit {0}
+MayRunInTurn (e ∷ es) s =
+    (may_run (stripes_of s.core) e s.core ≡ true) × MayRunInTurn es (run_played e s)
 
 module _ (lawful : RecordLaw) where
   -- a list of events that the law allows is allowed with any numbers for its tags where every
@@ -91,9 +92,9 @@ module _ (lawful : RecordLaw) where
       (number : List ℕ → ℕ) (image : List ℕ) (last stripes : ℕ) (events : List Event) (c : Core)
       → Reaches lawful image last stripes events c
       → (length c.clients ≤ MOST_CLIENTS
-      → MayRun (map (numbered_event number) events) (run_opened image last stripes))
+      → MayRunInTurn (map (numbered_event number) events) (run_opened image last stripes))
       × ((ran (map (numbered_event number) events) (run_opened image last stripes)).core
-      ≡ shown (numbered_core number c))
+      ≡ shown_core (numbered_core number c))
 
   -- in the core that it leads to each client has the same records but for their tags
   abbrev pub SameButTags : Type 0

@@ -9,12 +9,12 @@ pub record Placed : Type 0 where
   pub points : List ℕ
 
 -- how many points there are up to the last one that is not later: none where all are later
-abbrev pub place_in : List ℕ → ℕ → ℕ
-place_in [] p = 0
-place_in (x ∷ xs) p = cond (list_all (ltb p) (x ∷ xs)) 0 (place_in xs p + 1)
+abbrev pub place_among : List ℕ → ℕ → ℕ
+place_among [] p = 0
+place_among (x ∷ xs) p = cond (list_all (ltb p) (x ∷ xs)) 0 (place_among xs p + 1)
 
 -- the order with one more record at its place
 abbrev pub put_in : Entry → ℕ → Placed → Placed
 put_in entry point o =
-    let place = place_in o.points point in
+    let place = place_among o.points point in
     record { entries = insert o.entries place entry; points = insert o.points place point }

@@ -33,8 +33,8 @@ may_run lk (splits k) c = may_play lk (splits k) c && nat_lt (length c.clients) 
 may_run lk e c = may_play lk e c
 
 -- what is kept of a decided record: no reads and no writes, and its tag as a number
-abbrev pub entry_of : Record → Entry
-entry_of r = record {
+abbrev pub entry_of_record : Record → Entry
+entry_of_record r = record {
   client = r.client;
   tag = tag_number r.tag;
   version = r.version;
@@ -45,7 +45,7 @@ entry_of r = record {
 -- the records that one event decided, which are one or none, are put in their places
 abbrev pub entered : List Record → Running → Running
 entered [] s = s
-entered (r ∷ rs) s = record s { order = put_in (entry_of r) r.point s.order }
+entered (r ∷ rs) s = record s { order = put_in (entry_of_record r) r.point s.order }
 
 -- the running core after a step of client k
 abbrev pub run_acts : ℕ → Action → Running → Running
@@ -125,8 +125,8 @@ pub record IsSane (c : Core) : Type 0 where
       → (client_of c k).grants + (client_of c j).grants + 1 ≤ MOST_GRANTS
 
 -- a core as far as it is kept
-abbrev pub shown : Core → Core
-shown c = record c { first = []; past = []; opening = []; clients = map blank c.clients }
+abbrev pub shown_core : Core → Core
+shown_core c = record c { first = []; past = []; opening = []; clients = map blank c.clients }
 
 -- the running core after a list of events
 abbrev pub ran : List Event → Running → Running

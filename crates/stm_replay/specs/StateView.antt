@@ -22,6 +22,6 @@ running_of s = record {
 }
 
 -- there is a lock word, and their number is kept right
-pub record IsWhole {A : Type 0} (s : Inside A) : Type 0 where
+pub record HasLockWords {A : Type 0} (s : Inside A) : Type 0 where
   pub stripes : s.stripes ≡ length s.locks.items
   pub some : 0 < s.stripes

@@ -2,7 +2,7 @@
 
 ghost use Rattle.std.specs.Prelude.{◌≡◌, ◌<◌, ◌≤◌, [], cond, length, vec_len, vec_capacity, OnOk, OnErr};
 ghost use Rattle.std.specs.List.{insert};
-ghost use Rattle.stm_replay.specs.Placing.{place_in, put_in};
+ghost use Rattle.stm_replay.specs.Placing.{place_among, put_in};
 
 use crate::event::Entry;
 use std::alloc::{AllocError, Allocator};
@@ -79,7 +79,7 @@ impl<A: Allocator + Copy> Order<A> {
 
 /// How many points there are up to the last one that is not later, looked for from the back.
 fn place_in(points: &[usize], point: usize) -> usize
-    ensures place { result ≡ place_in points.now point }
+    ensures place { result ≡ place_among points.now point }
     ensures within { result ≤ length points.now }
 {
     let mut place = points.len();

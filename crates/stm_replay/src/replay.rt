@@ -4,7 +4,7 @@ ghost use Rattle.std.specs.Prelude.{◌≡◌, ℕ, ◌<◌, ◌≤◌, ◌^◌,
 ghost use Rattle.stm_replay.specs.Played.{event_of};
 ghost use Rattle.stm_replay.specs.Running.{may_run, stripes_of, run_played, run_opened, found_of};
 ghost use Rattle.stm_replay.specs.Refusals.{IsRefusal};
-ghost use Rattle.stm_replay.specs.Follows.{IsReached, IsOrderOf};
+ghost use Rattle.stm_replay.specs.Follows.{IsReached, IsOrderOfCore};
 ghost use Rattle.stm_core.specs.declared.limits.TheConstants.{MOST_WORDS, MOST_STRIPES};
 ghost use Rattle.stm_words.specs.declared.version.TheConstants.{VERSION_LIMIT};
 
@@ -90,7 +90,7 @@ impl<A: Allocator + Copy> Core<A> {
         ensures entries { result.now ≡ self.now.order.entries }
         ensures reached { IsReached self.now }
         ensures history { (r : IsReached self.now)
-            → IsOrderOf r.core result.now self.now.order.points }
+            → IsOrderOfCore r.core result.now self.now.order.points }
     {
         self.state.entries()
     }

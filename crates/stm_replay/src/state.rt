@@ -40,11 +40,11 @@ impl<A: Allocator + Copy> Model for State<A> {
 
     ghost Value = { Running };
 
-    ghost use Rattle.stm_replay.specs.StateView.{running_of, IsWhole};
+    ghost use Rattle.stm_replay.specs.StateView.{running_of, HasLockWords};
 
     ghost view = { running_of };
 
-    ghost invariant = { IsWhole };
+    ghost invariant = { HasLockWords };
 }
 
 impl<A: Allocator + Copy> State<A> {

@@ -7,10 +7,10 @@ use Rattle.stm_core.specs.Client.{Client}
 use Rattle.stm_logs.specs.Log.{LogValue, empty_log}
 use Rattle.stm_region.specs.Shown.{RegionShown}
 use Rattle.stm_attempt.specs.Meaning.{memory_of}
-use Rattle.stm_attempt.specs.Leading.{Property, words_of}
+use Rattle.stm_attempt.specs.Leading.{Property, image_as_memory}
 use Rattle.stm_rows.specs.Laws.{Fits, HoldsUnder}
 
-unwritten : (image : List ℕ) → memory image (empty {K = ℕ} {X = ℕ} {R = nat_cmp}) ≡ words_of image
+unwritten : (image : List ℕ) → memory image (empty {K = ℕ} {X = ℕ} {R = nat_cmp}) ≡ image_as_memory image
 unwritten image = λ i a. ap (λ (o : Option ℕ). unwrap_or o (slice_index image a)) (get-empty nat_cmp a) i
 
 held : (P : Property) (size : ℕ) (in_use : Bool) (region : RegionShown) (v : Client) (w : LogValue) → in_use ≡ true →

@@ -136,7 +136,7 @@ no_bookings m n [] e l = refl
 no_bookings m n (r ∷ rs) e l = (let b = l.list.linked.0 in absurd (omega (arith, e, b.at, b.block.1.1)))
 
 pub head_fresh : (s s1 s2 : View) (kind id : ℕ) → NullHead s → Loaded s s1 24 kind → Loaded s1 s2 25 id →
-    list.IsFresh s2 5 (record { kind = kind; id = id }) 24
+    list.IsFreshBooking s2 5 (record { kind = kind; id = id }) 24
 head_fresh s s1 s2 kind id h k l = record {
   under = λ image rs i at.
       let h2 = head_loaded s1 s2 25 id (head_loaded s s1 24 kind h k) l in

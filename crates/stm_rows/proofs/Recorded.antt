@@ -5,7 +5,8 @@ use Rattle.tx_memory.specs.View.{View, Sees, Kept, Stored}
 use Rattle.tx_alloc.specs.Steps.{mem}
 use Rattle.vac_model.specs.declared.items.Item.{Item}
 use Rattle.vac_model.specs.Step.{added}
-use Rattle.vac_records.specs.Items.{IsNode, HasRoom, HasFree, CanMake, CanCancel, ItemMade, ItemChanged, UnitsAdded}
+use Rattle.vac_records.specs.Items.{IsNode, HasRoomForUnits, HasFree, CanMake, CanCancel, ItemMade, ItemChanged}
+use Rattle.vac_records.specs.Items.{UnitsAdded}
 use Rattle.vac_records.proofs.Counting.{more_item, priced_item}
 use Rattle.stm_rows.specs.Laws.{HoldsUnder}
 use Rattle.stm_rows.specs.Records.{IsSized, HasItem}
@@ -83,7 +84,7 @@ module _ (s : View) (node used free total price : ℕ) (h : HasItem s node used 
     free = record { fits = λ image i. omega (arith, k, free_is image i.sees) };
   }
 
-  pub has_room : (num : ℕ) → free + num < 2 ^ 64 → total + num < 2 ^ 64 → HasRoom s node num
+  pub has_room : (num : ℕ) → free + num < 2 ^ 64 → total + num < 2 ^ 64 → HasRoomForUnits s node num
   has_room num l k = record {
     free = λ image i. omega (arith, l, free_is image i.sees);
     total = λ image i. omega (arith, k, total_is image i.sees);

@@ -3,15 +3,15 @@ use Rattle.std.proofs.Common.{◌≡◌, ℕ, ◌+◌, ◌-◌, ◌*◌, ◌<◌
 use Rattle.std.proofs.Common.{slice_index, refl, sym, subst, ◌∙◌, arith}
 use Rattle.tx_memory.specs.View.{View, Loaded}
 use Rattle.tx_memory.specs.Plain.{flat_view}
-use Rattle.tx_tree.specs.Table.{IsTable, HasTable, Found, FoundAt, NextFound, IsFresh, Inserted, Removed}
+use Rattle.tx_tree.specs.Table.{IsTable, HasTable, FoundRow, FoundAt, NextFound, IsFresh, Inserted, Removed}
 use Rattle.tx_tree.proofs.Counting.{has_table, after_reads, after_put, after_cut, fresh_read, none_yet}
 use Rattle.tx_tree.proofs.TableFrame.{table_empty}
 use Rattle.stm_rows.specs.Laws.{Fits, HoldsUnder, IsTableOfTen, HoldsTable, IsTableless}
 
 -- a key that was not found
 pub not_found : (s s' : View) (key : ℕ) (found : Option ℕ) → found ≡ None →
-    MatchOption found (Found s s' 3 key 0) (λ b. FoundAt s s' 3 key b) → Found s s' 3 key 0
-not_found s s' key found e h = let f = subst (λ (o : Option ℕ). MatchOption o (Found s s' 3 key 0)
+    MatchOption found (FoundRow s s' 3 key 0) (λ b. FoundAt s s' 3 key b) → FoundRow s s' 3 key 0
+not_found s s' key found e h = let f = subst (λ (o : Option ℕ). MatchOption o (FoundRow s s' 3 key 0)
     (λ b. FoundAt s s' 3 key b)) e h in f
 
 -- only reads were made
@@ -22,7 +22,7 @@ table_loaded s s' count a v h l = record {
 }
 
 pub table_sought : (s s' : View) (count key : ℕ) (found : Option ℕ) → HoldsTable s count →
-    MatchOption found (Found s s' 3 key 0) (λ b. FoundAt s s' 3 key b) → HoldsTable s' count
+    MatchOption found (FoundRow s s' 3 key 0) (λ b. FoundAt s s' 3 key b) → HoldsTable s' count
 table_sought s s' count key None h f = record {
   entries = after_reads s s' 3 10 count h.entries f.kept f.writes;
   long = λ image i. h.long image (f.kept.seen image i);
@@ -35,7 +35,7 @@ table_sought s s' count key (Some b) h f = record {
 }
 
 pub table_fresh : (s s1 s2 : View) (count key number b : ℕ) → HoldsTable s count → number < 10 → b ≡ 16 + 8 * number →
-    Loaded s s1 b key → Found s1 s2 3 key 0 → IsFresh s2 3 key b
+    Loaded s s1 b key → FoundRow s1 s2 3 key 0 → IsFresh s2 3 key b
 table_fresh s s1 s2 count key number b h inside e l f =
     fresh_read s s1 s2 3 10 count key number b h.entries inside e l f
 
@@ -47,9 +47,9 @@ table_put s s' count key b h room fresh p = record {
 }
 
 pub table_cut : (s s' : View) (count key : ℕ) (removed : Option ℕ) (b : ℕ) → HoldsTable s count → removed ≡ Some b →
-    MatchOption removed (Found s s' 3 key 0) (λ b. Removed s s' 3 key b) → HoldsTable s' (count - 1)
+    MatchOption removed (FoundRow s s' 3 key 0) (λ b. Removed s s' 3 key b) → HoldsTable s' (count - 1)
 table_cut s s' count key removed b h e r =
-    let p = subst (λ (o : Option ℕ). MatchOption o (Found s s' 3 key 0) (λ b. Removed s s' 3 key b)) e r in
+    let p = subst (λ (o : Option ℕ). MatchOption o (FoundRow s s' 3 key 0) (λ b. Removed s s' 3 key b)) e r in
     record {
       entries = after_cut s s' 3 10 count key b h.entries p;
       long = λ image i. h.long image (p.kept.seen image i);

@@ -1,14 +1,14 @@
 -- Which words the regions of the tests may have.
 use Rattle.std.specs.Prelude.{◌≡◌, ℕ, ◌+◌, ◌<◌, List, length, slice_index}
 use Rattle.tx_memory.specs.View.{View, Sees}
-use Rattle.stm_attempt.specs.Leading.{Property, words_of}
+use Rattle.stm_attempt.specs.Leading.{Property, image_as_memory}
 use Rattle.tx_alloc.specs.Steps.{mem}
 use Rattle.tx_alloc.specs.Pool.{SomePool}
 use Rattle.tx_tree.specs.Counted.{HasEntries, SomeEntries}
 
 -- it holds of the words of an image
 abbrev pub Fits : Property → List ℕ → Type 0
-Fits P image = P (words_of image) (length image)
+Fits P image = P (image_as_memory image) (length image)
 
 -- a memory of this size, of whose words it holds under each image that there may be
 pub record HoldsUnder (P : Property) (size : ℕ) (s : View) : Type 0 where

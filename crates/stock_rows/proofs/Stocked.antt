@@ -13,7 +13,7 @@ use Rattle.tx_alloc.specs.Rows.{Rows, times, put_row, block_at, Relinks}
 use Rattle.tx_alloc.specs.Steps.{mem, stood}
 use Rattle.tx_list.specs.Bookings.{code_of, place_code}
 use Rattle.tx_list.specs.declared.key.Key.{Key}
-use Rattle.tx_list.specs.Lists.{IsListAt, HasList, IsFresh, Inserted, Removed}
+use Rattle.tx_list.specs.Lists.{IsListAt, HasList, IsFreshBooking, InsertedBooking, RemovedBooking}
 use Rattle.stock_rows.specs.Stock.{IsStock, IsStockKey, IsStocked, HasStock, stock_block, stock_word}
 use Rattle.tx_list.proofs.Frame.{list_block, list_at}
 
@@ -41,7 +41,8 @@ stock_read s s' k w h = record {
   under = λ image i. rw w (h.under image (stood k image i));
 }
 
-pub stock_removed : (s s' : View) (key : ℕ) (removed : Option ℕ) → HasStock s → Removed s s' 5 key removed → HasStock s'
+pub stock_removed : (s s' : View) (key : ℕ) (removed : Option ℕ) → HasStock s → RemovedBooking s s' 5 key removed →
+    HasStock s'
 stock_removed s s' key removed h d = record {
   size = omega (arith, h.size, d.kept.size);
   under = λ image i.
@@ -60,7 +61,8 @@ stock_removed s s' key removed h d = record {
       };
 }
 
-pub stock_inserted : (s s' : View) (key : Key) (b : ℕ) → HasStock s → IsFresh s 5 key b → Inserted s s' 5 key b →
+pub stock_inserted : (s s' : View) (key : Key) (b : ℕ) → HasStock s → IsFreshBooking s 5 key b →
+    InsertedBooking s s' 5 key b →
     HasStock s'
 stock_inserted s s' key b h fresh d = record {
   size = omega (arith, h.size, d.kept.size);
@@ -84,8 +86,9 @@ stock_inserted s s' key b h fresh d = record {
 
 -- the block of a key that the list does not have can be hung in
 pub stock_fresh : (s s' : View) (key : Key) (b : ℕ) (removed : Option ℕ) → HasStock s →
-    Removed s s' 5 (code_of key) removed → removed ≡ None → IsStockKey key → b ≡ stock_block (40 * key.kind + key.id) →
-    IsFresh s' 5 key b
+    RemovedBooking s s' 5 (code_of key) removed → removed ≡ None → IsStockKey key →
+    b ≡ stock_block (40 * key.kind + key.id) →
+    IsFreshBooking s' 5 key b
 stock_fresh s s' key b removed h d gone k e = record {
   under = λ image rs i l.
       let w = d.none gone in

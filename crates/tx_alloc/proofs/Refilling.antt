@@ -6,7 +6,7 @@ use Rattle.tx_memory.specs.Seen.{same_or, some_le}
 use Rattle.tx_memory.specs.View.{View, Words, memory, Sees, RestsOn, Kept, Loaded, Stored, IsWrite}
 use Rattle.tx_alloc.specs.Steps.{mem, kept_both, stood, at_start, write_at_start}
 use Rattle.tx_alloc.specs.Pool.{IsBlock, Free, IsPool, HasPool, Taken, held, with_at, with_block}
-use Rattle.tx_alloc.specs.Drawing.{Drawn, IsDry, IsRefilling, IsRun, Refilled, Walked}
+use Rattle.tx_alloc.specs.Drawing.{DrawnBlock, IsDry, IsRefilling, IsRun, Refilled, Walked}
 use Rattle.tx_alloc.proofs.Chains.{free_frame, free_block, held_first}
 use Rattle.tx_alloc.proofs.Sums.{with_here, with_else, sum_has, sum_two, sum_with}
 use Rattle.tx_alloc.proofs.Taking.{Looking, first_in, free_first, free_zero}
@@ -282,7 +282,7 @@ with_twice f i xs ys = λ t j. with_one f i j xs ys t
 -- the own list had a block
 pub drawn_own : (s0 s3 : View) (start i b : ℕ) → i ≡ 0 → start < 8 →
     ((image : List ℕ) → Sees s3 image → mem s0 image (8 + start) ≡ b) → b ≢ 0 → Taken s0 s3 start b →
-    Drawn s0 s3 start b
+    DrawnBlock s0 s3 start b
 drawn_own s0 s3 start i b z ls first nz t = record {
   kept = t.kept;
   room = t.room;
@@ -322,7 +322,7 @@ drawn_own s0 s3 start i b z ls first nz t = record {
 
 pub drawn_other : (s0 s s1 s2 s3 : View) (start i from at b next : ℕ) → Looking s0 s start i → i ≢ 0 → i < 8 →
     start < 8 → at ≡ 8 + from → from ≡ (start + i) % 8 → b ≢ 0 → HasPool s0 → Loaded s s1 at b → Loaded s1 s2 b next →
-    ∥ ((image : List ℕ) × RestsOn s1 image) ∥₁ → Refilled s2 s3 start from b → Drawn s0 s3 start b
+    ∥ ((image : List ℕ) × RestsOn s1 image) ∥₁ → Refilled s2 s3 start from b → DrawnBlock s0 s3 start b
 drawn_other s0 s s1 s2 s3 start i from at b next k ni li ls q e nz has d d' ws r =
     let same : s2.writes ≡ s0.writes = d'.writes ∙ (d.writes ∙ k.writes) in
     let before : Kept s0 s2 = kept_both s0 s s2 k.kept (kept_both s s1 s2 d.kept d'.kept) in

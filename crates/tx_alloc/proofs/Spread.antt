@@ -4,8 +4,8 @@ use Rattle.std.proofs.Common.{slice_index, refl, arith, zero, suc}
 use Rattle.std.proofs.lemmas.Bool.Decides.{nat_tests}
 use Rattle.std.proofs.lemmas.Bool.{cases_lt, lt-ltb, le-ltb}
 use Rattle.tx_memory.specs.Seen.{same_or}
-use Rattle.tx_alloc.specs.Pool.{Free, held, sum_below, IsPool, place_of}
-use Rattle.tx_alloc.specs.Spread.{IsSpreadHeap, share, spread_start, blocks_from, spread_lists}
+use Rattle.tx_alloc.specs.Pool.{Free, held, sum_below, IsPool, place_of_block}
+use Rattle.tx_alloc.specs.Spread.{IsSpreadHeap, share_of_list, spread_start, blocks_from, spread_lists}
 use Rattle.tx_alloc.proofs.Sums.{sum_one}
 use Rattle.tx_alloc.proofs.Spreading.{start_next, start_grows, start_all}
 
@@ -14,7 +14,7 @@ words_of xs a = slice_index xs a
 
 -- the blocks from b on, k of them, are linked
 piece_free : (xs : List ℕ) (n i k b : ℕ) → IsSpreadHeap xs n → i < 8 → spread_start n i ≤ b →
-    b + k ≡ spread_start n (i + 1) → Free (words_of xs) (length xs) (place_of (spread_start n (i + 1)) b)
+    b + k ≡ spread_start n (i + 1) → Free (words_of xs) (length xs) (place_of_block (spread_start n (i + 1)) b)
     (blocks_from k b)
 piece_free xs n i zero b h l ge e =
     let t : nat_lt b (spread_start n (i + 1)) ≡ false = le-ltb b (spread_start n (i + 1)) (omega arith) in
@@ -81,23 +81,24 @@ once_there : (n b : ℕ) → b < n → sum_below 8 (λ i. held (16 + 8 * b) (spr
 once_there n b l =
     let o = owner n b 8 (omega (arith, start_all n)) in
     sum_one 8 o.list (λ i. held (16 + 8 * b) (spread_lists n i)) o.below
-    (inside (share n o.list) (spread_start n o.list) b o.from (omega (arith, o.before, start_next n o.list)))
+    (inside (share_of_list n o.list) (spread_start n o.list) b o.from (omega (arith, o.before, start_next n o.list)))
     (λ i less ne. elim (cases_lt i o.list) [
-      | inl before ↦ behind (share n i) (spread_start n i) b
+      | inl before ↦ behind (share_of_list n i) (spread_start n i) b
           (omega (arith, o.from, start_next n i, start_grows n (i + 1) o.list (omega arith)))
-      | inr after ↦ outside (share n i) (spread_start n i) b
+      | inr after ↦ outside (share_of_list n i) (spread_start n i) b
           (omega (arith, o.before, start_grows n (o.list + 1) i (omega arith)))
     ])
 
 pub spread_pool : (xs : List ℕ) (n : ℕ) → IsSpreadHeap xs n →
     IsPool (λ (a : ℕ). slice_index xs a) (length xs) (spread_lists n) (λ (x : ℕ). 0) 0
 spread_pool xs n h = record {
-  lists = λ i l. rw (h.heads i l) (piece_free xs n i (share n i) (spread_start n i) h l (omega arith)
+  lists = λ i l. rw (h.heads i l) (piece_free xs n i (share_of_list n i) (spread_start n i) h l (omega arith)
       (omega (arith, start_next n i)));
   once = λ x b.
       let less : b.0 < n = omega (arith, h.size, b.1.0, b.1.1) in
       rw b.1.1 (omega (arith, once_there n b.0 less));
-  all = let each : (i : ℕ) → length (spread_lists n i) ≡ share n i = λ i. length_piece (share n i) (spread_start n i)
+  all = let each : (i : ℕ) → length (spread_lists n i) ≡ share_of_list n i =
+      λ i. length_piece (share_of_list n i) (spread_start n i)
       in
       omega (arith, h.size, start_all n, each 0, each 1, each 2, each 3, each 4, each 5, each 6, each 7);
 }

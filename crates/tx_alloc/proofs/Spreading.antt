@@ -4,19 +4,19 @@ use Rattle.std.proofs.Common.{length-set, get_or-set_same, get_or-set_other, add
 use Rattle.std.proofs.Common.{zero, suc}
 use Rattle.std.proofs.lemmas.Grind.{common_steps}
 use Rattle.std.proofs.lemmas.Bool.{cases_lt}
-use Rattle.tx_alloc.specs.Pool.{place_of}
-use Rattle.tx_alloc.specs.Spread.{IsLinked, IsSpreadHeap, share, spread_start}
+use Rattle.tx_alloc.specs.Pool.{place_of_block}
+use Rattle.tx_alloc.specs.Spread.{IsLinked, IsSpreadHeap, share_of_list, spread_start}
 use Rattle.tx_alloc.proofs.Empty.{eight_lists}
 
 -- the blocks from first on, before upto, were linked
 pub record Linking (xs ys : List ℕ) (list first end upto : ℕ) : Type 0 where
   pub size : length ys ≡ length xs
-  pub head : get_or ys (8 + list) 0 ≡ place_of end first
-  pub nexts : (b : ℕ) → first ≤ b → b < upto → get_or ys (16 + 8 * b) 0 ≡ place_of end (b + 1)
+  pub head : get_or ys (8 + list) 0 ≡ place_of_block end first
+  pub nexts : (b : ℕ) → first ≤ b → b < upto → get_or ys (16 + 8 * b) 0 ≡ place_of_block end (b + 1)
   pub others : (x : ℕ) → x ≢ 8 + list → ((b : ℕ) → first ≤ b → b < upto → x ≢ 16 + 8 * b) →
       get_or ys x 0 ≡ get_or xs x 0
 
-pub linking_start : (xs : List ℕ) (list first end v : ℕ) → list < 8 → 16 ≤ length xs → v ≡ place_of end first →
+pub linking_start : (xs : List ℕ) (list first end v : ℕ) → list < 8 → 16 ≤ length xs → v ≡ place_of_block end first →
     Linking xs (set xs (8 + list) v) list first end first
 linking_start xs list first end v l room e = record {
   size = length-set xs (8 + list) v;
@@ -26,7 +26,7 @@ linking_start xs list first end v l room e = record {
 }
 
 pub linking_step : (xs ys : List ℕ) (list first end b v : ℕ) → list < 8 → Linking xs ys list first end b → first ≤ b →
-    b < end → 16 + 8 * end ≤ length xs → v ≡ place_of end (b + 1) →
+    b < end → 16 + 8 * end ≤ length xs → v ≡ place_of_block end (b + 1) →
     Linking xs (set ys (16 + 8 * b) v) list first end (b + 1)
 linking_step xs ys list first end b v l h ge less room e =
     let inside : 16 + 8 * b < length ys = omega (arith, h.size) in
@@ -37,7 +37,7 @@ linking_step xs ys list first end b v l h ge less room e =
         | inl below ↦ get_or-set_other ys (16 + 8 * b) (16 + 8 * c) v 0 (omega arith) ∙ h.nexts c from below
         | inr here ↦ (
             let q : b ≡ c = omega arith in
-            subst (λ (x : ℕ). get_or (set ys (16 + 8 * b) v) (16 + 8 * x) 0 ≡ place_of end (x + 1)) q
+            subst (λ (x : ℕ). get_or (set ys (16 + 8 * b) v) (16 + 8 * x) 0 ≡ place_of_block end (x + 1)) q
             (get_or-set_same ys (16 + 8 * b) v 0 inside ∙ e))
       ];
       others = λ x ne away. get_or-set_other ys (16 + 8 * b) x v 0 (away b ge (omega arith)) ∙
@@ -54,7 +54,7 @@ linked xs ys list first end upto h e = record {
 }
 
 -- where a list starts
-pub start_next : (n i : ℕ) → spread_start n (i + 1) ≡ share n i + spread_start n i
+pub start_next : (n i : ℕ) → spread_start n (i + 1) ≡ share_of_list n i + spread_start n i
 start_next n i = rw (add-one i) refl
 
 pub start_grows : (n i j : ℕ) → i ≤ j → spread_start n i ≤ spread_start n j
@@ -72,20 +72,21 @@ start_all n = eight_lists n
 pub record Spreading (xs : List ℕ) (n i first : ℕ) : Type 0 where
   pub size : length xs ≡ 16 + 8 * n
   pub start : first ≡ spread_start n i
-  pub heads : (j : ℕ) → j < i → get_or xs (8 + j) 0 ≡ place_of (spread_start n (j + 1)) (spread_start n j)
+  pub heads : (j : ℕ) → j < i → get_or xs (8 + j) 0 ≡ place_of_block (spread_start n (j + 1)) (spread_start n j)
   pub nexts : (j b : ℕ) → j < i → spread_start n j ≤ b → b < spread_start n (j + 1) →
-      get_or xs (16 + 8 * b) 0 ≡ place_of (spread_start n (j + 1)) (b + 1)
+      get_or xs (16 + 8 * b) 0 ≡ place_of_block (spread_start n (j + 1)) (b + 1)
   pub others : (x : ℕ) → ((j : ℕ) → j < i → x ≢ 8 + j) → ((b : ℕ) → b < first → x ≢ 16 + 8 * b) → get_or xs x 0 ≡ 0
 
 -- where the next list ends
-pub end_of : (xs : List ℕ) (n i first end : ℕ) → Spreading xs n i first → i < 8 → end ≡ first + share n i →
+pub end_of : (xs : List ℕ) (n i first end : ℕ) → Spreading xs n i first → i < 8 → end ≡ first + share_of_list n i →
     (end ≡ spread_start n (i + 1)) × (first ≤ end) × (end ≤ n)
 end_of xs n i first end h l e =
     let q = start_next n i in
     let is : end ≡ spread_start n (i + 1) = omega (arith, q, h.start) in
     (is, omega arith, omega (arith, is, start_grows n (i + 1) 8 (omega arith), start_all n))
 
-pub spread_step : (xs ys : List ℕ) (n i first end : ℕ) → Spreading xs n i first → i < 8 → end ≡ first + share n i →
+pub spread_step : (xs ys : List ℕ) (n i first end : ℕ) → Spreading xs n i first → i < 8 →
+    end ≡ first + share_of_list n i →
     IsLinked xs ys i first end → Spreading ys n (i + 1) end
 spread_step xs ys n i first end h l e k =
     let ends = end_of xs n i first end h l e in
@@ -96,8 +97,9 @@ spread_step xs ys n i first end h l e k =
         | inl below ↦ k.others (8 + j) (omega arith) (λ b _ _. omega arith) ∙ h.heads j below
         | inr here ↦ (
             let q : i ≡ j = omega arith in
-            subst (λ (x : ℕ). get_or ys (8 + x) 0 ≡ place_of (spread_start n (x + 1)) (spread_start n x)) q
-            (k.head ∙ (ap (λ (x : ℕ). place_of x first) ends.0 ∙ ap (place_of (spread_start n (i + 1))) h.start)))
+            subst (λ (x : ℕ). get_or ys (8 + x) 0 ≡ place_of_block (spread_start n (x + 1)) (spread_start n x)) q
+            (k.head ∙ (ap (λ (x : ℕ). place_of_block x first) ends.0 ∙
+            ap (place_of_block (spread_start n (i + 1))) h.start)))
       ];
       nexts = λ j b less ge under. elim (cases_lt j i) [
         | inl below ↦ (
@@ -107,7 +109,7 @@ spread_step xs ys n i first end h l e k =
             let q : j ≡ i = omega arith in
             let at : spread_start n (j + 1) ≡ end = ap (λ (x : ℕ). spread_start n (x + 1)) q ∙ sym ends.0 in
             let from : first ≤ b = omega (arith, ge, ap (spread_start n) q, h.start) in
-            k.nexts b from (omega (arith, under, at)) ∙ ap (λ (x : ℕ). place_of x (b + 1)) (sym at))
+            k.nexts b from (omega (arith, under, at)) ∙ ap (λ (x : ℕ). place_of_block x (b + 1)) (sym at))
       ];
       others = λ x heads blocks. k.others x (heads i (omega arith)) (λ b _ less. blocks b less) ∙
           h.others x (λ j less. heads j (omega arith)) (λ b less. blocks b (omega (arith, ends.1)));

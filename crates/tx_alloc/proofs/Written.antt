@@ -2,22 +2,22 @@
 use Rattle.std.proofs.Common.{◌≡◌, ◌≢◌, inl, inr, ℕ, ◌+◌, ◌*◌, ◌<◌, ◌≤◌, List, length, get_or, set, length-set}
 use Rattle.std.proofs.Common.{get_or-set_same, get_or-set_other, ◌∙◌, subst, arith}
 use Rattle.std.proofs.lemmas.Bool.{cases_lt}
-use Rattle.tx_alloc.specs.Pool.{IsEmptyHeap, place_of}
+use Rattle.tx_alloc.specs.Pool.{IsEmptyHeap, place_of_block}
 
 -- the links of b blocks were written
 pub record Nexts (xs : List ℕ) (n b : ℕ) : Type 0 where
   pub size : length xs ≡ 16 + 8 * n
-  pub nexts : (c : ℕ) → c < b → get_or xs (16 + 8 * c) 0 ≡ place_of n (c + 8)
+  pub nexts : (c : ℕ) → c < b → get_or xs (16 + 8 * c) 0 ≡ place_of_block n (c + 8)
   pub others : (x : ℕ) → ((c : ℕ) → c < b → x ≢ 16 + 8 * c) → get_or xs x 0 ≡ 0
 
 -- all links and i heads were written
 pub record Heads (xs : List ℕ) (n i : ℕ) : Type 0 where
   pub size : length xs ≡ 16 + 8 * n
-  pub nexts : (c : ℕ) → c < n → get_or xs (16 + 8 * c) 0 ≡ place_of n (c + 8)
-  pub heads : (j : ℕ) → j < i → get_or xs (8 + j) 0 ≡ place_of n j
+  pub nexts : (c : ℕ) → c < n → get_or xs (16 + 8 * c) 0 ≡ place_of_block n (c + 8)
+  pub heads : (j : ℕ) → j < i → get_or xs (8 + j) 0 ≡ place_of_block n j
   pub others : (x : ℕ) → ((j : ℕ) → j < i → x ≢ 8 + j) → ((c : ℕ) → c < n → x ≢ 16 + 8 * c) → get_or xs x 0 ≡ 0
 
-pub next_written : (xs : List ℕ) (n b v : ℕ) → Nexts xs n b → b < n → v ≡ place_of n (b + 8) →
+pub next_written : (xs : List ℕ) (n b v : ℕ) → Nexts xs n b → b < n → v ≡ place_of_block n (b + 8) →
     Nexts (set xs (16 + 8 * b) v) n (b + 1)
 next_written xs n b v h l e =
     let inside : 16 + 8 * b < length xs = omega (arith, h.size) in
@@ -27,7 +27,7 @@ next_written xs n b v h l e =
         | inl below ↦ get_or-set_other xs (16 + 8 * b) (16 + 8 * c) v 0 (omega arith) ∙ h.nexts c below
         | inr here ↦ (
             let q : b ≡ c = omega arith in
-            subst (λ (x : ℕ). get_or (set xs (16 + 8 * b) v) (16 + 8 * x) 0 ≡ place_of n (x + 8)) q
+            subst (λ (x : ℕ). get_or (set xs (16 + 8 * b) v) (16 + 8 * x) 0 ≡ place_of_block n (x + 8)) q
             (get_or-set_same xs (16 + 8 * b) v 0 inside ∙ e))
       ];
       others = λ x ne. get_or-set_other xs (16 + 8 * b) x v 0 (ne b (omega arith)) ∙

@@ -44,7 +44,7 @@ pub record IsDrawing (m m' : ℕ → ℕ) (n : ℕ) (free : ℕ → List ℕ) (u
       ((a : ℕ) → 0 < held a run → x ≢ a) → m' x ≡ m x
 
 -- under each image b was free, and was taken
-pub record Drawn (s s' : View) (start b : ℕ) : Type 0 where
+pub record DrawnBlock (s s' : View) (start b : ℕ) : Type 0 where
   pub kept : Kept s s'
   pub room : b + BLOCK_WORDS ≤ s'.size
   pub drawing : (image : List ℕ) (free : ℕ → List ℕ) (used : ℕ → ℕ) (count : ℕ) → Sees s' image →

@@ -16,7 +16,7 @@ IsWithin s None = Unit {0}
 IsWithin s (Some b) = (FIRST_BLOCK ≤ b) × (b + BLOCK_WORDS ≤ s.size)
 
 -- the word at the link is the pointer to a block, or to none
-pub record Leads (s : View) (link : ℕ) : Type 0 where
+pub record LeadsToBlock (s : View) (link : ℕ) : Type 0 where
   pub small : s.size ≤ 2 ^ 32
   pub room : link < s.size
   pub under : (image : List ℕ) → RestsOn s image → mem s image link ≢ 0 →

@@ -122,16 +122,16 @@ pub record Given (s s' : View) (start b : ℕ) : Type 0 where
       IsGiving (mem s image) (mem s' image) (length image) free used count start b
 
 -- the place of block b of n blocks, or 0 where there is none
-abbrev pub place_of : ℕ → ℕ → ℕ
-place_of n b = cond (nat_lt b n) (block_place b) 0
+abbrev pub place_of_block : ℕ → ℕ → ℕ
+place_of_block n b = cond (nat_lt b n) (block_place b) 0
 
 -- the words of a heap of n free blocks: block b is in list b mod 8, the lists ascend, and all
 -- other words are 0
 pub record IsEmptyHeap (xs : List ℕ) (n : ℕ) : Type 0 where
   pub size : length xs ≡ heap_words n
-  pub heads : (i : ℕ) → i < LISTS → slice_index xs (FIRST_HEAD + i) ≡ place_of n i
+  pub heads : (i : ℕ) → i < LISTS → slice_index xs (FIRST_HEAD + i) ≡ place_of_block n i
   pub nexts : (b : ℕ) → b < n →
-      slice_index xs (block_place b) ≡ place_of n (b + LISTS)
+      slice_index xs (block_place b) ≡ place_of_block n (b + LISTS)
   pub others : (x : ℕ) → ((i : ℕ) → i < LISTS → x ≢ FIRST_HEAD + i) →
       ((b : ℕ) → b < n → x ≢ block_place b) → slice_index xs x ≡ 0
 

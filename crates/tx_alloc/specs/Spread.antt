@@ -1,25 +1,25 @@
 -- A heap of which every block is free, with the blocks of each list in one piece.
 use Rattle.std.specs.Prelude.{◌≡◌, ◌≢◌, ℕ, ◌+◌, ◌-◌, ◌/◌, ◌<◌, ◌≤◌, List, [], ◌∷◌, length, slice_index, zero, suc}
-use Rattle.tx_alloc.specs.Pool.{block_place, heap_words, place_of, sum_below}
+use Rattle.tx_alloc.specs.Pool.{block_place, heap_words, place_of_block, sum_below}
 use Rattle.tx_alloc.specs.declared.place.TheConstants.{LISTS, FIRST_HEAD}
 
 -- how many of n blocks list i has: an eighth. Where they do not divide by eight, the first lists
 -- have one more.
-abbrev pub share : ℕ → ℕ → ℕ
-share n i = (n + 7 - i) / 8
+abbrev pub share_of_list : ℕ → ℕ → ℕ
+share_of_list n i = (n + 7 - i) / 8
 
 -- the first block of list i, after those of the lists before it
 abbrev pub spread_start : ℕ → ℕ → ℕ
-spread_start n i = sum_below i (share n)
+spread_start n i = sum_below i (share_of_list n)
 
 -- the words of a heap of n free blocks: each list has an eighth of them, one after the other, list
 -- after list, and all other words are 0
 pub record IsSpreadHeap (xs : List ℕ) (n : ℕ) : Type 0 where
   pub size : length xs ≡ heap_words n
   pub heads : (i : ℕ) → i < LISTS → slice_index xs (FIRST_HEAD + i)
-      ≡ place_of (spread_start n (i + 1)) (spread_start n i)
+      ≡ place_of_block (spread_start n (i + 1)) (spread_start n i)
   pub nexts : (i b : ℕ) → i < LISTS → spread_start n i ≤ b → b < spread_start n (i + 1) →
-      slice_index xs (block_place b) ≡ place_of (spread_start n (i + 1)) (b + 1)
+      slice_index xs (block_place b) ≡ place_of_block (spread_start n (i + 1)) (b + 1)
   pub others : (x : ℕ) → ((i : ℕ) → i < LISTS → x ≢ FIRST_HEAD + i) →
       ((b : ℕ) → b < n → x ≢ block_place b) → slice_index xs x ≡ 0
 
@@ -30,13 +30,13 @@ blocks_from (suc k) b = block_place b ∷ blocks_from k (b + 1)
 
 -- the lists of such a heap
 abbrev pub spread_lists : ℕ → ℕ → List ℕ
-spread_lists n i = blocks_from (share n i) (spread_start n i)
+spread_lists n i = blocks_from (share_of_list n i) (spread_start n i)
 
 -- the blocks from first on, before end, are a list of their own, and nothing else was written
 pub record IsLinked (xs ys : List ℕ) (list first end : ℕ) : Type 0 where
   pub size : length ys ≡ length xs
-  pub head : slice_index ys (FIRST_HEAD + list) ≡ place_of end first
+  pub head : slice_index ys (FIRST_HEAD + list) ≡ place_of_block end first
   pub nexts : (b : ℕ) → first ≤ b → b < end →
-      slice_index ys (block_place b) ≡ place_of end (b + 1)
+      slice_index ys (block_place b) ≡ place_of_block end (b + 1)
   pub others : (x : ℕ) → x ≢ FIRST_HEAD + list →
       ((b : ℕ) → first ≤ b → b < end → x ≢ block_place b) → slice_index ys x ≡ slice_index xs x

@@ -1,7 +1,7 @@
 //! The words of a heap of which every block is free.
 
 ghost use Rattle.std.specs.Prelude.{◌≡◌, ℕ, ◌<◌, ◌≤◌, IfOk, length, slice_index};
-ghost use Rattle.tx_alloc.specs.Pool.{IsPool, IsEmptyHeap, fresh_lists, heap_words, place_of};
+ghost use Rattle.tx_alloc.specs.Pool.{IsPool, IsEmptyHeap, fresh_lists, heap_words, place_of_block};
 ghost use Rattle.tx_alloc.specs.Spread.{IsSpreadHeap, IsLinked, spread_lists};
 
 use crate::place::{BLOCK_WORDS, FIRST_BLOCK, FIRST_HEAD, LISTS, MOST_BLOCKS};
@@ -84,7 +84,7 @@ fn link_blocks(words: &mut [u64], list: usize, first: usize, end: usize)
 /// The pointer to a block before `end`, or to none.
 fn link_to(block: usize, end: usize) -> u64
     requires { end ≤ MOST_BLOCKS }
-    ensures { result ≡ place_of end block }
+    ensures { result ≡ place_of_block end block }
 {
     if block < end {
         (FIRST_BLOCK as usize + BLOCK_WORDS as usize * block) as u64

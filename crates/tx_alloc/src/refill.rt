@@ -2,7 +2,7 @@
 
 ghost use Rattle.std.specs.Prelude.{◌≡◌, ◌<◌, ◌+◌, IfOk, MatchOption};
 ghost use Rattle.tx_alloc.specs.Pool.{HasPool, NoneFree};
-ghost use Rattle.tx_alloc.specs.Drawing.{Begins, Drawn, IsDry, Refilled, Walked};
+ghost use Rattle.tx_alloc.specs.Drawing.{Begins, DrawnBlock, IsDry, Refilled, Walked};
 
 use crate::block::Block;
 use crate::list::FreeList;
@@ -30,7 +30,7 @@ pub fn take_refilling<M: TxMem>(memory: &mut M, start: FreeList) -> Result<Optio
     ensures origin { M.origin memory.new ≡ M.origin memory.old }
     ensures answer { IfOk result (λ taken. MatchOption taken
         (NoneFree (M.view memory.old) (M.view memory.new))
-        (λ block. Drawn (M.view memory.old) (M.view memory.new) start block)) }
+        (λ block. DrawnBlock (M.view memory.old) (M.view memory.new) start block)) }
 {
     let list = start.number();
     for i in 0..LISTS {

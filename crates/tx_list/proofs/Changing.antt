@@ -9,10 +9,11 @@ use Rattle.tx_alloc.specs.Pointer.{pointer, IsWithin}
 use Rattle.tx_alloc.specs.Rows.{Rows, times, put_row, cut_row, block_at, Relinks}
 use Rattle.tx_alloc.specs.Steps.{mem, kept_none, kept_both, write_at_start}
 use Rattle.tx_alloc.proofs.Times.{times_put, times_cut, cut_is, cut_else}
-use Rattle.tx_list.specs.Bookings.{code_of, IsKey, Linked, link_of}
+use Rattle.tx_list.specs.Bookings.{code_of, IsKey, Linked, link_to_key}
 use Rattle.tx_list.specs.declared.key.Key.{Key}
 use Rattle.tx_list.specs.declared.search.Spot.{Spot}
-use Rattle.tx_list.specs.Lists.{IsOutside, IsListAt, HasList, Fresh, IsFresh, IsInsertion, Inserted, IsRemoval, Removed}
+use Rattle.tx_list.specs.Lists.{IsOutside, IsListAt, HasList, FreshBooking, IsFreshBooking, IsInsertion}
+use Rattle.tx_list.specs.Lists.{InsertedBooking, IsRemoval, RemovedBooking}
 use Rattle.tx_list.specs.Search.{Sought, SpotAt, Hung, Unhung}
 use Rattle.tx_list.proofs.Links.{SparesAll, outside_spares, link_is, Puts, Keyed, put_linked, Cuts, cut_linked}
 use Rattle.tx_list.proofs.Links.{cut_none}
@@ -39,7 +40,7 @@ cut_has : (x key b : ℕ) (rs : Rows) → block_at rs key ≡ b → b ≢ 0 → 
 cut_has x key b rs e ne i = omega (arith, i, times_cut x key b rs e ne)
 
 -- the word that leads to the key's place is none of a block that the list does not have
-place_apart : (head key b : ℕ) (rs : Rows) → IsOutside head b → times b rs ≡ 0 → link_of head rs key ≢ b + 3
+place_apart : (head key b : ℕ) (rs : Rows) → IsOutside head b → times b rs ≡ 0 → link_to_key head rs key ≢ b + 3
 place_apart head key b rs out loose e = elim (link_is head key rs) [
   | inl at ↦ elim out [
     | inl below ↦ absurd (omega (arith, at, e, below))
@@ -59,7 +60,7 @@ puts_by m m1 m2 b l p w w' at ne = record {
   others = λ x nl nb. w'.others x nl ∙ w.others x nb;
 }
 
-fresh_keyed : (m : ℕ → ℕ) (n head : ℕ) (rs : Rows) (key : Key) (b : ℕ) → IsKey key → Fresh m n head rs key b →
+fresh_keyed : (m : ℕ → ℕ) (n head : ℕ) (rs : Rows) (key : Key) (b : ℕ) → IsKey key → FreshBooking m n head rs key b →
     Keyed m n (code_of key) b
 fresh_keyed m n head rs key b k f = record {
   block = f.block;
@@ -69,7 +70,7 @@ fresh_keyed m n head rs key b k f = record {
 }
 
 put_list : (m m' : ℕ → ℕ) (n head : ℕ) (rs : Rows) (key : Key) (b : ℕ) → IsListAt m n head rs → IsKey key →
-    Fresh m n head rs key b → Puts m m' b (link_of head rs (code_of key)) →
+    FreshBooking m n head rs key b → Puts m m' b (link_to_key head rs (code_of key)) →
     IsListAt m' n head (put_row rs (code_of key) b)
 put_list m m' n head rs key b h k f w = record {
   list = record {
@@ -82,7 +83,7 @@ put_list m m' n head rs key b h k f w = record {
   ];
 }
 
-put_relinks : (m m' : ℕ → ℕ) (head key b : ℕ) (rs : Rows) → Puts m m' b (link_of head rs key) →
+put_relinks : (m m' : ℕ → ℕ) (head key b : ℕ) (rs : Rows) → Puts m m' b (link_to_key head rs key) →
     Relinks m m' 3 head (put_row rs key b)
 put_relinks m m' head key b rs w = record {
   others = λ x nh away. w.others x
@@ -108,7 +109,7 @@ hung s s1 s2 b spot w w' = record {
   kept = kept_both s s1 s2 w.kept w'.kept;
   insertion = λ image seen head key rs is_key h p o.
       let ne : spot.link.0 ≢ b + 3 = λ e. place_apart head (code_of key) b rs o.outside o.loose (sym p.link ∙ e) in
-      let puts : Puts (mem s image) (mem s2 image) b (link_of head rs (code_of key)) =
+      let puts : Puts (mem s image) (mem s2 image) b (link_to_key head rs (code_of key)) =
       subst (λ (x : ℕ). Puts (mem s image) (mem s2 image) b x) p.link
       (puts_by (mem s image) (mem s1 image) (mem s2 image) b spot.link.0 spot.word (w.written image)
       (w'.written image) p.word ne) in
@@ -120,11 +121,12 @@ hung s s1 s2 b spot w w' = record {
 
 -- a block that was hung in after a search came into the list
 pub hung_after : (s s1 s2 : View) (head : ℕ) (key : Key) (b : ℕ) (spot : Spot) → IsKey key →
-    Sought s s1 head (code_of key) spot → Hung s1 s2 spot b → Inserted s s2 head key b
+    Sought s s1 head (code_of key) spot → Hung s1 s2 spot b → InsertedBooking s s2 head key b
 hung_after s s1 s2 head key b spot is_key k w = record {
   kept = kept_both s s1 s2 k.kept w.kept;
   insertion = λ image rs seen.
-      let v : IsListAt (mem s1 image) (length image) head rs → Fresh (mem s1 image) (length image) head rs key b →
+      let v : IsListAt (mem s1 image) (length image) head rs →
+      FreshBooking (mem s1 image) (length image) head rs key b →
       IsInsertion (mem s1 image) (mem s2 image) (length image) head (code_of key) b rs = λ h o.
       let p : SpotAt (mem s image) head (code_of key) spot rs =
       sought_spot s s1 head (code_of key) spot k image rs (w.kept.seen image seen) (rw k.writes at h) in
@@ -133,10 +135,11 @@ hung_after s s1 s2 head key b spot is_key k w = record {
 }
 
 -- a block that has room for eight words can be written
-pub fresh_in : (s : View) (head : ℕ) (key : Key) (b : ℕ) → HasList s head → IsFresh s head key b →
+pub fresh_in : (s : View) (head : ℕ) (key : Key) (b : ℕ) → HasList s head → IsFreshBooking s head key b →
     ∥ ((image : List ℕ) × RestsOn s image) ∥₁ → Inside s b
 fresh_in s head key b has f ws =
-    let fresh : (w : (image : List ℕ) × RestsOn s image) → (rs : Rows) × Fresh (mem s w.0) (length w.0) head rs key b =
+    let fresh : (w : (image : List ℕ) × RestsOn s image) → (rs : Rows) × FreshBooking (mem s w.0)
+    (length w.0) head rs key b =
     λ w.
     let t = has.under w.0 w.1 in (t.entries, f.under w.0 t.entries w.1 t.is) in
     let room : b + 8 ≤ s.size = some_le (b + 8) s.size ws (λ w. omega (arith, (fresh w).1.block.1.0, w.1.size)) in
@@ -148,17 +151,17 @@ fresh_in s head key b has f ws =
 
 -- the word that leads to the key's place leads to its block
 link_leads : (m : ℕ → ℕ) (n l lo key : ℕ) (rs : Rows) → Linked m n (m l) lo rs → block_at rs key ≢ 0 →
-    m (link_of l rs key) ≡ block_at rs key
+    m (link_to_key l rs key) ≡ block_at rs key
 link_leads m n l lo key [] h ne = absurd (ne refl)
 link_leads m n l lo key ((k, a) ∷ rs) (r, h) ne =
     elim (cases_lt k key) [
       | inl below ↦ (
-          let e : link_of l ((k, a) ∷ rs) key ≡ link_of (a + 3) rs key = grind (arith, nat_tests) in
+          let e : link_to_key l ((k, a) ∷ rs) key ≡ link_to_key (a + 3) rs key = grind (arith, nat_tests) in
           let there : block_at ((k, a) ∷ rs) key ≡ block_at rs key = grind (arith, nat_tests) in
           ap m e ∙ (link_leads m n (a + 3) (k + 1) key rs h (λ z. ne (there ∙ z)) ∙ sym there))
       | inr here ↦ elim (same_or k key) [
         | inl q ↦ (
-            let e : link_of l ((k, a) ∷ rs) key ≡ l = grind (arith, nat_tests) in
+            let e : link_to_key l ((k, a) ∷ rs) key ≡ l = grind (arith, nat_tests) in
             ap m e ∙ (r.at ∙ sym (cut_is k a key rs q).1))
         | inr other ↦ absurd (ne ((cut_else k a key rs other).1 ∙ none_below m n (m (a + 3)) (k + 1) rs h key
             (omega arith)))
@@ -166,7 +169,7 @@ link_leads m n l lo key ((k, a) ∷ rs) (r, h) ne =
     ]
 
 cut_list : (m m' : ℕ → ℕ) (n head key b : ℕ) (rs : Rows) → IsListAt m n head rs → block_at rs key ≡ b → b ≢ 0 →
-    Cuts m m' (link_of head rs key) → IsListAt m' n head (cut_row rs key)
+    Cuts m m' (link_to_key head rs key) → IsListAt m' n head (cut_row rs key)
 cut_list m m' n head key b rs h e ne w = record {
   list = record {
     linked = cut_linked m m' n head 0 key rs h.list.linked (list_spares m n head rs h) (λ z. ne
@@ -175,7 +178,7 @@ cut_list m m' n head key b rs h e ne w = record {
   outside = λ a i. h.outside a (cut_has a key b rs e ne i);
 }
 
-cut_relinks : (m m' : ℕ → ℕ) (head key : ℕ) (rs : Rows) → Cuts m m' (link_of head rs key) → Relinks m m' 3 head rs
+cut_relinks : (m m' : ℕ → ℕ) (head key : ℕ) (rs : Rows) → Cuts m m' (link_to_key head rs key) → Relinks m m' 3 head rs
 cut_relinks m m' head key rs w = record {
   others = λ x nh away. w.others x (λ e. elim (link_is head key rs) [
     | inl at ↦ nh (e ∙ at)
@@ -216,12 +219,12 @@ unhung_some s s1 s2 next b spot e within l w =
       within = (inside.0, omega (arith, inside.1, l.kept.size, w.kept.size));
       removal = λ image seen head key rs h p.
           let is : b ≡ block_at rs key = sym (ap pointer e) ∙ p.entry in
-          let leads : mem s image (link_of head rs key) ≡ b =
+          let leads : mem s image (link_to_key head rs key) ≡ b =
           link_leads (mem s image) (length image) head 0 key rs h.list.linked (λ z. some (is ∙ z)) ∙ sym is in
           let behind : mem s image (b + 3) ≡ next = l.answer image (w.kept.seen image seen) in
           let put : IsWrite (mem s image) (mem s2 image) spot.link.0 next =
           write_at_start s s1 s2 spot.link.0 next l.writes w image seen in
-          let cuts : Cuts (mem s image) (mem s2 image) (link_of head rs key) =
+          let cuts : Cuts (mem s image) (mem s2 image) (link_to_key head rs key) =
           subst (λ (x : ℕ). Cuts (mem s image) (mem s2 image) x) p.link (record {
             here = put.here ∙ (sym behind ∙ ap (λ (x : ℕ). mem s image (x + 3))
                 (sym (ap (mem s image) p.link ∙ leads)));
@@ -236,7 +239,7 @@ unhung_some s s1 s2 next b spot e within l w =
 
 -- a booking that was taken out after a search left the list
 pub unhung_after : (s s1 s2 : View) (head key : ℕ) (spot : Spot) (o : Option ℕ) → Sought s s1 head key spot →
-    Unhung s1 s2 spot o → Removed s s2 head key o
+    Unhung s1 s2 spot o → RemovedBooking s s2 head key o
 unhung_after s s1 s2 head key spot o k v = record {
   kept = kept_both s s1 s2 k.kept v.kept;
   none = λ e. v.none e ∙ k.writes;

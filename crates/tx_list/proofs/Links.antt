@@ -5,7 +5,7 @@ use Rattle.std.proofs.lemmas.Bool.{cases_lt}
 use Rattle.tx_alloc.specs.Pool.{IsBlock}
 use Rattle.tx_alloc.specs.Rows.{Rows, times, put_row, cut_row, block_at}
 use Rattle.tx_alloc.proofs.Times.{times_first, times_more}
-use Rattle.tx_list.specs.Bookings.{place_code, IsBooked, Linked, link_of}
+use Rattle.tx_list.specs.Bookings.{place_code, IsBookingOfRow, Linked, link_to_key}
 use Rattle.tx_list.specs.Lists.{IsOutside}
 use Rattle.tx_list.proofs.Frame.{SameBooking, linked_frame, linked_booked, linked_lower}
 use Rattle.tx_list.proofs.Open.{none_below}
@@ -39,12 +39,12 @@ link_next m n q k p rs bq e h a i =
     next_spares n q a bq t.block (λ same. absurd (omega (arith, t.low, e, ap (place_code m) same)))
 
 -- the word that leads to the key's place is l, or the word of a block of the rows that leads on
-pub link_is : (l key : ℕ) (rs : Rows) → (link_of l rs key ≡ l) ⊎
-    ((a : ℕ) × ((link_of l rs key ≡ a + 3) × (0 < times a rs)))
+pub link_is : (l key : ℕ) (rs : Rows) → (link_to_key l rs key ≡ l) ⊎
+    ((a : ℕ) × ((link_to_key l rs key ≡ a + 3) × (0 < times a rs)))
 link_is l key [] = inl refl
 link_is l key ((k, b) ∷ rs) =
     elim (cases_lt k key) [
-      | inl below ↦ (let e : link_of l ((k, b) ∷ rs) key ≡ link_of (b + 3) rs key = grind (arith, nat_tests) in
+      | inl below ↦ (let e : link_to_key l ((k, b) ∷ rs) key ≡ link_to_key (b + 3) rs key = grind (arith, nat_tests) in
           elim (link_is (b + 3) key rs) [
             | inl at ↦ inr (b, (e ∙ at, times_first k b rs))
             | inr (a, (at, i)) ↦ inr (a, (e ∙ at, omega (arith, i, times_more (k, b) a rs)))
@@ -59,7 +59,7 @@ pub record Behind (l b x : ℕ) : Type 0 where
   pub id : b + 1 ≢ x
 
 pub link_behind : (m : ℕ → ℕ) (n l k b key : ℕ) (rs : Rows) → SparesAll l ((k, b) ∷ rs) → IsBlock n b →
-    Linked m n (m (b + 3)) (k + 1) rs → Behind l b (link_of (b + 3) rs key)
+    Linked m n (m (b + 3)) (k + 1) rs → Behind l b (link_to_key (b + 3) rs key)
 link_behind m n l k b key rs link bb h =
     elim (link_is (b + 3) key rs) [
       | inl at ↦ record {
@@ -91,7 +91,7 @@ pub record Keyed (m : ℕ → ℕ) (n key b : ℕ) : Type 0 where
 
 -- it keeps its words
 pub keyed_booked : (m m' : ℕ → ℕ) (n p lo key b : ℕ) → Keyed m n key b → p ≡ b → lo ≤ key → m' (b + 0) ≡ m (b + 0) →
-    m' (b + 1) ≡ m (b + 1) → IsBooked m' n p lo (key, b)
+    m' (b + 1) ≡ m (b + 1) → IsBookingOfRow m' n p lo (key, b)
 keyed_booked m m' n p lo key b h e l kind_is id_is = record {
   at = e;
   block = h.block;
@@ -101,11 +101,11 @@ keyed_booked m m' n p lo key b h e l kind_is id_is = record {
   low = l;
 }
 
-pub booked_keyed : (m : ℕ → ℕ) (n p lo : ℕ) (r : ℕ × ℕ) → IsBooked m n p lo r → Keyed m n r.0 r.1
+pub booked_keyed : (m : ℕ → ℕ) (n p lo : ℕ) (r : ℕ × ℕ) → IsBookingOfRow m n p lo r → Keyed m n r.0 r.1
 booked_keyed m n p lo r h = record { block = h.block; kind = h.kind; id = h.id; code = h.key }
 
 pub put_linked : (m m' : ℕ → ℕ) (n l lo key b : ℕ) (rs : Rows) → Linked m n (m l) lo rs → SparesAll l rs → Spares l b →
-    Keyed m n key b → times b rs ≡ 0 → lo ≤ key → block_at rs key ≡ 0 → Puts m m' b (link_of l rs key) →
+    Keyed m n key b → times b rs ≡ 0 → lo ≤ key → block_at rs key ≡ 0 → Puts m m' b (link_to_key l rs key) →
     Linked m' n (m' l) lo (put_row rs key b)
 put_linked m m' n l lo key b [] h link own k out low none w = (
   keyed_booked m m' n (m' l) lo key b k w.here low (w.others (b + 0) (λ e. own.kind (sym e)) (omega arith))
@@ -116,7 +116,7 @@ put_linked m m' n l lo key b ((j, a) ∷ rs) (r, h) link own k out low none w =
     let ab : a ≢ b = λ e. absurd (omega (arith, out, times_first j a rs, ap (λ (x : ℕ). times x ((j, a) ∷ rs)) e)) in
     elim (cases_lt j key) [
       | inl below ↦ (
-          let e : link_of l ((j, a) ∷ rs) key ≡ link_of (a + 3) rs key = grind (arith, nat_tests) in
+          let e : link_to_key l ((j, a) ∷ rs) key ≡ link_to_key (a + 3) rs key = grind (arith, nat_tests) in
           let p : put_row ((j, a) ∷ rs) key b ≡ (j, a) ∷ put_row rs key b = grind (arith, nat_tests) in
           let none' : block_at rs key ≡ 0 = grind (arith, nat_tests) in
           let f = link_behind m n l j a key rs link r.block h in
@@ -132,7 +132,7 @@ put_linked m m' n l lo key b ((j, a) ∷ rs) (r, h) link own k out low none w =
             ih,
           ))
       | inr here ↦ (
-          let e : link_of l ((j, a) ∷ rs) key ≡ l = grind (arith, nat_tests) in
+          let e : link_to_key l ((j, a) ∷ rs) key ≡ l = grind (arith, nat_tests) in
           let p : put_row ((j, a) ∷ rs) key b ≡ (key, b) ∷ ((j, a) ∷ rs) = grind (arith, nat_tests) in
           let ne : key + 1 ≤ j = grind (arith, nat_tests, r.block.1.1) in
           let w' = subst (λ (x : ℕ). Puts m m' b x) e w in
@@ -160,12 +160,12 @@ pub record Cuts (m m' : ℕ → ℕ) (l : ℕ) : Type 0 where
   pub others : (x : ℕ) → x ≢ l → m' x ≡ m x
 
 pub cut_linked : (m m' : ℕ → ℕ) (n l lo key : ℕ) (rs : Rows) → Linked m n (m l) lo rs → SparesAll l rs →
-    block_at rs key ≢ 0 → Cuts m m' (link_of l rs key) → Linked m' n (m' l) lo (cut_row rs key)
+    block_at rs key ≢ 0 → Cuts m m' (link_to_key l rs key) → Linked m' n (m' l) lo (cut_row rs key)
 cut_linked m m' n l lo key [] h link some w = absurd (some refl)
 cut_linked m m' n l lo key ((j, a) ∷ rs) (r, h) link some w =
     elim (cases_lt j key) [
       | inl below ↦ (
-          let e : link_of l ((j, a) ∷ rs) key ≡ link_of (a + 3) rs key = grind (arith, nat_tests) in
+          let e : link_to_key l ((j, a) ∷ rs) key ≡ link_to_key (a + 3) rs key = grind (arith, nat_tests) in
           let p : cut_row ((j, a) ∷ rs) key ≡ (j, a) ∷ cut_row rs key = grind (arith, nat_tests) in
           let there : block_at ((j, a) ∷ rs) key ≡ block_at rs key = grind (arith, nat_tests) in
           let f = link_behind m n l j a key rs link r.block h in
@@ -191,7 +191,7 @@ cut_linked m m' n l lo key ((j, a) ∷ rs) (r, h) link some w =
             h,
           ) key lt in
           let q : j ≡ key = omega (arith, (λ (lt : key < j). some (past lt))) in
-          let e : link_of l ((j, a) ∷ rs) key ≡ l = grind (arith, nat_tests) in
+          let e : link_to_key l ((j, a) ∷ rs) key ≡ l = grind (arith, nat_tests) in
           let p : cut_row ((j, a) ∷ rs) key ≡ rs = grind (arith, nat_tests) in
           let w' = subst (λ (x : ℕ). Cuts m m' x) e w in
           let same : (x : ℕ) → 0 < times x rs → SameBooking m m' x = λ x i.

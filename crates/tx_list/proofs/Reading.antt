@@ -9,8 +9,8 @@ use Rattle.tx_alloc.specs.Rows.{Rows, times}
 use Rattle.tx_alloc.specs.Steps.{mem, stood}
 use Rattle.tx_list.specs.Bookings.{Linked, first_block, block_behind}
 use Rattle.tx_list.specs.Lists.{HasList, HasBooking, First, Next}
-use Rattle.tx_alloc.specs.Pointer.{Leads}
-use Rattle.tx_list.specs.Search.{Followed}
+use Rattle.tx_alloc.specs.Pointer.{LeadsToBlock}
+use Rattle.tx_list.specs.Search.{FollowedLink}
 use Rattle.tx_list.proofs.Frame.{list_block}
 use Rattle.tx_list.proofs.Open.{open_list}
 
@@ -20,7 +20,7 @@ pub record Inside (s : View) (p : ℕ) : Type 0 where
   pub room : p + 8 ≤ s.size
   pub small : p + 8 ≤ 2 ^ 32
 
-pub followed_in : (s s' : View) (link p : ℕ) → Leads s link → Loaded s s' link p → p ≢ 0 →
+pub followed_in : (s s' : View) (link p : ℕ) → LeadsToBlock s link → Loaded s s' link p → p ≢ 0 →
     ∥ ((image : List ℕ) × RestsOn s' image) ∥₁ → Inside s' p
 followed_in s s' link p has l ne ws =
     let block : (w : (image : List ℕ) × RestsOn s' image) → IsBlock (length w.0) p = λ w.
@@ -33,8 +33,8 @@ followed_in s s' link p has l ne ws =
       small = omega (arith, room, l.kept.size, has.small);
     }
 
-pub followed_some : (s s' : View) (link p : ℕ) → Leads s link → Loaded s s' link p → p ≢ 0 →
-    ∥ ((image : List ℕ) × RestsOn s' image) ∥₁ → Followed s s' link (Some p)
+pub followed_some : (s s' : View) (link p : ℕ) → LeadsToBlock s link → Loaded s s' link p → p ≢ 0 →
+    ∥ ((image : List ℕ) × RestsOn s' image) ∥₁ → FollowedLink s s' link (Some p)
 followed_some s s' link p has l ne ws = let i = followed_in s s' link p has l ne ws in record {
   kept = l.kept;
   writes = l.writes;
@@ -43,7 +43,7 @@ followed_some s s' link p has l ne ws = let i = followed_in s s' link p has l ne
 }
 
 -- the head of a list leads to its first block
-pub head_leads : (s : View) (head : ℕ) → HasList s head → Leads s head
+pub head_leads : (s : View) (head : ℕ) → HasList s head → LeadsToBlock s head
 head_leads s head has = record {
   small = has.small;
   room = has.room;
@@ -55,7 +55,7 @@ pub linked_first : (m : ℕ → ℕ) (n p lo : ℕ) (rs : Rows) → Linked m n p
 linked_first m n p lo [] h = h
 linked_first m n p lo (r ∷ rs) h = h.0.at
 
-pub first_followed : (s s' : View) (head : ℕ) (found : _) → Followed s s' head found → First s s' head found
+pub first_followed : (s s' : View) (head : ℕ) (found : _) → FollowedLink s s' head found → First s s' head found
 first_followed s s' head found f = record {
   kept = f.kept;
   writes = f.writes;
@@ -104,7 +104,8 @@ booking_in s b has ws =
       small = omega (arith, room, has.small);
     }
 
-pub next_leads : (s : View) (b : ℕ) → HasBooking s b → ∥ ((image : List ℕ) × RestsOn s image) ∥₁ → Leads s (b + 3)
+pub next_leads : (s : View) (b : ℕ) → HasBooking s b → ∥ ((image : List ℕ) × RestsOn s image) ∥₁ →
+    LeadsToBlock s (b + 3)
 next_leads s b has ws = record {
   small = has.small;
   room = let i = booking_in s b has ws in omega (arith, i.room);
@@ -112,7 +113,7 @@ next_leads s b has ws = record {
       behind_block (mem s image) (length image) t.start 0 b t.entries t.list.linked t.has ne;
 }
 
-pub next_followed : (s s' : View) (b : ℕ) (found : _) → Followed s s' (b + 3) found → Next s s' b found
+pub next_followed : (s s' : View) (b : ℕ) (found : _) → FollowedLink s s' (b + 3) found → Next s s' b found
 next_followed s s' b found f = record {
   kept = f.kept;
   writes = f.writes;

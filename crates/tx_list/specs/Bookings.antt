@@ -22,7 +22,7 @@ abbrev pub place_code : (ℕ → ℕ) → ℕ → ℕ
 place_code m a = key_code (m (a + KIND)) (m (a + ID))
 
 -- p leads to the block of the row r, whose key is lo or more
-pub record IsBooked (m : ℕ → ℕ) (n p lo : ℕ) (r : ℕ × ℕ) : Type 0 where
+pub record IsBookingOfRow (m : ℕ → ℕ) (n p lo : ℕ) (r : ℕ × ℕ) : Type 0 where
   pub at : p ≡ r.1
   pub block : IsBlock n r.1
   pub kind : m (r.1 + KIND) < KINDS
@@ -33,7 +33,7 @@ pub record IsBooked (m : ℕ → ℕ) (n p lo : ℕ) (r : ℕ × ℕ) : Type 0 w
 -- p leads to these bookings, with keys that ascend from lo on
 abbrev pub Linked : (ℕ → ℕ) → ℕ → ℕ → ℕ → Rows → Type 0
 Linked m n p lo [] = p ≡ 0
-Linked m n p lo (r ∷ rs) = IsBooked m n p lo r × Linked m n (m (r.1 + NEXT)) (r.0 + 1) rs
+Linked m n p lo (r ∷ rs) = IsBookingOfRow m n p lo r × Linked m n (m (r.1 + NEXT)) (r.0 + 1) rs
 
 -- p leads to a list of these bookings
 pub record IsList (m : ℕ → ℕ) (n p : ℕ) (rs : Rows) : Type 0 where
@@ -50,6 +50,6 @@ block_behind [] b = 0
 block_behind (r ∷ rs) b = cond (nat_eq r.1 b) (first_block rs) (block_behind rs b)
 
 -- the word that leads to the first row of this key or more, where l leads to the rows
-abbrev pub link_of : ℕ → Rows → ℕ → ℕ
-link_of l [] key = l
-link_of l (r ∷ rs) key = cond (nat_lt r.0 key) (link_of (r.1 + NEXT) rs key) l
+abbrev pub link_to_key : ℕ → Rows → ℕ → ℕ
+link_to_key l [] key = l
+link_to_key l (r ∷ rs) key = cond (nat_lt r.0 key) (link_to_key (r.1 + NEXT) rs key) l

@@ -70,7 +70,7 @@ pub record Next (s s' : View) (b : ℕ) (found : Option ℕ) : Type 0 where
       pointer found ≡ block_behind rs b
 
 -- b is a block with this key that the list does not have, and the list has no row of the key
-pub record Fresh (m : ℕ → ℕ) (n head : ℕ) (rs : Rows) (key : Key) (b : ℕ) : Type 0 where
+pub record FreshBooking (m : ℕ → ℕ) (n head : ℕ) (rs : Rows) (key : Key) (b : ℕ) : Type 0 where
   pub block : IsBlock n b
   pub outside : IsOutside head b
   pub absent : block_at rs (code_of key) ≡ 0
@@ -80,10 +80,10 @@ pub record Fresh (m : ℕ → ℕ) (n head : ℕ) (rs : Rows) (key : Key) (b : �
 
 -- under each image of the memory's size b is a block with this key that no list at head has, and
 -- such a list has no row of the key
-pub record IsFresh (s : View) (head : ℕ) (key : Key) (b : ℕ) : Type 0 where
+pub record IsFreshBooking (s : View) (head : ℕ) (key : Key) (b : ℕ) : Type 0 where
   pub under : (image : List ℕ) (rs : Rows) → RestsOn s image →
       IsListAt (mem s image) (length image) head rs →
-      Fresh (mem s image) (length image) head rs key b
+      FreshBooking (mem s image) (length image) head rs key b
 
 -- the block came into the list under its key, and no word was changed but the head and the words
 -- of its blocks that lead on
@@ -93,11 +93,11 @@ pub record IsInsertion (m m' : ℕ → ℕ) (n head key b : ℕ) (rs : Rows) : T
 
 -- the block, which was fresh, came into the list
 -- Not said: what a refused call leaves of the list.
-pub record Inserted (s s' : View) (head : ℕ) (key : Key) (b : ℕ) : Type 0 where
+pub record InsertedBooking (s s' : View) (head : ℕ) (key : Key) (b : ℕ) : Type 0 where
   pub kept : Kept s s'
   pub insertion : (image : List ℕ) (rs : Rows) → Sees s' image →
       IsListAt (mem s image) (length image) head rs →
-      Fresh (mem s image) (length image) head rs key b →
+      FreshBooking (mem s image) (length image) head rs key b →
       IsInsertion (mem s image) (mem s' image) (length image) head (code_of key) b rs
 
 -- the row of the key is gone, if there was one, and the result is its block. No word was changed
@@ -110,7 +110,7 @@ pub record IsRemoval (m m' : ℕ → ℕ) (n head key : ℕ) (removed : Option �
 
 -- the booking of the key left the list, if there was one. Nothing was written where there was none.
 -- Not said: what a refused call leaves of the list.
-pub record Removed (s s' : View) (head key : ℕ) (removed : Option ℕ) : Type 0 where
+pub record RemovedBooking (s s' : View) (head key : ℕ) (removed : Option ℕ) : Type 0 where
   pub kept : Kept s s'
   pub none : removed ≡ None → s'.writes ≡ s.writes
   pub within : IsWithin s' removed

@@ -6,8 +6,8 @@ use Rattle.tx_memory.specs.View.{View, Sees, Kept}
 use Rattle.tx_alloc.specs.Pointer.{pointer, IsWithin}
 use Rattle.tx_alloc.specs.Rows.{Rows, block_at}
 use Rattle.tx_alloc.specs.Steps.{mem}
-use Rattle.tx_list.specs.Bookings.{IsKey, code_of, link_of}
-use Rattle.tx_list.specs.Lists.{IsListAt, Fresh, IsInsertion, IsRemoval}
+use Rattle.tx_list.specs.Bookings.{IsKey, code_of, link_to_key}
+use Rattle.tx_list.specs.Lists.{IsListAt, FreshBooking, IsInsertion, IsRemoval}
 use Rattle.tx_list.specs.declared.key.Key.{Key}
 use Rattle.tx_list.specs.declared.place.TheConstants.{KIND, ID}
 use Rattle.tx_list.specs.declared.search.Spot.{Spot}
@@ -24,7 +24,7 @@ pub record Compared (s s' : View) (b : ℕ) (key : Key) (order : Ordering) : Typ
       order ≡ key_cmp (mem s image (b + KIND)) (mem s image (b + ID)) key.kind key.id
 
 -- only reads were made, and the word at the link leads to the result
-pub record Followed (s s' : View) (link : ℕ) (found : Option ℕ) : Type 0 where
+pub record FollowedLink (s s' : View) (link : ℕ) (found : Option ℕ) : Type 0 where
   pub kept : Kept s s'
   pub writes : s'.writes ≡ s.writes
   pub within : IsWithin s' found
@@ -37,14 +37,14 @@ pub record Sought (s s' : View) (head key : ℕ) (spot : Spot) : Type 0 where
   pub room : spot.link.0 < s'.size
   pub within : IsWithin s' spot.entry
   pub link : (image : List ℕ) (rs : Rows) → Sees s' image →
-      IsListAt (mem s image) (length image) head rs → spot.link.0 ≡ link_of head rs key
+      IsListAt (mem s image) (length image) head rs → spot.link.0 ≡ link_to_key head rs key
   pub word : (image : List ℕ) → Sees s' image → mem s image spot.link.0 ≡ spot.word
   pub entry : (image : List ℕ) (rs : Rows) → Sees s' image →
       IsListAt (mem s image) (length image) head rs → pointer spot.entry ≡ block_at rs key
 
 -- in the list of these bookings at head, the key is at this spot, or would be there
 pub record SpotAt (m : ℕ → ℕ) (head key : ℕ) (spot : Spot) (rs : Rows) : Type 0 where
-  pub link : spot.link.0 ≡ link_of head rs key
+  pub link : spot.link.0 ≡ link_to_key head rs key
   pub word : m spot.link.0 ≡ spot.word
   pub entry : pointer spot.entry ≡ block_at rs key
 
@@ -55,7 +55,7 @@ pub record Hung (s s' : View) (spot : Spot) (b : ℕ) : Type 0 where
   pub insertion : (image : List ℕ) → Sees s' image → (head : ℕ) (key : Key) (rs : Rows) →
       IsKey key → IsListAt (mem s image) (length image) head rs →
       SpotAt (mem s image) head (code_of key) spot rs →
-      Fresh (mem s image) (length image) head rs key b →
+      FreshBooking (mem s image) (length image) head rs key b →
       IsInsertion (mem s image) (mem s' image) (length image) head (code_of key) b rs
 
 -- the booking at a spot, if it had one, left each list in which this was the spot of a key

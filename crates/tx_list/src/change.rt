@@ -3,7 +3,7 @@
 ghost use Rattle.std.specs.Prelude.{◌≡◌, ◌+◌, ◌<◌, ◌≤◌, ◌^◌, IfOk};
 ghost use Rattle.tx_alloc.specs.Pointer.{IsWithin};
 ghost use Rattle.tx_list.specs.Bookings.{IsKey, code_of};
-ghost use Rattle.tx_list.specs.Lists.{HasList, IsFresh, Inserted, Removed};
+ghost use Rattle.tx_list.specs.Lists.{HasList, IsFreshBooking, InsertedBooking, RemovedBooking};
 ghost use Rattle.tx_list.specs.Search.{Hung, Unhung};
 
 use crate::key::Key;
@@ -18,10 +18,10 @@ use tx_memory::{Addr, TxMem, load, store};
 pub fn insert<M: TxMem>(memory: &mut M, head: Addr, key: Key, block: Block) -> Result<(), M::Stop>
     requires list { HasList (M.view memory.old) head.0 }
     requires key { IsKey key }
-    requires fresh { IsFresh (M.view memory.old) head.0 key block }
+    requires fresh { IsFreshBooking (M.view memory.old) head.0 key block }
     ensures origin { M.origin memory.new ≡ M.origin memory.old }
     ensures answer { IfOk result (λ _.
-        Inserted (M.view memory.old) (M.view memory.new) head.0 key block) }
+        InsertedBooking (M.view memory.old) (M.view memory.new) head.0 key block) }
 {
     let spot = seek(memory, head, key)?;
     insert_at(memory, spot, block)?;
@@ -50,7 +50,7 @@ pub fn remove<M: TxMem>(memory: &mut M, head: Addr, key: Key) -> Result<Option<B
     requires key { IsKey key }
     ensures origin { M.origin memory.new ≡ M.origin memory.old }
     ensures answer { IfOk result (λ removed.
-        Removed (M.view memory.old) (M.view memory.new) head.0 (code_of key) removed) }
+        RemovedBooking (M.view memory.old) (M.view memory.new) head.0 (code_of key) removed) }
 {
     let spot = seek(memory, head, key)?;
     let removed = remove_at(memory, spot)?;

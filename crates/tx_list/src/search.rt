@@ -3,8 +3,8 @@
 ghost use Rattle.std.specs.Prelude.{◌≡◌, IfOk, IfErr};
 ghost use Rattle.tx_list.specs.Bookings.{IsKey, code_of};
 ghost use Rattle.tx_list.specs.Lists.{HasList, HasBooking, Found, First, Next};
-ghost use Rattle.tx_alloc.specs.Pointer.{Leads};
-ghost use Rattle.tx_list.specs.Search.{Followed, Sought};
+ghost use Rattle.tx_alloc.specs.Pointer.{LeadsToBlock};
+ghost use Rattle.tx_list.specs.Search.{FollowedLink, Sought};
 
 use crate::key::{Key, compare_key};
 use crate::place::NEXT;
@@ -62,10 +62,10 @@ pub fn next<M: TxRead>(memory: &mut M, block: Block) -> Result<Option<Block>, M:
 
 /// What the pointer at a word leads to.
 fn follow<M: TxRead>(memory: &mut M, link: Addr) -> Result<Option<Block>, M::Stop>
-    requires leads { Leads (M.view memory.old) link.0 }
+    requires leads { LeadsToBlock (M.view memory.old) link.0 }
     ensures origin { M.origin memory.new ≡ M.origin memory.old }
     ensures answer { IfOk result (λ found.
-        Followed (M.view memory.old) (M.view memory.new) link.0 found) }
+        FollowedLink (M.view memory.old) (M.view memory.new) link.0 found) }
     ensures stopped { IfErr result (λ stop. M.stopped_for memory.new stop) }
 {
     let word = load(memory, link)?;

@@ -15,15 +15,15 @@ HasSeen access before after = (all : List Access) → after ≡ Some all →
     (earlier : List Access) × (before ≡ Some earlier) × (all ≡ earlier ++ (access ∷ []))
 
 -- the reads with one more of this value: a word that was written before it does not enter them
-abbrev pub entered : Words → Words → ℕ → ℕ → Words
-entered reads writes address value =
+abbrev pub reads_with : Words → Words → ℕ → ℕ → Words
+reads_with reads writes address value =
     if is_none (get writes address) then insert reads address value else reads
 
 -- what was read of words that were not written before, behind these reads and writes
 abbrev pub reads_behind : Words → Words → List Access → Words
 reads_behind reads writes [] = reads
 reads_behind reads writes (Read addr value ∷ more) =
-    reads_behind (entered reads writes addr.0 value) writes more
+    reads_behind (reads_with reads writes addr.0 value) writes more
 reads_behind reads writes (Write addr value ∷ more) =
     reads_behind reads (insert writes addr.0 value) more
 
@@ -34,18 +34,18 @@ writes_behind writes (Read addr value ∷ more) = writes_behind writes more
 writes_behind writes (Write addr value ∷ more) = writes_behind (insert writes addr.0 value) more
 
 -- a read of a word that was written last so, or was read before so, if it was, gives that value
-abbrev pub is_right : Option ℕ → Option ℕ → ℕ → Bool
-is_right (Some own) read value = eqb value own
-is_right None (Some read) value = eqb value read
-is_right None None value = true
+abbrev pub is_right_read : Option ℕ → Option ℕ → ℕ → Bool
+is_right_read (Some own) read value = eqb value own
+is_right_read None (Some read) value = eqb value read
+is_right_read None None value = true
 
 -- each read gives the last value that was written to its word before it or, where none was, the
 -- value that it had in an earlier read
 abbrev pub are_right : Words → Words → List Access → Bool
 are_right reads writes [] = true
 are_right reads writes (Read addr value ∷ more) =
-    is_right (get writes addr.0) (get reads addr.0) value
-    && are_right (entered reads writes addr.0 value) writes more
+    is_right_read (get writes addr.0) (get reads addr.0) value
+    && are_right (reads_with reads writes addr.0 value) writes more
 are_right reads writes (Write addr value ∷ more) =
     are_right reads (insert writes addr.0 value) more
 

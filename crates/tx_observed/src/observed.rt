@@ -35,11 +35,11 @@ impl<'a, M: TxRead, O: Observer> Observed<'a, M, O> {
 }
 
 impl<'a, M: TxRead, O: Observer> TxRead for Observed<'a, M, O> {
-    ghost use Rattle.tx_observed.specs.Origin.{Origin};
+    ghost use Rattle.tx_observed.specs.Origin.{ObservedOrigin};
 
     type Stop = M::Stop;
 
-    ghost Origin = { Origin M.Origin };
+    ghost Origin = { ObservedOrigin M.Origin };
 
     ghost origin = { λ s. record {
       origin = M.origin s.memory.now;

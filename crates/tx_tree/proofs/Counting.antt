@@ -8,7 +8,7 @@ use Rattle.tx_memory.specs.PlainSeen.{get_at}
 use Rattle.tx_alloc.specs.Steps.{mem, stood}
 use Rattle.tx_alloc.specs.Rows.{put_row, cut_row}
 use Rattle.tx_alloc.proofs.Times.{length_put, length_cut}
-use Rattle.tx_tree.specs.Table.{IsTable, Table, HasTable, Found, IsFresh, Inserted, Removed}
+use Rattle.tx_tree.specs.Table.{IsTable, Table, HasTable, FoundRow, IsFresh, Inserted, Removed}
 use Rattle.tx_tree.specs.Counted.{HasEntries}
 use Rattle.tx_tree.proofs.TableFrame.{table_empty}
 
@@ -76,7 +76,7 @@ after_cut s s' root blocks count key b h p = record {
 
 -- a block whose first word was read as a key that the table does not have
 pub fresh_read : (s s1 s2 : View) (root blocks count key number b : ℕ) → HasEntries s root blocks count →
-    number < blocks → b ≡ 16 + 8 * number → Loaded s s1 b key → Found s1 s2 root key 0 → IsFresh s2 root key b
+    number < blocks → b ≡ 16 + 8 * number → Loaded s s1 b key → FoundRow s1 s2 root key 0 → IsFresh s2 root key b
 fresh_read s s1 s2 root blocks count key number b h inside e l f = record {
   under = λ image rs i t.
       let i1 = stood f.kept image i in

@@ -6,7 +6,7 @@ use Rattle.tx_tree.specs.Tree.{Tree, join, rows}
 use Rattle.tx_tree.specs.Way.{Way, top, step, plug}
 use Rattle.tx_tree.specs.Balance.{Sound}
 use Rattle.tx_tree.specs.Hangs.{off, link_of, Zip, Touches, Turning}
-use Rattle.tx_tree.specs.Mending.{Rising, Ends}
+use Rattle.tx_tree.specs.Mending.{Rising, IsMended}
 use Rattle.tx_tree.proofs.Shapes.{even_plug, apart_plug}
 use Rattle.tx_tree.proofs.Zipped.{up, down}
 use Rattle.tx_tree.proofs.Writes.{touches_both, painted, turned}
@@ -18,7 +18,8 @@ up_all m n root total (step right c r o w) t z = up_all m n root total w (join r
     (up m n root total w right c t r o z)
 
 pub ends_sound : (m m' : ℕ → ℕ) (n root : ℕ) (total : ℕ → ℕ) (w : Way) (t : Tree) (h : ℕ) (rs : Rows) →
-    Zip m' n root total w t → Sound w t h → rows (plug w t) ≡ rs → Touches m m' root total → Ends m m' n root total rs
+    Zip m' n root total w t → Sound w t h → rows (plug w t) ≡ rs → Touches m m' root total →
+    IsMended m m' n root total rs
 ends_sound m m' n root total w t h rs z s is touches =
     let a = apart_plug w t s.apart s.fits in
     record {
@@ -32,7 +33,7 @@ ends_sound m m' n root total w t h rs z s is touches =
     }
 
 pub ends_after : (m m1 m' : ℕ → ℕ) (n root : ℕ) (total : ℕ → ℕ) (rs rs' : Rows) → Touches m m1 root total → rs ≡ rs' →
-    Ends m1 m' n root total rs → Ends m m' n root total rs'
+    IsMended m1 m' n root total rs → IsMended m m' n root total rs'
 ends_after m m1 m' n root total rs rs' t e h = record {
   tree = h.tree;
   zip = h.zip;

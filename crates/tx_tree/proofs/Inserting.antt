@@ -9,9 +9,9 @@ use Rattle.tx_alloc.specs.Rows.{Rows, times, put_row, block_at, Relinks, AllBelo
 use Rattle.tx_tree.specs.Tree.{Tree, leaf, node, rows}
 use Rattle.tx_tree.specs.Way.{Way, plug, front, behind}
 use Rattle.tx_tree.specs.Hangs.{link_of, Zip, Touches}
-use Rattle.tx_tree.specs.Table.{IsTable, Table, HasTable, Fresh, IsFresh, Inserted, Found}
-use Rattle.tx_tree.specs.Steps.{Place, Sought}
-use Rattle.tx_tree.specs.Mending.{Ends, RaisedAt, HasRaised, Settled}
+use Rattle.tx_tree.specs.Table.{IsTable, Table, HasTable, Fresh, IsFresh, Inserted, FoundRow}
+use Rattle.tx_tree.specs.Steps.{PlaceOfKey, SoughtKey}
+use Rattle.tx_tree.specs.Mending.{IsMended, RaisedAt, HasRaised, Settled}
 use Rattle.tx_tree.proofs.Shapes.{rows_plug, even_parts, apart_parts}
 use Rattle.tx_alloc.proofs.Order.{put_between, at_between, none_between, from_put}
 use Rattle.tx_tree.proofs.Writes.{touches_both}
@@ -19,11 +19,11 @@ use Rattle.tx_tree.proofs.Moves.{hung, no_tree}
 use Rattle.tx_tree.proofs.TableFrame.{table_loose}
 use Rattle.tx_tree.proofs.Seeking.{has_times, path_at, place_node, split_here, link_room}
 
-pub count_ends : (m m' : ℕ → ℕ) (n root : ℕ) (total : ℕ → ℕ) (rs : Rows) → Ends m m' n root total rs → (x : ℕ) →
+pub count_ends : (m m' : ℕ → ℕ) (n root : ℕ) (total : ℕ → ℕ) (rs : Rows) → IsMended m m' n root total rs → (x : ℕ) →
     times x rs ≡ total x
 count_ends m m' n root total rs e x = omega (arith, has_times e.tree x, ap (times x) e.is, e.zip.count x)
 
-pub table_ends : (m m' : ℕ → ℕ) (n root : ℕ) (total : ℕ → ℕ) (rs : Rows) → Ends m m' n root total rs → IsFrom 0 rs →
+pub table_ends : (m m' : ℕ → ℕ) (n root : ℕ) (total : ℕ → ℕ) (rs : Rows) → IsMended m m' n root total rs → IsFrom 0 rs →
     IsTable m' n (m' root) rs
 table_ends m m' n root total rs e from = record {
   tree = e.tree;
@@ -44,14 +44,14 @@ relinks_touches m m' root total rs same t = record {
 }
 
 -- where there is no pointer there is no tree
-place_leaf : (m : ℕ → ℕ) (n root key : ℕ) (xs : List ℕ) (d : ℕ) (rs : Rows) → (h : Place m n root key xs d rs) →
+place_leaf : (m : ℕ → ℕ) (n root key : ℕ) (xs : List ℕ) (d : ℕ) (rs : Rows) → (h : PlaceOfKey m n root key xs d rs) →
     m (slice_index xs d) ≡ 0 → h.tree ≡ leaf
 place_leaf m n root key xs d rs h z =
     let at : slice_index xs d ≡ link_of root h.way = ap (slice_index xs) h.deep ∙ path_at xs root h.way h.path in
     no_tree m n (m (link_of root h.way)) h.tree h.zip.tree (ap m (sym at) ∙ z)
 
 -- what the search found is the block of the key
-pub place_answer : (m : ℕ → ℕ) (n root key p : ℕ) (xs : List ℕ) (d : ℕ) (rs : Rows) → Place m n root key xs d rs →
+pub place_answer : (m : ℕ → ℕ) (n root key p : ℕ) (xs : List ℕ) (d : ℕ) (rs : Rows) → PlaceOfKey m n root key xs d rs →
     m (slice_index xs d) ≡ p → (p ≢ 0 → m p ≡ key) → IsFrom 0 rs → p ≡ block_at rs key
 place_answer m n root key p xs d rs h e is from = elim (same_or p 0) [
   | inl z ↦ (
@@ -80,7 +80,8 @@ pub record Hung (m m' : ℕ → ℕ) (n root key b : ℕ) (xs : List ℕ) (d : �
   pub touches : Touches m m' root (with_block (λ x. times x rs) b)
 
 pub hung_at : (m m1 m2 m3 m' : ℕ → ℕ) (n root key b p : ℕ) (xs : List ℕ) (d : ℕ) (rs : Rows) →
-    Place m n root key xs d rs → m (slice_index xs d) ≡ p → (p ≢ 0 → m p ≡ key) → IsFrom 0 rs → Fresh m n rs key b →
+    PlaceOfKey m n root key xs d rs → m (slice_index xs d) ≡ p → (p ≢ 0 → m p ≡ key) → IsFrom 0 rs →
+    Fresh m n rs key b →
     times b rs ≡ 0
     → IsWrite m m1 (b + 1) 0 → IsWrite m1 m2 (b + 2) 0 → IsWrite m2 m3 (b + 3) 1 → IsWrite m3 m' (slice_index xs d) b →
     Hung m m' n root key b xs d rs
@@ -124,7 +125,7 @@ pub record Hanging (s s5 : View) (root key b : ℕ) (xs : List ℕ) (d : ℕ) : 
   pub hung : (image : List ℕ) (rs : Rows) → Sees s5 image → Table (mem s image) (length image) root rs →
       Fresh (mem s image) (length image) rs key b → Hung (mem s image) (mem s5 image) (length image) root key b xs d rs
 
-pub hanging : (s s1 s2 s3 s4 s5 : View) (root key b p : ℕ) (xs : List ℕ) (d : ℕ) → Sought s s1 root key xs d p →
+pub hanging : (s s1 s2 s3 s4 s5 : View) (root key b p : ℕ) (xs : List ℕ) (d : ℕ) → SoughtKey s s1 root key xs d p →
     Stored s1 s2 (b + 1) 0 → Stored s2 s3 (b + 2) 0 → Stored s3 s4 (b + 3) 1 → Stored s4 s5 (slice_index xs d) b →
     Hanging s s5 root key b xs d
 hanging s s1 s2 s3 s4 s5 root key b p xs d so w1 w2 w3 w4 = record {
@@ -172,14 +173,14 @@ inserted s s5 s6 root key b xs d h f = record {
   table = λ image rs i t free.
       let a = h.hung image rs (f.kept.seen image i) t free in
       let e = f.ends image i root (with_block (λ x. times x rs) b) a.way leaf key leaf a.blacks a.at in
-      let e' : Ends (mem s5 image) (mem s6 image) (length image) root (with_block (λ x. times x rs) b)
+      let e' : IsMended (mem s5 image) (mem s6 image) (length image) root (with_block (λ x. times x rs) b)
       (put_row rs key b) = rw a.is at e in
       table_ends (mem s5 image) (mem s6 image) (length image) root (with_block (λ x. times x rs) b)
       (put_row rs key b) e' a.ascending;
   relinks = λ image rs i t free.
       let a = h.hung image rs (f.kept.seen image i) t free in
       let e = f.ends image i root (with_block (λ x. times x rs) b) a.way leaf key leaf a.blacks a.at in
-      let e' : Ends (mem s5 image) (mem s6 image) (length image) root (with_block (λ x. times x rs) b)
+      let e' : IsMended (mem s5 image) (mem s6 image) (length image) root (with_block (λ x. times x rs) b)
       (put_row rs key b) = rw a.is at e in
       relinks_touches (mem s image) (mem s6 image) root (with_block (λ x. times x rs) b) (put_row rs key b)
       (count_ends (mem s5 image) (mem s6 image) (length image) root (with_block (λ x. times x rs) b)
@@ -195,7 +196,8 @@ fresh_room s s1 root key b k table fresh ws = some_le (b + 8) s.size ws (λ w.
     let t = table.under w.0 i in
     omega (arith, (fresh.under w.0 t.entries i t.is).block.1.0, w.1.size, k.size))
 
-pub sought_room : (s s1 : View) (root key p : ℕ) (xs : List ℕ) (d : ℕ) → HasTable s root → Sought s s1 root key xs d p →
+pub sought_room : (s s1 : View) (root key p : ℕ) (xs : List ℕ) (d : ℕ) → HasTable s root →
+    SoughtKey s s1 root key xs d p →
     ∥ ((image : List ℕ) × RestsOn s1 image) ∥₁ → slice_index xs d + 1 ≤ s.size
 sought_room s s1 root key p xs d table so ws = some_le (slice_index xs d + 1) s.size ws (λ w.
     let k = so.seeking.kept in
@@ -208,8 +210,8 @@ sought_room s s1 root key p xs d table so ws = some_le (slice_index xs d + 1) s.
       k.size,
     ))
 
-pub found : (s s' : View) (root key p q : ℕ) (xs : List ℕ) (d : ℕ) → Sought s s' root key xs d p → p ≡ q →
-    Found s s' root key q
+pub found : (s s' : View) (root key p q : ℕ) (xs : List ℕ) (d : ℕ) → SoughtKey s s' root key xs d p → p ≡ q →
+    FoundRow s s' root key q
 found s s' root key p q xs d so e = record {
   kept = so.seeking.kept;
   writes = so.seeking.writes;

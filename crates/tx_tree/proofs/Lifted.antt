@@ -7,7 +7,7 @@ use Rattle.tx_tree.specs.Tree.{Tree, leaf, node, join, rows, is_red}
 use Rattle.tx_tree.specs.Way.{Way, step, plug}
 use Rattle.tx_tree.specs.Balance.{Short}
 use Rattle.tx_tree.specs.Hangs.{Hangs, off, Zip, Turning}
-use Rattle.tx_tree.specs.Mending.{Rising, Ends}
+use Rattle.tx_tree.specs.Mending.{Rising, IsMended}
 use Rattle.tx_tree.specs.Lifting.{LiftAt, ShortHere}
 use Rattle.tx_tree.proofs.Shapes.{plug_rows}
 use Rattle.tx_tree.proofs.Mends.{rows_swap, mend_outer, mend_inner, mend_red_above, mend_black_above}
@@ -68,7 +68,7 @@ outer_at : (m m1 m' : ℕ → ℕ) (n root : ℕ) (total : ℕ → ℕ) (link p 
     (inner : Tree) (kq : ℕ) (a : Tree) (kz z : ℕ) (b t : Tree) (h far v : ℕ) →
     LiftAt m n root total link p q side w right c k (join right false inner (kq, q) (node true a (kz, z) b)) t h
     → far ≡ off (not right) → v ≡ cond c 1 0 → Rising m m1 link p q far v 0 → IsWrite m1 m' (z + 3) 0 →
-    Ends m m' n root total (rows (plug (step right c (k, p)
+    IsMended m m' n root total (rows (plug (step right c (k, p)
     (join right false inner (kq, q) (node true a (kz, z) b)) w) t))
 outer_at m m1 m' n root total link p q side w false c k inner kq a kz z b t h far v at e ev rise write =
     let z1 : Zip m n root total w (node c t (k, p) (node false inner (kq, q) (node true a (kz, z) b))) =
@@ -108,7 +108,7 @@ inner_at : (m m1 m' : ℕ → ℕ) (n root : ℕ) (total : ℕ → ℕ) (link p 
     (a : Tree) (ki i : ℕ) (b : Tree) (kq : ℕ) (outer t : Tree) (h far v link1 : ℕ) →
     LiftAt m n root total link p q side w right c k (join right false (join right true a (ki, i) b) (kq, q) outer) t h
     → far ≡ off (not right) → v ≡ cond c 1 0 → link1 ≡ p + off (not right) → Turning m m1 link1 q i side →
-    Rising m1 m' link p i far v 0 → Ends m m' n root total
+    Rising m1 m' link p i far v 0 → IsMended m m' n root total
     (rows (plug (step right c (k, p) (join right false (join right true a (ki, i) b) (kq, q) outer) w) t))
 inner_at m m1 m' n root total link p q side w false c k a ki i b kq outer t h far v link1 at e ev el turn rise =
     let turn' : Turning m m1 (p + 2) q i 1 = subst (λ (x : ℕ). Turning m m1 x q i 1) el
@@ -154,7 +154,7 @@ red_at : (m m1 m' : ℕ → ℕ) (n root : ℕ) (total : ℕ → ℕ) (link p q 
     (inner : Tree) (kq : ℕ) (outer t : Tree) (h : ℕ) → LiftAt m n root total link p q side w right true k
     (join right false inner (kq, q) outer) t h
     → is_red inner ≡ false → is_red outer ≡ false → IsWrite m m1 (q + 3) 1 → IsWrite m1 m' (p + 3) 0 →
-    Ends m m' n root total (rows (plug (step right true (k, p) (join right false inner (kq, q) outer) w) t))
+    IsMended m m' n root total (rows (plug (step right true (k, p) (join right false inner (kq, q) outer) w) t))
 red_at m m1 m' n root total link p q side w right k inner kq outer t h at e f w1 w2 =
     let z1 = up m n root total w right true t (k, p) (join right false inner (kq, q) outer) at.zip in
     let z2 = beside m n root total w right true t (k, p) (join right false inner (kq, q) outer) z1 in
@@ -208,7 +208,7 @@ join_black true d a x b = refl
 pub lift_outer : (m m1 m' : ℕ → ℕ) (n root : ℕ) (total : ℕ → ℕ) (link p q side : ℕ) (w : Way) (right c : Bool) (k : ℕ)
     (o t : Tree) (h z v : ℕ) → LiftAt m n root total link p q side w right c k o t h
     → m (q + (3 - side)) ≡ z → z ≢ 0 → m (z + 3) ≡ 1 → m (p + 3) ≡ v → Rising m m1 link p q (3 - side) v 0 →
-    IsWrite m1 m' (z + 3) 0 → Ends m m' n root total (rows (plug (step right c (k, p) o w) t))
+    IsWrite m1 m' (z + 3) 0 → IsMended m m' n root total (rows (plug (step right c (k, p) o w) t))
 lift_outer m m1 m' n root total link p q side w right c k o t h z v at e ne one ev rise write =
     let s = beside_node m n root total w right c k p q o t h at.zip at.beside_is at.short in
     let far : 3 - side ≡ off (not right) = ap (λ (x : ℕ). 3 - x) at.side_is ∙ off_across right in
@@ -237,7 +237,7 @@ red_join true m z t r = record { near = r.right; key = r.key; far = r.left; is =
 pub lift_inner : (m m1 m' : ℕ → ℕ) (n root : ℕ) (total : ℕ → ℕ) (link p q side : ℕ) (w : Way) (right c : Bool) (k : ℕ)
     (o t : Tree) (h z v : ℕ) → LiftAt m n root total link p q side w right c k o t h
     → m (q + side) ≡ z → z ≢ 0 → m (z + 3) ≡ 1 → m (p + 3) ≡ v → Turning m m1 (p + (3 - side)) q z side →
-    Rising m1 m' link p z (3 - side) v 0 → Ends m m' n root total (rows (plug (step right c (k, p) o w) t))
+    Rising m1 m' link p z (3 - side) v 0 → IsMended m m' n root total (rows (plug (step right c (k, p) o w) t))
 lift_inner m m1 m' n root total link p q side w right c k o t h z v at e ne one ev turn rise =
     let s = beside_node m n root total w right c k p q o t h at.zip at.beside_is at.short in
     let far : 3 - side ≡ off (not right) = ap (λ (x : ℕ). 3 - x) at.side_is ∙ off_across right in
@@ -292,7 +292,8 @@ both_black m n root total link p q side w right c k o t h at none =
 
 pub lift_red : (m m1 m' : ℕ → ℕ) (n root : ℕ) (total : ℕ → ℕ) (link p q side : ℕ) (w : Way) (right c : Bool) (k : ℕ)
     (o t : Tree) (h : ℕ) → LiftAt m n root total link p q side w right c k o t h → NoneRed m q side → c ≡ true →
-    IsWrite m m1 (q + 3) 1 → IsWrite m1 m' (p + 3) 0 → Ends m m' n root total (rows (plug (step right c (k, p) o w) t))
+    IsWrite m m1 (q + 3) 1 → IsWrite m1 m' (p + 3) 0 → IsMended m m' n root total
+    (rows (plug (step right c (k, p) o w) t))
 lift_red m m1 m' n root total link p q side w right false k o t h at none e w1 w2 = absurd_red (sym e)
 lift_red m m1 m' n root total link p q side w right true k o t h at none e w1 w2 =
     let b = both_black m n root total link p q side w right true k o t h at none in

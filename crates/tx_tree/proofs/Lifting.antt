@@ -10,9 +10,9 @@ use Rattle.tx_tree.specs.Tree.{Tree, node, join, rows}
 use Rattle.tx_tree.specs.Way.{Way, top, step, plug, depth}
 use Rattle.tx_tree.specs.Balance.{Short}
 use Rattle.tx_tree.specs.Hangs.{off, link_of, Zip, Touches, Turning}
-use Rattle.tx_alloc.specs.Pointer.{Leads}
+use Rattle.tx_alloc.specs.Pointer.{LeadsToBlock}
 use Rattle.tx_tree.specs.Steps.{IsPath, Reached, Coloured}
-use Rattle.tx_tree.specs.Mending.{Rising, Raising, Rotated, HasWay, Ends, ShortAt, HasShort, Mended}
+use Rattle.tx_tree.specs.Mending.{Rising, Raising, Rotated, HasWay, IsMended, ShortAt, HasShort, Mended}
 use Rattle.tx_tree.specs.Lifting.{LiftAt, SomeLift, HasLift, ShortHere, Lifted, ShortUp, Stepped}
 use Rattle.tx_tree.proofs.Shapes.{plug_rows}
 use Rattle.tx_tree.proofs.Mends.{mend_red}
@@ -87,7 +87,7 @@ lift_rooms s link p q side h ws =
     }
 
 pub leads_outer : (s : View) (link p q side : ℕ) → HasLift s link p q side → ∥ ((image : List ℕ) × RestsOn s image) ∥₁ →
-    Leads s (q + (3 - side))
+    LeadsToBlock s (q + (3 - side))
 leads_outer s link p q side h ws =
     let r = lift_rooms s link p q side h ws in
     record {
@@ -105,7 +105,7 @@ leads_outer s link p q side h ws =
     }
 
 pub leads_inner : (s : View) (link p q side : ℕ) → HasLift s link p q side → ∥ ((image : List ℕ) × RestsOn s image) ∥₁ →
-    Leads s (q + side)
+    LeadsToBlock s (q + side)
 leads_inner s link p q side h ws =
     let r = lift_rooms s link p q side h ws in
     record {
@@ -449,10 +449,11 @@ stepped s s2 s3 xs d q done one b f = record {
       let l' : LiftAt (mem s2 image) (length image) root total (slice_index xs (d - 1))
       (slice_index xs d - slice_index xs d % 8) q (slice_index xs d % 8) u.up u.right u.colour u.key u.other t h =
       rw b.writes l in
-      let r : Ends (mem s image) (mem s3 image) (length image) root total
+      let r : IsMended (mem s image) (mem s3 image) (length image) root total
       (rows (plug (step u.right u.colour (u.key, (slice_index xs d - slice_index xs d % 8)) u.other u.up) t)) =
       rw b.writes at (f.ends e image i root total u.up u.right u.colour u.key u.other t h l') in
-      subst (λ (x : Way). Ends (mem s image) (mem s3 image) (length image) root total (rows (plug x t))) (sym u.is) r;
+      subst (λ (x : Way). IsMended (mem s image) (mem s3 image) (length image) root total (rows (plug x t)))
+      (sym u.is) r;
   goes = λ e image i root total w t h a.
       let i2 = f.kept.seen image i in
       let u = one_up (mem s image) (length image) root total xs d w t h a one in
@@ -611,7 +612,7 @@ mend_up s0 s s1 xs d0 d done t f e = record {
 }
 
 short_top : (m m' : ℕ → ℕ) (n root : ℕ) (total : ℕ → ℕ) (xs : List ℕ) (w : Way) (t : Tree) (h : ℕ) (rs : Rows) →
-    ShortAt m' n root total xs 0 w t h → rows (plug w t) ≡ rs → Touches m m' root total → Ends m m' n root total rs
+    ShortAt m' n root total xs 0 w t h → rows (plug w t) ≡ rs → Touches m m' root total → IsMended m m' n root total rs
 short_top m m' n root total xs top t h rs a is touches =
     record {
       tree = t;
@@ -638,7 +639,7 @@ pub raised_leads : (s s1 s2 s3 : View) (xs : List ℕ) (d q : ℕ) (red : Bool) 
     Reached s s1 (slice_index xs d - slice_index xs d % 8 + (3 - slice_index xs d % 8)) q → Coloured s1 s2 q red →
     red ≡ true → Raising s2 s3 (slice_index xs (d - 1)) (slice_index xs d - slice_index xs d % 8) q
     (3 - (slice_index xs d % 8)) 0 1 → ∥ ((image : List ℕ) × RestsOn s3 image) ∥₁ →
-    Leads s3 (slice_index xs d - slice_index xs d % 8 + (3 - slice_index xs d % 8))
+    LeadsToBlock s3 (slice_index xs d - slice_index xs d % 8 + (3 - slice_index xs d % 8))
 raised_leads s s1 s2 s3 xs d q red h one r c e rise ws =
     let room : slice_index xs d - slice_index xs d % 8 + (3 - slice_index xs d % 8) + 1 ≤ s3.size = some_le _ _ ws (λ w.
     let i2 = stood rise.kept w.0 w.1 in let i1 = stood c.kept w.0 i2 in let i0 = stood r.loaded.kept w.0 i1 in

@@ -8,7 +8,7 @@ use Rattle.tx_alloc.specs.Pool.{IsBlock, with_block}
 use Rattle.tx_alloc.specs.Rows.{times}
 use Rattle.tx_tree.specs.Tree.{Tree, leaf, node, join}
 use Rattle.tx_tree.specs.Way.{Way}
-use Rattle.tx_tree.specs.Hangs.{Hangs, has, off, link_of, way_has, Zip, Touches, without}
+use Rattle.tx_tree.specs.Hangs.{Hangs, has, off, link_of, way_has, Zip, Touches, without_block}
 use Rattle.tx_tree.proofs.Zipped.{hangs_frame, has_block, joined, has_join, link_away, way_kept, way_away}
 use Rattle.tx_tree.proofs.Writes.{touches_both, touch_block, touch_link, at_node, at_join}
 
@@ -16,8 +16,8 @@ pub block_count : (total : ℕ → ℕ) (b x : ℕ) → (x ≡ b → with_block 
     with_block total b x ≡ total x)
 block_count total b x = ((λ e. grind (arith, nat_tests)), (λ e. grind (arith, nat_tests)))
 
-pub without_count : (total : ℕ → ℕ) (b x : ℕ) → (x ≡ b → without total b x ≡ total x - 1) × (x ≢ b →
-    without total b x ≡ total x)
+pub without_count : (total : ℕ → ℕ) (b x : ℕ) → (x ≡ b → without_block total b x ≡ total x - 1) × (x ≢ b →
+    without_block total b x ≡ total x)
 without_count total b x = ((λ e. grind (arith, nat_tests)), (λ e. grind (arith, nat_tests)))
 
 pub recounted : (m : ℕ → ℕ) (n root : ℕ) (total total' : ℕ → ℕ) (w : Way) (t : Tree) → ((x : ℕ) → total x ≡ total' x) →
@@ -87,13 +87,13 @@ hung m m1 m2 m3 m' n root total w key b z block none is w1 w2 w3 w4 =
 -- a node with one side at most goes, and the other side takes its place
 pub unlinked : (m m' : ℕ → ℕ) (n root : ℕ) (total : ℕ → ℕ) (w : Way) (right c : Bool) (k b : ℕ) (child : Tree) (v : ℕ) →
     Zip m n root total w (join right c leaf (k, b) child) → v ≡ m (b + off (not right)) →
-    IsWrite m m' (link_of root w) v → Zip m' n root (without total b) w child × Touches m m' root total
+    IsWrite m m' (link_of root w) v → Zip m' n root (without_block total b) w child × Touches m m' root total
 unlinked m m' n root total w right c k b child v z is write =
     let a = at_join m n root total w right c leaf k b child z in
     let j = joined m n (m (link_of root w)) right c leaf (k, b) child z.tree in
     let count : (x : ℕ) → way_has x w + (times x ((k, b) ∷ []) + (0 + has x child)) ≡ total x =
     λ x. omega (arith, z.count x, has_join right c leaf (k, b) child x) in
-    let counted : (x : ℕ) → way_has x w + has x child ≡ without total b x = λ x. omega (arith, count x) in (
+    let counted : (x : ℕ) → way_has x w + has x child ≡ without_block total b x = λ x. omega (arith, count x) in (
       record {
         way = way_kept m m' n root w z.low a.way_once z.way (λ x ne s. write.others x ne);
         tree = rw (write.here, is) (hangs_frame m m' n (m (b + off (not right))) child (λ x i q lt.
@@ -112,7 +112,8 @@ pub replaced : (m m1 m2 m3 m' : ℕ → ℕ) (n root : ℕ) (total : ℕ → ℕ
     (key b v1 v2 v3 : ℕ) → Zip m n root total w (node c l (k, a) t) → IsBlock n b → total b ≡ 0 → m b ≡ key
     → m (a + 1) ≡ v1 → IsWrite m m1 (b + 1) v1 → m1 (a + 2) ≡ v2 → IsWrite m1 m2 (b + 2) v2 → m2 (a + 3) ≡ v3 →
     IsWrite m2 m3 (b + 3) v3 → IsWrite m3 m' (link_of root w) b
-    → Zip m' n root (without (with_block total b) a) w (node c l (key, b) t) × Touches m m' root (with_block total b)
+    → Zip m' n root (without_block (with_block total b) a) w (node c l (key, b) t) ×
+    Touches m m' root (with_block total b)
 replaced m m1 m2 m3 m' n root total w c l k a t key b v1 v2 v3 z block none is e1 w1 e2 w2 e3 w3 w4 =
     let an = at_node m n root total w c l k a t z in
     let cb = z.count b in

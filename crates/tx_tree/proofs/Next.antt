@@ -8,7 +8,7 @@ use Rattle.tx_alloc.specs.Rows.{Rows}
 use Rattle.tx_tree.specs.Tree.{Tree, leaf, node, rows, blacks, is_red, IsEven, IsApart}
 use Rattle.tx_tree.specs.Way.{Way, top, step, plug, under, front, behind, IsEvenWay, IsApartWay}
 use Rattle.tx_tree.specs.Balance.{Sound}
-use Rattle.tx_tree.specs.Hangs.{link_of, Zip, Touches, without}
+use Rattle.tx_tree.specs.Hangs.{link_of, Zip, Touches, without_block}
 use Rattle.tx_tree.proofs.Shapes.{even_plug, even_parts, apart_plug, apart_parts, rows_plug, plug_under}
 use Rattle.tx_tree.proofs.Zipped.{up, down, up_under, down_under, link_away}
 use Rattle.tx_tree.proofs.Writes.{touches_both, touches_more, at_node}
@@ -71,11 +71,12 @@ next_rows v c cn x l t w r first is =
     e ∙ (rows_plug w (node c l x (plug v r)) ∙ ap (λ (z : Rows). front w ++ ((rows l ++ z) ++ behind w))
     (ap (λ (z : Rows). x ∷ z) b ∙ sym a))
 
-back_again : (total : ℕ → ℕ) (q : ℕ) → total q ≡ 1 → (x : ℕ) → with_block (without total q) q x ≡ total x
+back_again : (total : ℕ → ℕ) (q : ℕ) → total q ≡ 1 → (x : ℕ) → with_block (without_block total q) q x ≡ total x
 back_again total q one x = elim (same_or x q) [
-  | inl e ↦ (let a = (block_count (without total q) q x).0 e in let b = (without_count total q x).0 e in
+  | inl e ↦ (let a = (block_count (without_block total q) q x).0 e in let b = (without_count total q x).0 e in
       let t : total x ≡ 1 = ap total e ∙ one in omega arith)
-  | inr ne ↦ (let a = (block_count (without total q) q x).1 ne in let b = (without_count total q x).1 ne in omega arith)
+  | inr ne ↦ (let a = (block_count (without_block total q) q x).1 ne in let b = (without_count total q x).1 ne in
+      omega arith)
 ]
 
 -- the least node's right side takes its place, and then the node takes the place of the one that goes
@@ -85,23 +86,27 @@ pub next_gone : (m m1 ma mb mc m' : ℕ → ℕ) (n root : ℕ) (total : ℕ →
     IsWrite m m1 (link_of root (under v (step true c (k, b) l w))) child
     → m1 (b + 1) ≡ v1 → IsWrite m1 ma (q + 1) v1 → ma (b + 2) ≡ v2 → IsWrite ma mb (q + 2) v2 → mb (b + 3) ≡ v3 →
     IsWrite mb mc (q + 3) v3 → IsWrite mc m' (link_of root w) q
-    → Zip m' n root (without total b) (under v (step true c (kn, q) l w)) r × Touches m m' root total
+    → Zip m' n root (without_block total b) (under v (step true c (kn, q) l w)) r × Touches m m' root total
 next_gone m m1 ma mb mc m' n root total v c cn k b kn q l w r child v1 v2 v3 z is w0 e1 w1 e2 w2 e3 w3 w4 =
     let a = at_node m n root total (under v (step true c (k, b) l w)) cn leaf kn q r z in
     let u = unlinked m m1 n root total (under v (step true c (k, b) l w)) false cn kn q r child z is w0 in
-    let z1 = up_under m1 n root (without total q) v (step true c (k, b) l w) r u.0 in
-    let z2 = up m1 n root (without total q) w true c (plug v r) (k, b) l z1 in
-    let none : without total q q ≡ 0 = omega (arith, (without_count total q q).0 refl, a.counted) in
+    let z1 = up_under m1 n root (without_block total q) v (step true c (k, b) l w) r u.0 in
+    let z2 = up m1 n root (without_block total q) w true c (plug v r) (k, b) l z1 in
+    let none : without_block total q q ≡ 0 = omega (arith, (without_count total q q).0 refl, a.counted) in
     let away = link_away m n root (under v (step true c (k, b) l w)) q 0 z.low z.way a.block a.not_above
     (omega arith) in
     let key : m1 q ≡ kn = w0.others q (λ e. absurd (omega (arith, away, e))) ∙ z.tree.0.key in
-    let rp = replaced m1 ma mb mc m' n root (without total q) w c l k b
+    let rp = replaced m1 ma mb mc m' n root (without_block total q) w c l k b
     (plug v r) kn q v1 v2 v3 z2 a.block none key e1 w1 e2 w2 e3 w3 w4 in
-    let z3 = down m' n root (without (with_block (without total q) q) b) w true c (plug v r) (kn, q) l rp.0 in
-    let z4 = down_under m' n root (without (with_block (without total q) q) b) v (step true c (kn, q) l w) r z3 in
+    let z3 = down m' n root (without_block (with_block (without_block total q) q) b) w true c (plug v r) (
+      kn,
+      q,
+    ) l rp.0 in
+    let z4 = down_under m' n root (without_block (with_block (without_block total q) q) b) v
+    (step true c (kn, q) l w) r z3 in
     let same = back_again total q a.counted in (
-      recounted m' n root (without (with_block (without total q) q) b) (without total b)
+      recounted m' n root (without_block (with_block (without_block total q) q) b) (without_block total b)
           (under v (step true c (kn, q) l w)) r (λ x. ap (λ (y : ℕ). y - cond (nat_eq b x) 1 0) (same x)) z4,
-      touches_both m m1 m' root total u.1 (touches_more m1 m' root (with_block (without total q) q) total
+      touches_both m m1 m' root total u.1 (touches_more m1 m' root (with_block (without_block total q) q) total
           (λ x. omega (arith, same x)) rp.1),
     )

@@ -7,9 +7,9 @@ use Rattle.tx_alloc.specs.Rows.{Rows}
 use Rattle.tx_tree.specs.Tree.{Tree, leaf, node, rows}
 use Rattle.tx_tree.specs.Way.{Way, top, step, plug, depth, under, front, behind, IsEvenWay, IsApartWay}
 use Rattle.tx_tree.specs.Balance.{Sound}
-use Rattle.tx_tree.specs.Hangs.{Hangs, link_of, Zip, Touches, without}
+use Rattle.tx_tree.specs.Hangs.{Hangs, link_of, Zip, Touches, without_block}
 use Rattle.tx_tree.specs.Steps.{IsPath}
-use Rattle.tx_tree.specs.Mending.{Ends}
+use Rattle.tx_tree.specs.Mending.{IsMended}
 use Rattle.tx_tree.specs.Lowest.{SpanAt, LowAt}
 use Rattle.tx_tree.specs.Removal.{LooseAt}
 use Rattle.tx_tree.specs.Next.{Replacing, Replaced, BothAt, GoneEnds}
@@ -88,7 +88,7 @@ pub record NextAt (m m' : ℕ → ℕ) (n root : ℕ) (total : ℕ → ℕ) (xs'
   pub colour : Bool
   pub key : ℕ
   pub right : Tree
-  pub zip : Zip m' n root (without total b) (under way (step true c (key, q) l w)) right
+  pub zip : Zip m' n root (without_block total b) (under way (step true c (key, q) l w)) right
   pub path : IsPath (slice_set xs' (d + 1) (q + 2)) root (under way (step true c (key, q) l w))
   pub deep : d' ≡ depth (under way (step true c (key, q) l w))
   pub parts : NextParts way c colour (key, q) l w right
@@ -158,7 +158,7 @@ one_false false ne = refl
 
 pub next_loose : (m m' : ℕ → ℕ) (n root : ℕ) (total : ℕ → ℕ) (xs' : List ℕ) (d d' b q child : ℕ) (w : Way) (c : Bool)
     (l t : Tree) → (a : NextAt m m' n root total xs' d d' b q child w c l t) → m (q + 3) ≢ 1 →
-    LooseAt m' n root (without total b) (slice_set xs' (d + 1) (q + 2)) d' child
+    LooseAt m' n root (without_block total b) (slice_set xs' (d + 1) (q + 2)) d' child
     (under a.way (step true c (a.key, q) l w)) a.right 0
 next_loose m m' n root total xs' d d' b q child w c l t a ne =
     let black : a.colour ≡ false = one_false a.colour (λ x. ne (a.colour_is ∙ x)) in
@@ -187,8 +187,8 @@ next_red m m' n root total xs' d d' b q child w c l t a one =
       apart = a.parts.apart;
       fits = rw black (apart_black (under a.way (step true c (a.key, q) l w)) true fits);
     } in
-    let e = ends_sound m' m' n root (without total b) (under a.way (step true c (a.key, q) l w)) a.right 0
-    (front w ++ ((rows l ++ rows t) ++ behind w)) a.zip sound a.is (touches_none m' root (without total b)) in
+    let e = ends_sound m' m' n root (without_block total b) (under a.way (step true c (a.key, q) l w)) a.right 0
+    (front w ++ ((rows l ++ rows t) ++ behind w)) a.zip sound a.is (touches_none m' root (without_block total b)) in
     record {
       tree = e.tree;
       zip = e.zip;
@@ -200,7 +200,7 @@ next_red m m' n root total xs' d d' b q child w c l t a one =
     }
 
 pub next_black : (m m' m'' : ℕ → ℕ) (n root : ℕ) (total : ℕ → ℕ) (b : ℕ) (rs rs' : Rows) → Touches m m' root total →
-    rs ≡ rs' → Ends m' m'' n root (without total b) rs → GoneEnds m m'' n root total b rs'
+    rs ≡ rs' → IsMended m' m'' n root (without_block total b) rs → GoneEnds m m'' n root total b rs'
 next_black m m' m'' n root total b rs rs' t is e = record {
   tree = e.tree;
   zip = e.zip;
@@ -209,6 +209,6 @@ next_black m m' m'' n root total b rs rs' t is e = record {
   black = e.black;
   is = e.is ∙ is;
   touches =
-      touches_both m m' m'' root total t (touches_more m' m'' root (without total b) total
+      touches_both m m' m'' root total t (touches_more m' m'' root (without_block total b) total
       (λ x. omega arith) e.touches);
 }

@@ -8,7 +8,7 @@ use Rattle.tx_tree.specs.Way.{Way, top, step, plug, depth}
 use Rattle.tx_tree.specs.Balance.{Sound, Raised}
 use Rattle.tx_tree.specs.Hangs.{Hangs, off, link_of, Zip, Touches, Turning}
 use Rattle.tx_tree.specs.Steps.{IsPath}
-use Rattle.tx_tree.specs.Mending.{Rising, Ends, RaisedAt, IsToTurn}
+use Rattle.tx_tree.specs.Mending.{Rising, IsMended, RaisedAt, IsToTurn}
 use Rattle.tx_tree.proofs.Shapes.{plug_rows}
 use Rattle.tx_tree.proofs.Mends.{rows_turn, rows_swap, raise_top, raise_black, raise_flip, raise_outer, raise_inner}
 use Rattle.tx_tree.proofs.Zipped.{off_across, up}
@@ -92,7 +92,7 @@ sound_one m n root total xs d b (step s true x y (step s2 c2 x2 y2 w)) l k o h r
 -- the node is the whole tree's root
 pub ends_top : (m m' : ℕ → ℕ) (n root : ℕ) (total : ℕ → ℕ) (xs : List ℕ) (d b : ℕ) (w : Way) (l : Tree) (k : ℕ)
     (o : Tree) (h : ℕ) → RaisedAt m n root total xs d b w l k o h → d ≡ 0 → IsWrite m m' (b + 3) 0 →
-    Ends m m' n root total (rows (plug w (node true l (k, b) o)))
+    IsMended m m' n root total (rows (plug w (node true l (k, b) o)))
 ends_top m m' n root total xs d b top l k o h r none write =
     let p = painted m m' n root total top true false l k b o r.zip write in
     ends_sound m m' n root total top (node false l (k, b) o) (h + 1) (rows (node true l (k, b) o)) p.0
@@ -203,7 +203,7 @@ outer_at : (m m' : ℕ → ℕ) (n root : ℕ) (total : ℕ → ℕ) (xs : List 
     (kg g : ℕ) (u : Tree) (w : Way) (l : Tree) (k : ℕ) (o : Tree) (h link side : ℕ)
     → RaisedAt m n root total xs d b (step s true (kp, p) y (step s false (kg, g) u w)) l k o h → is_red u ≡ false →
     link ≡ link_of root w → side ≡ off s → Rising m m' link g p side 0 1
-    → Ends m m' n root total (rows (plug (step s true (kp, p) y (step s false (kg, g) u w)) (node true l (k, b) o)))
+    → IsMended m m' n root total (rows (plug (step s true (kp, p) y (step s false (kg, g) u w)) (node true l (k, b) o)))
 outer_at m m' n root total xs d b s kp p y kg g u w l k o h link side r black el es rise =
     let x = node true l (k, b) o in
     let z1 = up m n root total (step s false (kg, g) u w) s true x (kp, p) y r.zip in
@@ -222,7 +222,7 @@ inner_at : (m m1 m' : ℕ → ℕ) (n root : ℕ) (total : ℕ → ℕ) (xs : Li
     Raised (step (not s) true (kp, p) y (step s false (kg, g) u w)) (join s true a (k, b) c) h → is_red u ≡ false
     → link1 ≡ g + off s → side1 ≡ off (not s) → Turning m m1 link1 p b side1 → link ≡ link_of root w → side ≡ off s →
     Rising m1 m' link g b side 0 1
-    → Ends m m' n root total (rows (plug (step (not s) true (kp, p) y (step s false (kg, g) u w))
+    → IsMended m m' n root total (rows (plug (step (not s) true (kp, p) y (step s false (kg, g) u w))
     (join s true a (k, b) c)))
 inner_at m m1 m' n root total xs d b false kp p y kg g u w a k c h link1 side1 link side z raised black el1 es1 turn el
     es rise =
@@ -259,7 +259,7 @@ pub turn_same : (m m' : ℕ → ℕ) (n root : ℕ) (total : ℕ → ℕ) (xs : 
     IsToTurn m (slice_index xs d) (slice_index xs (d - 1)) → slice_index xs d % 8 ≡ slice_index xs (d - 1) % 8
     → Rising m m' (slice_index xs (d - 2)) (slice_index xs (d - 1) - slice_index xs (d - 1) % 8)
     (slice_index xs d - slice_index xs d % 8) (slice_index xs (d - 1) % 8) 0 1 →
-    Ends m m' n root total (rows (plug w (node true l (k, b) o)))
+    IsMended m m' n root total (rows (plug w (node true l (k, b) o)))
 turn_same m m' n root total xs d b top l k o h r two turn sides rise = absurd (omega (arith, r.deep))
 turn_same m m' n root total xs d b (step s c x y top) l k o h r two turn sides rise = absurd (omega (arith, r.deep))
 turn_same m m' n root total xs d b (step s1 false (kp, p) y (step s2 c2 (kg, g) z w)) l k o h r two turn sides rise =
@@ -307,7 +307,7 @@ pub turn_other : (m m1 m' : ℕ → ℕ) (n root : ℕ) (total : ℕ → ℕ) (x
     IsToTurn m (slice_index xs d) (slice_index xs (d - 1)) → slice_index xs d % 8 ≢ slice_index xs (d - 1) % 8
     → Turning m m1 (slice_index xs (d - 1)) (slice_index xs d - slice_index xs d % 8) b (slice_index xs d % 8) →
     Rising m1 m' (slice_index xs (d - 2)) (slice_index xs (d - 1) - slice_index xs (d - 1) % 8) b
-    (slice_index xs (d - 1) % 8) 0 1 → Ends m m' n root total (rows (plug w (node true l (k, b) o)))
+    (slice_index xs (d - 1) % 8) 0 1 → IsMended m m' n root total (rows (plug w (node true l (k, b) o)))
 turn_other m m1 m' n root total xs d b top l k o h r two turn sides first rise = absurd (omega (arith, r.deep))
 turn_other m m1 m' n root total xs d b (step s c x y top) l k o h r two turn sides first rise =
     absurd (omega (arith, r.deep))

@@ -6,11 +6,11 @@ use Rattle.tx_alloc.specs.Steps.{mem, kept_both, stood, at_start}
 use Rattle.tx_alloc.specs.Rows.{Rows, times, block_at}
 use Rattle.tx_tree.specs.Tree.{Tree, leaf, node, rows, blacks}
 use Rattle.tx_tree.specs.Way.{plug, front, behind}
-use Rattle.tx_tree.specs.Hangs.{without}
+use Rattle.tx_tree.specs.Hangs.{without_block}
 use Rattle.tx_tree.specs.Table.{IsInside, Table, HasTable, Removed}
-use Rattle.tx_alloc.specs.Pointer.{Leads}
-use Rattle.tx_tree.specs.Steps.{Reached, Sought}
-use Rattle.tx_tree.specs.Mending.{Ends}
+use Rattle.tx_alloc.specs.Pointer.{LeadsToBlock}
+use Rattle.tx_tree.specs.Steps.{Reached, SoughtKey}
+use Rattle.tx_tree.specs.Mending.{IsMended}
 use Rattle.tx_tree.specs.Removal.{LastAt, HasLast, Unlinked}
 use Rattle.tx_tree.specs.Next.{BothAt, HasBoth, GoneEnds, NextUnlinked}
 use Rattle.tx_tree.proofs.Shapes.{rows_plug}
@@ -21,14 +21,15 @@ use Rattle.tx_tree.proofs.Moves.{no_tree, pointer}
 use Rattle.tx_tree.proofs.Inserting.{place_answer}
 use Rattle.tx_tree.proofs.Removed.{NodeHere, node_here, Cut, cut_ends}
 
-pub here_at : (s s1 : View) (root key p : ℕ) (xs : List ℕ) (d : ℕ) → Sought s s1 root key xs d p → p ≢ 0 →
+pub here_at : (s s1 : View) (root key p : ℕ) (xs : List ℕ) (d : ℕ) → SoughtKey s s1 root key xs d p → p ≢ 0 →
     (image : List ℕ) (rs : Rows) → Sees s1 image → Table (mem s image) (length image) root rs →
     NodeHere (mem s image) (length image) root key p xs d rs
 here_at s s1 root key p xs d so ne image rs i t = node_here (mem s image) (length image) root key p xs d rs
     (so.seeking.place image rs i t) (so.is image i) ne (so.key_is ne image i) t
 
-pub left_leads : (s s1 : View) (root key p : ℕ) (xs : List ℕ) (d : ℕ) → HasTable s root → Sought s s1 root key xs d p →
-    p ≢ 0 → Leads s1 (p + 1)
+pub left_leads : (s s1 : View) (root key p : ℕ) (xs : List ℕ) (d : ℕ) → HasTable s root →
+    SoughtKey s s1 root key xs d p →
+    p ≢ 0 → LeadsToBlock s1 (p + 1)
 left_leads s s1 root key p xs d table so ne = record {
   small = omega (arith, table.small, so.seeking.kept.size);
   room = omega (arith, (so.there ne).1);
@@ -40,7 +41,7 @@ left_leads s s1 root key p xs d table so ne = record {
 }
 
 pub right_leads : (s s1 s2 : View) (root key p vl : ℕ) (xs : List ℕ) (d : ℕ) → HasTable s root →
-    Sought s s1 root key xs d p → p ≢ 0 → Reached s1 s2 (p + 1) vl → Leads s2 (p + 2)
+    SoughtKey s s1 root key xs d p → p ≢ 0 → Reached s1 s2 (p + 1) vl → LeadsToBlock s2 (p + 2)
 right_leads s s1 s2 root key p vl xs d table so ne r = record {
   small = omega (arith, table.small, so.seeking.kept.size, r.loaded.kept.size);
   room = omega (arith, (so.there ne).1, r.loaded.kept.size);
@@ -66,7 +67,8 @@ pub record Here (s s3 : View) (root key p vl vr : ℕ) (xs : List ℕ) (d : ℕ)
   pub answer : (image : List ℕ) (rs : Rows) → Sees s3 image → Table (mem s image) (length image) root rs →
       p ≡ block_at rs key
 
-pub here_of : (s s1 s2 s3 : View) (root key p vl vr : ℕ) (xs : List ℕ) (d : ℕ) → Sought s s1 root key xs d p → p ≢ 0 →
+pub here_of : (s s1 s2 s3 : View) (root key p vl vr : ℕ) (xs : List ℕ) (d : ℕ) → SoughtKey s s1 root key xs d p →
+    p ≢ 0 →
     Reached s1 s2 (p + 1) vl → Reached s2 s3 (p + 2) vr → Here s s3 root key p vl vr xs d
 here_of s s1 s2 s3 root key p vl vr xs d so ne r r' = record {
   kept = kept_both s s1 s3 so.seeking.kept (kept_both s1 s2 s3 r.loaded.kept r'.loaded.kept);
@@ -157,7 +159,7 @@ last_left m n root key p v xs d rs h none e =
     }
 
 gone_left : (m m' : ℕ → ℕ) (n root key p : ℕ) (xs : List ℕ) (d : ℕ) (rs : Rows) →
-    (h : NodeHere m n root key p xs d rs) → m (p + 1) ≡ 0 → Ends m m' n root (without (λ x. times x rs) p)
+    (h : NodeHere m n root key p xs d rs) → m (p + 1) ≡ 0 → IsMended m m' n root (without_block (λ x. times x rs) p)
     (rows (plug h.way h.right)) → GoneEnds m m' n root (λ x. times x rs) p
     (front h.way ++ ((rows h.left ++ rows h.right) ++ behind h.way))
 gone_left m m' n root key p xs d rs h none e =
@@ -171,7 +173,7 @@ gone_left m m' n root key p xs d rs h none e =
       is = e.is ∙ (rows_plug h.way h.right ∙
           ap (λ (x : Rows). front h.way ++ ((x ++ rows h.right) ++ behind h.way)) (sym (ap rows z)));
       touches =
-          touches_more m m' root (without (λ x. times x rs) p) (λ x. times x rs) (λ x. omega arith) e.touches;
+          touches_more m m' root (without_block (λ x. times x rs) p) (λ x. times x rs) (λ x. omega arith) e.touches;
     }
 
 pub has_last_left : (s s3 : View) (root key p vl vr : ℕ) (xs : List ℕ) (d : ℕ) → HasTable s root →
@@ -208,7 +210,7 @@ removed_left s s3 s4 root key p vl vr xs d h none f =
     let a = h.here image rs i3 t in
     let b = last_left (mem s image) (length image) root key p vr xs d rs a (h.at_left image i3 ∙ none)
     (h.at_right image i3) in
-    let e : Ends (mem s image) (mem s4 image) (length image) root (without (λ x. times x rs) p)
+    let e : IsMended (mem s image) (mem s4 image) (length image) root (without_block (λ x. times x rs) p)
     (rows (plug a.way a.right)) = rw h.writes at (f.ends image i root
     (λ x. times x rs) a.way false a.colour key a.right (blacks (node a.colour a.left (key, p) a.right))
     (rw h.writes b)) in
@@ -239,7 +241,7 @@ last_right m n root key p v xs d rs h none e =
     }
 
 gone_right : (m m' : ℕ → ℕ) (n root key p : ℕ) (xs : List ℕ) (d : ℕ) (rs : Rows) →
-    (h : NodeHere m n root key p xs d rs) → m (p + 2) ≡ 0 → Ends m m' n root (without (λ x. times x rs) p)
+    (h : NodeHere m n root key p xs d rs) → m (p + 2) ≡ 0 → IsMended m m' n root (without_block (λ x. times x rs) p)
     (rows (plug h.way h.left)) → GoneEnds m m' n root (λ x. times x rs) p
     (front h.way ++ ((rows h.left ++ rows h.right) ++ behind h.way))
 gone_right m m' n root key p xs d rs h none e =
@@ -253,7 +255,7 @@ gone_right m m' n root key p xs d rs h none e =
       is = e.is ∙ (rows_plug h.way h.left ∙ ap (λ (x : Rows). front h.way ++ (x ++ behind h.way))
           (sym (ap (λ (x : Tree). rows h.left ++ rows x) z ∙ append-nil (rows h.left))));
       touches =
-          touches_more m m' root (without (λ x. times x rs) p) (λ x. times x rs) (λ x. omega arith) e.touches;
+          touches_more m m' root (without_block (λ x. times x rs) p) (λ x. times x rs) (λ x. omega arith) e.touches;
     }
 
 pub has_last_right : (s s3 : View) (root key p vl vr : ℕ) (xs : List ℕ) (d : ℕ) → HasTable s root →
@@ -290,7 +292,7 @@ removed_right s s3 s4 root key p vl vr xs d h none f =
     let a = h.here image rs i3 t in
     let b = last_right (mem s image) (length image) root key p vl xs d rs a (h.at_right image i3 ∙ none)
     (h.at_left image i3) in
-    let e : Ends (mem s image) (mem s4 image) (length image) root (without (λ x. times x rs) p)
+    let e : IsMended (mem s image) (mem s4 image) (length image) root (without_block (λ x. times x rs) p)
     (rows (plug a.way a.left)) = rw h.writes at (f.ends image i root
     (λ x. times x rs) a.way true a.colour key a.left (blacks (node a.colour a.left (key, p) a.right))
     (rw h.writes b)) in

@@ -7,7 +7,7 @@ use Rattle.tx_tree.specs.Way.{Way, plug, depth, front, behind}
 use Rattle.tx_tree.specs.Balance.{Sound}
 use Rattle.tx_tree.specs.Hangs.{Zip}
 use Rattle.tx_tree.specs.Table.{IsTable, Table}
-use Rattle.tx_tree.specs.Steps.{IsPath, Place}
+use Rattle.tx_tree.specs.Steps.{IsPath, PlaceOfKey}
 use Rattle.tx_tree.specs.Next.{GoneEnds}
 use Rattle.tx_tree.proofs.Shapes.{rows_plug, even_parts, apart_parts}
 use Rattle.tx_alloc.proofs.Order.{cut_between, from_cut}
@@ -27,7 +27,7 @@ pub record NodeHere (m : ℕ → ℕ) (n root key p : ℕ) (xs : List ℕ) (d : 
   pub is : rs ≡ (front way ++ rows left) ++ ((key, p) ∷ (rows right ++ behind way))
   pub below : AllBelow key (front way ++ rows left)
 
-pub node_here : (m : ℕ → ℕ) (n root key p : ℕ) (xs : List ℕ) (d : ℕ) (rs : Rows) → Place m n root key xs d rs →
+pub node_here : (m : ℕ → ℕ) (n root key p : ℕ) (xs : List ℕ) (d : ℕ) (rs : Rows) → PlaceOfKey m n root key xs d rs →
     m (slice_index xs d) ≡ p → p ≢ 0 → m p ≡ key → Table m n root rs → NodeHere m n root key p xs d rs
 node_here m n root key p xs d rs h e ne k table =
     let o = place_node m n root key p xs d rs h e ne in

@@ -7,9 +7,9 @@ use Rattle.tx_alloc.specs.Pool.{IsBlock}
 use Rattle.tx_alloc.specs.Steps.{mem, kept_both, stood, write_at_start}
 use Rattle.tx_tree.specs.Tree.{Tree, leaf, node, join, rows, blacks, is_red, EvenAt}
 use Rattle.tx_tree.specs.Way.{Way, plug, depth}
-use Rattle.tx_tree.specs.Hangs.{Hangs, link_of, Zip, Touches, without}
+use Rattle.tx_tree.specs.Hangs.{Hangs, link_of, Zip, Touches, without_block}
 use Rattle.tx_tree.specs.Steps.{IsPath, Coloured}
-use Rattle.tx_tree.specs.Mending.{Ends, ShortAt, HasShort, Mended}
+use Rattle.tx_tree.specs.Mending.{IsMended, ShortAt, HasShort, Mended}
 use Rattle.tx_tree.specs.Removal.{LooseAt, HasLoose, Lightened, LastAt, HasLast, Unlinked}
 use Rattle.tx_tree.proofs.Shapes.{plug_rows, apart_black}
 use Rattle.tx_tree.proofs.Zipped.{link_is, way_block}
@@ -34,7 +34,7 @@ red_even l r t h e = search rules
 
 paint_loose : (m m' : ℕ → ℕ) (n root : ℕ) (total : ℕ → ℕ) (xs : List ℕ) (d p : ℕ) (w : Way) (l : Tree) (k : ℕ)
     (r : Tree) (h : ℕ) → LooseAt m n root total xs d p w (node true l (k, p) r) h → IsWrite m m' (p + 3) 0 →
-    Ends m m' n root total (rows (plug w (node true l (k, p) r)))
+    IsMended m m' n root total (rows (plug w (node true l (k, p) r)))
 paint_loose m m' n root total xs d p w l k r h a write =
     let x = painted m m' n root total w true false l k p r a.zip write in
     ends_sound m m' n root total w (node false l (k, p) r) (h + 1) _ x.0
@@ -48,7 +48,7 @@ paint_loose m m' n root total xs d p w l k r h a write =
 
 pub loose_red : (m m' : ℕ → ℕ) (n root : ℕ) (total : ℕ → ℕ) (xs : List ℕ) (d p : ℕ) (w : Way) (t : Tree) (h : ℕ) →
     LooseAt m n root total xs d p w t h → p ≢ 0 → m (p + 3) ≡ 1 → IsWrite m m' (p + 3) 0 →
-    Ends m m' n root total (rows (plug w t))
+    IsMended m m' n root total (rows (plug w t))
 loose_red m m' n root total xs d p w t h a some one write =
     let r = red_node m n p t (loose_hangs m n root total xs d p w t h a) some one in
     let a' : LooseAt m n root total xs d p w (node true r.left (r.key, p) r.right) h = rw r.is at a in
@@ -123,8 +123,8 @@ lightened_black s s1 s2 xs d p red c e f = record {
 
 -- the node's place is taken
 record Gone (m m' : ℕ → ℕ) (n root : ℕ) (total : ℕ → ℕ) (xs : List ℕ) (d b p : ℕ) (w : Way) (t : Tree) : Type 0 where
-  pub zip : Zip m' n root (without total b) w t
-  pub touches : Touches m m' root (without total b)
+  pub zip : Zip m' n root (without_block total b) w t
+  pub touches : Touches m m' root (without_block total b)
   pub leads : m' (slice_index xs d) ≡ p
 
 gone : (m m' : ℕ → ℕ) (n root : ℕ) (total : ℕ → ℕ) (xs : List ℕ) (d b p : ℕ) (w : Way) (right c : Bool) (k : ℕ)
@@ -136,13 +136,13 @@ gone m m' n root total xs d b p w right c k t h a write =
     let x = unlinked m m' n root total w right c k b t p a.zip (sym a.leads) write' in
     record {
       zip = x.0;
-      touches = touch_link m m' root (without total b) w p write' (λ y. omega (arith, x.0.count y));
+      touches = touch_link m m' root (without_block total b) w p write' (λ y. omega (arith, x.0.count y));
       leads = write.here;
     }
 
 loose_after : (m m' : ℕ → ℕ) (n root : ℕ) (total : ℕ → ℕ) (xs : List ℕ) (d b p : ℕ) (w : Way) (right c : Bool) (k : ℕ)
     (t : Tree) (h : ℕ) → LastAt m n root total xs d b p w right c k t h → c ≡ false →
-    Gone m m' n root total xs d b p w t → LooseAt m' n root (without total b) xs d p w t (blacks t)
+    Gone m m' n root total xs d b p w t → LooseAt m' n root (without_block total b) xs d p w t (blacks t)
 loose_after m m' n root total xs d b p w right true k t h a e g = absurd_red e
 loose_after m m' n root total xs d b p w false false k t h a e g = record {
   zip = g.zip;
@@ -167,12 +167,12 @@ loose_after m m' n root total xs d b p w true false k t h a e g = record {
 
 red_after : (m m' : ℕ → ℕ) (n root : ℕ) (total : ℕ → ℕ) (xs : List ℕ) (d b p : ℕ) (w : Way) (right c : Bool) (k : ℕ)
     (t : Tree) (h : ℕ) → LastAt m n root total xs d b p w right c k t h → c ≡ true →
-    Gone m m' n root total xs d b p w t → Ends m m' n root (without total b) (rows (plug w t))
+    Gone m m' n root total xs d b p w t → IsMended m m' n root (without_block total b) (rows (plug w t))
 red_after m m' n root total xs d b p w right false k t h a e g = absurd_red (sym e)
 red_after m m' n root total xs d b p w false true k t h a e g =
     let q : blacks t ≡ h = omega (arith, a.sound.even.0.0, a.sound.even.1) in
     let black : is_red t ≡ false = (a.sound.apart.0 refl).1 in
-    ends_sound m m' n root (without total b) w t (blacks t) (rows (plug w t)) g.zip
+    ends_sound m m' n root (without_block total b) w t (blacks t) (rows (plug w t)) g.zip
     (record {
       even = (a.sound.even.0.2, refl);
       way = rw q a.sound.way;
@@ -182,7 +182,7 @@ red_after m m' n root total xs d b p w false true k t h a e g =
 red_after m m' n root total xs d b p w true true k t h a e g =
     let q : blacks t ≡ h = omega (arith, a.sound.even.0.0, a.sound.even.1) in
     let black : is_red t ≡ false = (a.sound.apart.0 refl).0 in
-    ends_sound m m' n root (without total b) w t (blacks t) (rows (plug w t)) g.zip
+    ends_sound m m' n root (without_block total b) w t (blacks t) (rows (plug w t)) g.zip
     (record {
       even = (a.sound.even.0.1, refl);
       way = rw q a.sound.way;
@@ -256,7 +256,7 @@ loose_now s s1 s2 xs d b p red h some c e w = record {
       a.at.zip).1 (c.is_none e some image i1.sees) in
       record {
         root = a.root;
-        total = without a.total b;
+        total = without_block a.total b;
         way = a.way;
         tree = a.tree;
         blacks = blacks a.tree;
@@ -277,6 +277,7 @@ unlinked_black s s1 s2 s3 xs d b p red some c e w f = record {
       (c.is_none e some image i1) in
       let l = loose_after (mem s image) (mem s2 image) (length image) root total xs d b p way right col k t h a black g
       in
-      ends_after (mem s image) (mem s2 image) (mem s3 image) (length image) root (without total b) _ _ g.touches refl
-      (f.ends image i root (without total b) way t (blacks t) l);
+      ends_after (mem s image) (mem s2 image) (mem s3 image) (length image) root
+      (without_block total b) _ _ g.touches refl
+      (f.ends image i root (without_block total b) way t (blacks t) l);
 }

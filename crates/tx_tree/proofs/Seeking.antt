@@ -14,8 +14,8 @@ use Rattle.tx_tree.specs.Tree.{Tree, leaf, node, rows, IsEven, IsApart, is_red, 
 use Rattle.tx_tree.specs.Way.{Way, top, step, plug, depth, front, behind}
 use Rattle.tx_tree.specs.Hangs.{has, off, link_of, Zip}
 use Rattle.tx_tree.specs.Table.{Table, HasTable}
-use Rattle.tx_alloc.specs.Pointer.{Leads}
-use Rattle.tx_tree.specs.Steps.{Reached, IsPath, Place, Seeking}
+use Rattle.tx_alloc.specs.Pointer.{LeadsToBlock}
+use Rattle.tx_tree.specs.Steps.{Reached, IsPath, PlaceOfKey, Seeking}
 use Rattle.tx_tree.proofs.Shapes.{rows_plug, depth_plug, height_log}
 use Rattle.tx_alloc.proofs.Order.{below_higher, Split, split, below_both, times_both}
 use Rattle.tx_tree.proofs.Zipped.{down, link_is, way_block}
@@ -64,7 +64,7 @@ low_tree t even apart black few = elim (cases_lt 36 (height t)) [
 ]
 
 pub place_start : (m : ℕ → ℕ) (n root key : ℕ) (xs : List ℕ) (rs : Rows) → root < 16 → slice_index xs 0 ≡ root →
-    Table m n root rs → Place m n root key xs 0 rs
+    Table m n root rs → PlaceOfKey m n root key xs 0 rs
 place_start m n root key xs rs low at t = record {
   way = top;
   tree = t.table.tree;
@@ -102,7 +102,8 @@ below_right k [] ys h = h
 below_right k (x ∷ xs) ys h = below_right k xs ys h.1
 
 -- what stands at the end of the way, if there is something
-pub place_node : (m : ℕ → ℕ) (n root key p : ℕ) (xs : List ℕ) (d : ℕ) (rs : Rows) → (h : Place m n root key xs d rs) →
+pub place_node : (m : ℕ → ℕ) (n root key p : ℕ) (xs : List ℕ) (d : ℕ) (rs : Rows) →
+    (h : PlaceOfKey m n root key xs d rs) →
     m (slice_index xs d) ≡ p → p ≢ 0 → Opened m n p h.tree
 place_node m n root key p xs d rs h e ne =
     let at : slice_index xs d ≡ link_of root h.way = ap (slice_index xs) h.deep ∙ path_at xs root h.way h.path in
@@ -115,7 +116,7 @@ go_down : (m : ℕ → ℕ) (n root key p : ℕ) (xs : List ℕ) (d : ℕ) (rs :
     IsApart (plug w (node c l (m p, p) t)) → is_red (plug w (node c l (m p, p) t)) ≡ false → AllBelow key (front w) →
     IsFrom (key + 1) (behind w)
     → IsFrom 0 rs → d + 1 < length xs → (right : Bool) → (right ≡ false → key < m p) → (right ≡ true → m p < key) →
-    Place m n root key (slice_set xs (d + 1) (p + off right)) (d + 1) rs
+    PlaceOfKey m n root key (slice_set xs (d + 1) (p + off right)) (d + 1) rs
 go_down m n root key p xs d rs w c l t z path deep is even apart black below above from room false less more =
     let s = split_here w c l (m p, p) t rs is from in
     record {
@@ -150,15 +151,15 @@ go_down m n root key p xs d rs w c l t z path deep is even apart black below abo
       above = above;
     }
 
-pub place_down : (m : ℕ → ℕ) (n root key p : ℕ) (xs : List ℕ) (d : ℕ) (rs : Rows) → Place m n root key xs d rs →
+pub place_down : (m : ℕ → ℕ) (n root key p : ℕ) (xs : List ℕ) (d : ℕ) (rs : Rows) → PlaceOfKey m n root key xs d rs →
     m (slice_index xs d) ≡ p → p ≢ 0 → IsFrom 0 rs → d + 1 < length xs → (right : Bool) → (right ≡ false → key < m p) →
-    (right ≡ true → m p < key) → Place m n root key (slice_set xs (d + 1) (p + off right)) (d + 1) rs
+    (right ≡ true → m p < key) → PlaceOfKey m n root key (slice_set xs (d + 1) (p + off right)) (d + 1) rs
 place_down m n root key p xs d rs h e ne from room right less more =
     let o = place_node m n root key p xs d rs h e ne in
     go_down m n root key p xs d rs h.way o.colour o.left o.right (rw o.is at h.zip) h.path h.deep (rw o.is at h.is)
     (rw o.is at h.even) (rw o.is at h.apart) (rw o.is at h.black) h.below h.above from room right less more
 
-pub place_low : (m : ℕ → ℕ) (n root key p : ℕ) (xs : List ℕ) (d : ℕ) (rs : Rows) → Place m n root key xs d rs →
+pub place_low : (m : ℕ → ℕ) (n root key p : ℕ) (xs : List ℕ) (d : ℕ) (rs : Rows) → PlaceOfKey m n root key xs d rs →
     m (slice_index xs d) ≡ p → p ≢ 0 → length rs ≤ 262144 → d + 1 ≤ 36
 place_low m n root key p xs d rs h e ne few =
     let o = place_node m n root key p xs d rs h e ne in
@@ -176,7 +177,8 @@ seek_start s root key xs has size at = record {
   place = λ image rs i t. place_start (mem s image) (length image) root key xs rs has.low at t;
 }
 
-pub link_room : (m : ℕ → ℕ) (n root key : ℕ) (xs : List ℕ) (d : ℕ) (rs : Rows) → Place m n root key xs d rs → 16 ≤ n →
+pub link_room : (m : ℕ → ℕ) (n root key : ℕ) (xs : List ℕ) (d : ℕ) (rs : Rows) → PlaceOfKey m n root key xs d rs →
+    16 ≤ n →
     slice_index xs d < n
 link_room m n root key xs d rs h room =
     let at : slice_index xs d ≡ link_of root h.way = ap (slice_index xs) h.deep ∙ path_at xs root h.way h.path in
@@ -186,7 +188,7 @@ link_room m n root key xs d rs h room =
     ]
 
 pub seek_leads : (s0 s : View) (root key : ℕ) (xs : List ℕ) (d : ℕ) → HasTable s0 root → Seeking s0 s root key xs d →
-    ∥ ((image : List ℕ) × RestsOn s image) ∥₁ → Leads s (slice_index xs d)
+    ∥ ((image : List ℕ) × RestsOn s image) ∥₁ → LeadsToBlock s (slice_index xs d)
 seek_leads s0 s root key xs d table k ws = record {
   small = omega (arith, table.small, k.kept.size);
   room = (

@@ -7,7 +7,7 @@ use Rattle.tx_alloc.specs.Steps.{mem, kept_none, kept_both, stood, at_start, wri
 use Rattle.tx_tree.specs.Tree.{Tree, node, rows}
 use Rattle.tx_tree.specs.Way.{Way, plug}
 use Rattle.tx_tree.specs.Steps.{Reached, Coloured}
-use Rattle.tx_tree.specs.Mending.{Raising, Rotated, HasWay, Ends, RaisedAt, HasRaised, Settled, NeedsTurn}
+use Rattle.tx_tree.specs.Mending.{Raising, Rotated, HasWay, IsMended, RaisedAt, HasRaised, Settled, NeedsTurn}
 use Rattle.tx_tree.proofs.Writes.{touches_none, touches_both}
 use Rattle.tx_tree.proofs.Ways.{way_node}
 use Rattle.tx_tree.proofs.Ending.{ends_sound, ends_after}
@@ -148,7 +148,7 @@ settled_turn s0 s s3 s4 xs d0 b0 d b t k e f = record {
       let r' = t.goes image i' root total w l k' o h r in
       let at : RaisedAt (mem s3 image) (length image) root total xs d b r'.way r'.left r'.key r'.right r'.blacks =
       rw e r'.at in
-      let ends : Ends (mem s image) (mem s4 image) (length image) root total
+      let ends : IsMended (mem s image) (mem s4 image) (length image) root total
       (rows (plug r'.way (node true r'.left (r'.key, b) r'.right))) =
       rw e at (f.ends image i root total r'.way r'.left r'.key r'.right r'.blacks at) in
       ends_after (mem s0 image) (mem s image) (mem s4 image) (length image) root total _ _ r'.touches r'.is ends;

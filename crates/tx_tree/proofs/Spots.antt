@@ -11,8 +11,8 @@ use Rattle.tx_alloc.specs.Rows.{Rows, times, block_at, AllBelow, IsFrom}
 use Rattle.tx_tree.specs.Tree.{Tree, node, rows, IsEven, IsApart, is_red}
 use Rattle.tx_tree.specs.Way.{Way, top, step, plug, depth, front, behind}
 use Rattle.tx_tree.specs.Hangs.{off, link_of, Zip}
-use Rattle.tx_tree.specs.Table.{Table, HasTable, IsInside, Found, FoundAt, row_above, NextFound}
-use Rattle.tx_alloc.specs.Pointer.{Leads}
+use Rattle.tx_tree.specs.Table.{Table, HasTable, IsInside, FoundRow, FoundAt, row_above, NextFound}
+use Rattle.tx_alloc.specs.Pointer.{LeadsToBlock}
 use Rattle.tx_tree.specs.Steps.{Reached}
 use Rattle.tx_tree.proofs.Shapes.{rows_plug, depth_plug}
 use Rattle.tx_alloc.proofs.Order.{below_higher, below_both, at_between, none_between}
@@ -197,7 +197,7 @@ descent_start s root lo key has = record {
 }
 
 pub descent_leads : (s0 s : View) (root lo key link d : ℕ) (next : Option (ℕ × ℕ)) → HasTable s0 root →
-    Descending s0 s root lo key link d next → ∥ ((image : List ℕ) × RestsOn s image) ∥₁ → Leads s link
+    Descending s0 s root lo key link d next → ∥ ((image : List ℕ) × RestsOn s image) ∥₁ → LeadsToBlock s link
 descent_leads s0 s root lo key link d next table k ws = record {
   small = omega (arith, table.small, k.kept.size);
   room = (
@@ -266,7 +266,7 @@ descent_right s0 s s1 s2 root lo key link d p found side next k r ne l e more =
     rw e (descent_step s0 s s1 s2 root lo key link d p found next true k r ne l (λ z. cc) (λ _. more))
 
 pub found_none : (s0 s s1 : View) (root key link d p : ℕ) (next : Option (ℕ × ℕ)) →
-    Descending s0 s root key key link d next → Reached s s1 link p → p ≡ 0 → Found s0 s1 root key 0
+    Descending s0 s root key key link d next → Reached s s1 link p → p ≡ 0 → FoundRow s0 s1 root key 0
 found_none s0 s s1 root key link d p next k r z = record {
   kept = kept_both s0 s s1 k.kept r.loaded.kept;
   writes = r.loaded.writes ∙ k.writes;
@@ -303,7 +303,7 @@ next_found s0 s s1 root key link d p next k r z = record {
 
 -- no way is as long as that
 pub found_deep : (s0 s : View) (root key link d : ℕ) (next : Option (ℕ × ℕ)) →
-    Descending s0 s root key key link d next → 37 ≤ d → Found s0 s root key 0
+    Descending s0 s root key key link d next → 37 ≤ d → FoundRow s0 s root key 0
 found_deep s0 s root key link d next k l = record {
   kept = k.kept;
   writes = k.writes;

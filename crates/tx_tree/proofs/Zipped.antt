@@ -7,7 +7,7 @@ use Rattle.tx_alloc.specs.Pool.{IsBlock}
 use Rattle.tx_alloc.specs.Rows.{times}
 use Rattle.tx_tree.specs.Tree.{Tree, leaf, node, join}
 use Rattle.tx_tree.specs.Way.{Way, top, step, plug, under}
-use Rattle.tx_tree.specs.Hangs.{IsNode, Hangs, has, off, link_of, HangsWay, way_has, Zip}
+use Rattle.tx_tree.specs.Hangs.{IsNodeOfRow, Hangs, has, off, link_of, HangsWay, way_has, Zip}
 
 pub off_range : (b : Bool) → (1 ≤ off b) × (off b ≤ 2)
 off_range true = (omega arith, omega arith)
@@ -144,7 +144,7 @@ way_frame m m' n root (step right c (k, a) o w) low once at same (i, (ho, hw)) =
 
 -- a node by its near and far side
 pub record Joined (m : ℕ → ℕ) (n p : ℕ) (right c : Bool) (near : Tree) (r : ℕ × ℕ) (far : Tree) : Type 0 where
-  pub is_node : IsNode m n p c r
+  pub is_node : IsNodeOfRow m n p c r
   pub on_near : Hangs m n (m (r.1 + off right)) near
   pub on_far : Hangs m n (m (r.1 + off (not right))) far
 

@@ -8,7 +8,7 @@ use Rattle.tx_tree.specs.Tree.{Tree, leaf, node}
 use Rattle.tx_tree.specs.Way.{Way, top, step}
 
 -- p is the block of the row r, of this colour
-pub record IsNode (m : ℕ → ℕ) (n p : ℕ) (c : Bool) (r : ℕ × ℕ) : Type 0 where
+pub record IsNodeOfRow (m : ℕ → ℕ) (n p : ℕ) (c : Bool) (r : ℕ × ℕ) : Type 0 where
   pub at : p ≡ r.1
   pub block : IsBlock n r.1
   pub key : m r.1 ≡ r.0
@@ -17,7 +17,7 @@ pub record IsNode (m : ℕ → ℕ) (n p : ℕ) (c : Bool) (r : ℕ × ℕ) : Ty
 -- p leads to the tree
 abbrev pub Hangs : (ℕ → ℕ) → ℕ → ℕ → Tree → Type 0
 Hangs m n p leaf = p ≡ 0
-Hangs m n p (node c l r t) = IsNode m n p c r ×
+Hangs m n p (node c l r t) = IsNodeOfRow m n p c r ×
     (Hangs m n (m (r.1 + 1)) l × Hangs m n (m (r.1 + 2)) t)
 
 -- how often a tree has a block
@@ -38,7 +38,7 @@ link_of root (step right c r o w) = r.1 + off right
 -- the nodes of a way, and what they pass by, hang from the root word on
 abbrev pub HangsWay : (ℕ → ℕ) → ℕ → ℕ → Way → Type 0
 HangsWay m n root top = Unit {0}
-HangsWay m n root (step right c r o w) = IsNode m n (m (link_of root w)) c r ×
+HangsWay m n root (step right c r o w) = IsNodeOfRow m n (m (link_of root w)) c r ×
     (Hangs m n (m (r.1 + off (not right))) o × HangsWay m n root w)
 
 -- how often a way has a block, as a node or in what it passes by
@@ -69,5 +69,5 @@ pub record Turning (m m' : ℕ → ℕ) (link p c s : ℕ) : Type 0 where
   pub up : IsWrite m2 m' link c
 
 -- counts of blocks with one block less
-abbrev pub without : (ℕ → ℕ) → ℕ → ℕ → ℕ
-without total b x = total x - cond (nat_eq b x) 1 0
+abbrev pub without_block : (ℕ → ℕ) → ℕ → ℕ → ℕ
+without_block total b x = total x - cond (nat_eq b x) 1 0

@@ -8,7 +8,7 @@ use Rattle.tx_tree.specs.Tree.{Tree, rows, is_red}
 use Rattle.tx_tree.specs.Way.{Way, step, plug}
 use Rattle.tx_tree.specs.Balance.{Short}
 use Rattle.tx_tree.specs.Hangs.{off, link_of, Zip, Touches}
-use Rattle.tx_tree.specs.Mending.{Ends, ShortAt}
+use Rattle.tx_tree.specs.Mending.{IsMended, ShortAt}
 
 -- the child of a node on this side lacks a black node, and the one beside it is black
 pub record LiftAt (m : ℕ → ℕ) (n root : ℕ) (total : ℕ → ℕ) (link p q side : ℕ) (w : Way)
@@ -56,7 +56,7 @@ pub record Lifted (s s' : View) (link p q side : ℕ) (done : Bool) : Type 0 whe
   pub ends : done ≡ true → (image : List ℕ) → Sees s' image →
       (root : ℕ) (total : ℕ → ℕ) (w : Way) (right c : Bool) (k : ℕ) (o t : Tree) (h : ℕ) →
       LiftAt (mem s image) (length image) root total link p q side w right c k o t h →
-      Ends (mem s image) (mem s' image) (length image) root total
+      IsMended (mem s image) (mem s' image) (length image) root total
       (rows (plug (step right c (k, p) o w) t))
   pub goes : done ≡ false → (image : List ℕ) → Sees s' image →
       (root : ℕ) (total : ℕ → ℕ) (w : Way) (right c : Bool) (k : ℕ) (o t : Tree) (h : ℕ) →
@@ -80,7 +80,7 @@ pub record Stepped (s s' : View) (xs : List ℕ) (d : ℕ) (done : Bool) : Type 
   pub ends : done ≡ true → (image : List ℕ) → Sees s' image →
       (root : ℕ) (total : ℕ → ℕ) (w : Way) (t : Tree) (h : ℕ) →
       ShortAt (mem s image) (length image) root total xs d w t h →
-      Ends (mem s image) (mem s' image) (length image) root total (rows (plug w t))
+      IsMended (mem s image) (mem s' image) (length image) root total (rows (plug w t))
   pub goes : done ≡ false → (image : List ℕ) → Sees s' image →
       (root : ℕ) (total : ℕ → ℕ) (w : Way) (t : Tree) (h : ℕ) →
       ShortAt (mem s image) (length image) root total xs d w t h →

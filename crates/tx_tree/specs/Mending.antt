@@ -50,7 +50,7 @@ pub record HasWay (s : View) (xs : List ℕ) (d : ℕ) : Type 0 where
   pub under : (image : List ℕ) → RestsOn s image → WayAt (mem s image) (length image) xs d
 
 -- the whole tree is as it should be, and has these rows; nothing but linking words was written
-pub record Ends (m m' : ℕ → ℕ) (n root : ℕ) (total : ℕ → ℕ) (rs : Rows) : Type 0 where
+pub record IsMended (m m' : ℕ → ℕ) (n root : ℕ) (total : ℕ → ℕ) (rs : Rows) : Type 0 where
   pub tree : Tree
   pub zip : Zip m' n root total top tree
   pub even : IsEven tree
@@ -92,7 +92,7 @@ pub record Settled (s s' : View) (xs : List ℕ) (d b : ℕ) : Type 0 where
   pub ends : (image : List ℕ) → Sees s' image →
       (root : ℕ) (total : ℕ → ℕ) (w : Way) (l : Tree) (k : ℕ) (o : Tree) (h : ℕ) →
       RaisedAt (mem s image) (length image) root total xs d b w l k o h →
-      Ends (mem s image) (mem s' image) (length image) root total
+      IsMended (mem s image) (mem s' image) (length image) root total
       (rows (plug w (node true l (k, b) o)))
 
 -- the node above is red, and the one beside that is not
@@ -137,4 +137,4 @@ pub record Mended (s s' : View) (xs : List ℕ) (d : ℕ) : Type 0 where
   pub ends : (image : List ℕ) → Sees s' image →
       (root : ℕ) (total : ℕ → ℕ) (w : Way) (t : Tree) (h : ℕ) →
       ShortAt (mem s image) (length image) root total xs d w t h →
-      Ends (mem s image) (mem s' image) (length image) root total (rows (plug w t))
+      IsMended (mem s image) (mem s' image) (length image) root total (rows (plug w t))

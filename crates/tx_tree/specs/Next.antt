@@ -9,7 +9,7 @@ use Rattle.tx_tree.specs.declared.path.TheConstants.{LEVELS, MOST_HEIGHT}
 use Rattle.tx_tree.specs.Tree.{Tree, node, rows, IsEven, IsApart, is_red, height}
 use Rattle.tx_tree.specs.Way.{Way, top, plug, depth, front, behind}
 use Rattle.tx_tree.specs.Balance.{Sound}
-use Rattle.tx_tree.specs.Hangs.{Zip, Touches, without}
+use Rattle.tx_tree.specs.Hangs.{Zip, Touches, without_block}
 use Rattle.tx_tree.specs.Steps.{IsPath}
 
 -- the block b got the links and the colour of a, and the link leads to it
@@ -67,7 +67,7 @@ pub record HasBoth (s : View) (xs : List ℕ) (d b : ℕ) : Type 0 where
 -- the whole tree is as it should be, without the block b
 pub record GoneEnds (m m' : ℕ → ℕ) (n root : ℕ) (total : ℕ → ℕ) (b : ℕ) (rs : Rows) : Type 0 where
   pub tree : Tree
-  pub zip : Zip m' n root (without total b) top tree
+  pub zip : Zip m' n root (without_block total b) top tree
   pub even : IsEven tree
   pub apart : IsApart tree
   pub black : is_red tree ≡ false

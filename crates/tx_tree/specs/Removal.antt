@@ -7,9 +7,9 @@ use Rattle.tx_tree.specs.declared.path.TheConstants.{LEVELS}
 use Rattle.tx_tree.specs.Tree.{Tree, leaf, join, rows, EvenAt, IsApart}
 use Rattle.tx_tree.specs.Way.{Way, plug, depth, IsEvenWay, IsApartWay}
 use Rattle.tx_tree.specs.Balance.{Sound}
-use Rattle.tx_tree.specs.Hangs.{off, Zip, without}
+use Rattle.tx_tree.specs.Hangs.{off, Zip, without_block}
 use Rattle.tx_tree.specs.Steps.{IsPath}
-use Rattle.tx_tree.specs.Mending.{Ends}
+use Rattle.tx_tree.specs.Mending.{IsMended}
 
 -- the tree at the end of the path, to which p leads, lacks a black node, and may be red below a
 -- red node
@@ -47,7 +47,7 @@ pub record Lightened (s s' : View) (xs : List ℕ) (d p : ℕ) : Type 0 where
   pub ends : (image : List ℕ) → Sees s' image →
       (root : ℕ) (total : ℕ → ℕ) (w : Way) (t : Tree) (h : ℕ) →
       LooseAt (mem s image) (length image) root total xs d p w t h →
-      Ends (mem s image) (mem s' image) (length image) root total (rows (plug w t))
+      IsMended (mem s image) (mem s' image) (length image) root total (rows (plug w t))
 
 -- at the end of the path is a node b that has one side at most, to which p leads
 pub record LastAt (m : ℕ → ℕ) (n root : ℕ) (total : ℕ → ℕ) (xs : List ℕ) (d b p : ℕ) (w : Way)
@@ -84,4 +84,5 @@ pub record Unlinked (s s' : View) (xs : List ℕ) (d b p : ℕ) : Type 0 where
   pub ends : (image : List ℕ) → Sees s' image →
       (root : ℕ) (total : ℕ → ℕ) (w : Way) (right c : Bool) (k : ℕ) (t : Tree) (h : ℕ) →
       LastAt (mem s image) (length image) root total xs d b p w right c k t h →
-      Ends (mem s image) (mem s' image) (length image) root (without total b) (rows (plug w t))
+      IsMended (mem s image) (mem s' image) (length image) root (without_block total b)
+      (rows (plug w t))

@@ -30,7 +30,7 @@ IsPath xs root (step right c r o w) = (slice_index xs (depth w + 1) ≡ r.1 + of
     root w
 
 -- the search for a key came to a tree that has its row, if the table has it
-pub record Place (m : ℕ → ℕ) (n root key : ℕ) (xs : List ℕ) (d : ℕ) (rs : Rows) : Type 0 where
+pub record PlaceOfKey (m : ℕ → ℕ) (n root key : ℕ) (xs : List ℕ) (d : ℕ) (rs : Rows) : Type 0 where
   pub way : Way
   pub tree : Tree
   pub zip : Zip m n root (λ x. times x rs) way tree
@@ -52,10 +52,10 @@ pub record Seeking (s s' : View) (root key : ℕ) (xs : List ℕ) (d : ℕ) : Ty
   pub size : length xs ≡ LEVELS
   pub place : (image : List ℕ) (rs : Rows) → Sees s' image →
       Table (mem s image) (length image) root rs →
-      Place (mem s image) (length image) root key xs d rs
+      PlaceOfKey (mem s image) (length image) root key xs d rs
 
 -- the search came to its end: there is no tree, or its root has the key
-pub record Sought (s s' : View) (root key : ℕ) (xs : List ℕ) (d p : ℕ) : Type 0 where
+pub record SoughtKey (s s' : View) (root key : ℕ) (xs : List ℕ) (d p : ℕ) : Type 0 where
   pub seeking : Seeking s s' root key xs d
   pub there : p ≢ 0 → (FIRST_BLOCK ≤ p) × (p + BLOCK_WORDS ≤ s'.size)
   pub is : (image : List ℕ) → Sees s' image → mem s image (slice_index xs d) ≡ p

@@ -49,7 +49,7 @@ abbrev pub IsInside : ℕ → ℕ → Type 0
 IsInside n b = (FIRST_BLOCK ≤ b) × (b + BLOCK_WORDS ≤ n)
 
 -- p is the block at the key, or 0, and only reads were made
-pub record Found (s s' : View) (root key p : ℕ) : Type 0 where
+pub record FoundRow (s s' : View) (root key p : ℕ) : Type 0 where
   pub kept : Kept s s'
   pub writes : s'.writes ≡ s.writes
   pub is : (image : List ℕ) (rs : Rows) → Sees s' image →
@@ -57,7 +57,7 @@ pub record Found (s s' : View) (root key p : ℕ) : Type 0 where
 
 -- the table has the key, and b is its block
 pub record FoundAt (s s' : View) (root key b : ℕ) : Type 0 where
-  pub found : Found s s' root key b
+  pub found : FoundRow s s' root key b
   pub inside : IsInside s'.size b
 
 -- the row of an entry, if there is one

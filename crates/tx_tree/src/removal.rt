@@ -1,7 +1,7 @@
 //! Takes a block out of a table.
 
 ghost use Rattle.std.specs.Prelude.{◌≡◌, IfOk, MatchOption};
-ghost use Rattle.tx_tree.specs.Table.{HasTable, Found, Removed};
+ghost use Rattle.tx_tree.specs.Table.{HasTable, FoundRow, Removed};
 ghost use Rattle.tx_tree.specs.Removal.{HasLoose, Lightened, HasLast, Unlinked};
 ghost use Rattle.tx_tree.specs.Next.{HasBoth, NextUnlinked};
 
@@ -89,7 +89,7 @@ pub fn remove<M: TxMem>(memory: &mut M, root: Addr, key: u64) -> Result<Option<B
     requires table { HasTable (M.view memory.old) root.0 }
     ensures origin { M.origin memory.new ≡ M.origin memory.old }
     ensures answer { IfOk result (λ taken. MatchOption taken
-        (Found (M.view memory.old) (M.view memory.new) root.0 key 0)
+        (FoundRow (M.view memory.old) (M.view memory.new) root.0 key 0)
         (λ block. Removed (M.view memory.old) (M.view memory.new) root.0 key block)) }
 {
     let mut path = Path::new();

@@ -1,8 +1,8 @@
 //! Looks for the entries of a table by key.
 
 ghost use Rattle.std.specs.Prelude.{◌≡◌, IfOk, IfErr, MatchOption};
-ghost use Rattle.tx_tree.specs.Table.{HasTable, Found, FoundAt, NextFound, row_of};
-ghost use Rattle.tx_tree.specs.Steps.{Sought};
+ghost use Rattle.tx_tree.specs.Table.{HasTable, FoundRow, FoundAt, NextFound, row_of};
+ghost use Rattle.tx_tree.specs.Steps.{SoughtKey};
 ghost use Rattle.tx_tree.specs.Lowest.{HasSpan, Lowest};
 
 use crate::nodes::load_node;
@@ -23,7 +23,7 @@ pub fn find<M: TxRead>(memory: &mut M, root: Addr, key: u64) -> Result<Option<Bl
     requires table { HasTable (M.view memory.old) root.0 }
     ensures origin { M.origin memory.new ≡ M.origin memory.old }
     ensures answer { IfOk result (λ found. MatchOption found
-        (Found (M.view memory.old) (M.view memory.new) root.0 key 0)
+        (FoundRow (M.view memory.old) (M.view memory.new) root.0 key 0)
         (λ block. FoundAt (M.view memory.old) (M.view memory.new) root.0 key block)) }
     ensures stopped { IfErr result (λ stop. M.stopped_for memory.new stop) }
 {
@@ -87,7 +87,7 @@ pub fn seek<M: TxRead>(
     requires table { HasTable (M.view memory.old) root }
     ensures origin { M.origin memory.new ≡ M.origin memory.old }
     ensures answer { IfOk result (λ end.
-        Sought (M.view memory.old) (M.view memory.new) root key path.new end.0 end.1) }
+        SoughtKey (M.view memory.old) (M.view memory.new) root key path.new end.0 end.1) }
 {
     path.set(0, root);
     let mut depth = 0;

@@ -17,25 +17,25 @@ use Rattle.vac_streams.proofs.Texts.{sent_end_in_part}
 use Rattle.vac_attempts.specs.declared.lines.Line.{Line}
 use Rattle.vac_manager.specs.declared.note.AttemptNote.{AttemptNote}
 use Rattle.vac_attempts.specs.Laying.{Lays}
-use Rattle.vac_attempts.specs.Lines.{Entry, entry_of, line_text, lines_text}
-use Rattle.vac_attempts.specs.Order.{AreOrdered}
-use Rattle.vac_attempts.specs.Pages.{Page, entries_of, entries_from, are_told}
+use Rattle.vac_attempts.specs.Lines.{AttemptEntry, line_entry, line_text, lines_text}
+use Rattle.vac_attempts.specs.Order.{EntriesAreOrdered}
+use Rattle.vac_attempts.specs.Pages.{Page, attempt_entries_of, attempt_entries_from, are_told}
 use Rattle.vac_attempts.specs.Text.{AreAttempts, WroteAttempts, WroteAttemptsPrefix}
 
 -- the text of lines
 abbrev text_of : List Line → List ℕ
-text_of lines = lines_text (map entry_of lines)
+text_of lines = lines_text (map line_entry lines)
 
 text_both : (xs ys : List Line) → text_of (xs ++ ys) ≡ text_of xs ++ text_of ys
-text_both xs ys = ap lines_text (map-append entry_of xs ys) ∙ flat_map-append line_text (map entry_of xs)
-    (map entry_of ys)
+text_both xs ys = ap lines_text (map-append line_entry xs ys) ∙ flat_map-append line_text (map line_entry xs)
+    (map line_entry ys)
 
 text_more : (lines : List Line) (place : ℕ) (line : Line) → place < length lines → line ≡ get_or lines place line
-    → text_of (take (place + 1) lines) ≡ text_of (take place lines) ++ line_text (entry_of line)
+    → text_of (take (place + 1) lines) ≡ text_of (take place lines) ++ line_text (line_entry line)
 text_more lines place line low at =
     ap text_of (take_more lines place line low) ∙ ap (λ (l : Line). text_of (take place lines ++ l ∷ [])) (sym at)
     ∙ text_both (take place lines) (line ∷ []) ∙ ap (λ t. text_of (take place lines) ++ t)
-    (append-nil (line_text (entry_of line)))
+    (append-nil (line_text (line_entry line)))
 
 -- a fault of a write is one of the two that can come
 pub write_fault : {T : Type 0} (r : Result T StreamFault) → IfErr r (λ fault. fault ≡ Write) →
@@ -50,20 +50,20 @@ none_sent held hand e = record { front = []; written = Appends-nil held; all = s
 -- one line more
 pub line_sent : (lines : List Line) (place : ℕ) (line : Line) → place < length lines → line ≡ get_or lines place line →
     (held holds grown : Option (List ℕ)) (hand hand' : List ℕ)
-    → Sent held holds [] hand (text_of (take place lines)) → Sent holds grown hand hand' (line_text (entry_of line)) →
+    → Sent held holds [] hand (text_of (take place lines)) → Sent holds grown hand hand' (line_text (line_entry line)) →
     Sent held grown [] hand' (text_of (take (place + 1) lines))
 line_sent lines place line low at held holds grown hand hand' p q =
     subst (λ (t : List ℕ). Sent held grown [] hand' t) (sym (text_more lines place line low at))
-    (sent_both held holds grown [] hand hand' (text_of (take place lines)) (line_text (entry_of line)) p q)
+    (sent_both held holds grown [] hand hand' (text_of (take place lines)) (line_text (line_entry line)) p q)
 
 -- a line was sent in part
 pub line_in_part : (lines : List Line) (place : ℕ) (line : Line) → place < length lines →
     line ≡ get_or lines place line → (held holds grown : Option (List ℕ)) (hand : List ℕ)
     → Sent held holds [] hand (text_of (take place lines)) →
-    AppendsPrefix holds grown (hand ++ line_text (entry_of line)) → AppendsPrefix held grown (text_of lines)
+    AppendsPrefix holds grown (hand ++ line_text (line_entry line)) → AppendsPrefix held grown (text_of lines)
 line_in_part lines place line low at held holds grown hand p q =
-    let front = text_of (take place lines) ++ line_text (entry_of line) in
-    let part = part_second held holds grown [] hand (text_of (take place lines)) (line_text (entry_of line)) p q in
+    let front = text_of (take place lines) ++ line_text (line_entry line) in
+    let part = part_second held holds grown [] hand (text_of (take place lines)) (line_text (line_entry line)) p q in
     prefix_is held grown (front ++ text_of (drop (place + 1) lines)) (text_of lines)
     (ap (λ t. t ++ text_of (drop (place + 1) lines)) (sym (text_more lines place line low at)) ∙
     sym (text_both (take (place + 1) lines) (drop (place + 1) lines))
@@ -75,39 +75,40 @@ line_in_part lines place line low at held holds grown hand p q =
 module _ (blocks : ℕ) (pages : List Page) where
   -- the attempts that were laid, and then those of the clients, and all of them put in order
   pub attempts : (laid laid_now : List AttemptNote) (first all sorted now : List Line) → Lays blocks laid →
-      laid_now ≡ laid → map entry_of first ≡ entries_of 0 laid_now
-      → map entry_of all ≡ map entry_of first ++ entries_from 0 pages → are_told pages ≡ true →
-      IsPermutation all sorted → AreOrdered (map entry_of sorted) → now ≡ sorted →
-      AreAttempts blocks pages (map entry_of now)
+      laid_now ≡ laid → map line_entry first ≡ attempt_entries_of 0 laid_now
+      → map line_entry all ≡ map line_entry first ++ attempt_entries_from 0 pages → are_told pages ≡ true →
+      IsPermutation all sorted → EntriesAreOrdered (map line_entry sorted) → now ≡ sorted →
+      AreAttempts blocks pages (map line_entry now)
   attempts laid laid_now first all sorted now lays same own more told moved order is = record {
     laid = laid;
     lays = lays;
     told = told;
-    each_once = subst (λ (l : List Line). IsPermutation (entries_of 0 laid ++ entries_from 0 pages) (map entry_of l))
+    each_once = subst (λ (l : List Line). IsPermutation (attempt_entries_of 0 laid ++ attempt_entries_from 0 pages)
+        (map line_entry l))
         (sym is)
-        (subst (λ (l : List Entry). IsPermutation l (map entry_of sorted))
-        (more ∙ ap (λ t. t ++ entries_from 0 pages) (own ∙ ap (entries_of 0) same))
-        (IsPermutation-map entry_of all sorted moved));
-    ordered = subst (λ (l : List Line). AreOrdered (map entry_of l)) (sym is) order;
+        (subst (λ (l : List AttemptEntry). IsPermutation l (map line_entry sorted))
+        (more ∙ ap (λ t. t ++ attempt_entries_from 0 pages) (own ∙ ap (attempt_entries_of 0) same))
+        (IsPermutation-map line_entry all sorted moved));
+    ordered = subst (λ (l : List Line). EntriesAreOrdered (map line_entry l)) (sym is) order;
   }
 
-  module _ (lines : List Line) (are : AreAttempts blocks pages (map entry_of lines))
+  module _ (lines : List Line) (are : AreAttempts blocks pages (map line_entry lines))
       (held holds : Option (List ℕ)) where
     pub wrote_all : (grown : Option (List ℕ)) (hand : List ℕ) → Sent held holds [] hand (text_of lines) →
         Appends holds grown hand → WroteAttempts blocks pages held grown
     wrote_all grown hand p w = record {
-      all = map entry_of lines;
+      all = map line_entry lines;
       attempts = are;
       written = sent_end held holds grown hand (text_of lines) p w;
     }
 
     pub wrote_part : AppendsPrefix held holds (text_of lines) → WroteAttemptsPrefix blocks pages held holds
-    wrote_part w = inr (record { all = map entry_of lines; attempts = are; written = w })
+    wrote_part w = inr (record { all = map line_entry lines; attempts = are; written = w })
 
     pub wrote_rest : (grown : Option (List ℕ)) (hand : List ℕ) → Sent held holds [] hand (text_of lines) →
         AppendsPrefix holds grown hand → WroteAttemptsPrefix blocks pages held grown
     wrote_rest grown hand p w = inr (record {
-      all = map entry_of lines;
+      all = map line_entry lines;
       attempts = are;
       written = sent_end_in_part held holds grown hand (text_of lines) p w;
     })

@@ -11,22 +11,22 @@ abbrev pub known : {X : Type 0} → Bool → List X → Option (List X)
 known whole xs = if whole then Some xs else None
 
 -- the attempt that committed, if one is at hand
-abbrev pub committed : Option AttemptNote → List Trace
-committed None = []
-committed (Some a) = trace_of a ∷ []
+abbrev pub committed_trace : Option AttemptNote → List Trace
+committed_trace None = []
+committed_trace (Some a) = trace_of a ∷ []
 
 -- the attempts that have ended: those that were given up, and one that committed after them
 abbrev pub ended_by : {W : Type 0} → Trail W → Option (List Trace)
-ended_by t = known t.is_whole (map trace_of t.given_up.items ++ committed t.committed)
+ended_by t = known t.is_whole (map trace_of t.given_up.items ++ committed_trace t.committed)
 
 -- there was room for each attempt, and for what it read and wrote
 abbrev pub is_whole_trail : {W : Type 0} → Trail W → Bool
 is_whole_trail t = t.is_whole && t.accesses.is_whole
 
 -- there was room for each call of a client and for each attempt, and each call has its attempt
-abbrev pub is_whole : {W : Type 0} → Ledger W → Bool
-is_whole ledger = ledger.is_whole && ledger.journal.is_whole && is_whole_trail ledger.trail
+abbrev pub is_whole_ledger : {W : Type 0} → Ledger W → Bool
+is_whole_ledger ledger = ledger.is_whole && ledger.journal.is_whole && is_whole_trail ledger.trail
 
 -- so it was for the opening and for each of the clients
-abbrev pub are_whole : {W : Type 0} → Ledger W → List (Ledger W) → Bool
-are_whole opening clients = is_whole opening && list_all is_whole clients
+abbrev pub are_whole_ledgers : {W : Type 0} → Ledger W → List (Ledger W) → Bool
+are_whole_ledgers opening clients = is_whole_ledger opening && list_all is_whole_ledger clients

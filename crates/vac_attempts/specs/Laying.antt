@@ -7,7 +7,7 @@ use Rattle.tx_observed.specs.declared.access.Access.TheVariants.{Write}
 use Rattle.vac_manager.specs.declared.note.AttemptNote.{AttemptNote}
 
 -- it committed before all others: it began and ended at 0, and wrote version 0
-pub record IsLaid (a : AttemptNote) : Type 0 where
+pub record IsLaidFirst (a : AttemptNote) : Type 0 where
   pub commits : a.commits ≡ true
   pub begin : a.begin ≡ 0
   pub end : a.end ≡ 0
@@ -32,5 +32,5 @@ done_by attempts = flat_map (λ a. a.accesses.items) attempts
 pub record Lays (blocks : ℕ) (laid : List AttemptNote) : Type 0 where
   pub words : List ℕ
   pub heap : IsSpreadHeap words blocks
-  pub before_all : All (λ a. IsLaid a) laid
+  pub before_all : All (λ a. IsLaidFirst a) laid
   pub writes : done_by laid ≡ writes_from 0 words

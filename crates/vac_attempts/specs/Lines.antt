@@ -9,13 +9,13 @@ use Rattle.vac_manager.specs.declared.note.AttemptNote.{AttemptNote}
 use Rattle.vac_attempts.specs.declared.lines.Line.{Line}
 
 -- an attempt, and the number of its client
-pub record Entry : Type 0 where
+pub record AttemptEntry : Type 0 where
   pub client : ℕ
   pub attempt : AttemptNote
 
 -- an attempt that is to be written
-abbrev pub entry_of : Line → Entry
-entry_of line = record { client = line.client; attempt = line.attempt.now }
+abbrev pub line_entry : Line → AttemptEntry
+line_entry line = record { client = line.client; attempt = line.attempt.now }
 
 -- a read or a write, after a space
 abbrev pub access_text : Access → List ℕ
@@ -32,15 +32,15 @@ outcome_text true = codes " commit"
 outcome_text false = codes " abort"
 
 -- who made it, when, and how it ended
-abbrev pub head_text : Entry → List ℕ
+abbrev pub head_text : AttemptEntry → List ℕ
 head_text e =
     decimal e.client ++ field_text (codes " ") e.attempt.begin
     ++ field_text (codes " ") e.attempt.end ++ outcome_text e.attempt.commits
 
 -- its line
-abbrev pub line_text : Entry → List ℕ
+abbrev pub line_text : AttemptEntry → List ℕ
 line_text e = as_line (head_text e ++ accesses_text e.attempt.accesses.items)
 
 -- the lines of attempts, in this order
-abbrev pub lines_text : List Entry → List ℕ
+abbrev pub lines_text : List AttemptEntry → List ℕ
 lines_text entries = flat_map line_text entries

@@ -5,7 +5,7 @@ use Rattle.std.specs.List.Sorted.{IsSorted}
 use Rattle.std.specs.declared.cmp.Ordering.{Ordering}
 use Rattle.vac_history.specs.Order.{rank_of}
 use Rattle.vac_manager.specs.declared.note.AttemptNote.{AttemptNote}
-use Rattle.vac_attempts.specs.Lines.{Entry}
+use Rattle.vac_attempts.specs.Lines.{AttemptEntry}
 
 -- by renewal, by version, the writer of a version before all others that read it, and then by when
 -- they began, and ended
@@ -15,5 +15,5 @@ compare a b =
     (nat_cmp (rank_of a.place) (rank_of b.place))) (nat_cmp a.begin b.begin)) (nat_cmp a.end b.end)
 
 -- none is to be before the one before it
-abbrev pub AreOrdered : List Entry → Type 0
-AreOrdered entries = IsSorted (λ a b. compare a.attempt b.attempt) entries
+abbrev pub EntriesAreOrdered : List AttemptEntry → Type 0
+EntriesAreOrdered entries = IsSorted (λ a b. compare a.attempt b.attempt) entries

@@ -7,7 +7,7 @@ use Rattle.vac_manager.specs.declared.note.Note.{Note}
 use Rattle.vac_manager.specs.declared.note.AttemptNote.{AttemptNote}
 use Rattle.vac_attempts.specs.declared.ledger.Ledger.{Ledger}
 use Rattle.vac_attempts.specs.Noted.{all_noted, none_committed}
-use Rattle.vac_attempts.specs.Lines.{Entry}
+use Rattle.vac_attempts.specs.Lines.{AttemptEntry}
 
 -- the answered calls of a client, and its attempts that were given up
 pub record Page : Type 0 where
@@ -26,13 +26,13 @@ abbrev pub pages_of : {W : Type 0} → Ledger W → List (Ledger W) → List Pag
 pages_of opening clients = page_of opening ∷ map page_of clients
 
 -- the attempt, if it is noted
-abbrev pub attempt_of : Option (Box AttemptNote) → List AttemptNote
-attempt_of None = []
-attempt_of (Some a) = a.value ∷ []
+abbrev pub noted_attempt : Option (Box AttemptNote) → List AttemptNote
+noted_attempt None = []
+noted_attempt (Some a) = a.value ∷ []
 
 -- the attempts that answered these calls, as far as they are noted
 abbrev pub attempts_of : List Note → List AttemptNote
-attempts_of calls = flat_map (λ n. attempt_of n.attempt) calls
+attempts_of calls = flat_map (λ n. noted_attempt n.attempt) calls
 
 -- each answered call has its attempt, and none of those that were given up committed
 abbrev pub is_told : Page → Bool
@@ -43,15 +43,16 @@ abbrev pub are_told : List Page → Bool
 are_told pages = list_all is_told pages
 
 -- attempts, each with the number of its client
-abbrev pub entries_of : ℕ → List AttemptNote → List Entry
-entries_of client attempts = map (λ a. record { client = client; attempt = a }) attempts
+abbrev pub attempt_entries_of : ℕ → List AttemptNote → List AttemptEntry
+attempt_entries_of client attempts = map (λ a. record { client = client; attempt = a }) attempts
 
 -- the attempts of a client: that of each answered call once, and each that was given up
-abbrev pub entries_on : ℕ → Page → List Entry
+abbrev pub entries_on : ℕ → Page → List AttemptEntry
 entries_on client page =
-    entries_of client (attempts_of page.calls) ++ entries_of client page.given_up
+    attempt_entries_of client (attempts_of page.calls) ++ attempt_entries_of client page.given_up
 
 -- those of each client; their numbers count from this one on
-abbrev pub entries_from : ℕ → List Page → List Entry
-entries_from first [] = []
-entries_from first (page ∷ pages) = entries_on first page ++ entries_from (suc first) pages
+abbrev pub attempt_entries_from : ℕ → List Page → List AttemptEntry
+attempt_entries_from first [] = []
+attempt_entries_from first (page ∷ pages) =
+    entries_on first page ++ attempt_entries_from (suc first) pages

@@ -1,10 +1,10 @@
 //! The attempts of all clients, as lines that are to be written.
 
 ghost use Rattle.std.specs.Prelude.{◌≡◌, ◌+◌, ◌<◌, ◌^◌, ◌++◌, true, length, map, OnOk};
-ghost use Rattle.vac_attempts.specs.Lines.{entry_of};
+ghost use Rattle.vac_attempts.specs.Lines.{line_entry};
 ghost use Rattle.vac_attempts.specs.Noted.{all_noted};
 ghost use Rattle.vac_attempts.specs.Pages.{attempts_of, page_of, pages_of, is_told, are_told};
-ghost use Rattle.vac_attempts.specs.Pages.{entries_of, entries_on, entries_from};
+ghost use Rattle.vac_attempts.specs.Pages.{attempt_entries_of, entries_on, attempt_entries_from};
 
 use crate::ledger::Ledger;
 use crate::lines::Line;
@@ -19,8 +19,8 @@ pub(crate) fn add_attempts<'a>(
     client: u32,
     attempts: &'a [AttemptNote],
 ) -> Result<(), AllocError>
-    ensures { OnOk result (map entry_of lines.new.items
-        ≡ map entry_of lines.old.items ++ entries_of client attempts.now) }
+    ensures { OnOk result (map line_entry lines.new.items
+        ≡ map line_entry lines.old.items ++ attempt_entries_of client attempts.now) }
 {
     for attempt in attempts {
         lines.push(Line { client, attempt })?;
@@ -35,8 +35,8 @@ fn add_answered<'a>(
     client: u32,
     calls: &'a [Note],
 ) -> Result<(), AllocError>
-    ensures added { OnOk result (map entry_of lines.new.items
-        ≡ map entry_of lines.old.items ++ entries_of client (attempts_of calls.now)) }
+    ensures added { OnOk result (map line_entry lines.new.items
+        ≡ map line_entry lines.old.items ++ attempt_entries_of client (attempts_of calls.now)) }
     ensures noted { OnOk result (all_noted calls.now ≡ true) }
 {
     for call in calls {
@@ -57,8 +57,8 @@ fn add_client<'a, W: Watch + Copy + Drop>(
     client: u32,
     ledger: &'a Ledger<W>,
 ) -> Result<(), AllocError>
-    ensures added { OnOk result (map entry_of lines.new.items
-        ≡ map entry_of lines.old.items ++ entries_on client (page_of ledger.now)) }
+    ensures added { OnOk result (map line_entry lines.new.items
+        ≡ map line_entry lines.old.items ++ entries_on client (page_of ledger.now)) }
     ensures told { OnOk result (is_told (page_of ledger.now) ≡ true) }
 {
     add_answered(lines, client, ledger.journal().notes())?;
@@ -72,8 +72,9 @@ pub(crate) fn add_all<'a, W: Watch + Copy + Drop>(
     clients: &'a [Ledger<W>],
 ) -> Result<(), AllocError>
     requires few { length clients.now < 2 ^ 32 }
-    ensures added { OnOk result (map entry_of lines.new.items
-        ≡ map entry_of lines.old.items ++ entries_from 0 (pages_of opening.now clients.now)) }
+    ensures added { OnOk result (map line_entry lines.new.items
+        ≡ map line_entry lines.old.items
+        ++ attempt_entries_from 0 (pages_of opening.now clients.now)) }
     ensures told { OnOk result (are_told (pages_of opening.now clients.now) ≡ true) }
 {
     add_client(lines, OPENING, opening)?;

@@ -2,7 +2,7 @@
 
 ghost use Rattle.std.specs.Prelude.{◌≡◌, ◌+◌, ◌<◌, ◌≤◌, ◌^◌, ◌++◌, true, OnOk, IfOk, length};
 ghost use Rattle.std.specs.List.{All};
-ghost use Rattle.vac_attempts.specs.Laying.{IsLaid, Lays, write_of, writes_from, done_by};
+ghost use Rattle.vac_attempts.specs.Laying.{IsLaidFirst, Lays, write_of, writes_from, done_by};
 
 use crate::places::first_place;
 use std::alloc::{AllocError, Global};
@@ -31,7 +31,7 @@ fn lay_word(accesses: &mut Vec<Access>, address: u32, word: u64) -> Result<(), A
 /// An attempt that writes those of these words that are not 0, the first of which has this address.
 fn lay_some(alloc: Global, first: u32, words: &[u64]) -> Result<AttemptNote, AllocError>
     requires few { first + length words.now < 2 ^ 32 }
-    ensures laid { IfOk result (λ a. IsLaid a) }
+    ensures laid { IfOk result (λ a. IsLaidFirst a) }
     ensures writes { IfOk result (λ a. a.accesses.items ≡ writes_from first words.now) }
 {
     let mut accesses = Vec::new(alloc);
@@ -50,7 +50,7 @@ fn lay_some(alloc: Global, first: u32, words: &[u64]) -> Result<AttemptNote, All
 /// Attempts that write those of these words that are not 0.
 fn lay_all(alloc: Global, words: &[u64]) -> Result<Vec<AttemptNote>, AllocError>
     requires few { length words.now < 2 ^ 31 }
-    ensures laid { IfOk result (λ laid. All (λ a. IsLaid a) laid.items) }
+    ensures laid { IfOk result (λ laid. All (λ a. IsLaidFirst a) laid.items) }
     ensures writes { IfOk result (λ laid. done_by laid.items ≡ writes_from 0 words.now) }
 {
     let mut laid = Vec::new(alloc);

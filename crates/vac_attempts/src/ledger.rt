@@ -25,13 +25,13 @@ pub struct Ledger<W> {
 
 impl<W: Watch + Copy + Drop> Ledger<W> {
     ghost use Rattle.std.specs.Prelude.{[]};
-    ghost use Rattle.vac_attempts.specs.Known.{is_whole};
+    ghost use Rattle.vac_attempts.specs.Known.{is_whole_ledger};
 
     /// An empty ledger, whose times are those of this watch.
     pub fn new(alloc: Global, watch: W) -> Ledger<W>
         ensures no_calls { result.journal.notes.items ≡ [] }
         ensures none_given_up { result.trail.given_up.items ≡ [] }
-        ensures whole { is_whole result ≡ true }
+        ensures whole { is_whole_ledger result ≡ true }
     {
         Ledger {
             alloc,
@@ -44,7 +44,7 @@ impl<W: Watch + Copy + Drop> Ledger<W> {
 
     /// Whether there was room for each call and each attempt.
     pub(crate) fn is_whole(&self) -> bool
-        ensures { result ≡ is_whole self.now }
+        ensures { result ≡ is_whole_ledger self.now }
     {
         self.is_whole && self.journal.is_whole() && self.trail.is_whole()
     }

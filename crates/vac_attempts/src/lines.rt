@@ -3,7 +3,7 @@
 ghost use Rattle.std.specs.Prelude.{◌≡◌, ◌++◌, OnOk};
 ghost use Rattle.vac_lines.specs.Text.{field_text};
 ghost use Rattle.vac_attempts.specs.Lines.{access_text, accesses_text, outcome_text};
-ghost use Rattle.vac_attempts.specs.Lines.{head_text, line_text, entry_of};
+ghost use Rattle.vac_attempts.specs.Lines.{head_text, line_text, line_entry};
 
 use std::alloc::AllocError;
 use tx_observed::Access;
@@ -65,7 +65,7 @@ fn append_outcome(out: &mut Vec<u8>, commits: bool) -> Result<(), AllocError>
 
 /// Appends who made an attempt, when, and how it ended.
 fn append_head(out: &mut Vec<u8>, line: Line<'_>) -> Result<(), AllocError>
-    ensures { OnOk result (out.new.items ≡ out.old.items ++ head_text (entry_of line.entry)) }
+    ensures { OnOk result (out.new.items ≡ out.old.items ++ head_text (line_entry line.entry)) }
 {
     append_field(out, b"", u64::from(line.client))?;
     append_field(out, b" ", line.attempt.begin)?;
@@ -75,7 +75,7 @@ fn append_head(out: &mut Vec<u8>, line: Line<'_>) -> Result<(), AllocError>
 
 /// Appends the line of an attempt.
 pub(crate) fn append_line(out: &mut Vec<u8>, line: Line<'_>) -> Result<(), AllocError>
-    ensures { OnOk result (out.new.items ≡ out.old.items ++ line_text (entry_of line.entry)) }
+    ensures { OnOk result (out.new.items ≡ out.old.items ++ line_text (line_entry line.entry)) }
 {
     append_head(out, line)?;
     append_accesses(out, line.attempt.accesses.as_slice())?;

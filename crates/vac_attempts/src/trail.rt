@@ -36,7 +36,7 @@ pub struct Trail<W> {
 
 impl<W: Watch> Trail<W> {
     ghost use Rattle.std.specs.Prelude.{[], None, IfSome, IfOk};
-    ghost use Rattle.vac_manager.specs.Tracing.{trace_of, IsLast};
+    ghost use Rattle.vac_manager.specs.Tracing.{trace_of, IsLastTraced};
     ghost use Rattle.vac_attempts.specs.Known.{ended_by, is_whole_trail};
     ghost use Rattle.vac_attempts.specs.Stamped.{IsStamped};
 
@@ -76,7 +76,7 @@ impl<W: Watch> Trail<W> {
 
     /// Takes out the attempt that committed, and hands it on where all is whole.
     pub(crate) fn take_committed(&mut self) -> Option<Box<AttemptNote>>
-        ensures last { IfSome result (λ a. IsLast (ended_by self.old) (trace_of a.value)) }
+        ensures last { IfSome result (λ a. IsLastTraced (ended_by self.old) (trace_of a.value)) }
         ensures taken { self.new.committed ≡ None }
         ensures given_up { self.new.given_up.items ≡ self.old.given_up.items }
         ensures whole { self.new.is_whole ≡ self.old.is_whole }
@@ -122,7 +122,7 @@ impl<W: Watch> Trail<W> {
 impl<W: Watch> Tracer for Trail<W> {
     ghost use Rattle.std.specs.Prelude.{◌≡◌, ◌∷◌, ◌++◌, [], false, None, IfSome};
     ghost use Rattle.vac_manager.specs.declared.note.AttemptNote.{AttemptNote};
-    ghost use Rattle.vac_manager.specs.Tracing.{IsFresh, HasCommitted, HasGivenUp};
+    ghost use Rattle.vac_manager.specs.Tracing.{HasNoAccess, HasTracedCommit, HasGivenUp};
     ghost use Rattle.vac_history.specs.Stamps.{IsStamp};
     ghost use Rattle.vac_attempts.specs.Known.{known, ended_by};
     ghost use Rattle.vac_attempts.specs.Stamped.{IsStamped};
@@ -136,7 +136,8 @@ impl<W: Watch> Tracer for Trail<W> {
     /// Not said: that the attempt begins right after it.
     fn prepare(&mut self)
         ensures ended { ended_by self.new ≡ ended_by self.old }
-        ensures fresh { IsFresh (known self.new.accesses.is_whole self.new.accesses.items.items) }
+        ensures fresh { HasNoAccess
+            (known self.new.accesses.is_whole self.new.accesses.items.items) }
         ensures read { IsStamp W.shows self.old.watch self.new.watch
             self.old.latest self.new.latest }
     {
@@ -179,7 +180,7 @@ impl<W: Watch> Tracer for Trail<W> {
     /// Not said: that `prepare` was called since the last attempt ended, and that this one ended
     /// right before it. Its caller sees to that.
     fn commit(&mut self, place: Place)
-        ensures ended { HasCommitted place
+        ensures ended { HasTracedCommit place
             (known self.old.accesses.is_whole self.old.accesses.items.items)
             (ended_by self.old) (ended_by self.new) }
         ensures stamped { self.old.committed ≡ None →

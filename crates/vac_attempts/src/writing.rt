@@ -7,8 +7,8 @@ ghost use Rattle.vac_model.specs.Ranges.{is_block_count};
 ghost use Rattle.vac_streams.specs.declared.fault.StreamFault.TheVariants.{Memory, Write};
 ghost use Rattle.vac_streams.specs.Sent.{Sent};
 ghost use Rattle.vac_history.specs.Order.{rank_of};
-ghost use Rattle.vac_attempts.specs.Known.{is_whole, are_whole};
-ghost use Rattle.vac_attempts.specs.Lines.{entry_of, line_text, lines_text};
+ghost use Rattle.vac_attempts.specs.Known.{is_whole_ledger, are_whole_ledgers};
+ghost use Rattle.vac_attempts.specs.Lines.{line_entry, line_text, lines_text};
 ghost use Rattle.vac_attempts.specs.Pages.{pages_of};
 ghost use Rattle.vac_attempts.specs.Text.{WroteAttempts, WroteAttemptsPrefix};
 
@@ -48,9 +48,9 @@ fn send_line<O: Write>(
     line: Line<'_>,
 ) -> Result<(), StreamFault>
     ensures ok { OnOk result (Sent (O.contents output.old) (O.contents output.new)
-        hand.old.items hand.new.items (line_text (entry_of line.entry))) }
+        hand.old.items hand.new.items (line_text (line_entry line.entry))) }
     ensures err { OnErr result (AppendsPrefix (O.contents output.old) (O.contents output.new)
-        (hand.old.items ++ line_text (entry_of line.entry))) }
+        (hand.old.items ++ line_text (line_entry line.entry))) }
     ensures fault { IfErr result (λ fault. (fault ≡ Memory) ⊎ (fault ≡ Write)) }
 {
     append_line(hand, line)?;
@@ -65,9 +65,9 @@ fn send_lines<O: Write>(
 ) -> Result<(), StreamFault>
     requires empty { hand.old.items ≡ [] }
     ensures ok { OnOk result (Sent (O.contents output.old) (O.contents output.new)
-        [] hand.new.items (lines_text (map entry_of lines.now))) }
+        [] hand.new.items (lines_text (map line_entry lines.now))) }
     ensures err { OnErr result (AppendsPrefix (O.contents output.old) (O.contents output.new)
-        (lines_text (map entry_of lines.now))) }
+        (lines_text (map line_entry lines.now))) }
     ensures fault { IfErr result (λ fault. (fault ≡ Memory) ⊎ (fault ≡ Write)) }
 {
     for line in lines {
@@ -78,14 +78,14 @@ fn send_lines<O: Write>(
 
 /// Whether each of these ledgers had room for each call and each attempt.
 fn all_whole<W: Watch + Copy + Drop>(clients: &[Ledger<W>]) -> bool
-    ensures { result ≡ list_all is_whole clients.now }
+    ensures { result ≡ list_all is_whole_ledger clients.now }
 {
     clients.iter().all(|ledger| ledger.is_whole())
 }
 
 /// Whether the opening's ledger and those of the clients had room for each call and each attempt.
 pub fn are_whole<W: Watch + Copy + Drop>(opening: &Ledger<W>, clients: &[Ledger<W>]) -> bool
-    ensures { result ≡ are_whole opening.now clients.now }
+    ensures { result ≡ are_whole_ledgers opening.now clients.now }
 {
     opening.is_whole() && all_whole(clients)
 }
@@ -112,7 +112,7 @@ pub fn write_attempts<W: Watch + Copy + Drop, O: Write>(
         (O.contents output.old) (O.contents output.new)) }
     ensures err { OnErr result (WroteAttemptsPrefix blocks (pages_of opening.now clients.now)
         (O.contents output.old) (O.contents output.new)) }
-    ensures partial { are_whole opening.now clients.now ≡ false →
+    ensures partial { are_whole_ledgers opening.now clients.now ≡ false →
         IsErrOf result Memory × (O.contents output.new ≡ O.contents output.old) }
     ensures fault { IfErr result (λ fault. (fault ≡ Memory) ⊎ (fault ≡ Write)) }
 {

@@ -6,7 +6,7 @@ use Rattle.vac_model.specs.declared.replies.Report.{Report}
 use Rattle.vac_model.specs.State.{State}
 use Rattle.vac_records.specs.Represents.{IsState}
 use Rattle.vac_audit.specs.Walk.{audit}
-use Rattle.vac_audit.specs.Ran.{HeapRan, answer, fault_answer}
+use Rattle.vac_audit.specs.Ran.{HeapRan, audit_answer, fault_answer}
 use Rattle.vac_audit.specs.Represented.{StateOf, Recognised}
 use Rattle.vac_audit.specs.declared.audit.TheConstants.{MOST_HEAP_WORDS}
 use Rattle.vac_audit.specs.declared.Flaw.{Flaw}
@@ -39,7 +39,7 @@ recognised_ok words found h s some is =
     let e : (length words - 16) / 8 ≡ s.capacity = omega (arith, size) in
     let q : audit (slice_index words) s.capacity ≡ Ok found =
     subst (λ (z : ℕ). audit (slice_index words) z ≡ Ok found) e h in
-    inr (ap answer (sym q ∙ state_clean (slice_index words) s.capacity s (sized words s is)))
+    inr (ap audit_answer (sym q ∙ state_clean (slice_index words) s.capacity s (sized words s is)))
 
 pub recognised_flaw : (words : List ℕ) (fault : Fault) (flaw : Flaw) → fault ≡ Found flaw →
     HeapRan words ((length words - 16) / 8) (Err fault) → Recognised words (Err (Flawed flaw))

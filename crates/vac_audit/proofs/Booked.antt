@@ -10,8 +10,9 @@ use Rattle.tx_alloc.specs.Pool.{IsBlock}
 use Rattle.tx_alloc.specs.Rows.{Rows}
 use Rattle.tx_list.specs.Bookings.{place_code}
 use Rattle.vac_audit.specs.Walk.{then, wants, follow, walk_bookings, is_in_order, is_booking, units_in}
-use Rattle.vac_audit.specs.Noted.{Rising, keys_in, codes_in, blocks_in, booked_in}
-use Rattle.vac_audit.specs.Marks.{Marks, Followed, IsIndex, BookingLooked, Counting, SameItems, Booked, BookingsRan}
+use Rattle.vac_audit.specs.Noted.{AreRising, keys_in, codes_in, blocks_in, booked_in}
+use Rattle.vac_audit.specs.Marks.{Marks, Followed, IsIndex, BookingLooked, Counting, SameItems, BookingsCounted}
+use Rattle.vac_audit.specs.Marks.{BookingsRan}
 use Rattle.vac_audit.specs.Marks.{unmarked}
 use Rattle.vac_audit.specs.declared.Flaw.{Flaw}
 use Rattle.vac_audit.specs.declared.notes.NotedItem.{NotedItem}
@@ -72,7 +73,7 @@ pub record BookRest (words : List ℕ) (tables : ℕ → Rows) (marks0 : List Bo
   pub seen : List ℕ
   pub are : Marks marks seen
   pub sofar : Rows
-  pub booked : Booked (slice_index words) notes0 notes sofar
+  pub booked : BookingsCounted (slice_index words) notes0 notes sofar
   pub whole : Whole words tables head seen0 marks0 levels at lo seen sofar
 
 pub record BookGoes (words : List ℕ) (marks0 : List Bool) (head : ℕ) (marks : List Bool) (notes0 notes : Notes)
@@ -120,7 +121,7 @@ pub record BookOpen (words : List ℕ) (tables : ℕ → Rows) (marks0 : List Bo
   pub seen : List ℕ
   pub are : Marks marks seen
   pub sofar : Rows
-  pub booked : Booked (slice_index words) notes0 notes sofar
+  pub booked : BookingsCounted (slice_index words) notes0 notes sofar
   pub whole : Whole words tables head seen0 marks0 (suc levels) at lo seen sofar
 
 book_open : (words : List ℕ) (tables : ℕ → Rows) (marks0 : List Bool) (head : ℕ) (seen0 : List ℕ) (marks : List Bool)
@@ -157,7 +158,8 @@ book_end words marks0 head marks marks' notes0 notes level at lo h less f tables
       (
         y.1.0,
         subst (λ (z : List ℕ). Marks marks' z) (sym y.1.1) g.1,
-        subst (λ (z : Rows). Booked (slice_index words) notes0 notes z) (sym (y.1.2 ∙ append_none o.sofar)) o.booked,
+        subst (λ (z : Rows). BookingsCounted (slice_index words) notes0 notes z)
+            (sym (y.1.2 ∙ append_none o.sofar)) o.booked,
       ),
     )
 
@@ -205,7 +207,7 @@ cond_else : (a b u : ℕ) → a ≢ b → cond {A = ℕ} (nat_eq a b) u 0 ≡ 0
 cond_else a b u ne = grind (arith, nat_tests)
 
 sums_step : (booked0 booked codes : List ℕ) (item u code i : ℕ) (sofar : ℕ → ℕ) → i < length codes →
-    length booked ≡ length codes → Rising codes → item < length codes → slice_index codes item ≡ code
+    length booked ≡ length codes → AreRising codes → item < length codes → slice_index codes item ≡ code
     → slice_index booked i ≡ slice_index booked0 i + sofar (slice_index codes i)
     → slice_index (set booked item (slice_index booked item + u)) i ≡ slice_index booked0 i +
     (sofar (slice_index codes i) + cond (nat_eq code (slice_index codes i)) u 0)
@@ -278,10 +280,10 @@ one_booked m notes notes' index p item d inside is tally items =
       billed = ap (λ (z : Tally). z.billed) tally;
     }
 
-one_more : (m : ℕ → ℕ) (notes0 notes notes' : Notes) (item p : ℕ) (rs : Rows) → Booked m notes0 notes rs →
-    OneBooked m notes notes' item p → Rising (codes_in notes.items.items)
+one_more : (m : ℕ → ℕ) (notes0 notes notes' : Notes) (item p : ℕ) (rs : Rows) → BookingsCounted m notes0 notes rs →
+    OneBooked m notes notes' item p → AreRising (codes_in notes.items.items)
     → item < length notes.items.items → slice_index (codes_in notes.items.items) item ≡ place_code m p →
-    Booked m notes0 notes' (rs ++ ((place_code m p, p) ∷ []))
+    BookingsCounted m notes0 notes' (rs ++ ((place_code m p, p) ∷ []))
 one_more m notes0 notes notes' item p rs h k rising inside is = record {
   items = then_items notes0 notes notes' h.items k.items;
   booked = λ i l.

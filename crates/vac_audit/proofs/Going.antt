@@ -10,7 +10,7 @@ use Rattle.vac_audit.specs.Tree.{Tree, leaf, node, rows, is_red}
 use Rattle.vac_audit.specs.Walk.{Seen, Look, wants, above, is_key, walk_tree, walk_table}
 use Rattle.vac_audit.specs.Marks.{Marks, Followed, unmarked}
 use Rattle.vac_audit.specs.TreeRan.{IsSide, TableRan, KeyLooked, RootLooked, WentDown, DownFlaw, DownRan, ColourLooked}
-use Rattle.vac_audit.specs.TreeRan.{LookRan, NodeLooked, Noted, Indexed, Ready, HasRoom, Pushed, look_of}
+use Rattle.vac_audit.specs.TreeRan.{LookRan, NodeLooked, Noted, Indexed, Ready, HasRoomForItems, Pushed, look_of}
 use Rattle.vac_audit.specs.declared.Flaw.{Flaw}
 use Rattle.vac_audit.specs.declared.Flaw.TheVariants.{Shared, Order, Colour}
 use Rattle.vac_audit.specs.declared.notes.Notes.{Notes}
@@ -57,7 +57,7 @@ module _ (words : List ℕ) (marks0 : List Bool) (notes0 : Notes) (table : Table
       (suc (length marks0)) table) (suc (length marks0)) root s0 ≡ Err f
 
   pub tree_start : root < length words → length marks0 ≤ 262144 → Ready table notes0 (unmarked marks0) →
-      HasRoom table notes0 (unmarked marks0) → Goes marks0 notes0 [] (Down root) 1 0
+      HasRoomForItems table notes0 (unmarked marks0) → Goes marks0 notes0 [] (Down root) 1 0
   tree_start l few ready room = record {
     size = refl;
     in_blocks = tt;

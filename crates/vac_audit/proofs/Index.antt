@@ -11,7 +11,7 @@ use Rattle.tx_alloc.specs.Rows.{Rows, block_at}
 use Rattle.tx_list.specs.Bookings.{key_code}
 use Rattle.vac_audit.specs.Tree.{Tree, leaf, node, rows, is_red}
 use Rattle.vac_audit.specs.Walk.{Seen, Look, above, is_key, is_coloured, walk_tree, walk_table}
-use Rattle.vac_audit.specs.Noted.{Rising, InOrder, codes_in, blocks_in, noted_of}
+use Rattle.vac_audit.specs.Noted.{AreRising, InOrder, codes_in, blocks_in, noted_of}
 use Rattle.vac_audit.specs.Marks.{IsIndex}
 use Rattle.vac_audit.specs.declared.notes.NotedItem.{NotedItem}
 use Rattle.vac_audit.specs.declared.Flaw.TheVariants.{Shared, Order, Colour}
@@ -94,7 +94,7 @@ climbs_at lo [] i h l = absurd (omega arith)
 climbs_at lo (x ∷ xs) zero h l = h.0
 climbs_at lo (x ∷ xs) (suc i) h l = omega (arith, h.0, climbs_at (x + 1) xs i h.1 (omega arith))
 
-climbs_rising : (lo : ℕ) (xs : List ℕ) → Climbs lo xs → Rising xs
+climbs_rising : (lo : ℕ) (xs : List ℕ) → Climbs lo xs → AreRising xs
 climbs_rising lo [] h i j l k = absurd (omega arith)
 climbs_rising lo (x ∷ xs) h i zero l k = absurd (omega arith)
 climbs_rising lo (x ∷ xs) h zero (suc j) l k = omega (arith, climbs_at (x + 1) xs j h.1 (omega arith))
@@ -212,7 +212,7 @@ module _ (a b c : Rows) where
   all_none = all_of (λ item. item.booked ≡ 0) (noted_none 0 a) (noted_none 1 b) (noted_none 2 c)
 
 module _ (n : ℕ) (a b c : Rows) (ga : GoodRows n 1 a) (gb : GoodRows n 1 b) (gc : GoodRows n 1 c) where
-  all_rising : Rising ((codes_of 0 a ++ codes_of 1 b) ++ codes_of 2 c)
+  all_rising : AreRising ((codes_of 0 a ++ codes_of 1 b) ++ codes_of 2 c)
   all_rising = climbs_rising 0 ((codes_of 0 a ++ codes_of 1 b) ++ codes_of 2 c)
       (climbs_append 0 8589934592 (codes_of 0 a ++ codes_of 1 b) (codes_of 2 c)
       (climbs_append 0 4294967296 (codes_of 0 a) (codes_of 1 b)
@@ -229,7 +229,7 @@ module _ (n : ℕ) (a b c : Rows) (ga : GoodRows n 1 a) (gb : GoodRows n 1 b) (g
 
   pub all_order : InOrder (all_noted a b c)
   all_order = record {
-    rising = subst Rising (sym (all_codes a b c)) all_rising;
+    rising = subst AreRising (sym (all_codes a b c)) all_rising;
     ids = All-map (λ key. key.id < 2 ^ 32) (λ (item : NotedItem). item.key) (all_noted a b c) all_short;
   }
 

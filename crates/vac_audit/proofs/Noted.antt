@@ -9,7 +9,7 @@ use Rattle.std.proofs.lemmas.List.Elements.{All-get_or, All-from_get_or, All-nil
 use Rattle.tx_alloc.specs.Rows.{Rows}
 use Rattle.tx_list.specs.Bookings.{code_of}
 use Rattle.tx_list.specs.declared.key.Key.{Key}
-use Rattle.vac_audit.specs.Noted.{Rising, InOrder, keys_in, codes_in, blocks_in, booked_in, noted_of}
+use Rattle.vac_audit.specs.Noted.{AreRising, InOrder, keys_in, codes_in, blocks_in, booked_in, noted_of}
 use Rattle.vac_audit.specs.Marks.{SameItems}
 use Rattle.vac_audit.specs.declared.notes.NotedItem.{NotedItem}
 use Rattle.vac_audit.specs.declared.notes.Notes.{Notes}
@@ -77,7 +77,7 @@ module _ (notes notes' : Notes) (same : SameItems notes notes') where
 
   pub same_order : InOrder notes.items.items → InOrder notes'.items.items
   same_order h = record {
-    rising = subst Rising (sym same_codes) h.rising;
+    rising = subst AreRising (sym same_codes) h.rising;
     ids = subst (λ keys. All (λ key. key.id < 2 ^ 32) keys) (sym same.keys) h.ids;
   }
 

@@ -5,7 +5,7 @@ use Rattle.std.specs.Result.{IsErrAnd}
 use Rattle.std.specs.Prelude.{Result, Ok, Err, Option, None, MatchResult, slice_index, slice_index_or, ⊤}
 use Rattle.tx_alloc.specs.Pool.{IsBlock, with_at}
 use Rattle.vac_audit.specs.Walk.{then, wants, follow, walk_free, walk_lists, check_reached}
-use Rattle.vac_audit.specs.Marks.{Marks, Lands, Fewer, Followed, FreeListRan, ListsRan, ReachedRan}
+use Rattle.vac_audit.specs.Marks.{Marks, LandsOnBlock, Fewer, Followed, FreeListRan, ListsRan, ReachedRan}
 use Rattle.vac_audit.specs.declared.Flaw.{Flaw}
 use Rattle.vac_audit.specs.declared.Flaw.TheVariants.{Lost}
 use Rattle.vac_audit.proofs.Steps.{then_with, not_none}
@@ -220,9 +220,9 @@ pub found_as : (words : List ℕ) (marks marks' : List Bool) (at : ℕ) (found f
     Followed words marks marks' at (Ok found) → Followed words marks marks' at (Ok found')
 found_as words marks marks' at found found' e f = subst (λ (z : Option ℕ). Followed words marks marks' at (Ok z)) e f
 
-pub lands_as : (words : List ℕ) (found found' : Option ℕ) → found ≡ found' → Lands words (Ok found) →
-    Lands words (Ok found')
-lands_as words found found' e f = subst (λ (z : Option ℕ). Lands words (Ok z)) e f
+pub lands_as : (words : List ℕ) (found found' : Option ℕ) → found ≡ found' → LandsOnBlock words (Ok found) →
+    LandsOnBlock words (Ok found')
+lands_as words found found' e f = subst (λ (z : Option ℕ). LandsOnBlock words (Ok z)) e f
 
 pub fewer_as : (marks marks' : List Bool) (found found' : Option ℕ) → found ≡ found' → Fewer marks marks' (Ok found) →
     Fewer marks marks' (Ok found')

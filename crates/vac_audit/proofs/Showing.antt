@@ -18,13 +18,13 @@ use Rattle.vac_model.specs.State.{Bookings, Place, place_cmp, kind_number, table
 use Rattle.vac_model.proofs.Views.{entries_of_sorted}
 use Rattle.vac_model.proofs.Places.{place_cmp_total}
 use Rattle.tx_alloc.specs.Rows.{Rows}
-use Rattle.tx_list.specs.Bookings.{Linked, IsList, IsBooked}
+use Rattle.tx_list.specs.Bookings.{Linked, IsList, IsBookingOfRow}
 use Rattle.vac_records.specs.Heap.{over}
 use Rattle.tx_alloc.specs.Rows.{IsFrom}
 use Rattle.vac_model.specs.Coded.{kind_of_number}
 use Rattle.vac_records.specs.Bookings.{booking_in}
 use Rattle.vac_records.specs.Items.{item_in}
-use Rattle.vac_records.specs.Represents.{items_in, bookings_in, customers_in, opened}
+use Rattle.vac_records.specs.Represents.{items_in, bookings_in, customers_in, opened_bookings}
 use Rattle.vac_audit.specs.Walk.{report_of}
 use Rattle.vac_audit.proofs.Sound.{Each}
 use Rattle.vac_audit.proofs.Reaching.{kind_word}
@@ -93,10 +93,10 @@ place_less k i k' i' a b c d l =
     ]
 
 -- a booking's kind
-pub kind_low : (m : ℕ → ℕ) (n p lo : ℕ) (r : ℕ × ℕ) → IsBooked m n p lo r → m r.1 < 3
+pub kind_low : (m : ℕ → ℕ) (n p lo : ℕ) (r : ℕ × ℕ) → IsBookingOfRow m n p lo r → m r.1 < 3
 kind_low m n p lo r h = omega (arith, h.kind, kind_word m r.1)
 
-pub code_is : (m : ℕ → ℕ) (n p lo : ℕ) (r : ℕ × ℕ) → IsBooked m n p lo r → m r.1 * 2 ^ 32 + m (r.1 + 1) ≡ r.0
+pub code_is : (m : ℕ → ℕ) (n p lo : ℕ) (r : ℕ × ℕ) → IsBookingOfRow m n p lo r → m r.1 * 2 ^ 32 + m (r.1 + 1) ≡ r.0
 code_is m n p lo r h = omega (arith, h.key, kind_word m r.1)
 
 bookings_after : (m : ℕ → ℕ) (n p k i lo : ℕ) (rs : Rows) → k < 3 → i < 2 ^ 32 → k * 2 ^ 32 + i < lo →
@@ -133,10 +133,11 @@ pub booking_entries : (m : ℕ → ℕ) (n p lo : ℕ) (rs : Rows) → Linked m 
 booking_entries m n p lo rs h = entries_of_sorted place_cmp_total (bookings_in m rs) (bookings_sorted m n p lo rs h)
 
 opened_customers : (m : ℕ → ℕ) (n : ℕ) (lists : ℕ → Rows) (rs : Rows) →
-    Each (λ r. IsList m n (m (r.1 + 4)) (lists r.1)) rs → opened (customers_of m lists rs) ≡ customers_in m lists rs
+    Each (λ r. IsList m n (m (r.1 + 4)) (lists r.1)) rs → opened_bookings
+    (customers_of m lists rs) ≡ customers_in m lists rs
 opened_customers m n lists [] h = refl
 opened_customers m n lists (r ∷ rs) h =
-    ap (λ (z : List (Place × Booking)). (r.0, z) ∷ opened (customers_of m lists rs))
+    ap (λ (z : List (Place × Booking)). (r.0, z) ∷ opened_bookings (customers_of m lists rs))
     (booking_entries m n (m (r.1 + 4)) 0 (lists r.1) h.0.linked)
     ∙ ap (λ (z : List (ℕ × List (Place × Booking))). (r.0, bookings_in m (lists r.1)) ∷ z)
     (opened_customers m n lists rs h.1)
@@ -239,7 +240,7 @@ state_law m blocks p h =
         size = refl;
         items = λ kind. elim kind as (λ k. entries (table_of (state_of m blocks p) k) ≡ items_in m
             (p.tables (kind_number k))) [ Car ↦ e0 | Flight ↦ e1 | Room ↦ e2 ];
-        customers = ap opened e3 ∙ opened_customers m (16 + 8 * blocks) p.lists (p.tables 3) ls;
+        customers = ap opened_bookings e3 ∙ opened_customers m (16 + 8 * blocks) p.lists (p.tables 3) ls;
       },
       λ j. record {
         cars = c0 j;

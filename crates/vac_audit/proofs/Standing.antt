@@ -10,7 +10,7 @@ use Rattle.vac_audit.specs.Tree.{Tree, rows}
 use Rattle.vac_audit.specs.Walk.{Seen, Look, follow, above, is_key, walk_tree, walk_table}
 use Rattle.vac_audit.specs.Marks.{Marks, IsIndex, unmarked}
 use Rattle.vac_audit.specs.TreeRan.{IsSide}
-use Rattle.vac_audit.specs.TreeRan.{Noted, Indexed, Ready, HasRoom, Pushed, look_of}
+use Rattle.vac_audit.specs.TreeRan.{Noted, Indexed, Ready, HasRoomForItems, Pushed, look_of}
 use Rattle.vac_audit.specs.declared.Flaw.{Flaw}
 use Rattle.vac_audit.specs.declared.notes.Notes.{Notes}
 use Rattle.vac_audit.specs.declared.tree.Step.{Step}
@@ -142,13 +142,13 @@ ready_less Customers notes left left' l h = record {
   billed = omega (arith, h.billed);
 }
 
-pub room_less : (table : Table) (notes : Notes) (left left' : ℕ) → left' ≤ left → HasRoom table notes left →
-    HasRoom table notes left'
+pub room_less : (table : Table) (notes : Notes) (left left' : ℕ) → left' ≤ left → HasRoomForItems table notes left →
+    HasRoomForItems table notes left'
 room_less (Items kind) notes left left' l h = omega arith
 room_less Customers notes left left' l h = tt
 
 pub room_next : (table : Table) (notes notes' : Notes) (left left' : ℕ) → left' + 1 ≤ left → Pushed table notes notes' →
-    HasRoom table notes left → HasRoom table notes' left'
+    HasRoomForItems table notes left → HasRoomForItems table notes' left'
 room_next (Items kind) notes notes' left left' l e h = omega (arith, e)
 room_next Customers notes notes' left left' l e h = tt
 
@@ -204,7 +204,7 @@ pub record TreeGoes (words : List ℕ) (marks0 : List Bool) (notes0 : Notes) (ta
   pub turn_in : TurnIn (length words) (length marks0) (length path) turn
   pub key : from ≤ 4294967296
   pub ready : Ready table notes (unmarked marks)
-  pub room : HasRoom table notes (unmarked marks + lefts path)
+  pub room : HasRoomForItems table notes (unmarked marks + lefts path)
   pub few : nodes + (unmarked marks + lefts path) ≤ 262144
   pub rest : (tables : ℕ → Rows) → Indexed table notes0 tables → (s0 : Seen) → Marks marks0 s0.blocks →
       TreeRest words (length marks0) root (look_of (slice_index words) (length words) tables

@@ -21,7 +21,7 @@ use Rattle.vac_model.specs.Coded.{kind_of_number}
 use Rattle.vac_records.specs.Bookings.{place_in, place_key, booking_in}
 use Rattle.vac_records.specs.Items.{item_in}
 use Rattle.vac_records.specs.Heap.{Parts, over}
-use Rattle.vac_records.specs.Represents.{Represents, IsState, bookings_in, customers_in, opened}
+use Rattle.vac_records.specs.Represents.{Represents, IsState, bookings_in, customers_in, opened_bookings}
 use Rattle.vac_records.specs.Laws.{HasBookings}
 use Rattle.vac_records.proofs.Items.{item_found, item_missing}
 use Rattle.vac_records.proofs.Customers.{customer_found}
@@ -83,7 +83,7 @@ units_of_list m n p k i b rs a c h e =
 -- what all customers have of it
 held_rows : (m : ℕ → ℕ) (n : ℕ) (lists : ℕ → Rows) (k i : ℕ) → k < 3 → i < 2 ^ 32 →
     (cs : List (ℕ × Bookings)) (rows : Rows) → Each (λ r. IsList m n (m (r.1 + 4)) (lists r.1)) rows →
-    opened cs ≡ customers_in m lists rows
+    opened_bookings cs ≡ customers_in m lists rows
     → sum_by (λ bs. units_of bs (kind_of_number k, i)) (map (λ (c : ℕ × Bookings). c.1) cs) ≡ over
     (units_in m (k * 2 ^ 32 + i)) rows lists
 unfolding first_or rest_of
@@ -91,12 +91,13 @@ held_rows m n lists k i a b [] [] h e = refl
 held_rows m n lists k i a b [] (r ∷ rs) h e = absurd (let z : ◌≡◌ {A = List (ℕ × List (Place × Booking))} []
     ((r.0, bookings_in m (lists r.1)) ∷ customers_in m lists rs) = e in cc)
 held_rows m n lists k i a b (c ∷ cs) [] h e = absurd (let z : ◌≡◌ {A = List (ℕ × List (Place × Booking))}
-    ((c.0, entries c.1) ∷ opened cs) [] = e in cc)
+    ((c.0, entries c.1) ∷ opened_bookings cs) [] = e in cc)
 held_rows m n lists k i a b (c ∷ cs) (r ∷ rs) h e =
     let d : ℕ × List (Place × Booking) = (0, []) in
     let first : entries c.1 ≡ bookings_in m (lists r.1) = ap (λ
     (es : List (ℕ × List (Place × Booking))). (first_or d es).1) e in
-    let rest : opened cs ≡ customers_in m lists rs = ap (λ (es : List (ℕ × List (Place × Booking))). rest_of es) e in
+    let rest : opened_bookings cs ≡ customers_in m lists rs =
+    ap (λ (es : List (ℕ × List (Place × Booking))). rest_of es) e in
     omega (
       arith,
       sum_by-cons (λ (bs : Bookings). units_of bs (kind_of_number k, i)) c.1 (map (λ (x : ℕ × Bookings). x.1) cs),

@@ -5,7 +5,7 @@ use Rattle.vac_model.specs.declared.items.Kind.{Kind}
 use Rattle.vac_model.specs.State.{State, Bookings, kind_number, table_of, report}
 use Rattle.tx_alloc.specs.Rows.{Rows}
 use Rattle.vac_records.specs.Heap.{Parts}
-use Rattle.vac_records.specs.Represents.{items_in, bookings_in, customers_in, opened}
+use Rattle.vac_records.specs.Represents.{items_in, bookings_in, customers_in, opened_bookings}
 use Rattle.vac_audit.specs.Walk.{report_of}
 use Rattle.vac_audit.proofs.Sound.{IsSound}
 
@@ -27,7 +27,7 @@ state_of m blocks p = record {
 pub record Shows (m : ℕ → ℕ) (n : ℕ) (p : Parts) (s : State) : Type 0 where
   pub size : n ≡ 16 + 8 * s.capacity
   pub items : (kind : Kind) → entries (table_of s kind) ≡ items_in m (p.tables (kind_number kind))
-  pub customers : opened (entries s.customers) ≡ customers_in m p.lists (p.tables 3)
+  pub customers : opened_bookings (entries s.customers) ≡ customers_in m p.lists (p.tables 3)
 
 -- a sound heap is a state's, and its report is the state's
 abbrev pub StateLaw : Type 0

@@ -11,7 +11,7 @@ use Rattle.tx_list.specs.Bookings.{key_code}
 use Rattle.vac_records.specs.Heap.{over}
 use Rattle.vac_audit.specs.Noted.{blocks_in, booked_in}
 use Rattle.vac_audit.specs.Walk.{then, wants, check_used, check_all_used, units_in}
-use Rattle.vac_audit.specs.Ran.{IsUsed, FirstUnused}
+use Rattle.vac_audit.specs.Ran.{IsUsedAsBooked, FirstUnused}
 use Rattle.vac_audit.specs.declared.notes.NotedItem.{NotedItem}
 use Rattle.vac_audit.specs.declared.Flaw.{Flaw}
 use Rattle.vac_audit.specs.declared.Flaw.TheVariants.{Bookings}
@@ -121,16 +121,16 @@ module _ (words codes : List ℕ) (items : List NotedItem) (a b c customers : Ro
     units_are : (get_or items i no_item).booked ≡ booked_at (slice_index words) customers lists (slice_index codes i)
     units_are = sym (units_at items i no_item l) ∙ counts i l
 
-    used_at : IsUsed words (get_or items i no_item) → slice_index words
+    used_at : IsUsedAsBooked words (get_or items i no_item) → slice_index words
         (slice_index (blocks_in items) i + 4) ≡ booked_at (slice_index words) customers lists (slice_index codes i)
     used_at h = word_is ∙ (h ∙ units_are)
 
-    unused_at : (IsUsed words (get_or items i no_item) → ⊥) →
+    unused_at : (IsUsedAsBooked words (get_or items i no_item) → ⊥) →
         slice_index words (slice_index (blocks_in items) i + 4) ≢ booked_at (slice_index words) customers lists
         (slice_index codes i)
     unused_at other e = other (sym word_is ∙ (e ∙ sym units_are))
 
-  pub used_ok : All (IsUsed words) items → check_all_used (slice_index words)
+  pub used_ok : All (IsUsedAsBooked words) items → check_all_used (slice_index words)
       (with_at (tables_of a b c) 3 customers) lists 3 ≡ Ok tt
   used_ok h = as_pairs (Ok tt) (pairs_ok (slice_index words) _ codes (blocks_in items) as_long (λ i l.
       let inside : i < length items = omega (arith, l, length_blocks items) in

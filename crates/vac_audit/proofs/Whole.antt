@@ -15,7 +15,7 @@ use Rattle.vac_audit.specs.declared.audit.TheConstants.{MOST_HEAP_WORDS}
 use Rattle.vac_audit.specs.Noted.{InOrder, codes_in, blocks_in, booked_in}
 use Rattle.vac_audit.specs.Marks.{Marks, IsIndex, ListsRan, ReachedRan}
 use Rattle.vac_audit.specs.Ran.{ItemsRan, ItemsWalked, Uncounted, CustomersRan, CustomersWalked, Inside, UsedRan}
-use Rattle.vac_audit.specs.Ran.{HeapRan, IsHeapSize, Audited, answer, fault_answer}
+use Rattle.vac_audit.specs.Ran.{HeapRan, IsHeapSize, Audited, audit_answer, fault_answer}
 use Rattle.vac_audit.specs.declared.Flaw.{Flaw}
 use Rattle.vac_audit.specs.declared.notes.NotedItem.{NotedItem}
 use Rattle.vac_audit.specs.declared.notes.Notes.{Notes}
@@ -428,7 +428,7 @@ audited_ok words report h heap =
     let e : (length words - 16) / 8 ≡ heap.0 = omega (arith, heap.1.0) in
     let q : audit (slice_index words) heap.0 ≡ Ok report = subst
     (λ (z : ℕ). audit (slice_index words) z ≡ Ok report) e h in
-    inr (sym (ap answer q))
+    inr (sym (ap audit_answer q))
 
 pub audited_flaw : (words : List ℕ) (fault : Fault) (flaw : Flaw) → fault ≡ Found flaw →
     HeapRan words ((length words - 16) / 8) (Err fault) → (heap : IsHeapSize (length words)) →
@@ -439,7 +439,7 @@ audited_flaw words fault flaw is h heap =
     subst (λ (z : Fault). HeapRan words ((length words - 16) / 8) (Err z)) is h in
     let q : audit (slice_index words) heap.0 ≡ Err flaw = subst
     (λ (z : ℕ). audit (slice_index words) z ≡ Err flaw) e g in
-    inr (sym (ap answer q))
+    inr (sym (ap audit_answer q))
 
 pub audited_fault : (words : List ℕ) (fault : Fault) → HeapRan words ((length words - 16) / 8) (Err fault) →
     (heap : IsHeapSize (length words)) → Audited (slice_index words) heap.0 (Err (fault_answer fault))

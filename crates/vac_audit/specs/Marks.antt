@@ -31,8 +31,8 @@ Followed words marks marks' at result = (seen : List ℕ) → Marks marks seen �
     (λ flaw. follow (slice_index words) (length words) at seen ≡ Err flaw)
 
 -- a pointer that was followed leads to a block
-abbrev pub Lands : List ℕ → Result (Option ℕ) Flaw → Type 0
-Lands words result = MatchResult result
+abbrev pub LandsOnBlock : List ℕ → Result (Option ℕ) Flaw → Type 0
+LandsOnBlock words result = MatchResult result
     (λ found. MatchOption found (Unit {0}) (λ p. IsBlock (length words) p))
     (λ flaw. Unit {0})
 
@@ -124,7 +124,7 @@ pub record SameItems (notes notes' : Notes) : Type 0 where
   pub total : notes'.tally.total ≡ notes.tally.total
 
 -- these bookings were counted
-pub record Booked (m : ℕ → ℕ) (notes notes' : Notes) (rs : Rows) : Type 0 where
+pub record BookingsCounted (m : ℕ → ℕ) (notes notes' : Notes) (rs : Rows) : Type 0 where
   pub items : SameItems notes notes'
   pub booked : (i : ℕ) → i < length notes.items.items →
       slice_index (booked_in notes'.items.items) i ≡ slice_index (booked_in notes.items.items) i
@@ -139,5 +139,5 @@ BookingsRan words marks marks' notes notes' head result =
     (tables : ℕ → Rows) → IsIndex (codes_in notes.items.items) tables →
     (seen : List ℕ) → Marks marks seen → MatchResult result
     (λ _. (x : Rows × List ℕ) × ((booking_list words (length marks) tables head seen ≡ Ok x)
-    × Marks marks' x.1 × Booked (slice_index words) notes notes' x.0))
+    × Marks marks' x.1 × BookingsCounted (slice_index words) notes notes' x.0))
     (λ flaw. booking_list words (length marks) tables head seen ≡ Err flaw)

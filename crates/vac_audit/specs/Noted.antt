@@ -23,14 +23,14 @@ abbrev pub codes_in : List NotedItem → List ℕ
 codes_in items = map code_of (keys_in items)
 
 -- numbers that rise
-abbrev pub Rising : List ℕ → Type 0
-Rising xs =
+abbrev pub AreRising : List ℕ → Type 0
+AreRising xs =
     (i j : ℕ) → i < j → j < length xs → slice_index xs i < slice_index xs j
 
 -- the items are in the order of their keys. Ids are below 2 ^ 32, so that keys are ordered as their
 -- numbers are
 pub record InOrder (items : List NotedItem) : Type 0 where
-  pub rising : Rising (codes_in items)
+  pub rising : AreRising (codes_in items)
   pub ids : All (λ key. key.id < 2 ^ 32) (keys_in items)
 
 -- the id of the last key, where there is one, is below 2 ^ 32
@@ -39,9 +39,9 @@ HasShortId None = Unit {0}
 HasShortId (Some key) = key.id < 2 ^ 32
 
 -- the least number of a key that may follow the last one
-abbrev pub after : Option Key → ℕ
-after None = 0
-after (Some key) = code_of key + 1
+abbrev pub least_next : Option Key → ℕ
+least_next None = 0
+least_next (Some key) = code_of key + 1
 
 -- what is written down of these rows of a table of items
 abbrev pub noted_of : ℕ → Rows → List NotedItem

@@ -118,22 +118,22 @@ abbrev pub Inside : List ℕ → List NotedItem → Type 0
 Inside words items = All (λ item. item.block + 8 ≤ length words) items
 
 -- as many units are used of an item as are booked
-abbrev pub IsUsed : List ℕ → NotedItem → Type 0
-IsUsed words item = slice_index words (item.block + 4) ≡ item.booked
+abbrev pub IsUsedAsBooked : List ℕ → NotedItem → Type 0
+IsUsedAsBooked words item = slice_index words (item.block + 4) ≡ item.booked
 
 -- the first item of which not as many units are used as are booked
 pub record FirstUnused (words : List ℕ) (items : List NotedItem) (flaw : Flaw) : Type 0 where
   pub i : ℕ
   pub inside : i < length items
   pub is : HoldsAt (λ item. flaw ≡ Bookings (item.block + 4)) items i
-  pub other : HoldsAt (λ item. IsUsed words item → ⊥) items i
-  pub earlier : AllWithin (IsUsed words) items 0 i
+  pub other : HoldsAt (λ item. IsUsedAsBooked words item → ⊥) items i
+  pub earlier : AllWithin (IsUsedAsBooked words) items 0 i
 
 -- of each item as many units are used as are booked, or the flaw is that of the first item where
 -- they differ
 abbrev pub UsedRan : List ℕ → List NotedItem → Result ⊤ Flaw → Type 0
 UsedRan words items result = MatchResult result
-    (λ _. All (IsUsed words) items)
+    (λ _. All (IsUsedAsBooked words) items)
     (λ flaw. FirstUnused words items flaw)
 
 -- the words of a heap of this many blocks were audited
@@ -147,9 +147,9 @@ abbrev pub IsHeapSize : ℕ → Type 0
 IsHeapSize n = (blocks : ℕ) × ((n ≡ heap_words blocks) × (1 ≤ blocks) × (blocks ≤ MOST_BLOCKS))
 
 -- what the audit says, as the call returns it
-abbrev pub answer : Result Report Flaw → Result Report AuditFault
-answer (Ok report) = Ok report
-answer (Err flaw) = Err (Flawed flaw)
+abbrev pub audit_answer : Result Report Flaw → Result Report AuditFault
+audit_answer (Ok report) = Ok report
+audit_answer (Err flaw) = Err (Flawed flaw)
 
 -- why a walk ended, as the call returns it
 abbrev pub fault_answer : Fault → AuditFault
@@ -158,4 +158,4 @@ fault_answer (Found flaw) = Flawed flaw
 
 -- the result is that of the audit, unless memory was refused
 abbrev pub Audited : (ℕ → ℕ) → ℕ → Result Report AuditFault → Type 0
-Audited m blocks result = (result ≡ Err Memory) ⊎ (result ≡ answer (audit m blocks))
+Audited m blocks result = (result ≡ Err Memory) ⊎ (result ≡ audit_answer (audit m blocks))

@@ -66,7 +66,7 @@ Faulted Memory P = Unit {0}
 Faulted (Found flaw) P = P flaw
 
 -- the pointer in word `at` ends, and its tree is done
-pub record Ended (words : List ℕ) (marks marks' : List Bool) (path path' : List Step) (at : ℕ)
+pub record EndedTree (words : List ℕ) (marks marks' : List Bool) (path path' : List Step) (at : ℕ)
     (side : Side) : Type 0 where
   pub empty : IsSide side leaf
   pub same : path' ≡ path
@@ -74,7 +74,7 @@ pub record Ended (words : List ℕ) (marks marks' : List Bool) (path path' : Lis
   pub followed : Followed words marks marks' at (Ok None)
 
 -- it leads to a node, now the last of the path, whose left side hangs at word `next`
-pub record Entered (words : List ℕ) (marks marks' : List Bool) (path path' : List Step)
+pub record EnteredNode (words : List ℕ) (marks marks' : List Bool) (path path' : List Step)
     (at next : ℕ) : Type 0 where
   pub node : ℕ
   pub block : IsBlock (length words) node
@@ -86,9 +86,9 @@ pub record Entered (words : List ℕ) (marks marks' : List Bool) (path path' : L
 -- the pointer led down to a node, or it ends
 abbrev pub WentDown : List ℕ → List Bool → List Bool → List Step → List Step → ℕ → Turn → Type 0
 WentDown words marks marks' path path' at (Down next) =
-    Entered words marks marks' path path' at next
+    EnteredNode words marks marks' path path' at next
 WentDown words marks marks' path path' at (Up side) =
-    Ended words marks marks' path path' at side
+    EndedTree words marks marks' path path' at side
 
 -- the path has more nodes than there are blocks, or the pointer has this flaw
 abbrev pub DownFlaw : List ℕ → List Bool → List Bool → List Step → ℕ → Flaw → Type 0
@@ -151,9 +151,9 @@ Ready (Items kind) notes left = Summed notes.tally (length notes.items.items)
 Ready Customers notes left = Counting notes left
 
 -- there is room for this many more items
-abbrev pub HasRoom : Table → Notes → ℕ → Type 0
-HasRoom (Items kind) notes left = length notes.items.items + left ≤ MOST_BLOCKS
-HasRoom Customers notes left = Unit {0}
+abbrev pub HasRoomForItems : Table → Notes → ℕ → Type 0
+HasRoomForItems (Items kind) notes left = length notes.items.items + left ≤ MOST_BLOCKS
+HasRoomForItems Customers notes left = Unit {0}
 
 -- as many items are written down as nodes were looked at
 abbrev pub Pushed : Table → Notes → Notes → Type 0

@@ -6,7 +6,7 @@ ghost use Rattle.tx_alloc.specs.declared.place.TheConstants.{BLOCK_WORDS};
 ghost use Rattle.tx_list.specs.Bookings.{IsKey, code_of, place_code};
 ghost use Rattle.vac_audit.specs.Marks.{IsMarked, BookingLooked, Counting, BookingsRan};
 ghost use Rattle.vac_audit.specs.Marks.{unmarked};
-ghost use Rattle.vac_audit.specs.Noted.{codes_in, InOrder, HasShortId, after};
+ghost use Rattle.vac_audit.specs.Noted.{codes_in, InOrder, HasShortId, least_next};
 ghost use Rattle.vac_audit.specs.declared.audit.TheConstants.{MOST_HEAP_WORDS};
 
 use crate::Flaw;
@@ -39,7 +39,7 @@ fn find(items: &[NotedItem], key: Key) -> Option<usize>
 fn may_follow(key: Key, last: Option<Key>) -> bool
     requires key { IsKey key }
     requires last { HasShortId last }
-    ensures follows { result ≡ nat_le (after last) (code_of key) }
+    ensures follows { result ≡ nat_le (least_next last) (code_of key) }
 {
     match last {
         None => true,
@@ -62,7 +62,7 @@ fn look_at_booking(
         × (slice_index (codes_in items.now) i ≡ place_code (slice_index words.now) booking)) }
     ensures units { OnOk result (slice_index words.now (booking + UNITS) ≤ MOST_UNITS) }
     ensures sum { OnOk result (slice_index words.now (booking + SUM) ≤ MOST_UNITS * MOST_AMOUNT) }
-    ensures looked { BookingLooked words.now (codes_in items.now) booking (after last) result }
+    ensures looked { BookingLooked words.now (codes_in items.now) booking (least_next last) result }
 {
     let key = Key {
         kind: words[booking],

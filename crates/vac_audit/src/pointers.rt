@@ -1,7 +1,7 @@
 //! Pointers to blocks.
 
 ghost use Rattle.std.specs.Prelude.{◌≡◌, ◌<◌, length};
-ghost use Rattle.vac_audit.specs.Marks.{IsMarked, Lands, Fewer, Followed};
+ghost use Rattle.vac_audit.specs.Marks.{IsMarked, LandsOnBlock, Fewer, Followed};
 
 use crate::Flaw;
 
@@ -16,7 +16,7 @@ pub fn follow(words: &[u64], reached: &mut Vec<bool>, at: usize) -> Result<Optio
     requires marked { IsMarked words.now reached.old.items }
     requires inside { at < length words.now }
     ensures size { length reached.new.items ≡ length reached.old.items }
-    ensures lands { Lands words.now result }
+    ensures lands { LandsOnBlock words.now result }
     ensures fewer { Fewer reached.old.items reached.new.items result }
     ensures followed { Followed words.now reached.old.items reached.new.items at result }
 {

@@ -6,7 +6,7 @@ ghost use Rattle.vac_audit.specs.declared.tree.Fault.TheVariants.{Memory, Found}
 ghost use Rattle.vac_audit.specs.declared.tree.Turn.TheVariants.{Down};
 ghost use Rattle.vac_audit.specs.Marks.{IsMarked, unmarked};
 ghost use Rattle.vac_audit.specs.TreeRan.{ItemLooked, ColourLooked, LookRan, TableRan};
-ghost use Rattle.vac_audit.specs.TreeRan.{Ready, HasRoom, Pushed, DownRan, KeyLooked, RootLooked};
+ghost use Rattle.vac_audit.specs.TreeRan.{Ready, HasRoomForItems, Pushed, DownRan, KeyLooked, RootLooked};
 ghost use Rattle.vac_audit.specs.declared.audit.TheConstants.{MOST_HEAP_WORDS};
 
 use crate::Flaw;
@@ -136,7 +136,7 @@ fn look_at_node(
     requires inside { node + BLOCK_WORDS ≤ length words.now }
     requires key { slice_index words.now node < LAST_ID + 1 }
     requires ready { Ready table notes.old (unmarked reached.old.items) }
-    requires room { HasRoom table notes.old 1 }
+    requires room { HasRoomForItems table notes.old 1 }
     ensures size { length reached.new.items ≡ length reached.old.items }
     ensures fewer { OnOk result (unmarked reached.new.items ≤ unmarked reached.old.items) }
     ensures ready { OnOk result (Ready table notes.new (unmarked reached.new.items)) }
@@ -256,10 +256,10 @@ pub fn walk_table(
     requires marked { IsMarked words.now reached.old.items }
     requires inside { root < FIRST_BLOCK }
     requires ready { Ready table notes.old (unmarked reached.old.items) }
-    requires room { HasRoom table notes.old (unmarked reached.old.items) }
+    requires room { HasRoomForItems table notes.old (unmarked reached.old.items) }
     ensures size { length reached.new.items ≡ length reached.old.items }
     ensures ready { OnOk result (Ready table notes.new (unmarked reached.new.items)) }
-    ensures room { OnOk result (HasRoom table notes.new (unmarked reached.new.items)) }
+    ensures room { OnOk result (HasRoomForItems table notes.new (unmarked reached.new.items)) }
     ensures ran { TableRan words.now reached.old.items reached.new.items notes.old notes.new
         table root result }
 {

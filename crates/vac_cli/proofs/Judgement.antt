@@ -4,7 +4,7 @@ use Rattle.std.proofs.Common.{append-nil, Option, Some, None}
 use Rattle.std.specs.Io.KnownBytes.{Appends}
 use Rattle.std.proofs.Math.Seq.{take-nil}
 use Rattle.vac_lines.specs.Writing.{AppendsPrefix}
-use Rattle.vac_judge.specs.Reading.{HasStopped}
+use Rattle.vac_judge.specs.Reading.{HasStoppedJudging}
 use Rattle.vac_cli.specs.Ending.{fault_line}
 use Rattle.vac_judge.specs.HeldReading.{HasHeldStopped}
 use Rattle.vac_streams.specs.declared.fault.StreamFault.{StreamFault}
@@ -38,7 +38,7 @@ named_stream fault other held middle holds none line = (fault, other, nothing_th
 
 -- the line of the fault was written in part
 pub judge_stopped : (blocks : ℕ) (fault : StreamFault) (unread left held middle holds : Option (List ℕ))
-    → HasStopped blocks fault unread left held middle → AppendsPrefix middle holds (fault_line fault)
+    → HasStoppedJudging blocks fault unread left held middle → AppendsPrefix middle holds (fault_line fault)
     → JudgeStopped blocks unread left held holds
 judge_stopped blocks stream.Read unread left held middle holds none line =
     inr (named_stream stream.Read (λ e. absurd cc) held middle holds none line)
@@ -72,7 +72,7 @@ work_stopped tasks rest blocks stream.Bound unread left held middle holds none l
 
 -- the same of a search for an order
 pub order_stopped : (blocks steps : ℕ) (fault : StreamFault) (unread left held middle holds : Option (List ℕ)) →
-    order.HasStopped blocks steps fault unread left held middle
+    order.HasStoppedOrdering blocks steps fault unread left held middle
     → AppendsPrefix middle holds (fault_line fault) → OrderStopped blocks steps unread left held holds
 order_stopped blocks steps stream.Read unread left held middle holds none line =
     inr (named_stream stream.Read (λ e. absurd cc) held middle holds none line)
@@ -90,7 +90,7 @@ order_stopped blocks steps stream.Bound unread left held middle holds none line 
 
 -- the same of attempts
 pub attempts_stopped : (words : ℕ) (fault : StreamFault) (unread left held middle holds : Option (List ℕ)) →
-    opaque.HasStopped words fault unread left held middle
+    opaque.HasStoppedOnAttempts words fault unread left held middle
     → AppendsPrefix middle holds (fault_line fault) → AttemptsStopped words unread left held holds
 attempts_stopped words stream.Read unread left held middle holds none line =
     inr (named_stream stream.Read (λ e. absurd cc) held middle holds none line)

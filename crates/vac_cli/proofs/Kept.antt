@@ -6,20 +6,20 @@ use Rattle.std.proofs.lemmas.List.Elements.{All-head, All-tail}
 use Rattle.stm_core.specs.Client.{Record}
 use Rattle.vac_draws.specs.declared.settings.Settings.{Settings}
 use Rattle.vac_manager.specs.declared.note.Note.{Note}
-use Rattle.vac_manager.specs.Keeping.{behind, IsNoted}
+use Rattle.vac_manager.specs.Keeping.{notes_behind, IsNoted}
 use Rattle.vac_load.specs.declared.seats.Keepers.{Keepers}
 use Rattle.vac_load.specs.declared.load.LoadReport.{LoadReport}
 use Rattle.vac_load.specs.Lists.{Paired, none, both}
-use Rattle.vac_load.specs.Keeping.{Kept, AreKept, AllKept, one_kept}
+use Rattle.vac_load.specs.Keeping.{KeptNotes, AreKept, AllKept, one_kept}
 use Rattle.vac_load.specs.Streams.{KeptBySeed}
 use Rattle.vac_cli.specs.Load.{HasNoted}
 
 -- what keepers keep, of which each has such a list of calls
 module _ {X : Type 0} (calls_of : X → List Note) where
-  abbrev kept_of : X → Kept
+  abbrev kept_of : X → KeptNotes
   kept_of keeper = Some (calls_of keeper)
 
-  same_calls : (a b : List Note) → ◌≡◌ {A = Kept} (Some a) (Some b) → a ≡ b
+  same_calls : (a b : List Note) → ◌≡◌ {A = KeptNotes} (Some a) (Some b) → a ≡ b
   same_calls a b e = cc
 
   -- what an empty keeper kept are notes of exactly those records
@@ -27,7 +27,7 @@ module _ {X : Type 0} (calls_of : X → List Note) where
       AreKept records (kept_of before) (kept_of after) → Paired IsNoted (calls_of after) records
   are_noted records before after empty k =
       let all : calls_of after ≡ k.notes = same_calls (calls_of after) k.notes
-      (k.kept ∙ ap (λ (l : List Note). behind (Some l) k.notes) empty) in
+      (k.kept ∙ ap (λ (l : List Note). notes_behind (Some l) k.notes) empty) in
       subst (λ (l : List Note). Paired IsNoted l records) (sym all) k.are_of
 
   all_noted : {Y : Type 0} (records_of : Y → List Record) (ys : List Y) (befores afters : List X) →
@@ -58,7 +58,7 @@ module _ {X : Type 0} (calls_of : X → List Note) where
   }
 
 -- as many keepers come back as went in
-same_number : {X : Type 0} (records_of : X → List Record) (xs : List X) (ks ks' : List Kept) →
+same_number : {X : Type 0} (records_of : X → List Record) (xs : List X) (ks ks' : List KeptNotes) →
     AllKept records_of xs ks ks' → length ks' ≡ length ks
 same_number records_of [] [] [] k = refl
 same_number records_of [] [] (k' ∷ ks') k = elim k [ ]

@@ -20,7 +20,7 @@ use Rattle.vac_worklist.proofs.ReadBack.{all_read}
 use Rattle.vac_history.specs.Numbers.{HasLine, EachHasLines}
 use Rattle.vac_history.proofs.Written.{tasks_read}
 use Rattle.vac_load.specs.Lists.{Paired, none, both}
-use Rattle.vac_load.specs.Looping.{AreOf}
+use Rattle.vac_load.specs.Looping.{AreOfTasks}
 use Rattle.vac_load.specs.Opening.{as_tasks}
 use Rattle.vac_load.specs.Load.{Share, HasShare}
 use Rattle.vac_cli.specs.Load.{HasNoted}
@@ -33,7 +33,7 @@ has_line n t same h =
 
 -- so have the calls of the records of such tasks
 have_lines : (notes : List Note) (records : List Record) (tasks : List Task) → Paired IsNoted notes records →
-    AreOf tasks records → All IsReadBack tasks → All HasLine notes
+    AreOfTasks tasks records → All IsReadBack tasks → All HasLine notes
 have_lines [] [] tasks none are read = All-nil HasLine
 have_lines (n ∷ notes) (r ∷ records) (t ∷ tasks) (both h hs) are read =
     let same = (code_determines n.task t n.reply are.0.0 (sym h.tag ∙ are.0.1)).0 in

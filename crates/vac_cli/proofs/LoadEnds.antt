@@ -9,7 +9,7 @@ use Rattle.vac_model.specs.Ranges.{is_block_count}
 use Rattle.vac_history.specs.declared.journal.Journal.{Journal}
 use Rattle.vac_history.specs.Order.{Entry, IsMerged, AreOrdered}
 use Rattle.vac_history.specs.Numbers.{EachHasLines}
-use Rattle.vac_history.specs.History.{notes_of, kept_by, call_of, entries_text, WroteHistory, WroteHistoryPrefix}
+use Rattle.vac_history.specs.History.{notes_of, kept_by, call_of_entry, calls_text, WroteHistory, WroteHistoryPrefix}
 use Rattle.vac_history.specs.Legal.{AreLegal, JudgedByPrecedence}
 use Rattle.vac_history.proofs.Legality.{texts_up_to_precedence}
 use Rattle.vac_judge.specs.CallText.{IsTheirHistory}
@@ -83,7 +83,7 @@ module _ {C : Type 0} (s : Settings) (opening : Journal C) (clients : List (Jour
   in_order all merged = merged.ordered (each_ordered s opening clients has)
 
   are_legal : (all : List Entry) → IsMerged (kept_by opening clients) all →
-      AreLegal s.blocks (map call_of all) has.loaded.last
+      AreLegal s.blocks (map call_of_entry all) has.loaded.last
   are_legal all merged =
       load_legal s (notes_of opening) (map notes_of clients) all has merged (each_in_turn opening clients)
       (in_order all merged)
@@ -91,10 +91,10 @@ module _ {C : Type 0} (s : Settings) (opening : Journal C) (clients : List (Jour
   lines : EachHasLines (kept_by opening clients)
   lines = each_has_lines s (notes_of opening) (map notes_of clients) fits has
 
-  are_judged : (all : List Entry) → IsMerged (kept_by opening clients) all → IsTheirHistory (map call_of all) →
-      JudgedByPrecedence s.blocks (entries_text all) (map call_of all)
+  are_judged : (all : List Entry) → IsMerged (kept_by opening clients) all → IsTheirHistory (map call_of_entry all) →
+      JudgedByPrecedence s.blocks (calls_text all) (map call_of_entry all)
   are_judged all merged read =
-      texts_up_to_precedence s.blocks (map call_of all) has.loaded.last read (are_legal all merged)
+      texts_up_to_precedence s.blocks (map call_of_entry all) has.loaded.last read (are_legal all merged)
 
   -- the history was written whole
   pub wrote_calls : (held holds : Option (List ℕ)) → WroteHistory (kept_by opening clients) held holds →

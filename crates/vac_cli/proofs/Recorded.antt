@@ -6,7 +6,7 @@ use Rattle.vac_manager.specs.declared.note.Note.{Note}
 use Rattle.vac_manager.specs.Keeping.{IsNoted}
 use Rattle.vac_history.specs.Turns.{EachInTurn}
 use Rattle.vac_history.specs.Order.{Entry, entries_of, entries_from, Interleaves, IsMerged, AreOrdered}
-use Rattle.vac_history.specs.History.{call_of}
+use Rattle.vac_history.specs.History.{call_of_entry}
 use Rattle.vac_history.specs.Legal.{AreCallsOf, AreRecorded, AreLegal}
 use Rattle.vac_history.proofs.Legality.{ordered_calls_legal}
 use Rattle.vac_load.specs.Lists.{Paired, none, both, Interleaved, no_more, of_first, of_second}
@@ -200,7 +200,7 @@ recorded s opening clients all h merged =
 
 pub load_legal : (s : Settings) (opening : List Note) (clients : List (List Note)) (all : List Entry)
     (h : HasNoted s opening clients) → IsMerged (opening ∷ clients) all → EachInTurn (opening ∷ clients) →
-    AreOrdered (map (λ e. e.note) all) → AreLegal s.blocks (map call_of all) h.loaded.last
+    AreOrdered (map (λ e. e.note) all) → AreLegal s.blocks (map call_of_entry all) h.loaded.last
 load_legal s opening clients all h merged turns ordered =
     ordered_calls_legal s.blocks (opening ∷ clients) all h.loaded.last
     (recorded s opening clients all h merged) merged turns ordered

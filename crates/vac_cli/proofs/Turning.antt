@@ -12,7 +12,7 @@ use Rattle.vac_manager.specs.declared.placed.Place.{Place}
 use Rattle.vac_manager.specs.declared.note.Note.{Note}
 use Rattle.vac_manager.specs.Keeping.{IsNoted}
 use Rattle.vac_history.specs.declared.journal.Journal.{Journal}
-use Rattle.vac_history.specs.Turns.{TakeTime, AreInTurn, EachInTurn}
+use Rattle.vac_history.specs.Turns.{NotesTakeTime, AreInTurn, EachInTurn}
 use Rattle.vac_history.specs.Order.{precedes, rank_of, list_at, AreOrdered, EachOrdered}
 use Rattle.vac_history.specs.History.{notes_of, kept_by}
 use Rattle.vac_load.specs.Lists.{Paired, none, both}
@@ -76,7 +76,7 @@ behind_at [] (r ∷ records) h o i j d less low = elim h [ ]
 behind_at (n ∷ notes) [] h o i j d less low = elim h [ ]
 
 ordered_notes : (notes : List Note) (records : List Record) → Paired IsNoted notes records → Sorted records →
-    TakeTime notes → AreInTurn notes → AreOrdered notes
+    NotesTakeTime notes → AreInTurn notes → AreOrdered notes
 ordered_notes notes records h o timed turns i j d less low =
     let p = behind_at notes records h o i j d less low in
     let takes = timed i d (omega (arith, less, low)) in

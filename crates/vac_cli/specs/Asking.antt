@@ -1,8 +1,8 @@
 -- What the program does where its words ask for a judgement, of calls or of attempts.
 use Rattle.std.specs.Prelude.{◌⊎◌, ℕ, Bool, true, false, Option, Some, None, List}
 use Rattle.std.specs.Borrow.{Bor}
-use Rattle.vac_opaque.specs.Reading.{HasJudged, HasJudgedInPart}
-use Rattle.vac_cli.specs.Ending.{Ends}
+use Rattle.vac_opaque.specs.Reading.{HasJudgedAttempts, HasJudgedAttemptsInPart}
+use Rattle.vac_cli.specs.Ending.{EndsWithStatus}
 use Rattle.vac_cli.specs.Judging.{Judges, JudgesWork, NamedAlone}
 use Rattle.vac_cli.specs.Ordering.{JudgesAnyOrder, JudgesAnyWork}
 
@@ -25,12 +25,12 @@ JudgesAs files true (Some name) blocks steps status unread left held holds =
 abbrev pub AttemptsStopped : ℕ → Option (List ℕ) → Option (List ℕ) → Option (List ℕ)
     → Option (List ℕ) → Type 0
 AttemptsStopped words unread left held holds =
-    HasJudgedInPart words unread left held holds ⊎ NamedAlone held holds
+    HasJudgedAttemptsInPart words unread left held holds ⊎ NamedAlone held holds
 
 -- attempts at this many words are judged: 0 where they are opaque
 abbrev pub JudgesAttempts : ℕ → ℕ → Option (List ℕ) → Option (List ℕ) → Option (List ℕ)
     → Option (List ℕ) → Type 0
 JudgesAttempts words status unread left held holds =
-    Ends status (HasJudged words true unread left held holds)
-    (HasJudged words false unread left held holds
+    EndsWithStatus status (HasJudgedAttempts words true unread left held holds)
+    (HasJudgedAttempts words false unread left held holds
     ⊎ AttemptsStopped words unread left held holds)

@@ -28,8 +28,8 @@ load_fault_line (load.Opening fault) = as_line (codes "fault opening")
 -- status 0 where this was done, 1 where that stopped it
 -- Not said: that the line of a fault comes, or comes whole; that it is the fault that was met; that
 -- the output is flushed. Tests use streams that fail.
-abbrev pub Ends : ℕ → Type 0 → Type 0 → Type 0
-Ends status done stopped = ((status ≡ 0) × done) ⊎ ((status ≡ 1) × stopped)
+abbrev pub EndsWithStatus : ℕ → Type 0 → Type 0 → Type 0
+EndsWithStatus status done stopped = ((status ≡ 0) × done) ⊎ ((status ≡ 1) × stopped)
 
 -- a fault that can stop what only writes
 abbrev pub CanStopWriting : StreamFault → Type 0

@@ -5,7 +5,7 @@ use Rattle.vac_streams.specs.declared.fault.StreamFault.{StreamFault}
 use Rattle.vac_streams.specs.declared.fault.StreamFault.TheVariants.{Memory, Write}
 use Rattle.vac_judge.specs.Reading.{HasJudged, HasJudgedInPart}
 use Rattle.vac_judge.specs.HeldReading.{HasHeld, HasHeldInPart}
-use Rattle.vac_cli.specs.Ending.{Ends, fault_line, unopened_line}
+use Rattle.vac_cli.specs.Ending.{EndsWithStatus, fault_line, unopened_line}
 
 -- a fault other than one of the output ended it: nothing was written but a prefix of the line that
 -- names it
@@ -26,7 +26,7 @@ JudgeStopped blocks unread left held holds =
 abbrev pub Judges : ℕ → ℕ → Option (List ℕ) → Option (List ℕ) → Option (List ℕ)
     → Option (List ℕ) → Type 0
 Judges blocks status unread left held holds =
-    Ends status (HasJudged blocks true unread left held holds)
+    EndsWithStatus status (HasJudged blocks true unread left held holds)
     (HasJudged blocks false unread left held holds
     ⊎ JudgeStopped blocks unread left held holds)
 
@@ -59,7 +59,7 @@ NotOpened status held holds = (status ≡ 1) × (AppendsPrefix held holds unopen
 abbrev pub JudgesHeld : Option (List ℕ) → ℕ → ℕ → Option (List ℕ) → Option (List ℕ)
     → Option (List ℕ) → Option (List ℕ) → Type 0
 JudgesHeld tasks blocks status unread left held holds =
-    Ends status (HasHeldFile tasks blocks true unread left held holds)
+    EndsWithStatus status (HasHeldFile tasks blocks true unread left held holds)
     (HasHeldFile tasks blocks false unread left held holds
     ⊎ WorkStopped tasks blocks unread left held holds)
 

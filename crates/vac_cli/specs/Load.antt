@@ -13,7 +13,7 @@ use Rattle.vac_manager.specs.declared.note.Note.{Note}
 use Rattle.vac_manager.specs.Keeping.{IsNoted}
 use Rattle.vac_history.specs.Turns.{EachInTurn}
 use Rattle.vac_history.specs.Order.{AreOrdered}
-use Rattle.vac_history.specs.History.{call_of, entries_text, WroteHistory, WroteHistoryPrefix}
+use Rattle.vac_history.specs.History.{call_of_entry, calls_text, WroteHistory, WroteHistoryPrefix}
 use Rattle.vac_history.specs.Legal.{AreLegal, JudgedByPrecedence}
 use Rattle.vac_judge.specs.CallText.{IsTheirHistory}
 use Rattle.vac_attempts.specs.Pages.{Page}
@@ -96,9 +96,9 @@ pub record WroteCalls (s : Settings) (held holds : Option (List ℕ)) : Type 0 w
   pub in_turn : EachInTurn (opening ∷ clients)
   pub written : WroteHistory (opening ∷ clients) held holds
   pub in_order : AreOrdered (map (λ e. e.note) written.all)
-  pub legal : AreLegal s.blocks (map call_of written.all) noted.loaded.last
-  pub read : IsTheirHistory (map call_of written.all)
-  pub judged : JudgedByPrecedence s.blocks (entries_text written.all) (map call_of written.all)
+  pub legal : AreLegal s.blocks (map call_of_entry written.all) noted.loaded.last
+  pub read : IsTheirHistory (map call_of_entry written.all)
+  pub judged : JudgedByPrecedence s.blocks (calls_text written.all) (map call_of_entry written.all)
 
 -- the load was run to its end, and a prefix of such a history was written
 pub record WroteCallsInPart (s : Settings) (held holds : Option (List ℕ)) : Type 0 where
@@ -108,9 +108,9 @@ pub record WroteCallsInPart (s : Settings) (held holds : Option (List ℕ)) : Ty
   pub in_turn : EachInTurn (opening ∷ clients)
   pub written : WroteHistoryPrefix (opening ∷ clients) held holds
   pub in_order : AreOrdered (map (λ e. e.note) written.all)
-  pub legal : AreLegal s.blocks (map call_of written.all) noted.loaded.last
-  pub read : IsTheirHistory (map call_of written.all)
-  pub judged : JudgedByPrecedence s.blocks (entries_text written.all) (map call_of written.all)
+  pub legal : AreLegal s.blocks (map call_of_entry written.all) noted.loaded.last
+  pub read : IsTheirHistory (map call_of_entry written.all)
+  pub judged : JudgedByPrecedence s.blocks (calls_text written.all) (map call_of_entry written.all)
 
 -- the load was run to its end, and the attempts of its calls were written and nothing else: of each
 -- answered call the attempt that answered it, once, at its record's place and with its record's

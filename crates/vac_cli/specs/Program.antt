@@ -19,7 +19,7 @@ use Rattle.vac_script.specs.Dump.{Dumped, DumpStopped}
 use Rattle.vac_script.specs.Check.{Checked, CheckStopped}
 use Rattle.vac_worklist.specs.Worklist.{WroteTasks, WroteTasksPrefix}
 use Rattle.vac_cli.specs.Load.{LoadWrote, LoadEnded, WroteTried, TriedEnded}
-use Rattle.vac_cli.specs.Ending.{Ends, NamedAfter, NamedAfterWriting, fault_line, load_fault_line}
+use Rattle.vac_cli.specs.Ending.{EndsWithStatus, NamedAfter, NamedAfterWriting, fault_line, load_fault_line}
 use Rattle.vac_cli.specs.Ordering.{Orders}
 use Rattle.vac_cli.specs.Asking.{JudgesAs, JudgesAttempts}
 use Rattle.vac_options.specs.CommandLine.{vacation, AsksFor}
@@ -29,14 +29,15 @@ use Rattle.vac_options.specs.CommandLine.{vacation, AsksFor}
 abbrev pub Loads : Bool → ℕ → Settings → Option (List ℕ) → Option (List ℕ) → Type 0
 Loads history status s held holds =
     ((is_settings s ≡ true)
-    × Ends status (LoadWrote history s held holds) (LoadEnded history s held holds))
+    × EndsWithStatus status (LoadWrote history s held holds) (LoadEnded history s held holds))
     ⊎ ((is_settings s ≡ false) × (status ≡ 2)
     × AppendsPrefix held holds (load_fault_line Arguments))
 
 -- a load is run where its settings fit each other, and writes its attempts
 abbrev pub Tries : ℕ → Settings → Option (List ℕ) → Option (List ℕ) → Type 0
 Tries status s held holds =
-    ((is_settings s ≡ true) × Ends status (WroteTried s held holds) (TriedEnded s held holds))
+    ((is_settings s ≡ true)
+    × EndsWithStatus status (WroteTried s held holds) (TriedEnded s held holds))
     ⊎ ((is_settings s ≡ false) × (status ≡ 2)
     × AppendsPrefix held holds (load_fault_line Arguments))
 
@@ -51,32 +52,32 @@ LoadsAs false false status s held holds = Loads false status s held holds
 -- the tasks of a load are written where its settings fit each other; where they do not, the command
 -- line is refused
 -- Not said: which fault stands for which cause.
-abbrev pub Lists : ℕ → Settings → Option (List ℕ) → Option (List ℕ) → Type 0
-Lists status s held holds =
-    ((is_settings s ≡ true) × Ends status (WroteTasks s held holds)
+abbrev pub ListsTasks : ℕ → Settings → Option (List ℕ) → Option (List ℕ) → Type 0
+ListsTasks status s held holds =
+    ((is_settings s ≡ true) × EndsWithStatus status (WroteTasks s held holds)
     (NamedAfterWriting (WroteTasksPrefix s held) holds))
     ⊎ ((is_settings s ≡ false) × (status ≡ 2)
     × AppendsPrefix held holds (load_fault_line Arguments))
 
 -- a script is run on a system of this many blocks, and its output is written
-abbrev pub Runs : ℕ → ℕ → Option (List ℕ) → Option (List ℕ) → Option (List ℕ)
+abbrev pub RunsScript : ℕ → ℕ → Option (List ℕ) → Option (List ℕ) → Option (List ℕ)
     → Option (List ℕ) → Type 0
-Runs blocks status unread left held holds =
-    Ends status (WroteAll blocks unread left held holds)
+RunsScript blocks status unread left held holds =
+    EndsWithStatus status (WroteAll blocks unread left held holds)
     (NamedAfter (WrotePrefix blocks unread left held) holds)
 
 -- the memory that a script leaves is written
 abbrev pub Dumps : ℕ → ℕ → Option (List ℕ) → Option (List ℕ) → Option (List ℕ)
     → Option (List ℕ) → Type 0
 Dumps blocks status unread left held holds =
-    Ends status (Dumped blocks unread left held holds)
+    EndsWithStatus status (Dumped blocks unread left held holds)
     (NamedAfter (DumpStopped blocks unread left held) holds)
 
 -- the words of a memory are audited: 0 where they are those of a balanced state
 abbrev pub Checks : ℕ → Option (List ℕ) → Option (List ℕ) → Option (List ℕ)
     → Option (List ℕ) → Type 0
 Checks status unread left held holds =
-    Ends status (Checked true unread left held holds)
+    EndsWithStatus status (Checked true unread left held holds)
     (Checked false unread left held holds
     ⊎ NamedAfter (CheckStopped unread left held) holds)
 
@@ -84,7 +85,8 @@ Checks status unread left held holds =
 -- it
 abbrev pub Does : (Text → Option (List ℕ)) → Asked → ℕ → Option (List ℕ) → Option (List ℕ)
     → Option (List ℕ) → Option (List ℕ) → Type 0
-Does files (Run blocks) status unread left held holds = Runs blocks status unread left held holds
+Does files (Run blocks) status unread left held holds =
+    RunsScript blocks status unread left held holds
 Does files (Dump blocks) status unread left held holds = Dumps blocks status unread left held holds
 Does files Check status unread left held holds = Checks status unread left held holds
 Does files (Judge blocks how) status unread left held holds =
@@ -96,7 +98,7 @@ Does files (Opaque n) status unread left held holds =
 Does files (Load settings how) status unread left held holds =
     (left ≡ unread) × LoadsAs how.history how.attempts status settings held holds
 Does files (Tasks settings) status unread left held holds =
-    (left ≡ unread) × Lists status settings held holds
+    (left ≡ unread) × ListsTasks status settings held holds
 
 -- what the program says of itself: its name and version, and what proved and built it
 -- Not said: that the toolchain of the second line is the one that built the program.
@@ -108,14 +110,14 @@ version_text = as_line (codes "vacation 0.1.0")
 -- on the output, and nothing on the output where the words are refused
 -- Not said: the text of the help, nor that it was written whole where the status is 0; what is
 -- written to the errors.
-abbrev pub Shows : ErrorKind → ℕ → Option (List ℕ) → Option (List ℕ) → Type 0
-Shows error.OutOfMemory status held holds =
+abbrev pub ShowsError : ErrorKind → ℕ → Option (List ℕ) → Option (List ℕ) → Type 0
+ShowsError error.OutOfMemory status held holds =
     (status ≡ 1) × AppendsPrefix held holds (fault_line Memory)
-Shows error.DisplayHelp status held holds =
+ShowsError error.DisplayHelp status held holds =
     (status ≤ 1) × ((text : List ℕ) × Appends held holds text)
-Shows error.DisplayVersion status held holds =
-    Ends status (Appends held holds version_text) (AppendsPrefix held holds version_text)
-Shows kind status held holds = (status ≡ 2) × (holds ≡ held)
+ShowsError error.DisplayVersion status held holds =
+    EndsWithStatus status (Appends held holds version_text) (AppendsPrefix held holds version_text)
+ShowsError kind status held holds = (status ≡ 2) × (holds ≡ held)
 
 -- clap takes the words, and what they ask for was done
 pub record Obeyed (files : Text → Option (List ℕ)) (words : List Text) (status : ℕ)
@@ -133,7 +135,7 @@ pub record Explained (words : List Text) (status : ℕ) (unread left held holds 
   pub kind : ErrorKind
   pub why : (kind ≡ error.OutOfMemory) ⊎ IsAmong kind (fault_of vacation words)
   pub unused : left ≡ unread
-  pub shown : Shows kind status held holds
+  pub shown : ShowsError kind status held holds
 
 -- what the program does with the words of a command line, where each file has the bytes that are
 -- known of it

@@ -5,7 +5,7 @@ ghost use Rattle.std.specs.Io.KnownBytes.{Appends};
 ghost use Rattle.clap.specs.Words.{kind_of};
 ghost use Rattle.clap.specs.declared.error.kind.ErrorKind.TheVariants.{DisplayVersion};
 ghost use Rattle.vac_model.specs.Ranges.{is_block_count};
-ghost use Rattle.vac_cli.specs.Program.{Runs, Dumps, Checks, Lists, Shows, Serves};
+ghost use Rattle.vac_cli.specs.Program.{RunsScript, Dumps, Checks, ListsTasks, ShowsError, Serves};
 
 use crate::files::Open;
 use crate::judging::{judge, judge_opaque};
@@ -80,7 +80,7 @@ pub fn refuse_words<E: Write>(errors: &mut E) -> u8
 /// Runs a script and returns the status.
 fn run<R: Read, W: Write>(alloc: Global, blocks: u32, input: &mut R, output: &mut W) -> u8
     requires { is_block_count blocks ≡ true }
-    ensures { Runs blocks result (R.remaining input.old) (R.remaining input.new)
+    ensures { RunsScript blocks result (R.remaining input.old) (R.remaining input.new)
         (W.contents output.old) (W.contents output.new) }
 {
     match run_script(alloc, blocks, input, output) {
@@ -121,7 +121,7 @@ fn list_tasks<W: Write, E: Write>(
     output: &mut W,
     errors: &mut E,
 ) -> u8
-    ensures { Lists result settings.now (W.contents output.old) (W.contents output.new) }
+    ensures { ListsTasks result settings.now (W.contents output.old) (W.contents output.new) }
 {
     match write_tasks(alloc, settings, output) {
         Ok(()) => DONE,
@@ -134,7 +134,8 @@ fn list_tasks<W: Write, E: Write>(
 /// Shows the help or the version that was asked for, or why the command line was refused, and
 /// returns the status.
 fn show<W: Write, E: Write>(alloc: Global, error: &Error, output: &mut W, errors: &mut E) -> u8
-    ensures { Shows (kind_of error.now) result (W.contents output.old) (W.contents output.new) }
+    ensures { ShowsError (kind_of error.now) result (W.contents output.old)
+        (W.contents output.new) }
 {
     match error.kind() {
         ErrorKind::OutOfMemory => end_by(StreamFault::Memory, output),
@@ -149,7 +150,7 @@ fn show<W: Write, E: Write>(alloc: Global, error: &Error, output: &mut W, errors
 
 /// Writes what the program says of itself, and returns the status.
 fn show_version<W: Write>(output: &mut W) -> u8
-    ensures { Shows DisplayVersion result (W.contents output.old) (W.contents output.new) }
+    ensures { ShowsError DisplayVersion result (W.contents output.old) (W.contents output.new) }
 {
     match write_and_flush(output, VERSION.as_bytes()) {
         Ok(()) => DONE,

@@ -15,7 +15,7 @@ use Rattle.vac_model.specs.State.{State, Bookings, Place, item_of, with_item, wi
 use Rattle.vac_model.specs.Step.{done, refused, step, taken, new_booking}
 use Rattle.vac_model.proofs.States.{item_of-with_bookings}
 use Rattle.tx_alloc.specs.Pointer.{pointer}
-use Rattle.tx_alloc.specs.Drawing.{Drawn, IsDrawing}
+use Rattle.tx_alloc.specs.Drawing.{DrawnBlock, IsDrawing}
 use Rattle.tx_alloc.specs.Pool.{NoneFree}
 use Rattle.tx_alloc.specs.Rows.{Rows, times, block_at}
 use Rattle.tx_alloc.proofs.Sums.{sum_has}
@@ -44,7 +44,7 @@ use Rattle.vac_records.proofs.Links.{list_one}
 use Rattle.vac_records.proofs.Single.{none_left, some_left}
 use Rattle.vac_commands.specs.declared.bookings.Offer.{Offer}
 use Rattle.vac_commands.specs.Entries.{ItemIsAt, CustomerIsAt}
-use Rattle.vac_commands.specs.BookingSteps.{booking_block, Here, AtSpot, HasSpot, IsOffered, Lands, Serves}
+use Rattle.vac_commands.specs.BookingSteps.{booking_block, Here, AtSpot, HasSpot, IsOffered, Lands, ServesCommand}
 use Rattle.vac_commands.proofs.Serving.{reads_serve}
 use Rattle.vac_commands.proofs.Owners.{here_at, owned, at_owner, its_list, at_item, its_item, not_booked}
 use Rattle.vac_commands.proofs.Owners.{owner_in_table, owner_is_block}
@@ -222,7 +222,7 @@ module _ (s : View) (customer owner : ℕ) (kind : Kind) (id item num : ℕ) (of
       booking_block h owner (kind, id) ≡ 0
   none image state h p = none_at (mem s image) (length image) state h customer owner kind id item spot absent p
 
-  pub no_block : (s1 : View) → NoneFree s s1 → Serves s s1 (command.Reserve customer kind id num) (reply.No Full)
+  pub no_block : (s1 : View) → NoneFree s s1 → ServesCommand s s1 (command.Reserve customer kind id num) (reply.No Full)
       (AtSpot customer owner kind id item spot)
   no_block s1 z = reads_serve s s1 (command.Reserve customer kind id num) (reply.No Full)
       (AtSpot customer owner kind id item spot) (record { kept = z.kept; writes = z.writes }) (λ image state i h p.
@@ -231,7 +231,7 @@ module _ (s : View) (customer owner : ℕ) (kind : Kind) (id item num : ℕ) (of
       num (enough_at image (z.kept.seen image i)) (z.none image q.free (used_in q) (count_in q) i
       (pool_there (mem s image) (length image) [] state h.represents)))
 
-  module _ (s1 : View) (b start : ℕ) (t : Drawn s s1 start b) where
+  module _ (s1 : View) (b start : ℕ) (t : DrawnBlock s s1 start b) where
     its_taking : (image : List ℕ) (state : State) → Sees s1 image → (h : IsState (mem s image) (length image) state) →
         IsDrawing (mem s image) (mem s1 image) (length image) h.represents.parts.free (used_in h.represents.parts)
         (count_in h.represents.parts) start b
@@ -324,7 +324,7 @@ module _ (s : View) (customer owner : ℕ) (kind : Kind) (id item num : ℕ) (of
           }
 
       pub add_done : (s3 : View) → ItemChangedOf s2 s3 item offer.free (λ x. taken x num) →
-          Serves s s3 (command.Reserve customer kind id num) reply.Done (AtSpot customer owner kind id item spot)
+          ServesCommand s s3 (command.Reserve customer kind id num) reply.Done (AtSpot customer owner kind id item spot)
       add_done s3 made = record {
         kept = kept_both s s2 s3 (kept_both s s1 s2 t.kept w.kept) made.kept;
         untouched = tt;

@@ -7,7 +7,7 @@ use Rattle.vac_model.specs.declared.replies.Reply.TheVariants as reply
 use Rattle.vac_model.specs.State.{State, Bookings, bookings_of, bill_of}
 use Rattle.vac_model.specs.declared.commands.Command.{Command}
 use Rattle.vac_model.specs.declared.replies.Reply.{Reply}
-use Rattle.vac_model.specs.Step.{answered, step}
+use Rattle.vac_model.specs.Step.{number_answered, step}
 use Rattle.vac_model.proofs.Balance.{size-without_customer}
 use Rattle.vac_model.proofs.Bounds.{bill_small}
 use Rattle.vac_records.specs.Items.{mem}
@@ -20,7 +20,7 @@ use Rattle.vac_records.proofs.Bridges.{list_there, bill_there}
 use Rattle.vac_records.proofs.Customers.{customer_found}
 use Rattle.vac_records.proofs.Frames.{length_same}
 use Rattle.vac_commands.specs.Entries.{customer_block, LacksCustomer, HasCustomerAt, CustomerIsAt}
-use Rattle.vac_commands.specs.Ran.{Ran, Asked}
+use Rattle.vac_commands.specs.Ran.{Ran, RanQuestion}
 use Rattle.vac_commands.specs.CustomerSteps.{RanOn}
 use Rattle.vac_commands.proofs.Held.{state_on, outcome_same, customer_none, asked_reads, asked_after, read_none}
 
@@ -87,7 +87,7 @@ bill_found s s' id c total some b = record {
       sym (bill_there (mem s image) (length image) [] state id c t.bookings h.represents t.is) ∙ sym sum in
       let there = t.is.there in
       let stepped : step state (command.Bill id) ≡ (state, reply.Number (Some total)) =
-      rw there (ap (λ (z : ℕ). answered state (Some z)) bill) in
+      rw there (ap (λ (z : ℕ). number_answered state (Some z)) bill) in
       outcome_same (mem s' image) (length image) state (command.Bill id) (reply.Number (Some total))
       (state_on s s' image state b.writes h) stepped;
 }
@@ -112,11 +112,11 @@ ran_missing s s' id command r lacks v = record {
 }
 
 pub asked_found : (s s' : View) (id block : ℕ) (c : Command) (r : Reply) → HasCustomerAt s id block →
-    RanOn s s' id block c r → s'.writes ≡ s.writes → Asked s s' c r
+    RanOn s s' id block c r → s'.writes ≡ s.writes → RanQuestion s s' c r
 asked_found s s' id block c r at v w = record { ran = ran_found s s' id block c r at v; writes = w }
 
 pub bill_missing : (s s' : View) (id : ℕ) → OnlyRead s s' → LacksCustomer s' id →
-    Asked s s' (command.Bill id) (reply.Number None)
+    RanQuestion s s' (command.Bill id) (reply.Number None)
 bill_missing s s' id r lacks =
     asked_after s s' s' (command.Bill id) (reply.Number None) r
     (asked_reads s' s' (command.Bill id) (reply.Number None) (read_none s') (λ image state i h.

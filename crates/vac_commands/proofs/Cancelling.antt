@@ -30,7 +30,7 @@ use Rattle.vac_records.proofs.Booked.{booking_removed}
 use Rattle.vac_records.proofs.Hands.{block_given}
 use Rattle.vac_records.proofs.Bridges.{hand_there}
 use Rattle.vac_commands.specs.Entries.{ItemIsAt, CustomerIsAt}
-use Rattle.vac_commands.specs.BookingSteps.{booking_block, Here, AtSpot, HasSpot, Lands, Serves}
+use Rattle.vac_commands.specs.BookingSteps.{booking_block, Here, AtSpot, HasSpot, Lands, ServesCommand}
 use Rattle.vac_commands.proofs.Serving.{reads_serve}
 use Rattle.vac_commands.proofs.Owners.{here_at, owned, at_owner, its_list, at_item, its_item, booked_at, not_booked}
 use Rattle.vac_commands.proofs.Owners.{booking_is_block}
@@ -150,7 +150,8 @@ module _ (s s1 : View) (customer owner : ℕ) (kind : Kind) (id item : ℕ) (spo
       u.unbooking image i owner (kind, id) (h.represents.parts.lists owner)
       (its_list (mem s image) (length image) state h customer owner kind id item p.here) p.at
 
-  pub none_booked : UnbookedAt s s1 spot None → Serves s s1 (command.Cancel customer kind id) (reply.No NotBooked)
+  pub none_booked : UnbookedAt s s1 spot None → ServesCommand s s1 (command.Cancel customer kind id)
+      (reply.No NotBooked)
       (AtSpot customer owner kind id item spot)
   none_booked u = reads_serve s s1 (command.Cancel customer kind id) (reply.No NotBooked)
       (AtSpot customer owner kind id item spot) (record { kept = u.kept; writes = u.none refl }) (λ image state i h p.
@@ -219,7 +220,7 @@ module _ (s s1 : View) (customer owner : ℕ) (kind : Kind) (id item : ℕ) (spo
       }
 
     pub cancel_done : (s2 s3 : View) (start : ℕ) → start < 8 → ItemChanged s1 s2 item (λ y. given_back y units) →
-        Given s2 s3 start x → Serves s s3 (command.Cancel customer kind id) reply.Done
+        Given s2 s3 start x → ServesCommand s s3 (command.Cancel customer kind id) reply.Done
         (AtSpot customer owner kind id item spot)
     cancel_done s2 s3 start low w v = record {
       kept = kept_both s s2 s3 (kept_both s s1 s2 u.kept w.kept) v.kept;

@@ -27,7 +27,8 @@ use Rattle.vac_records.proofs.Items.{item_replaced}
 use Rattle.vac_records.proofs.Booked.{booking_replaced}
 use Rattle.vac_commands.specs.declared.bookings.Offer.{Offer}
 use Rattle.vac_commands.specs.Entries.{ItemIsAt, CustomerIsAt}
-use Rattle.vac_commands.specs.BookingSteps.{booking_block, Here, AtBooking, HasBookingAt, IsOffered, Lands, Serves}
+use Rattle.vac_commands.specs.BookingSteps.{booking_block, Here, AtBooking, HasBookingAt, IsOffered, Lands}
+use Rattle.vac_commands.specs.BookingSteps.{ServesCommand}
 use Rattle.vac_commands.proofs.Serving.{reads_serve}
 use Rattle.vac_commands.proofs.Held.{item_stood}
 use Rattle.vac_commands.proofs.Owners.{here_at, owned, at_owner, at_item, its_item, booked_at}
@@ -131,7 +132,7 @@ module _ (s : View) (customer owner : ℕ) (kind : Kind) (id item num : ℕ) (of
   enough_at image i = omega (arith, o.enough, o.free_is image i)
 
   module _ (s1 : View) (v : ℕ) (l : Loaded s s1 (b + 4) v) where
-    pub too_many : 10000 < v + num → Serves s s1 (command.Reserve customer kind id num) (reply.No UnitLimit)
+    pub too_many : 10000 < v + num → ServesCommand s s1 (command.Reserve customer kind id num) (reply.No UnitLimit)
         (AtBooking customer owner kind id item b)
     too_many over = reads_serve s s1 (command.Reserve customer kind id num) (reply.No UnitLimit)
         (AtBooking customer owner kind id item b) (record { kept = l.kept; writes = l.writes }) (λ image state i h p.
@@ -204,7 +205,7 @@ module _ (s : View) (customer owner : ℕ) (kind : Kind) (id item num : ℕ) (of
       }
 
       pub extend_done : (s3 : View) → v + num ≤ 10000 → ItemChangedOf s2 s3 item offer.free (λ x. taken x num) →
-          Serves s s3 (command.Reserve customer kind id num) reply.Done (AtBooking customer owner kind id item b)
+          ServesCommand s s3 (command.Reserve customer kind id num) reply.Done (AtBooking customer owner kind id item b)
       extend_done s3 under made = record {
         kept = kept_both s s2 s3 (kept_both s s1 s2 l.kept w.kept) made.kept;
         untouched = tt;

@@ -27,7 +27,7 @@ use Rattle.vac_commands.specs.Entries.{item_block, customer_block, LacksItem, Ha
 use Rattle.vac_commands.specs.Entries.{ItemIsAt, CustomerIsAt, CustomerIsMissing, ItemsStay, CustomersStay}
 use Rattle.vac_model.specs.declared.replies.Reply.TheVariants as reply
 use Rattle.vac_model.specs.declared.commands.Command.TheVariants as command
-use Rattle.vac_commands.specs.Ran.{IsOutcome, Ran, Asked, Untouched, Idle}
+use Rattle.vac_commands.specs.Ran.{IsOutcome, Ran, RanQuestion, Untouched, Idle}
 
 -- the memory after a command holds a state
 pub held_ran : (s s' : View) (c : Command) (r : Reply) → Ran s s' c r → HoldsState s → HoldsState s'
@@ -234,7 +234,7 @@ ran_reads s s' c r reads e = record {
 
 pub asked_reads : (s s' : View) (c : Command) (r : Reply) → OnlyRead s s' →
     ((image : List ℕ) (state : State) → Sees s' image → IsState (mem s image) (length image) state →
-    step state c ≡ (state, r)) → Asked s s' c r
+    step state c ≡ (state, r)) → RanQuestion s s' c r
 asked_reads s s' c r reads e = record { ran = ran_reads s s' c r reads e; writes = reads.writes }
 
 -- a command that ran after reads ran from the memory before them
@@ -246,7 +246,8 @@ ran_after s s' s'' c r reads h = record {
   outcome = λ image state i is. h.outcome image state i (state_on s s' image state reads.writes is);
 }
 
-pub asked_after : (s s' s'' : View) (c : Command) (r : Reply) → OnlyRead s s' → Asked s' s'' c r → Asked s s'' c r
+pub asked_after : (s s' s'' : View) (c : Command) (r : Reply) → OnlyRead s s' → RanQuestion s' s'' c r →
+    RanQuestion s s'' c r
 asked_after s s' s'' c r reads h = record { ran = ran_after s s' s'' c r reads h.ran; writes = h.writes ∙ reads.writes }
 
 -- entries that stay in their blocks

@@ -5,7 +5,7 @@ use Rattle.vac_model.specs.declared.items.Kind.{Kind}
 use Rattle.vac_model.specs.State.{State, kind_number, without_item}
 use Rattle.tx_alloc.specs.Pool.{IsBlock, HasUsed, Given}
 use Rattle.tx_alloc.specs.Rows.{block_at}
-use Rattle.tx_tree.specs.Table.{Table, Found, Removed}
+use Rattle.tx_tree.specs.Table.{Table, FoundRow, Removed}
 use Rattle.vac_records.specs.Items.{mem}
 use Rattle.vac_records.specs.Steps.{kept_both, stood}
 use Rattle.vac_records.specs.Represents.{Represents, IsState}
@@ -29,11 +29,11 @@ item_there s kind id b at = record { there = λ image state i h e. at.some (sym 
 
 -- the removal finds the item
 pub gone_none : (s s1 : View) (kind : Kind) (id root : ℕ) → root ≡ 1 + kind_number kind → HasItem s kind id →
-    Found s s1 root id 0 → ItemGone s s1 kind id
+    FoundRow s s1 root id 0 → ItemGone s s1 kind id
 gone_none s s1 kind id root e has f = record {
   kept = f.kept;
   gone = λ image state i h.
-      let g = subst (λ (x : ℕ). Found s s1 x id 0) e f in
+      let g = subst (λ (x : ℕ). FoundRow s s1 x id 0) e f in
       let rows = h.represents.parts.tables (kind_number kind) in
       let zero : 0 ≡ block_at rows id = g.is image rows i (table_of_kind (mem s image) (length image) state kind h) in
       absurd (has.there image state (f.kept.seen image i) h (sym zero));

@@ -13,7 +13,7 @@ use Rattle.vac_model.specs.Ranges.{is_command}
 use Rattle.vac_model.specs.State.{State, item_of, with_item}
 use Rattle.vac_model.specs.Step.{step, added, total_limit}
 use Rattle.vac_model.specs.Balanced.{IsItem}
-use Rattle.vac_records.specs.Items.{mem, item_in, HasRoom, HasMore, UnitsAdded}
+use Rattle.vac_records.specs.Items.{mem, item_in, HasRoomForUnits, HasMore, UnitsAdded}
 use Rattle.vac_records.specs.Steps.{kept_both, stood}
 use Rattle.vac_records.specs.Represents.{IsState}
 use Rattle.vac_records.specs.InMemory.{HoldsState}
@@ -61,7 +61,7 @@ past_limit s s1 kind id b num v price at l over = ran_reads s s1 (command.Add ki
 
 -- both counts have room for the units
 pub more_room : (s s1 : View) (kind : Kind) (id b num v : ℕ) → HoldsState s → HasItemAt s kind id b → num < 2 ^ 32 →
-    Loaded s s1 (b + 6) v → HasRoom s1 b num
+    Loaded s s1 (b + 6) v → HasRoomForUnits s1 b num
 more_room s s1 kind id b num v held at few l =
     let sound : (image : List ℕ) → RestsOn s1 image → (mem s image (b + 5) ≤ 1000000000) ×
     (mem s image (b + 6) ≤ 1000000000) = λ image i.

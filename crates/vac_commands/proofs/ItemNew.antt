@@ -11,7 +11,7 @@ use Rattle.vac_model.specs.declared.commands.Why.TheVariants.{NeedsCountAndPrice
 use Rattle.vac_model.specs.Ranges.{is_command}
 use Rattle.vac_model.specs.State.{State, kind_number, item_of, with_item, is_full}
 use Rattle.vac_model.specs.Step.{step, new_item}
-use Rattle.tx_alloc.specs.Drawing.{Drawn}
+use Rattle.tx_alloc.specs.Drawing.{DrawnBlock}
 use Rattle.tx_alloc.specs.Pool.{NoneFree, IsBlock}
 use Rattle.tx_alloc.specs.Rows.{Rows, block_at}
 use Rattle.tx_tree.specs.Table.{Fresh, Table, HasTable, IsFresh, Inserted}
@@ -89,7 +89,7 @@ pub record InHand {m : ℕ → ℕ} {n : ℕ} {state : State} (h : Represents m 
   pub block : IsBlock n b
   pub stays : Stays h m' (b ∷ []) state
 
-pub in_hand : (s s1 s2 : View) (id num p start b : ℕ) (image : List ℕ) (state : State) → Drawn s s1 start b →
+pub in_hand : (s s1 s2 : View) (id num p start b : ℕ) (image : List ℕ) (state : State) → DrawnBlock s s1 start b →
     ItemMade s1 s2 b id num p → Sees s2 image →
     (h : Represents (mem s image) (length image) [] state) → InHand h (mem s2 image) b
 in_hand s s1 s2 id num p start b image state t w i h =
@@ -122,7 +122,7 @@ new_table m m2 n b state kind h hand =
     (b ∷ []) state k hand.stays.after h.small.small l)
 
 pub table_in_hand : (s s1 s2 : View) (kind : Kind) (id num p start b root : ℕ) → root ≡ 1 + kind_number kind →
-    HoldsState s → Drawn s s1 start b → ItemMade s1 s2 b id num p → HasTable s2 root
+    HoldsState s → DrawnBlock s s1 start b → ItemMade s1 s2 b id num p → HasTable s2 root
 table_in_hand s s1 s2 kind id num p start b root e held t w = record {
   small = omega (arith, held.small, t.kept.size, w.kept.size);
   room = omega (arith, held.inside, t.kept.size, w.kept.size);
@@ -135,7 +135,7 @@ table_in_hand s s1 s2 kind id num p start b root e held t w = record {
 }
 
 pub fresh_in_hand : (s s1 s2 : View) (kind : Kind) (id num p start b root : ℕ) → root ≡ 1 + kind_number kind →
-    HoldsState s → LacksItem s kind id → Drawn s s1 start b → ItemMade s1 s2 b id num p → IsFresh s2 root id b
+    HoldsState s → LacksItem s kind id → DrawnBlock s s1 start b → ItemMade s1 s2 b id num p → IsFresh s2 root id b
 fresh_in_hand s s1 s2 kind id num p start b root e held l t w = record {
   under = λ image rows i other.
       let m2 = mem s2 image in
@@ -165,7 +165,7 @@ new_numbers m m' b id num p w = λ i. record {
 
 pub new_done : (s s1 s2 s3 : View) (kind : Kind) (id num p start b root : ℕ) → root ≡ 1 + kind_number kind →
     LacksItem s kind id → is_command (command.Add kind id num (Some p)) ≡ true → num ≢ 0 →
-    Drawn s s1 start b → ItemMade s1 s2 b id num p → Inserted s2 s3 root id b →
+    DrawnBlock s s1 start b → ItemMade s1 s2 b id num p → Inserted s2 s3 root id b →
     Ran s s3 (command.Add kind id num (Some p)) reply.Done
 new_done s s1 s2 s3 kind id num p start b root e l range nz t w v = record {
   kept = kept_both s s2 s3 (kept_both s s1 s2 t.kept w.kept) v.kept;

@@ -11,7 +11,7 @@ use Rattle.vac_model.specs.declared.replies.Reply.TheVariants as reply
 use Rattle.vac_model.specs.State.{State, Bookings, kind_number, bookings_of, with_bookings, size, is_full}
 use Rattle.vac_model.specs.Ranges.{is_command}
 use Rattle.vac_model.specs.Step.{step}
-use Rattle.tx_alloc.specs.Drawing.{Drawn, IsDrawing}
+use Rattle.tx_alloc.specs.Drawing.{DrawnBlock, IsDrawing}
 use Rattle.tx_alloc.specs.Pool.{NoneFree}
 use Rattle.tx_alloc.specs.Rows.{Rows, put_row, block_at}
 use Rattle.tx_alloc.proofs.Order.{at_put}
@@ -72,7 +72,7 @@ none_left_over s s' id n = record {
 }
 
 -- the block that was taken
-taking : (s s1 : View) (start b : ℕ) (image : List ℕ) (state : State) → Drawn s s1 start b →
+taking : (s s1 : View) (start b : ℕ) (image : List ℕ) (state : State) → DrawnBlock s s1 start b →
     Sees s1 image → (h : IsState (mem s image) (length image) state) →
     IsDrawing (mem s image) (mem s1 image) (length image) h.represents.parts.free
     (used_in h.represents.parts) (count_in h.represents.parts) start b
@@ -80,11 +80,11 @@ taking s s1 start b image state t i h =
     t.drawing image h.represents.parts.free (used_in h.represents.parts) (count_in h.represents.parts) i
     (pool_there (mem s image) (length image) [] state h.represents)
 
-pub taken_node : (s s1 : View) (start b : ℕ) → HoldsState s → Drawn s s1 start b → IsNode s1 b
+pub taken_node : (s s1 : View) (start b : ℕ) → HoldsState s → DrawnBlock s s1 start b → IsNode s1 b
 taken_node s s1 start b h t = record { inside = t.room; small = omega (arith, h.small, t.kept.size) }
 
 -- the state while the block is in hand
-module _ (s s1 s2 : View) (id start b : ℕ) (t : Drawn s s1 start b) (w : CustomerMade s1 s2 b id) where
+module _ (s s1 s2 : View) (id start b : ℕ) (t : DrawnBlock s s1 start b) (w : CustomerMade s1 s2 b id) where
   in_hand : (image : List ℕ) (state : State) → Sees s2 image →
       (h : IsState (mem s image) (length image) state) →
       Stays h.represents (mem s2 image) (b ∷ []) state

@@ -38,7 +38,7 @@ use Rattle.vac_records.proofs.Customers.{customer_found}
 use Rattle.vac_records.proofs.Items.{item_found}
 use Rattle.vac_records.proofs.Counting.{some_lt}
 use Rattle.vac_commands.specs.Entries.{customer_block, LacksItem, HasItemAt, CustomerIsAt}
-use Rattle.vac_commands.specs.BookingSteps.{Here, AtSpot, HasSpot, Lands, Serves}
+use Rattle.vac_commands.specs.BookingSteps.{Here, AtSpot, HasSpot, Lands, ServesCommand}
 use Rattle.vac_commands.specs.CustomerSteps.{HasFirst, StartsAt, PlaceRead, IsLeaving, OneGivenBack, GivenBack}
 use Rattle.vac_commands.proofs.Held.{state_on, item_same, item_is, item_none}
 use Rattle.vac_commands.proofs.Serving.{serves_after, outcome_lands, customer_lands}
@@ -166,7 +166,8 @@ module _ (s s1 s2 : View) (id c b : ℕ) (place : Place) (read : PlaceRead s s1 
   module _ (s3 : View) (item : ℕ) (reply : Reply) (c_some : c ≢ 0) (b_some : b ≢ 0)
       (at : HasItemAt s2 place.0 place.1 item) (small : place.1 < 2 ^ 32)
       (range : is_command (command.Cancel id place.0 place.1) ≡ true)
-      (v : Serves s2 s3 (command.Cancel id place.0 place.1) reply (AtSpot id c place.0 place.1 item (head_spot c b)))
+      (v : ServesCommand s2 s3 (command.Cancel id place.0 place.1) reply
+      (AtSpot id c place.0 place.1 item (head_spot c b)))
     where
       lands : (image : List ℕ) (state : State) → Sees s3 image → (h : IsState (mem s image) (length image) state) →
           customer_block h id ≡ c → mem s image (head_of c) ≡ b →

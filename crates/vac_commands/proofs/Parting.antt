@@ -10,7 +10,7 @@ use Rattle.vac_model.specs.Ranges.{is_command}
 use Rattle.vac_model.specs.State.{State, Bookings, bookings_of, without_customer}
 use Rattle.tx_alloc.specs.Pool.{IsBlock, HasUsed, Given}
 use Rattle.tx_alloc.specs.Rows.{Rows, cut_row, block_at}
-use Rattle.tx_tree.specs.Table.{Found, Removed}
+use Rattle.tx_tree.specs.Table.{FoundRow, Removed}
 use Rattle.vac_records.specs.Items.{mem}
 use Rattle.vac_records.specs.Heap.{used_in, count_in}
 use Rattle.vac_records.specs.Represents.{IsState}
@@ -33,7 +33,7 @@ not_both : {X : Type 0} (o : Option X) (x : X) → o ≡ None → o ≡ Some x �
 not_both {X} o x e f = let z : ◌≡◌ {A = Option X} None (Some x) = sym e ∙ f in cc
 
 -- the customer was not there after all
-pub none_removed : (s s' : View) (id : ℕ) → HasNoBookings s id → Found s s' 4 id 0 → CustomerGone s s' id
+pub none_removed : (s s' : View) (id : ℕ) → HasNoBookings s id → FoundRow s s' 4 id 0 → CustomerGone s s' id
 none_removed s s' id bare f = record {
   kept = f.kept;
   gone = λ image state i h there.

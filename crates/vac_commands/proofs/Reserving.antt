@@ -20,7 +20,7 @@ use Rattle.vac_records.specs.Bookings.{place_key}
 use Rattle.vac_records.specs.Customers.{head_of}
 use Rattle.vac_records.specs.InMemory.{OnlyRead}
 use Rattle.vac_commands.specs.Entries.{HasItemAt, HasCustomerAt}
-use Rattle.vac_commands.specs.BookingSteps.{AtBlocks, AtBooking, AtSpot, IsOffered, Serves}
+use Rattle.vac_commands.specs.BookingSteps.{AtBlocks, AtBooking, AtSpot, IsOffered, ServesCommand}
 use Rattle.vac_commands.proofs.Held.{read_none, read_both}
 use Rattle.vac_commands.proofs.Serving.{RanInPlace, in_place, reads_serve, serves_after, serves_where}
 use Rattle.vac_commands.proofs.Owners.{here, owned, its_item, sought_only, spot_at}
@@ -44,7 +44,7 @@ sold_step s customer kind id num b item owner there less =
     rw (owner, there, t) refl
 
 pub sold_out : (s s1 : View) (customer owner : ℕ) (kind : Kind) (id item num v : ℕ) → Loaded s s1 (item + 5) v →
-    v < num → Serves s s1 (command.Reserve customer kind id num) (reply.No SoldOut)
+    v < num → ServesCommand s s1 (command.Reserve customer kind id num) (reply.No SoldOut)
     (AtBlocks customer owner kind id item)
 sold_out s s1 customer owner kind id item num v l less = reads_serve s s1 (command.Reserve customer kind id num)
     (reply.No SoldOut) (AtBlocks customer owner kind id item) (load_only s s1 (item + 5) v l) (λ image state i h e.
@@ -57,7 +57,8 @@ sold_out s s1 customer owner kind id item num v l less = reads_serve s s1 (comma
 pub reserved_some : (s s2 s3 s4 : View) (customer owner : ℕ) (kind : Kind) (id item : ℕ) (spot : Spot) (b : ℕ)
     (c : Command) (r : Reply) → OnlyRead s s2 → Sought s2 s3 (head_of owner) (place_key (kind, id)) spot →
     spot.entry ≡ Some b →
-    Serves s3 s4 c r (AtBooking customer owner kind id item b) → Serves s s4 c r (AtBlocks customer owner kind id item)
+    ServesCommand s3 s4 c r (AtBooking customer owner kind id item b) →
+    ServesCommand s s4 c r (AtBlocks customer owner kind id item)
 reserved_some s s2 s3 s4 customer owner kind id item spot b c r reads f is v =
     serves_where s s4 c r (AtBlocks customer owner kind id item) (AtBooking customer owner kind id item b)
     (serves_after s s3 s4 c r (AtBooking customer owner kind id item b)
@@ -71,7 +72,8 @@ reserved_some s s2 s3 s4 customer owner kind id item spot b c r reads f is v =
 
 pub reserved_none : (s s2 s3 s4 : View) (customer owner : ℕ) (kind : Kind) (id item : ℕ) (spot : Spot) (c : Command)
     (r : Reply) → OnlyRead s s2 → Sought s2 s3 (head_of owner) (place_key (kind, id)) spot →
-    Serves s3 s4 c r (AtSpot customer owner kind id item spot) → Serves s s4 c r (AtBlocks customer owner kind id item)
+    ServesCommand s3 s4 c r (AtSpot customer owner kind id item spot) →
+    ServesCommand s s4 c r (AtBlocks customer owner kind id item)
 reserved_none s s2 s3 s4 customer owner kind id item spot c r reads f v =
     serves_where s s4 c r (AtBlocks customer owner kind id item) (AtSpot customer owner kind id item spot)
     (serves_after s s3 s4 c r (AtSpot customer owner kind id item spot)
@@ -85,7 +87,7 @@ reserved_none s s2 s3 s4 customer owner kind id item spot c r reads f v =
 -- the customer and the item were found
 pub served_found : (s s' : View) (customer owner : ℕ) (kind : Kind) (id item : ℕ) (c : Command) (r : Reply) →
     is_command c ≡ true → HasCustomerAt s customer owner → HasItemAt s kind id item → id < 2 ^ 32 →
-    Serves s s' c r (AtBlocks customer owner kind id item) → RanInPlace s s' c r
+    ServesCommand s s' c r (AtBlocks customer owner kind id item) → RanInPlace s s' c r
 served_found s s' customer owner kind id item c r range at f small v =
     in_place s s' c r (AtBlocks customer owner kind id item) range v
     (λ image state i h. here s customer owner kind id item at f small image state (v.kept.seen image i) h)
@@ -95,7 +97,7 @@ pub cancelled_found : (s s1 s' : View) (customer owner : ℕ) (kind : Kind) (id 
     is_command (command.Cancel customer kind id) ≡ true → HasCustomerAt s customer owner → HasItemAt s kind id item →
     id < 2 ^ 32 →
     Sought s s1 (head_of owner) (place_key (kind, id)) spot →
-    Serves s1 s' (command.Cancel customer kind id) r (AtSpot customer owner kind id item spot) →
+    ServesCommand s1 s' (command.Cancel customer kind id) r (AtSpot customer owner kind id item spot) →
     RanInPlace s s' (command.Cancel customer kind id) r
 cancelled_found s s1 s' customer owner kind id item spot r range at f small k v =
     let c = command.Cancel customer kind id in

@@ -16,7 +16,7 @@ use Rattle.vac_records.specs.Steps.{kept_both}
 use Rattle.vac_records.proofs.Shifts.{kind_small}
 use Rattle.vac_records.proofs.Single.{one_shape}
 use Rattle.vac_commands.specs.Entries.{item_block, customer_block, ItemsStay, CustomersStay}
-use Rattle.vac_commands.specs.BookingSteps.{Lands, Serves}
+use Rattle.vac_commands.specs.BookingSteps.{Lands, ServesCommand}
 use Rattle.vac_commands.specs.Ran.{IsOutcome, Ran}
 use Rattle.vac_commands.proofs.Held.{outcome_of, untouched_reads, untouched_after, idle_reads, idle_after}
 
@@ -53,7 +53,7 @@ outcome_lands m m' n s c r h range l = outcome_of m m' n s l.state c r h range l
 
 -- P holds under every image
 pub in_place : (s s' : View) (c : Command) (r : Reply) (P : (m : ℕ → ℕ) (n : ℕ) (state : State) → IsState m n state →
-    Type 0) → is_command c ≡ true → Serves s s' c r P →
+    Type 0) → is_command c ≡ true → ServesCommand s s' c r P →
     ((image : List ℕ) (state : State) → Sees s' image → (h : IsState (mem s image) (length image) state) →
     P (mem s image) (length image) state h) → RanInPlace s s' c r
 in_place s s' c r P range v all = record {
@@ -83,7 +83,7 @@ read_stays s s' image n state h w =
 pub reads_serve : (s s' : View) (c : Command) (r : Reply) (P : (m : ℕ → ℕ) (n : ℕ) (state : State) → IsState m n state →
     Type 0) → OnlyRead s s' →
     ((image : List ℕ) (state : State) → Sees s' image → (h : IsState (mem s image) (length image) state) →
-    P (mem s image) (length image) state h → step state c ≡ (state, r)) → Serves s s' c r P
+    P (mem s image) (length image) state h → step state c ≡ (state, r)) → ServesCommand s s' c r P
 reads_serve s s' c r P k e = record {
   kept = k.kept;
   untouched = untouched_reads s s' r k.writes;
@@ -97,7 +97,7 @@ reads_serve s s' c r P k e = record {
 
 -- a command that runs after reads
 pub serves_after : (s s1 s' : View) (c : Command) (r : Reply) (P : (m : ℕ → ℕ) (n : ℕ) (state : State) →
-    IsState m n state → Type 0) → OnlyRead s s1 → Serves s1 s' c r P → Serves s s' c r P
+    IsState m n state → Type 0) → OnlyRead s s1 → ServesCommand s1 s' c r P → ServesCommand s s' c r P
 serves_after s s1 s' c r P k v = record {
   kept = kept_both s s1 s' k.kept v.kept;
   untouched = untouched_after s s1 s' r k.writes v.untouched;
@@ -108,9 +108,9 @@ serves_after s s1 s' c r P k v = record {
 
 -- less is asked where more follows
 pub serves_where : (s s' : View) (c : Command) (r : Reply) (P Q : (m : ℕ → ℕ) (n : ℕ) (state : State) →
-    IsState m n state → Type 0) → Serves s s' c r Q →
+    IsState m n state → Type 0) → ServesCommand s s' c r Q →
     ((image : List ℕ) (state : State) → Sees s' image → (h : IsState (mem s image) (length image) state) →
-    P (mem s image) (length image) state h → Q (mem s image) (length image) state h) → Serves s s' c r P
+    P (mem s image) (length image) state h → Q (mem s image) (length image) state h) → ServesCommand s s' c r P
 serves_where s s' c r P Q v more = record {
   kept = v.kept;
   untouched = v.untouched;

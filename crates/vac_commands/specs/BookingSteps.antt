@@ -80,7 +80,7 @@ pub record Lands {m : ℕ → ℕ} {n : ℕ} {s : State} (h : IsState m n s) (m'
 
 -- under each image on which the memory represents a state of which P holds, the command ran, and
 -- items and customers are in the same tables as before
-pub record Serves (s s' : View) (c : Command) (r : Reply)
+pub record ServesCommand (s s' : View) (c : Command) (r : Reply)
     (P : (m : ℕ → ℕ) (n : ℕ) (state : State) → IsState m n state → Type 0) : Type 0 where
   pub kept : Kept s s'
   pub untouched : Untouched s s' r

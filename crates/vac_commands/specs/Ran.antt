@@ -57,7 +57,7 @@ pub record Ran (s s' : View) (c : Command) (r : Reply) : Type 0 where
       IsOutcome (mem s' image) (length image) (step state c) r
 
 -- under each image the reply is the command's, and nothing was written
-pub record Asked (s s' : View) (c : Command) (r : Reply) : Type 0 where
+pub record RanQuestion (s s' : View) (c : Command) (r : Reply) : Type 0 where
   pub ran : Ran s s' c r
   pub writes : s'.writes ≡ s.writes
 

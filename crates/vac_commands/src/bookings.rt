@@ -5,7 +5,7 @@ ghost use Rattle.vac_model.specs.Ranges.{is_command};
 ghost use Rattle.vac_records.specs.InMemory.{HoldsState};
 ghost use Rattle.vac_commands.specs.Entries.{ItemIsAt, CustomerIsAt};
 ghost use Rattle.vac_commands.specs.Ran.{Ran};
-ghost use Rattle.vac_commands.specs.BookingSteps.{AtBlocks, AtBooking, AtSpot, HasBookingAt, HasSpot, IsOffered, Serves};
+ghost use Rattle.vac_commands.specs.BookingSteps.{AtBlocks, AtBooking, AtSpot, HasBookingAt, HasSpot, IsOffered, ServesCommand};
 
 use crate::find::{find_customer, find_item};
 use tx_alloc::{Block, FreeList, give, take_refilling};
@@ -69,7 +69,7 @@ pub fn reserve_at<M: TxMem>(
     requires item { ItemIsAt (M.view memory.old) kind id item }
     requires range { is_command (Command.Reserve customer kind id num) ≡ true }
     ensures origin { M.origin memory.new ≡ M.origin memory.old }
-    ensures answer { IfOk result (λ reply. Serves (M.view memory.old) (M.view memory.new)
+    ensures answer { IfOk result (λ reply. ServesCommand (M.view memory.old) (M.view memory.new)
         (Command.Reserve customer kind id num) reply
         (AtBlocks customer owner kind id item)) }
 {
@@ -110,7 +110,7 @@ fn extend_booking<M: TxMem>(
     requires booking { HasBookingAt (M.view memory.old) owner (kind, id) booking }
     requires range { is_command (Command.Reserve customer kind id num) ≡ true }
     ensures origin { M.origin memory.new ≡ M.origin memory.old }
-    ensures answer { IfOk result (λ reply. Serves (M.view memory.old) (M.view memory.new)
+    ensures answer { IfOk result (λ reply. ServesCommand (M.view memory.old) (M.view memory.new)
         (Command.Reserve customer kind id num) reply
         (AtBooking customer owner kind id item booking)) }
 {
@@ -144,7 +144,7 @@ fn add_booking<M: TxMem>(
     requires spot { HasSpot (M.view memory.old) owner (kind, id) spot }
     requires range { is_command (Command.Reserve customer kind id num) ≡ true }
     ensures origin { M.origin memory.new ≡ M.origin memory.old }
-    ensures answer { IfOk result (λ reply. Serves (M.view memory.old) (M.view memory.new)
+    ensures answer { IfOk result (λ reply. ServesCommand (M.view memory.old) (M.view memory.new)
         (Command.Reserve customer kind id num) reply
         (AtSpot customer owner kind id item spot)) }
 {
@@ -199,7 +199,7 @@ pub(crate) fn cancel_at<M: TxMem>(
     requires spot { HasSpot (M.view memory.old) owner (kind, id) spot }
     requires range { is_command (Command.Cancel customer kind id) ≡ true }
     ensures origin { M.origin memory.new ≡ M.origin memory.old }
-    ensures answer { IfOk result (λ reply. Serves (M.view memory.old) (M.view memory.new)
+    ensures answer { IfOk result (λ reply. ServesCommand (M.view memory.old) (M.view memory.new)
         (Command.Cancel customer kind id) reply
         (AtSpot customer owner kind id item spot)) }
 {

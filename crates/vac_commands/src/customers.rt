@@ -7,7 +7,7 @@ ghost use Rattle.vac_model.specs.Coded.{kind_of_number};
 ghost use Rattle.vac_records.specs.InMemory.{HoldsState};
 ghost use Rattle.vac_commands.specs.Entries.{CustomerIsAt, CustomerIsMissing};
 ghost use Rattle.vac_commands.specs.CustomerSteps.{RanOn, ItemsStayOn, HasSeat, HasNoBookings, StartsAt, PlaceRead, OneGivenBack, GivenBack};
-ghost use Rattle.vac_commands.specs.Ran.{Ran, Asked, CustomerGone, joining};
+ghost use Rattle.vac_commands.specs.Ran.{Ran, RanQuestion, CustomerGone, joining};
 
 use crate::bookings::cancel_at;
 use crate::find::{find_customer, find_item};
@@ -67,7 +67,7 @@ pub fn add_customer<M: TxMem>(
 pub fn bill<M: TxRead>(memory: &mut M, id: u32) -> Result<Option<u64>, M::Stop>
     requires { HoldsState (M.view memory.old) }
     ensures origin { M.origin memory.new ≡ M.origin memory.old }
-    ensures answer { IfOk result (λ n. Asked (M.view memory.old) (M.view memory.new)
+    ensures answer { IfOk result (λ n. RanQuestion (M.view memory.old) (M.view memory.new)
         (Command.Bill id) (Reply.Number n)) }
     ensures stopped { IfErr result (λ stop. M.stopped_for memory.new stop) }
 {

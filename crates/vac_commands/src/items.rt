@@ -4,10 +4,10 @@ ghost use Rattle.std.specs.Prelude.{◌≡◌, IfOk, IfErr, None, true};
 ghost use Rattle.vac_model.specs.Ranges.{is_command};
 ghost use Rattle.vac_model.specs.Step.{deleted};
 ghost use Rattle.vac_records.specs.InMemory.{HoldsState};
-ghost use Rattle.vac_records.specs.Items.{IsNode, HasRoom, HasFree, UnitsAdded, ItemChanged};
+ghost use Rattle.vac_records.specs.Items.{IsNode, HasRoomForUnits, HasFree, UnitsAdded, ItemChanged};
 ghost use Rattle.vac_commands.specs.Entries.{LacksItem, HasItem, HasItemAt};
 ghost use Rattle.vac_commands.specs.ItemSteps.{PriceGiven};
-ghost use Rattle.vac_commands.specs.Ran.{Ran, Asked, ItemGone};
+ghost use Rattle.vac_commands.specs.Ran.{Ran, RanQuestion, ItemGone};
 
 use crate::find::find_item;
 use tx_alloc::{Block, FreeList, give, take_refilling};
@@ -22,7 +22,7 @@ use vac_records::{
 pub fn free<M: TxRead>(memory: &mut M, kind: Kind, id: u32) -> Result<Option<u64>, M::Stop>
     requires { HoldsState (M.view memory.old) }
     ensures origin { M.origin memory.new ≡ M.origin memory.old }
-    ensures answer { IfOk result (λ n. Asked (M.view memory.old) (M.view memory.new)
+    ensures answer { IfOk result (λ n. RanQuestion (M.view memory.old) (M.view memory.new)
         (Command.Free kind id) (Reply.Number n)) }
     ensures stopped { IfErr result (λ stop. M.stopped_for memory.new stop) }
 {
@@ -39,7 +39,7 @@ pub fn free<M: TxRead>(memory: &mut M, kind: Kind, id: u32) -> Result<Option<u64
 pub fn price<M: TxRead>(memory: &mut M, kind: Kind, id: u32) -> Result<Option<u64>, M::Stop>
     requires { HoldsState (M.view memory.old) }
     ensures origin { M.origin memory.new ≡ M.origin memory.old }
-    ensures answer { IfOk result (λ n. Asked (M.view memory.old) (M.view memory.new)
+    ensures answer { IfOk result (λ n. RanQuestion (M.view memory.old) (M.view memory.new)
         (Command.Price kind id) (Reply.Number n)) }
     ensures stopped { IfErr result (λ stop. M.stopped_for memory.new stop) }
 {
@@ -88,7 +88,7 @@ fn add_new<M: TxMem>(
 #[inline]
 fn add_units<M: TxMem>(memory: &mut M, node: Block, num: u32) -> Result<(), M::Stop>
     requires node { IsNode (M.view memory.old) node }
-    requires room { HasRoom (M.view memory.old) node num }
+    requires room { HasRoomForUnits (M.view memory.old) node num }
     ensures origin { M.origin memory.new ≡ M.origin memory.old }
     ensures answer { IfOk result (λ _.
         UnitsAdded (M.view memory.old) (M.view memory.new) node num) }

@@ -2,7 +2,7 @@
 use Rattle.std.proofs.Common.{◌≡◌, subst, arith, ℕ, ◌+◌, List, [], ◌∷◌, ◌++◌, Result, append_assoc, append-nil}
 use Rattle.vac_model.specs.declared.tasks.Task.{Task}
 use Rattle.vac_draws.specs.declared.settings.Settings.{Settings}
-use Rattle.vac_draws.specs.Draws.{Drawn, times}
+use Rattle.vac_draws.specs.Draws.{Drawn, times_over}
 use Rattle.vac_draws.specs.Tasks.{task_of, Turns, AreBuilt, AreTasksOf}
 use Rattle.vac_draws.proofs.Drawing.{drawn_always, drawn_times}
 
@@ -10,12 +10,13 @@ use Rattle.vac_draws.proofs.Drawing.{drawn_always, drawn_times}
 record Further {D E : Type 0} (leads : D → ℕ → D → Type 0) (s : Settings) (n : ℕ) (first : D) (xs : List Task)
     (items : List (Result Task E)) (last : D) : Type 0 where
   pub tasks : List Task
-  pub drawn : Drawn leads (times n (task_of s)) first (xs ++ tasks) last
+  pub drawn : Drawn leads (times_over n (task_of s)) first (xs ++ tasks) last
   pub built : AreBuilt items tasks
 
 further : {D E : Type 0} (leads : D → ℕ → D → Type 0) (s : Settings) (k n : ℕ) (first a b : D) (xs : List Task)
     (items : List (Result Task E)) →
-    Drawn leads (times k (task_of s)) first xs a → Turns leads s n a items b → Further leads s (k + n) first xs items b
+    Drawn leads (times_over k (task_of s)) first xs a → Turns leads s n a items b →
+    Further leads s (k + n) first xs items b
 further leads s k n first a b xs [] p q =
     let none : k + n ≡ k = omega (arith, q.0) in
     record {
@@ -30,8 +31,8 @@ further leads s k n first a b xs (item ∷ items) p q =
     let all : (k + 1) + q.0 ≡ k + n = omega (arith, q.2.0) in
     record {
       tasks = d.task ∷ more.tasks;
-      drawn = subst (λ (m : ℕ). Drawn leads (times m (task_of s)) first (xs ++ (d.task ∷ more.tasks)) b) all
-          (subst (λ (ts : List Task). Drawn leads (times ((k + 1) + q.0) (task_of s)) first ts b)
+      drawn = subst (λ (m : ℕ). Drawn leads (times_over m (task_of s)) first (xs ++ (d.task ∷ more.tasks)) b) all
+          (subst (λ (ts : List Task). Drawn leads (times_over ((k + 1) + q.0) (task_of s)) first ts b)
           (append_assoc xs (d.task ∷ []) more.tasks) more.drawn);
       built = (d.built, more.built);
     }
@@ -44,6 +45,6 @@ turns_make_tasks leads s n a b items q =
     record {
       tasks = all.tasks;
       drawn = subst (λ (m : ℕ). Drawn leads
-          (times m (task_of s)) a all.tasks b) same all.drawn;
+          (times_over m (task_of s)) a all.tasks b) same all.drawn;
       built = all.built;
     }

@@ -28,16 +28,16 @@ going_on None next = None
 going_on (Some r) next = next r.0 r.1
 
 -- first this, and then what follows from it
-abbrev pub after : {X Y : Type 0} → Reader X → (X → Reader Y) → Reader Y
-after first next words = going_on (first words) next
+abbrev pub followed_by : {X Y : Type 0} → Reader X → (X → Reader Y) → Reader Y
+followed_by first next words = going_on (first words) next
 
 -- the items of the first, and then those of the second
 abbrev pub joined : {X : Type 0} → Reader (List X) → Reader (List X) → Reader (List X)
-joined first second = after first (λ xs. after second (λ ys. always (xs ++ ys)))
+joined first second = followed_by first (λ xs. followed_by second (λ ys. always (xs ++ ys)))
 
 -- a list of one
 abbrev pub one : {X : Type 0} → Reader X → Reader (List X)
-one reader = after reader (λ x. always (x ∷ []))
+one reader = followed_by reader (λ x. always (x ∷ []))
 
 -- the items for each number from 1 to n, in this order
 abbrev pub for_each : {X : Type 0} → ℕ → (ℕ → Reader (List X)) → Reader (List X)
@@ -45,8 +45,8 @@ for_each zero f = always []
 for_each (suc n) f = joined (for_each n f) (f (suc n))
 
 -- n of them, one after the other
-abbrev pub times : {X : Type 0} → ℕ → Reader X → Reader (List X)
-times n reader = for_each n (λ _. one reader)
+abbrev pub times_over : {X : Type 0} → ℕ → Reader X → Reader (List X)
+times_over n reader = for_each n (λ _. one reader)
 
 -- of exactly these words, whatever follows them, this is read
 abbrev pub Reads : {X : Type 0} → Reader X → List ℕ → X → Type 0

@@ -11,11 +11,11 @@ use Rattle.vac_model.specs.declared.tasks.Task.TheVariants as task
 use Rattle.vac_draws.specs.declared.settings.Settings.{Settings}
 use Rattle.vac_draws.specs.declared.settings.TheConstants.{PERCENT, UNITS}
 use Rattle.vac_draws.specs.declared.settings.TheConstants.{LEVELS, PRICE_STEP, LOWEST_PRICE}
-use Rattle.vac_draws.specs.Draws.{Reader, always, below, after, joined, for_each, times, Drawn}
+use Rattle.vac_draws.specs.Draws.{Reader, always, below, followed_by, joined, for_each, times_over, Drawn}
 
 -- a number from 1 to n
 abbrev pub up_to : ℕ → Reader ℕ
-up_to n = after (below n) (λ k. always (k + 1))
+up_to n = followed_by (below n) (λ k. always (k + 1))
 
 -- the kind of this number
 abbrev pub kind_at : ℕ → Kind
@@ -23,27 +23,27 @@ kind_at n = if n == 0 then Car else if n == 1 then Flight else Room
 
 -- a kind, by one word
 abbrev pub kind : Reader Kind
-kind = after (below 3) (λ n. always (kind_at n))
+kind = followed_by (below 3) (λ n. always (kind_at n))
 
 -- a price, by one word: one of LEVELS, PRICE_STEP apart, from LOWEST_PRICE on
 abbrev pub price : Reader ℕ
-price = after (below LEVELS) (λ level. always (level * PRICE_STEP + LOWEST_PRICE))
+price = followed_by (below LEVELS) (λ level. always (level * PRICE_STEP + LOWEST_PRICE))
 
 -- an ask of a trip: the kind, then the id
 abbrev pub ask : Settings → Reader (Kind × ℕ)
-ask s = after kind (λ k. after (up_to s.items) (λ id. always (k, id)))
+ask s = followed_by kind (λ k. followed_by (up_to s.items) (λ id. always (k, id)))
 
 -- a trip: how many asks, the customer, then the asks
-abbrev pub trip : Settings → Reader Task
-trip s =
-    after (up_to s.asks) (λ count.
-    after (up_to s.items) (λ customer.
-    after (times count (ask s)) (λ asks.
+abbrev pub drawn_trip : Settings → Reader Task
+drawn_trip s =
+    followed_by (up_to s.asks) (λ count.
+    followed_by (up_to s.items) (λ customer.
+    followed_by (times_over count (ask s)) (λ asks.
     always (task.Trip customer asks))))
 
 -- a leave: the customer
-abbrev pub leave : Settings → Reader Task
-leave s = after (up_to s.items) (λ customer. always (task.Leave customer))
+abbrev pub drawn_leave : Settings → Reader Task
+drawn_leave s = followed_by (up_to s.items) (λ customer. always (task.Leave customer))
 
 -- what takes an item away: a flight as a whole, of the others some units
 abbrev pub removal : Kind → ℕ → Command
@@ -54,43 +54,44 @@ removal Room id = command.Delete Room id UNITS
 -- the change of an item: with 1 it is added to, with 0 taken away
 abbrev pub change_of : Kind → ℕ → ℕ → Reader Command
 change_of k id o =
-    if o == 1 then after price (λ p. always (command.Add k id UNITS (Some p)))
+    if o == 1 then followed_by price (λ p. always (command.Add k id UNITS (Some p)))
     else always (removal k id)
 
 -- a change of an update: the kind, the id, then which change
 abbrev pub change : Settings → Reader Command
-change s = after kind (λ k. after (up_to s.items) (λ id. after (below 2) (λ o. change_of k id o)))
+change s = followed_by kind
+    (λ k. followed_by (up_to s.items) (λ id. followed_by (below 2) (λ o. change_of k id o)))
 
 -- an update: how many changes, then the changes
-abbrev pub update : Settings → Reader Task
-update s =
-    after (up_to s.asks) (λ count.
-    after (times count (change s)) (λ changes.
+abbrev pub drawn_update : Settings → Reader Task
+drawn_update s =
+    followed_by (up_to s.asks) (λ count.
+    followed_by (times_over count (change s)) (λ changes.
     always (task.Update changes)))
 
 -- the task that a number below 100 leads to
 abbrev pub task_at : Settings → ℕ → Reader Task
 task_at s r =
-    if nat_lt r s.user then trip s
-    else if r % 2 == 1 then leave s
-    else update s
+    if nat_lt r s.user then drawn_trip s
+    else if r % 2 == 1 then drawn_leave s
+    else drawn_update s
 
 -- a task that is no question
 abbrev pub work : Settings → Reader Task
-work s = after (below PERCENT) (λ r. task_at s r)
+work s = followed_by (below PERCENT) (λ r. task_at s r)
 
 -- the question that a number below 100 leads to: one in a hundred is an audit, the others are for a
 -- customer's bill, and for the free units or the price of an item
 abbrev pub question_at : Settings → ℕ → Reader Task
 question_at s r =
     if r == 0 then always (task.One command.Audit)
-    else if r % 3 == 0 then after (up_to s.items) (λ id. always (task.One (command.Bill id)))
-    else if r % 3 == 1 then after (ask s) (λ a. always (task.One (command.Free a.0 a.1)))
-    else after (ask s) (λ a. always (task.One (command.Price a.0 a.1)))
+    else if r % 3 == 0 then followed_by (up_to s.items) (λ id. always (task.One (command.Bill id)))
+    else if r % 3 == 1 then followed_by (ask s) (λ a. always (task.One (command.Free a.0 a.1)))
+    else followed_by (ask s) (λ a. always (task.One (command.Price a.0 a.1)))
 
 -- a question
 abbrev pub question : Settings → Reader Task
-question s = after (below PERCENT) (λ r. question_at s r)
+question s = followed_by (below PERCENT) (λ r. question_at s r)
 
 -- one task, where there are questions
 abbrev pub mixed_at : Settings → ℕ → Reader Task
@@ -98,11 +99,11 @@ mixed_at s r = if nat_lt r s.reads then question s else work s
 
 -- one task: where there are no questions no word is drawn for them
 abbrev pub task_of : Settings → Reader Task
-task_of s = if s.reads == 0 then work s else after (below PERCENT) (λ r. mixed_at s r)
+task_of s = if s.reads == 0 then work s else followed_by (below PERCENT) (λ r. mixed_at s r)
 
 -- the tasks of a client
 abbrev pub tasks : Settings → Reader (List Task)
-tasks s = times s.tasks (task_of s)
+tasks s = times_over s.tasks (task_of s)
 
 -- the words of exactly one task were drawn, and what was built is that task; where building it was
 -- refused, the same words were drawn
@@ -139,7 +140,7 @@ AreBuilt (item ∷ items) (t ∷ ts) = IfOk item (λ built. built ≡ t) × AreB
 pub record AreTasksOf {D E : Type 0} (leads : D → ℕ → D → Type 0) (s : Settings)
     (n : ℕ) (state : D) (items : List (Result Task E)) (last : D) : Type 0 where
   pub tasks : List Task
-  pub drawn : Drawn leads (times n (task_of s)) state tasks last
+  pub drawn : Drawn leads (times_over n (task_of s)) state tasks last
   pub built : AreBuilt items tasks
 
 -- an iterator over tasks that was taken to its end gave the tasks of the words that it drew
@@ -151,8 +152,8 @@ TurnsMakeTasks {D} leads =
 -- the command that adds an item at the opening: the number of units, then the price
 abbrev pub stock : ℕ → Kind → Reader (List Command)
 stock id k =
-    after (below LEVELS) (λ level.
-    after price (λ p.
+    followed_by (below LEVELS) (λ level.
+    followed_by price (λ p.
     always (command.Add k id ((level + 1) * UNITS) (Some p) ∷ [])))
 
 -- an item of each kind
@@ -166,4 +167,4 @@ customers (suc n) = customers n ++ (command.NewCustomer (suc n) ∷ [])
 
 -- the commands of the opening: the items of each id, then the customers
 abbrev pub opening : Settings → Reader (List Command)
-opening s = after (for_each s.items stocks) (λ items. always (items ++ customers s.items))
+opening s = followed_by (for_each s.items stocks) (λ items. always (items ++ customers s.items))

@@ -4,10 +4,10 @@ ghost use Rattle.std.specs.Prelude.{◌≡◌, ◌<◌, ◌≤◌, ◌&&◌, tru
 ghost use Rattle.std.specs.List.{list_all};
 ghost use Rattle.vac_model.specs.Amounts.{is_amount, is_id};
 ghost use Rattle.vac_model.specs.Ranges.{is_change, is_command, is_task};
-ghost use Rattle.vac_draws.specs.Draws.{Drawn, below, times};
+ghost use Rattle.vac_draws.specs.Draws.{Drawn, below, times_over};
 ghost use Rattle.vac_draws.specs.Setting.{is_settings};
-ghost use Rattle.vac_draws.specs.Tasks.{up_to, kind_at, kind, price, ask, trip, leave, removal};
-ghost use Rattle.vac_draws.specs.Tasks.{change_of, change, update, work, task_of, DrawnTask};
+ghost use Rattle.vac_draws.specs.Tasks.{up_to, kind_at, kind, price, ask, drawn_trip, drawn_leave, removal};
+ghost use Rattle.vac_draws.specs.Tasks.{change_of, change, drawn_update, work, task_of, DrawnTask};
 ghost use Rattle.vac_draws.specs.Tasks.{question_at, question};
 ghost use Rattle.vac_draws.specs.Tasks.{IsTurn, TurnsMakeTasks};
 ghost use Rattle.std.specs.Iterator.{at_most};
@@ -82,7 +82,7 @@ fn draw_asks<D: Draws>(
 ) -> ArrayVec<(Kind, u32), MOST_PARTS>
     requires settings { is_settings settings.now ≡ true }
     requires room { count ≤ MOST_PARTS }
-    ensures drawn { Drawn D.leads (times count (ask settings.now))
+    ensures drawn { Drawn D.leads (times_over count (ask settings.now))
         draws.old result.items draws.new }
     ensures number { length result.items ≡ count }
     ensures range { list_all (λ a. is_id a.1) result.items ≡ true }
@@ -101,7 +101,7 @@ fn draw_trip<D: Draws>(
     settings: &Settings,
 ) -> Result<Task, AllocError>
     requires { is_settings settings.now ≡ true }
-    ensures drawn { DrawnTask D.leads (trip settings.now) draws.old result draws.new }
+    ensures drawn { DrawnTask D.leads (drawn_trip settings.now) draws.old result draws.new }
     ensures range { IfOk result (λ task. is_task task ≡ true) }
 {
     let count = draw_up_to(draws, settings.asks);
@@ -112,7 +112,7 @@ fn draw_trip<D: Draws>(
 
 fn draw_leave<D: Draws>(draws: &mut D, settings: &Settings) -> Task
     requires { is_settings settings.now ≡ true }
-    ensures drawn { Drawn D.leads (leave settings.now) draws.old result draws.new }
+    ensures drawn { Drawn D.leads (drawn_leave settings.now) draws.old result draws.new }
     ensures range { is_task result ≡ true }
 {
     Task::Leave {
@@ -177,7 +177,7 @@ fn draw_changes<D: Draws>(
 ) -> ArrayVec<Command, MOST_PARTS>
     requires settings { is_settings settings.now ≡ true }
     requires room { count ≤ MOST_PARTS }
-    ensures drawn { Drawn D.leads (times count (change settings.now))
+    ensures drawn { Drawn D.leads (times_over count (change settings.now))
         draws.old result.items draws.new }
     ensures number { length result.items ≡ count }
     ensures range { list_all (λ c. is_change c && is_command c) result.items ≡ true }
@@ -196,7 +196,7 @@ fn draw_update<D: Draws>(
     settings: &Settings,
 ) -> Result<Task, AllocError>
     requires { is_settings settings.now ≡ true }
-    ensures drawn { DrawnTask D.leads (update settings.now) draws.old result draws.new }
+    ensures drawn { DrawnTask D.leads (drawn_update settings.now) draws.old result draws.new }
     ensures range { IfOk result (λ task. is_task task ≡ true) }
 {
     let count = draw_up_to(draws, settings.asks);

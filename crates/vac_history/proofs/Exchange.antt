@@ -16,13 +16,13 @@ use Rattle.vac_model.specs.State.{State}
 use Rattle.vac_model.specs.Run.{run}
 use Rattle.vac_model.proofs.Codes.{code_determines}
 use Rattle.vac_lines.specs.Text.{reply_text}
-use Rattle.vac_manager.specs.Legal.{Runs, IsLegal, AreNoRivals, HaveOneWriter, AreVersioned}
+use Rattle.vac_manager.specs.Legal.{RecordRuns, IsLegal, AreNoRivals, HaveOneWriter, AreVersioned}
 use Rattle.vac_manager.specs.declared.note.Note.{Note}
 use Rattle.vac_manager.specs.declared.placed.Place.{Place}
 use Rattle.vac_manager.specs.Keeping.{IsNoted}
 use Rattle.vac_judge.specs.Laws.{GiveReplies, state_after}
 use Rattle.vac_history.specs.Order.{Entry, rank_of, precedes, AreOrdered}
-use Rattle.vac_history.specs.History.{call_of}
+use Rattle.vac_history.specs.History.{call_of_entry}
 use Rattle.vac_history.specs.Legal.{AreCallsOf}
 
 -- ---- a record in the midst of others
@@ -155,7 +155,7 @@ both_read first more r x v i one =
 -- a record runs before those in front of it, where they and it wrote nothing
 taken : (s last : State) (first : List Record) (r : Record) (more : List Record) →
     ((x : Record) → In x first → (x.writes ≡ []) × (r.writes ≡ [])) → IsLegal s (first ++ r ∷ more) last →
-    (after : State) × Runs r s after × IsLegal after (first ++ more) last
+    (after : State) × RecordRuns r s after × IsLegal after (first ++ more) last
 taken s last [] r more quiet l = l
 taken s last (x ∷ first) r more quiet l =
     let q = quiet x (0, refl) in
@@ -164,19 +164,24 @@ taken s last (x ∷ first) r more quiet l =
     let k = taken s last first r more (λ y i. quiet y (suc i.0, i.1)) rest in
     let still : k.0 ≡ s = k.1.steady q.1 in (
       s,
-      subst (λ (z : State). Runs r s z) still k.1,
-      (s, subst (λ (z : State). Runs x s z) same l.1, subst (λ (z : State). IsLegal z (first ++ more) last) still k.2),
+      subst (λ (z : State). RecordRuns r s z) still k.1,
+      (
+        s,
+        subst (λ (z : State). RecordRuns x s z) same l.1,
+        subst
+            (λ (z : State). IsLegal z (first ++ more) last) still k.2,
+      ),
     )
 
 -- the record of a call runs its task to its reply
-ran : (n : Note) (r : Record) (s after : State) → IsNoted n r → Runs r s after → run s n.task ≡ (after, n.reply)
+ran : (n : Note) (r : Record) (s after : State) → IsNoted n r → RecordRuns r s after → run s n.task ≡ (after, n.reply)
 ran n r s after h p =
     let same = code_determines n.task p.task n.reply p.reply (sym h.tag ∙ p.told) in
     ap (λ (t : Task). run s t) same.0 ∙ (p.runs ∙ ap (λ (a : Reply). (after, a)) (sym same.1))
 
 pub gives : (s last : State) (all : List Entry) (records : List Record) → AreCallsOf (map (λ e. e.note) all) records →
     AreOrdered (map (λ e. e.note) all) → Sorted records → AreVersioned records → IsLegal s records last →
-    GiveReplies s (map call_of all) × (state_after s (map call_of all) ≡ last)
+    GiveReplies s (map call_of_entry all) × (state_after s (map call_of_entry all) ≡ last)
 gives s last [] records m o sorted v l = (tt, subst (λ (rs : List Record). IsLegal s rs last) m l)
 gives s last (e ∷ all) records m o sorted v l =
     let first = m.0 in
@@ -196,6 +201,6 @@ gives s last (e ∷ all) records m o sorted v l =
     let reply : (run s e.note.task).1 ≡ e.note.reply = ap (λ (x : State × Reply). x.1) done in
     let k = gives q.0 last all (first ++ more) m.5 (ordered_rest e.note notes o) (sorted_without first more r sorted')
     (versioned_without first more r v') q.2 in (
-      (ap reply_text reply, subst (λ (z : State). GiveReplies z (map call_of all)) (sym state) k.0),
-      ap (λ (z : State). state_after z (map call_of all)) state ∙ k.1,
+      (ap reply_text reply, subst (λ (z : State). GiveReplies z (map call_of_entry all)) (sym state) k.0),
+      ap (λ (z : State). state_after z (map call_of_entry all)) state ∙ k.1,
     )

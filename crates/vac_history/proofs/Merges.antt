@@ -8,7 +8,8 @@ use Rattle.std.proofs.lemmas.List.Kept.{AllPairs-cons}
 use Rattle.std.proofs.lemmas.List.Elements.{All-nil, All-cons, All-head, All-tail, All-weaker}
 use Rattle.std.proofs.lemmas.Bool.{cases_lt, cases_eq}
 use Rattle.vac_manager.specs.declared.note.Note.{Note}
-use Rattle.vac_history.specs.Order.{Entry, entries_of, entries_from, list_at, Takes, Interleaves, precedes, AreOrdered}
+use Rattle.vac_history.specs.Order.{Entry, entries_of, entries_from, list_at, TakesFirst, Interleaves, precedes}
+use Rattle.vac_history.specs.Order.{AreOrdered}
 use Rattle.vac_history.specs.Order.{EachOrdered, IsMerged}
 use Rattle.vac_history.specs.Picking.{Picks, PicksAll, IsEmpty, Merges}
 use Rattle.vac_history.proofs.Ordering.{precedes_chain, precedes_turns, precedes_self}
@@ -172,7 +173,7 @@ InOrder earlier later = precedes later.note earlier.note ≡ false
 abbrev EachList : (List Entry → Type 0) → List (List Entry) → Type 0
 EachList Q lists = (place : ℕ) → Q (list_at lists place)
 
-module _ (Q : List Entry → Type 0) (lists others : List (List Entry)) (e : Entry) (t : Takes e lists others) where
+module _ (Q : List Entry → Type 0) (lists others : List (List Entry)) (e : Entry) (t : TakesFirst e lists others) where
   -- of each list but the one that was taken from it is known already
   taken_each : Q t.rest → ((k : ℕ) → (k ≡ t.place → ⊥) → Q (list_at lists k)) → EachList Q others
   taken_each q each k =

@@ -10,10 +10,10 @@ use Rattle.stm_core.proofs.Lists.{nothing_in}
 use Rattle.stm_core.proofs.Orders.{in_cons}
 use Rattle.vac_manager.specs.declared.note.Note.{Note}
 use Rattle.vac_judge.specs.Call.{Call}
-use Rattle.vac_judge.specs.Laws.{IsAt, TakeTime as TheyTakeTime, AreSequential}
-use Rattle.vac_history.specs.Turns.{TakeTime, AreInTurn, EachInTurn}
-use Rattle.vac_history.specs.Order.{Entry, entries_of, entries_from, list_at, Takes, Interleaves}
-use Rattle.vac_history.specs.History.{call_of}
+use Rattle.vac_judge.specs.Laws.{IsCallAt, CallsTakeTime as TheyTakeTime, CallsAreSequential}
+use Rattle.vac_history.specs.Turns.{NotesTakeTime, AreInTurn, EachInTurn}
+use Rattle.vac_history.specs.Order.{Entry, entries_of, entries_from, list_at, TakesFirst, Interleaves}
+use Rattle.vac_history.specs.History.{call_of_entry}
 
 -- each call begins when those before it are over
 abbrev InTurn : List Entry → Type 0
@@ -42,7 +42,8 @@ end_before notes n client h x i = go notes i.0 i.1 (λ j d low. h 0 (suc j) d (o
         (some-injective (record { client = client; note = m }) x e) (f 0 m (omega arith))
     go (m ∷ ms) (suc j) e f = go ms j e (λ k d low. f (suc k) d (omega (arith, low)))
 
-own_of : (client : ℕ) (notes : List Note) → TakeTime notes → AreInTurn notes → AreOwn client (entries_of client notes)
+own_of : (client : ℕ) (notes : List Note) → NotesTakeTime notes → AreInTurn notes →
+    AreOwn client (entries_of client notes)
 own_of client [] timed turns = record {
   own = λ x i. absurd (nothing_in x i);
   timed = λ x i. absurd (nothing_in x i);
@@ -88,7 +89,7 @@ within lists place x rest e = elim (cases_lt place (length lists)) [
   | inr past ↦ absurd (let h : x ∷ rest ≡ [] = sym e ∙ get_or_past lists place [] past in cc)
 ]
 
-module _ (lists others : List (List Entry)) (e : Entry) (t : Takes e lists others) where
+module _ (lists others : List (List Entry)) (e : Entry) (t : TakesFirst e lists others) where
   left_here : list_at others t.place ≡ t.rest
   left_here = ap (λ (l : List (List Entry)). list_at l t.place) t.left ∙ get_or-set_same lists t.place t.rest []
       (within lists t.place e t.rest t.first)
@@ -171,31 +172,32 @@ none_some c e = cc
 some_same : (a b : Call) → Some a ≡ Some b → a ≡ b
 some_same a b e = cc
 
-entry_at : (all : List Entry) (i : ℕ) (a : Call) → IsAt (map call_of all) i a → (x : Entry) × In x all × (call_of x ≡ a)
+entry_at : (all : List Entry) (i : ℕ) (a : Call) → IsCallAt (map call_of_entry all) i a →
+    (x : Entry) × In x all × (call_of_entry x ≡ a)
 entry_at [] i a e = absurd (none_some a e)
-entry_at (x ∷ all) zero a e = (x, (0, refl), some_same (call_of x) a e)
+entry_at (x ∷ all) zero a e = (x, (0, refl), some_same (call_of_entry x) a e)
 entry_at (x ∷ all) (suc i) a e = let q = entry_at all i a e in (q.0, (suc q.1.0, q.1.1), q.2)
 
-takes_time : (all : List Entry) → Follow all → TheyTakeTime (map call_of all)
+takes_time : (all : List Entry) → Follow all → TheyTakeTime (map call_of_entry all)
 takes_time [] f i a e = absurd (none_some a e)
-takes_time (x ∷ all) f zero a e = subst (λ (c : Call). c.begin ≤ c.end) (some_same (call_of x) a e) f.0
+takes_time (x ∷ all) f zero a e = subst (λ (c : Call). c.begin ≤ c.end) (some_same (call_of_entry x) a e) f.0
 takes_time (x ∷ all) f (suc i) a e = takes_time all f.2 i a e
 
-in_sequence : (all : List Entry) → Follow all → AreSequential (map call_of all)
+in_sequence : (all : List Entry) → Follow all → CallsAreSequential (map call_of_entry all)
 in_sequence [] f i j a b e g less same = absurd (none_some a e)
 in_sequence (x ∷ all) f i zero a b e g less same = absurd (omega (arith, less))
 in_sequence (x ∷ all) f zero (suc j) a b e g less same =
     let q = entry_at all j b g in
-    let first : call_of x ≡ a = some_same (call_of x) a e in
+    let first : call_of_entry x ≡ a = some_same (call_of_entry x) a e in
     let client : x.client ≡ q.0.client = ap (λ (c : Call). c.client) first ∙
     (same ∙ sym (ap (λ (c : Call). c.client) q.2)) in
     subst (λ (c : Call). c.end ≤ b.begin) first (subst (λ (c : Call). x.note.end ≤ c.begin) q.2 (f.1 q.0 q.1 client))
 in_sequence (x ∷ all) f (suc i) (suc j) a b e g less same = in_sequence all f.2 i j a b e g (omega (arith, less)) same
 
 pub times : (kept : List (List Note)) (all : List Entry) → Interleaves (entries_from 0 kept) all → EachInTurn kept →
-    TheyTakeTime (map call_of all)
+    TheyTakeTime (map call_of_entry all)
 times kept all h turns = takes_time all (follow (entries_from 0 kept) all h (each_own kept turns))
 
 pub sequential : (kept : List (List Note)) (all : List Entry) → Interleaves (entries_from 0 kept) all →
-    EachInTurn kept → AreSequential (map call_of all)
+    EachInTurn kept → CallsAreSequential (map call_of_entry all)
 sequential kept all h turns = in_sequence all (follow (entries_from 0 kept) all h (each_own kept turns))

@@ -14,20 +14,20 @@ use Rattle.vac_manager.specs.declared.note.Note.{Note}
 use Rattle.vac_history.specs.Order.{Entry, entries_from, IsMerged}
 use Rattle.vac_history.specs.Numbers.{EachHasLines}
 use Rattle.vac_history.specs.Picking.{Picks, IsEmpty, Merges}
-use Rattle.vac_history.specs.History.{call_of, entries_text, WroteHistory, WroteHistoryPrefix}
+use Rattle.vac_history.specs.History.{call_of_entry, calls_text, WroteHistory, WroteHistoryPrefix}
 use Rattle.vac_history.specs.Sending.{SentPicked, SentMerged, MergedPrefix}
 use Rattle.vac_history.proofs.Merges.{picks_both, picks_one, merging, is_merged}
 
 -- the line of a call
 abbrev line_of : Entry → List ℕ
-line_of e = as_line (call_text (call_of e))
+line_of e = as_line (call_text (call_of_entry e))
 
-text_both : (xs ys : List Entry) → entries_text (xs ++ ys) ≡ entries_text xs ++ entries_text ys
-text_both xs ys = ap history_text (map-append call_of xs ys) ∙ flat_map-append (λ call. as_line (call_text call))
-    (map call_of xs) (map call_of ys)
+text_both : (xs ys : List Entry) → calls_text (xs ++ ys) ≡ calls_text xs ++ calls_text ys
+text_both xs ys = ap history_text (map-append call_of_entry xs ys) ∙ flat_map-append (λ call. as_line (call_text call))
+    (map call_of_entry xs) (map call_of_entry ys)
 
-text_more : (xs : List Entry) (e : Entry) → entries_text (xs ++ e ∷ []) ≡ entries_text xs ++ line_of e
-text_more xs e = text_both xs (e ∷ []) ∙ ap (λ t. entries_text xs ++ t) (append-nil (line_of e))
+text_more : (xs : List Entry) (e : Entry) → calls_text (xs ++ e ∷ []) ≡ calls_text xs ++ line_of e
+text_more xs e = text_both xs (e ∷ []) ∙ ap (λ t. calls_text xs ++ t) (append-nil (line_of e))
 
 -- nothing was sent yet
 pub sent_none : (lists : List (List Entry)) (held : Option (List ℕ)) (hand : List ℕ) → hand ≡ [] →
@@ -47,7 +47,7 @@ sent_one lists mid left e held holds grown hand hand' p q s = record {
   all = p.all ++ e ∷ [];
   picked = picks_one lists p.all e mid left p.picked q;
   sent = subst (λ (t : List ℕ). Sent held grown [] hand' t) (sym (text_more p.all e))
-      (sent_both held holds grown [] hand hand' (entries_text p.all) (line_of e) p.sent s);
+      (sent_both held holds grown [] hand hand' (calls_text p.all) (line_of e) p.sent s);
 }
 
 -- a line was sent in part
@@ -57,7 +57,7 @@ pub one_in_part : (lists mid left : List (List Entry)) (e : Entry) (held holds g
 one_in_part lists mid left e held holds grown hand p q w =
     let more = merging left in
     let before = p.all ++ e ∷ [] in
-    let part = part_second held holds grown [] hand (entries_text p.all) (line_of e) p.sent w in
+    let part = part_second held holds grown [] hand (calls_text p.all) (line_of e) p.sent w in
     record {
       all = before ++ more.0;
       merges = record {
@@ -66,10 +66,10 @@ one_in_part lists mid left e held holds grown hand p q w =
             (picks_one lists p.all e mid left p.picked q) more.1.picked;
         empty = more.1.empty;
       };
-      written = prefix_is held grown ((entries_text p.all ++ line_of e) ++ entries_text more.0)
-          (entries_text (before ++ more.0))
-          (sym (text_both before more.0 ∙ ap (λ t. t ++ entries_text more.0) (text_more p.all e)))
-          (prefix_longer held grown (entries_text p.all ++ line_of e) (entries_text more.0) part);
+      written = prefix_is held grown ((calls_text p.all ++ line_of e) ++ calls_text more.0)
+          (calls_text (before ++ more.0))
+          (sym (text_both before more.0 ∙ ap (λ t. t ++ calls_text more.0) (text_more p.all e)))
+          (prefix_longer held grown (calls_text p.all ++ line_of e) (calls_text more.0) part);
     }
 
 -- nothing is left
@@ -84,7 +84,7 @@ sent_all lists left held holds hand p empty = record {
 -- ---- the whole history
 
 module _ (kept : List (List Note)) (held : Option (List ℕ))
-    (read : (all : List Entry) → IsMerged kept all → EachHasLines kept → IsTheirHistory (map call_of all)) where
+    (read : (all : List Entry) → IsMerged kept all → EachHasLines kept → IsTheirHistory (map call_of_entry all)) where
   pub nothing_of_it : WroteHistoryPrefix kept held held
   nothing_of_it =
       let m = merging (entries_from 0 kept) in
@@ -92,7 +92,7 @@ module _ (kept : List (List Note)) (held : Option (List ℕ))
       record {
         all = m.0;
         merged = merged;
-        written = none_written held (entries_text m.0);
+        written = none_written held (calls_text m.0);
         read = read m.0 merged;
       }
 
@@ -112,7 +112,7 @@ module _ (kept : List (List Note)) (held : Option (List ℕ))
         record {
           all = p.all;
           merged = merged;
-          written = sent_end held holds grown hand (entries_text p.all) p.sent w;
+          written = sent_end held holds grown hand (calls_text p.all) p.sent w;
           read = read p.all merged;
         }
 
@@ -123,6 +123,6 @@ module _ (kept : List (List Note)) (held : Option (List ℕ))
         record {
           all = p.all;
           merged = merged;
-          written = sent_end_in_part held holds grown hand (entries_text p.all) p.sent w;
+          written = sent_end_in_part held holds grown hand (calls_text p.all) p.sent w;
           read = read p.all merged;
         }

@@ -9,15 +9,15 @@ use Rattle.vac_lines.specs.TaskText.{task_words, task_text, TaskTextsAreRead}
 use Rattle.vac_lines.proofs.Spacing.{words_cut, words_clean}
 use Rattle.vac_lines.proofs.TaskReading.{words_read, words_plain, task_some}
 use Rattle.vac_manager.specs.declared.note.Note.{Note}
-use Rattle.vac_judge.specs.CallText.{IsReply, IsAnswered, IsWritten, AreWritten, IsTheirHistory, HistoriesAreRead}
+use Rattle.vac_judge.specs.CallText.{IsReply, IsAnsweredCall, IsWritten, AreWritten, IsTheirHistory, HistoriesAreRead}
 use Rattle.vac_judge.proofs.CallText.{texts_read}
 use Rattle.vac_judge.proofs.Linearized.{legal_is_linearization}
 use Rattle.vac_judge.proofs.Histories.{histories_read}
 use Rattle.vac_history.specs.declared.journal.Journal.{Journal}
-use Rattle.vac_history.specs.Turns.{TakeTime}
+use Rattle.vac_history.specs.Turns.{NotesTakeTime}
 use Rattle.vac_history.specs.Numbers.{EndInTime, HaveReplies, HasLine, EachHasLines}
 use Rattle.vac_history.specs.Order.{Entry, entries_of, entries_from, list_at, IsMerged}
-use Rattle.vac_history.specs.History.{notes_of, kept_by, call_of}
+use Rattle.vac_history.specs.History.{notes_of, kept_by, call_of_entry}
 use Rattle.vac_history.proofs.Merges.{each_of}
 
 -- the line of a task is read as that task
@@ -40,12 +40,12 @@ record IsSound (n : Note) : Type 0 where
 
 -- the call can be written
 abbrev CanBeWritten : Entry → Type 0
-CanBeWritten e = IsWritten (call_of e)
+CanBeWritten e = IsWritten (call_of_entry e)
 
 can_be : (client : ℕ) (n : Note) → client ≤ 4294967295 → IsSound n →
     CanBeWritten (record { client = client; note = n })
 can_be client n low h =
-    let own : IsAnswered (call_of (record { client = client; note = n })) n.reply = record {
+    let own : IsAnsweredCall (call_of_entry (record { client = client; note = n })) n.reply = record {
       client = low;
       begin = h.begin;
       end = h.end;
@@ -74,7 +74,7 @@ each_can first (notes ∷ kept) few h (suc place) =
 
 -- ---- of the calls of journals
 
-all_sound : (notes : List Note) → TakeTime notes → EndInTime notes → HaveReplies notes → All HasLine notes →
+all_sound : (notes : List Note) → NotesTakeTime notes → EndInTime notes → HaveReplies notes → All HasLine notes →
     All IsSound notes
 all_sound notes timed ends replies lines k d low =
     let takes = timed k d low in
@@ -87,10 +87,10 @@ each_sound [] lines place = All-nil IsSound
 each_sound (j ∷ journals) lines zero = all_sound (notes_of j) j.timed j.ends j.replies (lines 0)
 each_sound (j ∷ journals) lines (suc place) = each_sound journals (λ k. lines (suc k)) place
 
-calls_can : (all : List Entry) → All CanBeWritten all → AreWritten (map call_of all)
+calls_can : (all : List Entry) → All CanBeWritten all → AreWritten (map call_of_entry all)
 calls_can [] h = All-nil IsWritten
 calls_can (e ∷ all) h =
-    All-cons IsWritten (call_of e) (map call_of all) (All-head CanBeWritten e all h)
+    All-cons IsWritten (call_of_entry e) (map call_of_entry all) (All-head CanBeWritten e all h)
     (calls_can all (All-tail CanBeWritten e all h))
 
 map_length : {C : Type 0} (journals : List (Journal C)) → length (map notes_of journals) ≡ length journals
@@ -99,10 +99,10 @@ map_length (j ∷ journals) = ap suc (map_length journals)
 
 pub text_read : {C : Type 0} (opening : Journal C) (clients : List (Journal C)) → length clients < 2 ^ 32 →
     (all : List Entry) → IsMerged (kept_by opening clients) all → EachHasLines (kept_by opening clients) →
-    IsTheirHistory (map call_of all)
+    IsTheirHistory (map call_of_entry all)
 text_read opening clients few all merged lines =
     let kept = kept_by opening clients in
     let same = map_length clients in
     let low : 0 + length kept ≤ 4294967296 = omega (arith, few, same) in
-    histories (map call_of all) (calls_can all (each_of CanBeWritten (entries_from 0 kept) all merged.each_once
+    histories (map call_of_entry all) (calls_can all (each_of CanBeWritten (entries_from 0 kept) all merged.each_once
     (each_can 0 kept low (each_sound (opening ∷ clients) lines))))

@@ -3,7 +3,7 @@ use Rattle.std.specs.Prelude.{ℕ, Bool, ◌&&◌, List, ◌∷◌, map, Option}
 use Rattle.std.specs.List.{list_all}
 use Rattle.std.specs.Io.KnownBytes.{Appends}
 use Rattle.vac_judge.specs.Call.{Call}
-use Rattle.vac_judge.specs.CallText.{answered, history_text, IsTheirHistory}
+use Rattle.vac_judge.specs.CallText.{answered_call, history_text, IsTheirHistory}
 use Rattle.vac_lines.specs.Writing.{AppendsPrefix}
 use Rattle.vac_manager.specs.declared.note.Note.{Note}
 use Rattle.vac_history.specs.declared.journal.Journal.{Journal}
@@ -25,12 +25,12 @@ abbrev pub are_whole : {C : Type 0} → Journal C → List (Journal C) → Bool
 are_whole opening clients = opening.is_whole && list_all (λ j. j.is_whole) clients
 
 -- the call of a history that was kept so
-abbrev pub call_of : Entry → Call
-call_of e = answered e.client e.note.begin e.note.end e.note.task e.note.reply
+abbrev pub call_of_entry : Entry → Call
+call_of_entry e = answered_call e.client e.note.begin e.note.end e.note.task e.note.reply
 
 -- the lines of calls
-abbrev pub entries_text : List Entry → List ℕ
-entries_text all = history_text (map call_of all)
+abbrev pub calls_text : List Entry → List ℕ
+calls_text all = history_text (map call_of_entry all)
 
 -- the calls that the clients kept were written, a line each, in one order, and nothing else; where
 -- their tasks have lines that can be read, the text is read as these calls, and judged as such
@@ -38,8 +38,8 @@ entries_text all = history_text (map call_of all)
 pub record WroteHistory (kept : List (List Note)) (held holds : Option (List ℕ)) : Type 0 where
   pub all : List Entry
   pub merged : IsMerged kept all
-  pub written : Appends held holds (entries_text all)
-  pub read : EachHasLines kept → IsTheirHistory (map call_of all)
+  pub written : Appends held holds (calls_text all)
+  pub read : EachHasLines kept → IsTheirHistory (map call_of_entry all)
 
 -- a prefix of such a text was written
 -- Not said: that it ends otherwise only where memory is refused or a write fails.
@@ -47,5 +47,5 @@ pub record WroteHistoryPrefix (kept : List (List Note)) (held holds : Option (Li
     : Type 0 where
   pub all : List Entry
   pub merged : IsMerged kept all
-  pub written : AppendsPrefix held holds (entries_text all)
-  pub read : EachHasLines kept → IsTheirHistory (map call_of all)
+  pub written : AppendsPrefix held holds (calls_text all)
+  pub read : EachHasLines kept → IsTheirHistory (map call_of_entry all)

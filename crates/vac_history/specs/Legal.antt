@@ -7,13 +7,13 @@ use Rattle.vac_manager.specs.Legal.{IsLegal, AreVersioned}
 use Rattle.vac_manager.specs.declared.note.Note.{Note}
 use Rattle.vac_manager.specs.Keeping.{IsNoted}
 use Rattle.vac_judge.specs.Call.{Call}
-use Rattle.vac_judge.specs.Laws.{GiveReplies, TakeTime, AreSequential, KeepPrecedence}
+use Rattle.vac_judge.specs.Laws.{GiveReplies, CallsTakeTime, CallsAreSequential, CallsKeepPrecedence}
 use Rattle.vac_judge.specs.Laws.{IsLinearization, state_after}
 use Rattle.vac_judge.specs.Verdict.{verdict_on, is_legal}
 use Rattle.vac_judge.specs.CallText.{history_text, IsTheirHistory}
 use Rattle.vac_history.specs.Turns.{EachInTurn}
 use Rattle.vac_history.specs.Order.{Entry, AreOrdered, IsMerged}
-use Rattle.vac_history.specs.History.{call_of}
+use Rattle.vac_history.specs.History.{call_of_entry}
 
 -- each call is that of one of the records, and each record has one call, in any order
 abbrev pub AreCallsOf : List Note → List Record → Type 0
@@ -38,26 +38,26 @@ pub record AreRecorded (n : ℕ) (all : List Entry) (last : State) : Type 0 wher
 pub record AreLegal (n : ℕ) (calls : List Call) (last : State) : Type 0 where
   pub replies : GiveReplies (empty_state n) calls
   pub leaves : state_after (empty_state n) calls ≡ last
-  pub times : TakeTime calls
-  pub clients : AreSequential calls
+  pub times : CallsTakeTime calls
+  pub clients : CallsAreSequential calls
 
 -- calls that are written in the order of their records, each client's in turn, are legal in it
 abbrev pub OrderedCallsAreLegal : Type 0
 OrderedCallsAreLegal = (n : ℕ) (kept : List (List Note)) (all : List Entry) (last : State) →
     AreRecorded n all last → IsMerged kept all → EachInTurn kept →
-    AreOrdered (map (λ e. e.note) all) → AreLegal n (map call_of all) last
+    AreOrdered (map (λ e. e.note) all) → AreLegal n (map call_of_entry all) last
 
 -- such an order is a linearization exactly where no call that had ended before another began comes
 -- after it
 -- Not said: that it is so: what two clients read of the clock says nothing of which read it first.
 abbrev pub LegalUpToPrecedence : Type 0
 LegalUpToPrecedence = (n : ℕ) (calls : List Call) (last : State) → AreLegal n calls last →
-    IsLinearization n calls ↔ KeepPrecedence calls
+    IsLinearization n calls ↔ CallsKeepPrecedence calls
 
 -- the text of calls is legal for the judge of a system of n blocks exactly where no call that had
 -- ended before another began comes after it
 abbrev pub JudgedByPrecedence : ℕ → List ℕ → List Call → Type 0
-JudgedByPrecedence n text calls = (is_legal (verdict_on n text) ≡ true) ↔ KeepPrecedence calls
+JudgedByPrecedence n text calls = (is_legal (verdict_on n text) ≡ true) ↔ CallsKeepPrecedence calls
 
 -- the text of calls that are legal so, where it is read as them, is judged by precedence
 abbrev pub TextsAreLegalUpToPrecedence : Type 0

@@ -24,7 +24,7 @@ abbrev pub list_at : {X : Type 0} → List (List X) → ℕ → List X
 list_at lists place = slice_index_or lists place []
 
 -- x was the first of one of the lists, and was taken from it
-pub record Takes {X : Type 0} (x : X) (lists others : List (List X)) : Type 0 where
+pub record TakesFirst {X : Type 0} (x : X) (lists others : List (List X)) : Type 0 where
   pub place : ℕ
   pub rest : List X
   pub first : list_at lists place ≡ x ∷ rest
@@ -34,7 +34,7 @@ pub record Takes {X : Type 0} (x : X) (lists others : List (List X)) : Type 0 wh
 abbrev pub Interleaves : {X : Type 0} → List (List X) → List X → Type 0
 Interleaves lists [] = (place : ℕ) → list_at lists place ≡ []
 Interleaves {X} lists (x ∷ all) =
-    (others : List (List X)) × Takes x lists others × Interleaves others all
+    (others : List (List X)) × TakesFirst x lists others × Interleaves others all
 
 -- the place of a record among those of its renewal: by version, the writer of a version before its
 -- readers

@@ -1,11 +1,11 @@
 -- How the calls of all clients are picked, one after the other.
 use Rattle.std.specs.Prelude.{◌≡◌, ℕ, false, List, [], ◌∷◌}
-use Rattle.vac_history.specs.Order.{Entry, Takes, list_at, precedes}
+use Rattle.vac_history.specs.Order.{Entry, TakesFirst, list_at, precedes}
 
 -- a call was the first of one of the lists, none of which begins with one that precedes it, and
 -- was taken from it
 pub record Picks (e : Entry) (lists others : List (List Entry)) : Type 0 where
-  pub takes : Takes e lists others
+  pub takes : TakesFirst e lists others
   pub least : (place : ℕ) (first : Entry) (more : List Entry) →
       list_at lists place ≡ first ∷ more → precedes first.note e.note ≡ false
 

@@ -11,8 +11,8 @@ abbrev pub left_of : List Rest → List (List Entry)
 left_of rests = map (λ r. entries_of r.client r.notes.now) rests
 
 -- a call that was picked
-abbrev pub entry_of : Picked → Entry
-entry_of picked = record { client = picked.client; note = picked.note.now }
+abbrev pub picked_entry : Picked → Entry
+picked_entry picked = record { client = picked.client; note = picked.note.now }
 
 -- the list at this place begins with this call
 abbrev pub BeginsWith : List (List Entry) → ℕ → Note → Type 0

@@ -7,36 +7,37 @@ use Rattle.vac_lines.specs.Writing.{AppendsPrefix}
 use Rattle.vac_streams.specs.Sent.{Sent}
 use Rattle.vac_history.specs.Order.{Entry}
 use Rattle.vac_history.specs.Picking.{PicksAll, Merges}
-use Rattle.vac_history.specs.History.{entries_text}
+use Rattle.vac_history.specs.History.{calls_text}
 
 -- a number, and a space after it
-abbrev pub number_text : ℕ → List ℕ
-number_text n = decimal n ++ codes " "
+abbrev pub number_and_space : ℕ → List ℕ
+number_and_space n = decimal n ++ codes " "
 
 -- the client and the times of a call, and a space after each
 abbrev pub stamps_text : Entry → List ℕ
-stamps_text e = number_text e.client ++ number_text e.note.begin ++ number_text e.note.end
+stamps_text e =
+    number_and_space e.client ++ number_and_space e.note.begin ++ number_and_space e.note.end
 
 -- its task and its reply
-abbrev pub answer_text : Note → List ℕ
-answer_text n = task_text n.task ++ codes " -> " ++ reply_text n.reply
+abbrev pub task_and_reply_text : Note → List ℕ
+task_and_reply_text n = task_text n.task ++ codes " -> " ++ reply_text n.reply
 
 -- the lines of calls that were picked from the lists were sent, and these lists are left
 pub record SentPicked (lists left : List (List Entry)) (held holds : Option (List ℕ))
     (hand : List ℕ) : Type 0 where
   pub all : List Entry
   pub picked : PicksAll lists all left
-  pub sent : Sent held holds [] hand (entries_text all)
+  pub sent : Sent held holds [] hand (calls_text all)
 
 -- the lines of all calls were sent
 pub record SentMerged (lists : List (List Entry)) (held holds : Option (List ℕ))
     (hand : List ℕ) : Type 0 where
   pub all : List Entry
   pub merges : Merges lists all
-  pub sent : Sent held holds [] hand (entries_text all)
+  pub sent : Sent held holds [] hand (calls_text all)
 
 -- a prefix of the lines of all calls was written
 pub record MergedPrefix (lists : List (List Entry)) (held holds : Option (List ℕ)) : Type 0 where
   pub all : List Entry
   pub merges : Merges lists all
-  pub written : AppendsPrefix held holds (entries_text all)
+  pub written : AppendsPrefix held holds (calls_text all)

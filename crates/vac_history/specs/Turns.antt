@@ -5,8 +5,8 @@ use Rattle.vac_manager.specs.declared.note.Note.{Note}
 use Rattle.vac_history.specs.Order.{list_at}
 
 -- no call ends before it begins
-abbrev pub TakeTime : List Note → Type 0
-TakeTime notes = All (λ n. n.begin ≤ n.end) notes
+abbrev pub NotesTakeTime : List Note → Type 0
+NotesTakeTime notes = All (λ n. n.begin ≤ n.end) notes
 
 -- each call begins when those before it are over
 abbrev pub AreInTurn : List Note → Type 0
@@ -14,4 +14,4 @@ AreInTurn notes = AllPairs (λ earlier later. earlier.end ≤ later.begin) notes
 
 -- no call of a client ends before it begins, and each begins when those before it are over
 abbrev pub EachInTurn : List (List Note) → Type 0
-EachInTurn kept = (place : ℕ) → TakeTime (list_at kept place) × AreInTurn (list_at kept place)
+EachInTurn kept = (place : ℕ) → NotesTakeTime (list_at kept place) × AreInTurn (list_at kept place)

@@ -7,10 +7,10 @@ ghost use Rattle.vac_judge.specs.CallText.{call_text};
 ghost use Rattle.vac_lines.specs.Writing.{AppendsPrefix};
 ghost use Rattle.vac_streams.specs.Sent.{Sent};
 ghost use Rattle.vac_history.specs.Order.{entries_from};
-ghost use Rattle.vac_history.specs.Rests.{left_of, entry_of};
-ghost use Rattle.vac_history.specs.History.{call_of, kept_by, are_whole};
+ghost use Rattle.vac_history.specs.Rests.{left_of, picked_entry};
+ghost use Rattle.vac_history.specs.History.{call_of_entry, kept_by, are_whole};
 ghost use Rattle.vac_history.specs.History.{WroteHistory, WroteHistoryPrefix};
-ghost use Rattle.vac_history.specs.Sending.{number_text, stamps_text, answer_text};
+ghost use Rattle.vac_history.specs.Sending.{number_and_space, stamps_text, task_and_reply_text};
 ghost use Rattle.vac_history.specs.Sending.{SentMerged, MergedPrefix};
 
 use crate::fault::HistoryFault;
@@ -28,7 +28,7 @@ use vac_worklist::OPENING;
 /// Appends a number and a space.
 fn append_number(hand: &mut Vec<u8>, number: u64) -> Result<(), AllocError>
     ensures { OnOk result
-        (hand.new.items ≡ hand.old.items ++ number_text number) }
+        (hand.new.items ≡ hand.old.items ++ number_and_space number) }
 {
     print_reply(&Reply::Number(Some(number)), hand)?;
     hand.extend_from_slice(b" ")
@@ -36,7 +36,8 @@ fn append_number(hand: &mut Vec<u8>, number: u64) -> Result<(), AllocError>
 
 /// Appends a call's client and times, with a space after each.
 fn append_stamps(hand: &mut Vec<u8>, picked: Picked<'_>) -> Result<(), AllocError>
-    ensures { OnOk result (hand.new.items ≡ hand.old.items ++ stamps_text (entry_of picked.entry)) }
+    ensures { OnOk result
+        (hand.new.items ≡ hand.old.items ++ stamps_text (picked_entry picked.entry)) }
 {
     append_number(hand, u64::from(picked.client))?;
     append_number(hand, picked.note.begin)?;
@@ -45,7 +46,7 @@ fn append_stamps(hand: &mut Vec<u8>, picked: Picked<'_>) -> Result<(), AllocErro
 
 /// Appends a call's task and reply.
 fn append_answer(hand: &mut Vec<u8>, note: &Note) -> Result<(), AllocError>
-    ensures { OnOk result (hand.new.items ≡ hand.old.items ++ answer_text note.now) }
+    ensures { OnOk result (hand.new.items ≡ hand.old.items ++ task_and_reply_text note.now) }
 {
     print_task(&note.task, hand)?;
     hand.extend_from_slice(b" -> ")?;
@@ -55,7 +56,7 @@ fn append_answer(hand: &mut Vec<u8>, note: &Note) -> Result<(), AllocError>
 /// Appends the line of a call.
 fn append_line(hand: &mut Vec<u8>, picked: Picked<'_>) -> Result<(), AllocError>
     ensures { OnOk result (hand.new.items
-        ≡ hand.old.items ++ as_line (call_text (call_of (entry_of picked.entry)))) }
+        ≡ hand.old.items ++ as_line (call_text (call_of_entry (picked_entry picked.entry)))) }
 {
     append_stamps(hand, picked)?;
     append_answer(hand, picked.note)?;
@@ -69,9 +70,10 @@ fn send_line<W: Write>(
     picked: Picked<'_>,
 ) -> Result<(), HistoryFault>
     ensures ok { OnOk result (Sent (W.contents output.old) (W.contents output.new)
-        hand.old.items hand.new.items (as_line (call_text (call_of (entry_of picked.entry))))) }
+        hand.old.items hand.new.items
+        (as_line (call_text (call_of_entry (picked_entry picked.entry))))) }
     ensures err { OnErr result (AppendsPrefix (W.contents output.old) (W.contents output.new)
-        (hand.old.items ++ as_line (call_text (call_of (entry_of picked.entry))))) }
+        (hand.old.items ++ as_line (call_text (call_of_entry (picked_entry picked.entry))))) }
 {
     append_line(hand, picked)?;
     match send_chunk(output, hand) {

@@ -2,7 +2,7 @@
 
 ghost use Rattle.std.specs.Prelude.{◌≡◌, ◌≤◌, [], true};
 ghost use Rattle.std.specs.List.{All};
-ghost use Rattle.vac_history.specs.Turns.{TakeTime, AreInTurn};
+ghost use Rattle.vac_history.specs.Turns.{NotesTakeTime, AreInTurn};
 ghost use Rattle.vac_history.specs.Numbers.{EndInTime, HaveReplies, HaveReplies-prop};
 ghost use Rattle.vac_history.specs.Stamps.{IsStamp};
 
@@ -21,7 +21,7 @@ pub struct Journal<W> {
     latest: u64,
     /// Whether there was room for each call that was to begin.
     is_whole: bool,
-    ghost timed: { TakeTime notes.items },
+    ghost timed: { NotesTakeTime notes.items },
     ghost in_turn: { AreInTurn notes.items },
     ghost over: { All (λ n. n.end ≤ latest) notes.items },
     ghost ends: { EndInTime notes.items },

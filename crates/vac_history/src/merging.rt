@@ -3,7 +3,7 @@
 ghost use Rattle.std.specs.Prelude.{◌≡◌, ◌+◌, length, List, IfSome, IfNone};
 ghost use Rattle.vac_history.specs.Order.{Entry, entries_of, list_at, precedes, rank_of};
 ghost use Rattle.vac_history.specs.Picking.{Picks, IsEmpty};
-ghost use Rattle.vac_history.specs.Rests.{left_of, entry_of, IsBest};
+ghost use Rattle.vac_history.specs.Rests.{left_of, picked_entry, IsBest};
 
 use vac_manager::{Note, Place};
 
@@ -76,7 +76,7 @@ fn least<'j>(rests: &[Rest<'j>]) -> Option<(usize, &'j Note)>
 /// Takes the call that is to be written next. There is none where nothing is left.
 pub(crate) fn take_least<'j>(rests: &mut [Rest<'j>]) -> Option<Picked<'j>>
     ensures some { IfSome result (λ picked.
-        Picks (entry_of picked) (left_of rests.old) (left_of rests.new)) }
+        Picks (picked_entry picked) (left_of rests.old) (left_of rests.new)) }
     ensures none { IfNone result (IsEmpty (left_of rests.old)) }
 {
     let (place, note) = least(rests)?;

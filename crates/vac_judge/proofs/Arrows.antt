@@ -8,7 +8,7 @@ use Rattle.std.proofs.lemmas.List.Elements.{All-weaker}
 use Rattle.std.proofs.lemmas.List.Splits.{slice_split_none, join_with_byte-slice_split}
 use Rattle.std.proofs.Math.Seq.{take-append_seam}
 use Rattle.vac_lines.specs.Lines.{words_of, HasNo}
-use Rattle.vac_judge.specs.Call.{Parts, is_arrow, joined, parts_of, call_parts}
+use Rattle.vac_judge.specs.Call.{CallTexts, is_arrow, joined_words, parts_of, call_parts}
 use Rattle.vac_judge.specs.Parts.{IsCutAtArrow, NoParts}
 
 -- the test for a space
@@ -213,7 +213,7 @@ few_three line before behind client rest begin last cut h e g f k =
     (word_first rest begin last g f ∙ ap (λ t. begin ∷ t) (one_word last k)))
 
 -- a text is its words, joined again
-pub text_is : (text : List ℕ) → joined (words_of text) ≡ text
+pub text_is : (text : List ℕ) → joined_words (words_of text) ≡ text
 text_is text = join_with_byte-slice_split 32 text
 
 -- the parts of the words, joined again
@@ -223,12 +223,12 @@ pub all_parts : (client begin end line reply : List ℕ) → parts_of (client �
 all_parts client begin end line reply =
     let l = first_word line in
     let r = first_word reply in
-    let made : List (List ℕ) → List (List ℕ) → Option Parts = λ ls rs. parts_of (client ∷ begin ∷ end ∷ ls) rs in
+    let made : List (List ℕ) → List (List ℕ) → Option CallTexts = λ ls rs. parts_of (client ∷ begin ∷ end ∷ ls) rs in
     ap (λ t. made t (words_of reply)) l.2 ∙ ap (made (l.0 ∷ l.1)) r.2
-    ∙ ap (λ t. Some (record { client = client; begin = begin; end = end; line = t; reply = joined (r.0 ∷ r.1) }))
-    (ap joined (sym l.2) ∙ text_is line)
+    ∙ ap (λ t. Some (record { client = client; begin = begin; end = end; line = t; reply = joined_words (r.0 ∷ r.1) }))
+    (ap joined_words (sym l.2) ∙ text_is line)
     ∙ ap (λ t. Some (record { client = client; begin = begin; end = end; line = line; reply = t }))
-    (ap joined (sym r.2) ∙ text_is reply)
+    (ap joined_words (sym r.2) ∙ text_is reply)
 
 pub four_words : (line before behind client rest begin more end last : List ℕ) → IsCutAtArrow line before behind →
     HasNo 32 client → before ≡ client ++ 32 ∷ rest

@@ -39,7 +39,8 @@ use Rattle.vac_lines.proofs.Decimals.{all_digits, number_in_word}
 use Rattle.vac_lines.proofs.Spacing.{Each, IsPlain, each_both, words_cut, words_clean}
 use Rattle.vac_lines.proofs.TaskReading.{both, small_id, small_amount, small_units, ask_words, has_id, is_good_change}
 use Rattle.vac_lines.proofs.TaskReading.{words_plain, task_some}
-use Rattle.vac_judge.specs.Call.{Call, Parts, is_arrow, parts_of, call_parts, parts_call, at_client, at_time, at_end}
+use Rattle.vac_judge.specs.Call.{Call, CallTexts, is_arrow, parts_of, call_parts, parts_call, at_client, at_time}
+use Rattle.vac_judge.specs.Call.{at_end}
 use Rattle.vac_judge.specs.Call.{reply_at, is_no_end, is_no_reply, line_call}
 use Rattle.vac_spans.specs.declared.client.TheConstants.{MOST_CLIENT}
 use Rattle.vac_judge.specs.declared.call.TheConstants.{NEVER}
@@ -475,7 +476,7 @@ call_cut c h = record {
 }
 
 -- the parts of the line
-abbrev written : Call → Parts
+abbrev written : Call → CallTexts
 written c = record {
   client = decimal c.client;
   begin = decimal c.begin;
@@ -512,7 +513,7 @@ parts_read read c h =
       read c.task h.task h.line,
     ) refl
 
-line_read : (line : List ℕ) (parts : Parts) (c : Call) → Fits 4096 line → call_parts line ≡ Some parts →
+line_read : (line : List ℕ) (parts : CallTexts) (c : Call) → Fits 4096 line → call_parts line ≡ Some parts →
     parts_call parts ≡ Ok c → line_call line ≡ Ok c
 line_read line parts c f p r = rw (le-ltb 4096 (length line) f.size, f.clean, p) r
 

@@ -13,7 +13,7 @@ use Rattle.vac_judge.specs.declared.verdict.Verdict.TheVariants.{Fault, Illegal}
 use Rattle.vac_judge.specs.Call.{Call, line_call}
 use Rattle.vac_spans.proofs.Order as spans
 use Rattle.vac_spans.proofs.Order.{passes, fails}
-use Rattle.vac_judge.specs.Order.{span_of, breaks_client, breaks_time, is_right, wrong_of}
+use Rattle.vac_judge.specs.Order.{span_of, call_breaks_client, call_breaks_time, is_right, wrong_of}
 use Rattle.vac_judge.specs.Verdict.{judged, unless_wrong, verdict_on}
 use Rattle.vac_judge.specs.Laws.{IsAnswerOf, GiveReplies, IsLinearization, state_after}
 use Rattle.vac_judge.specs.Wrongs.{IsCause, IsFirstWrong, IsFirstFault, IllegalIsFirstWrong, FaultIsFirst}
@@ -64,7 +64,7 @@ expected n cs c = (run (state_after (empty_state n) cs) c.task).1
 
 -- the tests on a call behind calls in a legal order
 abbrev TestsOn : ℕ → List Call → Call → Wrong → Type 0
-TestsOn n cs c w = Tests (breaks_client (reverse_aux cs []) c) (breaks_time (reverse_aux cs []) c)
+TestsOn n cs c w = Tests (call_breaks_client (reverse_aux cs []) c) (call_breaks_time (reverse_aux cs []) c)
     (is_right c.reply (expected n cs c)) (expected n cs c) w
 
 cause_of : (n : ℕ) (cs : List Call) (c : Call) (w : Wrong) → IsLinearization n cs → TestsOn n cs c w → IsCause n cs c w
@@ -83,11 +83,11 @@ cause_of n cs c (wrong.Reply e) l h =
 
 of_cause : (n : ℕ) (cs : List Call) (c : Call) (w : Wrong) → IsLinearization n cs → IsCause n cs c w → TestsOn n cs c w
 of_cause n cs c wrong.Client l h =
-    passes (breaks_client (reverse_aux cs []) c) (λ e. h (spans.turns_of span_of cs c
+    passes (call_breaks_client (reverse_aux cs []) c) (λ e. h (spans.turns_of span_of cs c
     (record { times = l.times; clients = l.clients }) e))
 of_cause n cs c wrong.Time l h = (
   spans.of_turns span_of cs c h.0,
-  passes (breaks_time (reverse_aux cs []) c) (λ e. h.1 (spans.precedence_of span_of cs c h.0 l.precedence e)),
+  passes (call_breaks_time (reverse_aux cs []) c) (λ e. h.1 (spans.precedence_of span_of cs c h.0 l.precedence e)),
 )
 of_cause n cs c (wrong.Reply e) l h = (
   spans.of_turns span_of cs c h.0,
@@ -182,7 +182,8 @@ first_wrong : (n : ℕ) (bytes : List ℕ) (line : ℕ) (w : Wrong) → verdict_
 first_wrong n bytes line w h =
     let f = find (empty_state n) [] (map line_call (lines_of bytes)) line w h in
     let legal = linearized n f.before f.right in
-    let tests = tests_of (breaks_client (reverse_aux f.before []) f.call) (breaks_time (reverse_aux f.before []) f.call)
+    let tests = tests_of (call_breaks_client (reverse_aux f.before []) f.call)
+    (call_breaks_time (reverse_aux f.before []) f.call)
     (is_right f.call.reply (expected n f.before f.call)) (expected n f.before f.call) w f.is in
     let cause = cause_of n f.before f.call w legal tests in
     record {
@@ -200,7 +201,8 @@ wrong_first : (n : ℕ) (bytes : List ℕ) (line : ℕ) (w : Wrong) → IsFirstW
     verdict_on n bytes ≡ Illegal line w
 wrong_first n bytes line w f =
     let tests = of_cause n f.before f.call w f.legal f.cause in
-    let is = of_tests (breaks_client (reverse_aux f.before []) f.call) (breaks_time (reverse_aux f.before []) f.call)
+    let is = of_tests (call_breaks_client (reverse_aux f.before []) f.call)
+    (call_breaks_time (reverse_aux f.before []) f.call)
     (is_right f.call.reply (expected n f.before f.call)) (expected n f.before f.call) w tests in
     let number : 0 + length f.before + 1 ≡ line = omega (arith, f.number) in
     ap (judged (empty_state n) []) f.listed ∙ named (empty_state n) [] f.before f.call f.rest w

@@ -18,10 +18,10 @@ use Rattle.vac_judge.specs.declared.fault.CallFault.TheVariants.{BadCall}
 use Rattle.vac_judge.specs.declared.work.Work.{Work}
 use Rattle.vac_judge.specs.declared.holding.Progress.{Progress}
 use Rattle.vac_judge.specs.declared.holding.Holding.{Holding}
-use Rattle.vac_judge.specs.Call.{Call, line_call, joined}
+use Rattle.vac_judge.specs.Call.{Call, line_call, joined_words}
 use Rattle.vac_judge.specs.Work.{Asked, words_asked, text_asked, line_asked, onto_work, work_of, tasks_of, made_by}
 use Rattle.vac_judge.specs.Work.{has_stopped, is_next, first_foreign, calls_in, is_missing, first_missing}
-use Rattle.vac_judge.specs.Holding.{asked_of, listed, IsWork, onto_all, IsProgress, IsKept, Counts, Sees}
+use Rattle.vac_judge.specs.Holding.{asked_of, tasks_listed, IsWork, onto_all, IsProgress, IsKept, Counts, CountsSeen}
 use Rattle.vac_judge.proofs.Arrows.{first_word, one_word, word_first, text_is}
 
 -- ---- lines and words
@@ -45,7 +45,7 @@ pub asked_cut : (line client rest : List ℕ) → HasNo 32 client → line ≡ c
 asked_cut line client rest h e =
     let w = first_word rest in
     ap words_asked (word_first line client rest h e) ∙ ap (λ ws. words_asked (client ∷ ws)) w.2
-    ∙ ap (text_asked client) (ap joined (sym w.2) ∙ text_is rest)
+    ∙ ap (text_asked client) (ap joined_words (sym w.2) ∙ text_is rest)
 
 pub asked_none : (line : List ℕ) → HasNo 32 line → line_asked line ≡ Err BadCall
 asked_none line h = ap words_asked (one_word line h)
@@ -97,7 +97,7 @@ clients_more [] a = refl
 clients_more (b ∷ work) a = ap (λ t. b.client ∷ t) (clients_more work a)
 
 pub push_more : (old new : Work) (client : ℕ) (task : Task) (tasks tasks' : Vec Task) (left : FinMap nat_cmp (Vec Task))
-    → tasks.items ≡ listed (get old.tasks client)
+    → tasks.items ≡ tasks_listed (get old.tasks client)
     → tasks'.items ≡ tasks.items ++ task ∷ [] → left ≡ remove old.tasks client → new.tasks ≡ insert left client tasks' →
     new.clients.items ≡ old.clients.items ++ client ∷ []
     → (work : List Asked) → IsWork old work → IsWork new (work ++ asked_of (client, task) ∷ [])
@@ -105,15 +105,17 @@ push_more old new client task tasks tasks' left had pushed l i c = λ work h. re
   clients = c ∙ ap (λ t. t ++ client ∷ []) h.clients ∙ sym (clients_more work (asked_of (client, task)));
   tasks = λ k. elim (test client k) [
     | inl same ↦
-        subst (λ q. listed (get new.tasks q) ≡ tasks_of q (work ++ asked_of (client, task) ∷ [])) same.1
-        (ap (λ (m : FinMap nat_cmp (Vec Task)). listed (get m client)) i ∙ ap listed (get_here left client tasks') ∙
+        subst (λ q. tasks_listed (get new.tasks q) ≡ tasks_of q (work ++ asked_of (client, task) ∷ [])) same.1
+        (ap (λ (m : FinMap nat_cmp (Vec Task)). tasks_listed (get m client)) i ∙
+        ap tasks_listed (get_here left client tasks') ∙
         pushed ∙ ap (λ t. t ++ task ∷ []) (had ∙ h.tasks client)
         ∙ ap (λ t. tasks_of client work ++ t) (ap (λ b. cond b (task ∷ []) []) (sym (itself client))) ∙
         sym (tasks_both client work (asked_of (client, task) ∷ [])))
     | inr other ↦
-        ap (λ (m : FinMap nat_cmp (Vec Task)). listed (get m k)) i ∙ ap listed (get_other left client tasks' k other.1)
-        ∙ ap (λ (m : FinMap nat_cmp (Vec Task)). listed (get m k)) l
-        ∙ ap listed (get_left old.tasks client k other.1) ∙ h.tasks k ∙ sym (append-nil (tasks_of k work))
+        ap (λ (m : FinMap nat_cmp (Vec Task)). tasks_listed (get m k)) i ∙
+        ap tasks_listed (get_other left client tasks' k other.1)
+        ∙ ap (λ (m : FinMap nat_cmp (Vec Task)). tasks_listed (get m k)) l
+        ∙ ap tasks_listed (get_left old.tasks client k other.1) ∙ h.tasks k ∙ sym (append-nil (tasks_of k work))
         ∙ ap (λ t. tasks_of k work ++ t) (ap (λ b. cond b (task ∷ []) []) (sym other.0)) ∙
         sym (tasks_both k work (asked_of (client, task) ∷ []))
   ];
@@ -304,7 +306,7 @@ pub record SeenTo (work : Work) (held : Holding) (seen : FinMap nat_cmp ℕ) (re
   pub before : List Asked
   pub behind : List Asked
   pub clients : map (λ a. a.client) behind ≡ rest
-  pub sees : Sees seen before
+  pub sees : CountsSeen seen before
   pub same : first_missing calls [] asked ≡ first_missing calls before behind
 
 -- so it is whatever the work and the calls are

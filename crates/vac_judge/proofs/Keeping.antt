@@ -10,7 +10,7 @@ use Rattle.vac_spans.proofs.Order.{misplaced_mapped}
 use Rattle.vac_judge.specs.declared.verdict.Wrong.{Wrong}
 use Rattle.vac_judge.specs.declared.verdict.Wrong.TheVariants.{Client, Time, Reply}
 use Rattle.vac_judge.specs.Call.{Call}
-use Rattle.vac_judge.specs.Order.{span_of, breaks_client, breaks_time, is_right, wrong_of}
+use Rattle.vac_judge.specs.Order.{span_of, call_breaks_client, call_breaks_time, is_right, wrong_of}
 use Rattle.vac_judge.specs.Judging.{TimesSay, JudgesTimes}
 
 -- what is wrong with the place of a call is wrong with the call
@@ -32,15 +32,15 @@ pub span_says : (earlier : List Call) (call : Call) (span : Span) (found : Optio
 span_says earlier call span found e h =
     let same : misplaced span_of earlier call ≡ found = sym (misplaced_mapped span_of earlier call) ∙
     ap (misplaced itself (map span_of earlier)) (sym e) ∙ h in
-    subst (λ f. JudgesTimes earlier call (as_wrong f)) same (tests_say (breaks_client earlier call)
-    (breaks_time earlier call))
+    subst (λ f. JudgesTimes earlier call (as_wrong f)) same (tests_say (call_breaks_client earlier call)
+    (call_breaks_time earlier call))
 
 -- a call whose times are right is well placed
 pub well_placed : (earlier : List Call) (call : Call) (span : Span) → span ≡ span_of call →
     JudgesTimes earlier call None → misplaced itself (map span_of earlier) span ≡ None
 well_placed earlier call span e h =
     ap (misplaced itself (map span_of earlier)) e ∙ misplaced_mapped span_of earlier call
-    ∙ ap (λ b. cond b (Some place.Client) (cond (breaks_time earlier call) (Some place.Time) None)) h.0 ∙
+    ∙ ap (λ b. cond b (Some place.Client) (cond (call_breaks_time earlier call) (Some place.Time) None)) h.0 ∙
     ap (λ b. cond b (Some place.Time) None) h.1
 
 -- the order of the tests
@@ -50,10 +50,11 @@ found client time reply last = cond client (Some Client) (cond time (Some Time) 
 -- what is wrong with the times is wrong with the call
 pub wrong_times : (s : State) (earlier : List Call) (c : Call) (w : Wrong) → JudgesTimes earlier c (Some w) →
     wrong_of s earlier c ≡ Some w
-wrong_times s earlier c Client h = ap (λ b. found b (breaks_time earlier c) (is_right c.reply (run s c.task).1)
+wrong_times s earlier c Client h = ap (λ b. found b (call_breaks_time earlier c) (is_right c.reply (run s c.task).1)
     (Some (Reply (run s c.task).1))) h
 wrong_times s earlier c Time h =
-    ap (λ b. found b (breaks_time earlier c) (is_right c.reply (run s c.task).1) (Some (Reply (run s c.task).1))) h.0
+    ap (λ b. found b (call_breaks_time earlier c) (is_right c.reply (run s c.task).1) (Some (Reply (run s c.task).1)))
+    h.0
     ∙ ap (λ b. found false b (is_right c.reply (run s c.task).1) (Some (Reply (run s c.task).1))) h.1
 wrong_times s earlier c (Reply r) h = absurd h
 
@@ -62,7 +63,8 @@ pub wrong_reply : (s : State) (earlier : List Call) (c : Call) (same : Bool) →
     same ≡ is_right c.reply (run s c.task).1
     → wrong_of s earlier c ≡ cond same None (Some (Reply (run s c.task).1))
 wrong_reply s earlier c same h e =
-    ap (λ b. found b (breaks_time earlier c) (is_right c.reply (run s c.task).1) (Some (Reply (run s c.task).1))) h.0
+    ap (λ b. found b (call_breaks_time earlier c) (is_right c.reply (run s c.task).1) (Some (Reply (run s c.task).1)))
+    h.0
     ∙ ap (λ b. found false b (is_right c.reply (run s c.task).1) (Some (Reply (run s c.task).1))) h.1
     ∙ ap (λ b. cond b None (Some (Reply (run s c.task).1))) (sym e)
 

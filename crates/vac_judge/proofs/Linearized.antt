@@ -14,7 +14,8 @@ use Rattle.vac_judge.specs.declared.verdict.Verdict.TheVariants.{Legal}
 use Rattle.vac_judge.specs.Call.{Call, line_call}
 use Rattle.vac_judge.specs.Order.{wrong_of}
 use Rattle.vac_judge.specs.Verdict.{judged, unless_wrong, summary_of, is_legal, verdict_on}
-use Rattle.vac_judge.specs.Laws.{IsAt, GiveReplies, TakeTime, AreSequential, KeepPrecedence, IsLinearization}
+use Rattle.vac_judge.specs.Laws.{IsCallAt, GiveReplies, CallsTakeTime, CallsAreSequential, CallsKeepPrecedence}
+use Rattle.vac_judge.specs.Laws.{IsLinearization}
 use Rattle.vac_judge.specs.Laws.{IsLegalHistory, LegalIsLinearization, state_after, LegalSummary}
 use Rattle.vac_judge.proofs.Order.{Each, FitsBefore, IsRight, right_of, wrong_none}
 
@@ -115,21 +116,21 @@ none_some c e = cc
 some_same : (a b : Call) → Some a ≡ Some b → a ≡ b
 some_same a b e = cc
 
-each_at : (P : Call → Type 0) (cs : List Call) (i : ℕ) (a : Call) → Each P cs → IsAt cs i a → P a
+each_at : (P : Call → Type 0) (cs : List Call) (i : ℕ) (a : Call) → Each P cs → IsCallAt cs i a → P a
 each_at P [] i a h e = absurd (none_some a e)
 each_at P (c ∷ cs) zero a h e = subst P (some_same c a e) h.0
 each_at P (c ∷ cs) (suc i) a h e = each_at P cs i a h.1 e
 
-each_from : (P : Call → Type 0) (cs : List Call) → ((i : ℕ) (a : Call) → IsAt cs i a → P a) → Each P cs
+each_from : (P : Call → Type 0) (cs : List Call) → ((i : ℕ) (a : Call) → IsCallAt cs i a → P a) → Each P cs
 each_from P [] h = tt
 each_from P (c ∷ cs) h = (h 0 c refl, each_from P cs (λ i a e. h (suc i) a e))
 
-pub times_of : (cs : List Call) → Pairwise cs → TakeTime cs
+pub times_of : (cs : List Call) → Pairwise cs → CallsTakeTime cs
 times_of [] p i a e = absurd (none_some a e)
 times_of (c ∷ cs) p zero a e = subst (λ d. d.begin ≤ d.end) (some_same c a e) p.0
 times_of (c ∷ cs) p (suc i) a e = times_of cs p.2 i a e
 
-pub pair_of : (cs : List Call) → Pairwise cs → (i j : ℕ) (a b : Call) → IsAt cs i a → IsAt cs j b → i < j →
+pub pair_of : (cs : List Call) → Pairwise cs → (i j : ℕ) (a b : Call) → IsCallAt cs i a → IsCallAt cs j b → i < j →
     FitsBefore a b
 pair_of [] p i j a b e f l = absurd (none_some a e)
 pair_of (c ∷ cs) p i zero a b e f l = absurd (omega arith)
@@ -137,7 +138,7 @@ pair_of (c ∷ cs) p zero (suc j) a b e f l = subst (λ d. FitsBefore d b) (some
     (each_at (FitsBefore c) cs j b p.1 f)
 pair_of (c ∷ cs) p (suc i) (suc j) a b e f l = pair_of cs p.2 i j a b e f (omega arith)
 
-pub precedence_of : (cs : List Call) → Pairwise cs → KeepPrecedence cs
+pub precedence_of : (cs : List Call) → Pairwise cs → CallsKeepPrecedence cs
 precedence_of cs p i j a b e f l =
     elim (cases_lt i j) [
       | inl h ↦ h
@@ -152,7 +153,8 @@ precedence_of cs p i j a b e f l =
       ]
     ]
 
-not_before : (cs : List Call) → KeepPrecedence cs → (i j : ℕ) (a b : Call) → IsAt cs i a → IsAt cs j b → i < j →
+not_before : (cs : List Call) → CallsKeepPrecedence cs → (i j : ℕ) (a b : Call) → IsCallAt cs i a → IsCallAt cs j b →
+    i < j →
     a.begin ≤ b.end
 not_before cs k i j a b e f l =
     elim (cases_lt b.end a.begin) [
@@ -160,7 +162,7 @@ not_before cs k i j a b e f l =
       | inr h ↦ h
     ]
 
-pub pairwise_from : (cs : List Call) → TakeTime cs → AreSequential cs → KeepPrecedence cs → Pairwise cs
+pub pairwise_from : (cs : List Call) → CallsTakeTime cs → CallsAreSequential cs → CallsKeepPrecedence cs → Pairwise cs
 pairwise_from [] t s k = tt
 pairwise_from (c ∷ cs) t s k = (
   t 0 c refl,

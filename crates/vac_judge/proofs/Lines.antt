@@ -10,12 +10,12 @@ use Rattle.vac_judge.specs.declared.verdict.Verdict.TheVariants.{Illegal}
 use Rattle.vac_judge.specs.Call.{Call}
 use Rattle.vac_judge.specs.Order.{span_of}
 use Rattle.vac_judge.specs.Verdict.{judged, unless_wrong}
-use Rattle.vac_judge.specs.Judging.{Follows, Judges, Takes, Ends}
+use Rattle.vac_judge.specs.Judging.{Follows, JudgesCall, Takes, DecidesVerdict}
 
 -- a call was judged as the next
 abbrev pub JudgesNext : Judge → Judge → Call → Option Wrong → Type 0
 JudgesNext judge after call found =
-    (s : State) (earlier : List Call) → Follows judge s earlier → Judges after s earlier call found
+    (s : State) (earlier : List Call) → Follows judge s earlier → JudgesCall after s earlier call found
 
 -- the number of the next line
 number_is : (judge : Judge) (line : ℕ) (s : State) (earlier : List Call) → line ≡ judge.spans.count + 1 →
@@ -24,7 +24,7 @@ number_is judge line s earlier n f = sym (n ∙ ap (λ k. k + 1) (f.spans.count_
 
 pub ends_wrong : (judge after : Judge) (read : Result Call CallFault) (call : Call) (line : ℕ) (wrong : Wrong) →
     read ≡ Ok call → line ≡ judge.spans.count + 1
-    → JudgesNext judge after call (Some wrong) → Ends judge read (Illegal line wrong)
+    → JudgesNext judge after call (Some wrong) → DecidesVerdict judge read (Illegal line wrong)
 ends_wrong judge after read call line wrong e n h = record {
   on = λ s earlier f more. ap (λ l. judged s earlier (l ∷ more)) e
       ∙ ap (λ w. unless_wrong w (length earlier + 1) (judged (run s call.task).0 (call ∷ earlier) more))

@@ -16,7 +16,7 @@ use Rattle.vac_judge.specs.Laws.{LegalIsLinearization}
 use Rattle.vac_judge.specs.Work.{Asked, line_asked, work_of, tasks_of, made_by, has_stopped, first_foreign, calls_in}
 use Rattle.vac_judge.specs.Work.{is_missing, first_missing, unless_missing, joined_verdict, held_by, held_verdict}
 use Rattle.vac_judge.specs.Whole.{asked_by, forms}
-use Rattle.vac_judge.specs.NotWhole.{AskForFirst, AsksFor, IsSettled, IsLeftOut, IsFirstMissing, MissingIsFirst}
+use Rattle.vac_judge.specs.NotWhole.{AskForFirst, AsksForTask, IsSettled, IsLeftOut, IsFirstMissing, MissingIsFirst}
 use Rattle.vac_judge.proofs.Handed.{Test, test, found_open}
 use Rattle.vac_judge.proofs.Done.{false_true, work_lines, lines_work, goes_on, none_foreign, made_in, stopped_in}
 use Rattle.vac_judge.proofs.Done.{not_both, closed_more, closed_stop, forms_size}
@@ -86,7 +86,7 @@ same_head (x ∷ xs) (y ∷ ys) a b us vs n e =
 -- where a client made more calls than it had tasks before this one, one of them asks for it
 asks_for : (work : List Asked) (calls : List Call) (front : List Asked) (one : Asked) (after : List Asked)
     → work ≡ front ++ one ∷ after → AskForFirst one.client work calls
-    → length (tasks_of one.client front) < length (asked_by one.client calls) → AsksFor calls front one
+    → length (tasks_of one.client front) < length (asked_by one.client calls) → AsksForTask calls front one
 asks_for work calls front one after w a h =
     let k = one.client in
     let it = call_at k calls (length (tasks_of k front)) h in
@@ -115,7 +115,7 @@ asks_for work calls front one after w a h =
     }
 
 -- and where one does, it made more
-asked_more : (calls : List Call) (front : List Asked) (one : Asked) → AsksFor calls front one
+asked_more : (calls : List Call) (front : List Asked) (one : Asked) → AsksForTask calls front one
     → length (tasks_of one.client front) < length (asked_by one.client calls)
 asked_more calls front one a =
     let k = one.client in

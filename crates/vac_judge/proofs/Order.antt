@@ -13,7 +13,7 @@ use Rattle.vac_judge.specs.declared.verdict.Wrong.TheVariants as wrong
 use Rattle.vac_judge.specs.Call.{Call}
 use Rattle.vac_spans.specs.Order as spans
 pub use Rattle.vac_spans.proofs.Tests.{both_false, false_both, turn_from, turn_test, time_from, time_test}
-use Rattle.vac_judge.specs.Order.{span_of, breaks_client, breaks_time, is_right, wrong_of}
+use Rattle.vac_judge.specs.Order.{span_of, call_breaks_client, call_breaks_time, is_right, wrong_of}
 use Rattle.vac_judge.specs.Laws.{IsAnswerOf}
 
 -- a fact of each element
@@ -81,7 +81,8 @@ of_answer r (Some text) h = (bytes_eq-Decides text (reply_text r)).1 (sym h)
 -- no wrong is found in a call that is right, and in no other
 pub right_of : (s : State) (earlier : List Call) (c : Call) → wrong_of s earlier c ≡ None → IsRight s earlier c
 right_of s earlier c h =
-    let tests = found_none (breaks_client earlier c) (breaks_time earlier c) (is_right c.reply (run s c.task).1)
+    let tests = found_none (call_breaks_client earlier c) (call_breaks_time earlier c)
+    (is_right c.reply (run s c.task).1)
     (wrong.Reply (run s c.task).1) h in
     let client = both_false (nat_lt c.end c.begin) (list_any (spans.overlaps span_of c) earlier) tests.0 in
     record {
@@ -93,10 +94,10 @@ right_of s earlier c h =
 pub wrong_none : (s : State) (earlier : List Call) (c : Call) → IsRight s earlier c → wrong_of s earlier c ≡ None
 wrong_none s earlier c h =
     let last : Option Wrong = Some (wrong.Reply (run s c.task).1) in
-    let client : breaks_client earlier c ≡ false = false_both (nat_lt c.end c.begin)
+    let client : call_breaks_client earlier c ≡ false = false_both (nat_lt c.end c.begin)
     (list_any (spans.overlaps span_of c) earlier) (time_test c.end c.begin h.own)
     (none_overlaps c earlier h.fits) in
     let reply : is_right c.reply (run s c.task).1 ≡ true = of_answer (run s c.task).1 c.reply h.reply in
-    ap (λ b. found b (breaks_time earlier c) (is_right c.reply (run s c.task).1) last) client
+    ap (λ b. found b (call_breaks_time earlier c) (is_right c.reply (run s c.task).1) last) client
     ∙ ap (λ b. found false b (is_right c.reply (run s c.task).1) last) (none_ended c earlier h.fits)
     ∙ ap (λ b. found false false b last) reply

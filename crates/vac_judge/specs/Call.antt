@@ -10,7 +10,7 @@ use Rattle.vac_lines.specs.declared.fault.LineFault.{LineFault}
 use Rattle.vac_lines.specs.declared.fault.LineFault.TheVariants.{LongLine, BadByte, BadNumber}
 use Rattle.vac_lines.specs.Lines.{words_of}
 use Rattle.vac_lines.specs.Words.{memory_word_of}
-use Rattle.vac_spans.specs.Client.{client_of}
+use Rattle.vac_spans.specs.Client.{client_number}
 use Rattle.vac_lines.specs.LineTable.{line_task, is_bad_byte}
 use Rattle.vac_judge.specs.declared.fault.CallFault.{CallFault}
 use Rattle.vac_judge.specs.declared.fault.CallFault.TheVariants.{BadCall, Line}
@@ -31,7 +31,7 @@ abbrev pub is_arrow : List ℕ → Bool
 is_arrow word = bytes_eq word (codes "->")
 
 -- the texts that a call's line is made of
-pub record Parts : Type 0 where
+pub record CallTexts : Type 0 where
   pub client : List ℕ
   pub begin : List ℕ
   pub end : List ℕ
@@ -39,23 +39,23 @@ pub record Parts : Type 0 where
   pub reply : List ℕ
 
 -- these words as a text again
-abbrev pub joined : List (List ℕ) → List ℕ
-joined words = join_with_byte 32 words
+abbrev pub joined_words : List (List ℕ) → List ℕ
+joined_words words = join_with_byte 32 words
 
 -- four words or more are before the arrow, and one or more after it
-abbrev pub parts_of : List (List ℕ) → List (List ℕ) → Option Parts
+abbrev pub parts_of : List (List ℕ) → List (List ℕ) → Option CallTexts
 parts_of (client ∷ begin ∷ end ∷ word ∷ words) (reply ∷ more) =
     Some (record {
       client = client;
       begin = begin;
       end = end;
-      line = joined (word ∷ words);
-      reply = joined (reply ∷ more);
+      line = joined_words (word ∷ words);
+      reply = joined_words (reply ∷ more);
     })
 parts_of _ _ = None
 
 -- the parts of a line, at the first word that is an arrow
-abbrev pub call_parts : List ℕ → Option Parts
+abbrev pub call_parts : List ℕ → Option CallTexts
 call_parts line =
     parts_of (before_first is_arrow (words_of line)) (after_first is_arrow (words_of line))
 
@@ -68,7 +68,7 @@ abbrev pub ◌>>=◌ : {A B : Type 0} → Result A CallFault → (A → Result B
 
 -- CLIENT: 0 to 4,294,967,295, of 1 to 10 digits
 abbrev pub at_client : List ℕ → Result ℕ CallFault
-at_client word = ok_or (client_of word) (Line BadNumber)
+at_client word = ok_or (client_number word) (Line BadNumber)
 
 -- BEGIN and END: 0 to 2 ^ 64 - 1, of 1 to 20 digits
 abbrev pub at_time : List ℕ → Result ℕ CallFault
@@ -100,7 +100,7 @@ as_call_fault (Ok x) = Ok x
 as_call_fault (Err fault) = Err (Line fault)
 
 -- the call of parts that are not half, or its first fault
-abbrev pub whole_call : Parts → Result Call CallFault
+abbrev pub whole_call : CallTexts → Result Call CallFault
 whole_call parts = do
   client ← at_client parts.client
   begin ← at_time parts.begin
@@ -115,7 +115,7 @@ whole_call parts = do
   })
 
 -- the call of these parts, or its first fault
-abbrev pub parts_call : Parts → Result Call CallFault
+abbrev pub parts_call : CallTexts → Result Call CallFault
 parts_call parts =
     if is_half parts.end parts.reply then Err BadCall else whole_call parts
 

@@ -53,7 +53,7 @@ IsReply (reply.Update u) = length u.refused ≤ MOST_PARTS
 
 -- a call that this reply answers: its numbers are those of their types, its task can be asked for
 -- and has a line that is no longer than a line may be
-pub record IsAnswered (call : Call) (answer : Reply) : Type 0 where
+pub record IsAnsweredCall (call : Call) (answer : Reply) : Type 0 where
   pub client : call.client ≤ MOST_CLIENT
   pub begin : call.begin < 2 ^ 64
   pub end : call.end < 2 ^ 64
@@ -73,8 +73,8 @@ pub record IsUnanswered (call : Call) : Type 0 where
   pub reply : call.reply ≡ None
 
 -- the call that this reply answers
-abbrev pub answered : ℕ → ℕ → ℕ → Task → Reply → Call
-answered client begin end task answer = record {
+abbrev pub answered_call : ℕ → ℕ → ℕ → Task → Reply → Call
+answered_call client begin end task answer = record {
   client = client;
   begin = begin;
   end = end;
@@ -93,17 +93,17 @@ unanswered client begin task = record {
 }
 
 -- its line is no longer than a line of a history may be, and is read as that call
-pub record IsReadBack (call : Call) : Type 0 where
+pub record IsReadBackAsCall (call : Call) : Type 0 where
   pub fits : length (call_text call) ≤ CALL_BYTES
   pub read : line_call (call_text call) ≡ Ok call
 
 -- a call that some reply answers, or that was never answered
 abbrev pub IsWritten : Call → Type 0
-IsWritten call = ((answer : Reply) × IsAnswered call answer) ⊎ IsUnanswered call
+IsWritten call = ((answer : Reply) × IsAnsweredCall call answer) ⊎ IsUnanswered call
 
 -- the line that is written of a call is read back as that call
 abbrev pub CallTextsAreRead : Type 0
-CallTextsAreRead = (call : Call) → IsWritten call → IsReadBack call
+CallTextsAreRead = (call : Call) → IsWritten call → IsReadBackAsCall call
 
 -- each of these calls is answered by some reply, or was never answered
 abbrev pub AreWritten : List Call → Type 0

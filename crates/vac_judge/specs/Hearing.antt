@@ -11,7 +11,7 @@ use Rattle.vac_judge.specs.declared.fault.CallFault.TheVariants as fault
 use Rattle.vac_judge.specs.declared.verdict.Verdict.{Verdict}
 use Rattle.vac_judge.specs.declared.reading.History.{History}
 use Rattle.vac_judge.specs.Call.{Call, line_call}
-use Rattle.vac_judge.specs.Judging.{Takes, Ends, IsStop}
+use Rattle.vac_judge.specs.Judging.{Takes, DecidesVerdict, IsJudgeStop}
 
 -- the call of a line that was told, or its fault; a pause is no call
 abbrev pub told_call : Told → Result Call CallFault
@@ -23,12 +23,12 @@ told_call told.Pause = Err fault.BadCall
 pub record BringsVerdict (x : History) (line : Told) (y : History) : Type 0 where
   pub verdict : Verdict
   pub found : y.found ≡ Some verdict
-  pub ends : Ends x.judge (told_call line) verdict
+  pub ends : DecidesVerdict x.judge (told_call line) verdict
 
 -- what being told this makes of a history: its judge took a line, or a line brought a verdict; a
 -- pause changes nothing; or a fault of the judge ended it
 abbrev pub HearsCall : History → Told → Result Next StreamFault → History → Type 0
-HearsCall x line (Err stop) y = IsStop x.judge stop
+HearsCall x line (Err stop) y = IsJudgeStop x.judge stop
 HearsCall x told.Pause (Ok next) y = (next ≡ GoOn) × (y ≡ x)
 HearsCall x line (Ok GoOn) y = Takes x.judge y.judge (told_call line)
 HearsCall x line (Ok Stop) y = BringsVerdict x line y

@@ -15,14 +15,14 @@ abbrev pub asked_of : ℕ × Task → Asked
 asked_of pair = record { client = pair.0; task = pair.1 }
 
 -- the tasks that are kept of a client
-abbrev pub listed : Option (Vec Task) → List Task
-listed None = []
-listed (Some tasks) = tasks.items
+abbrev pub tasks_listed : Option (Vec Task) → List Task
+tasks_listed None = []
+tasks_listed (Some tasks) = tasks.items
 
 -- this work is kept
 pub record IsWork (kept : Work) (work : List Asked) : Type 0 where
   pub clients : kept.clients.items ≡ map (λ a. a.client) work
-  pub tasks : (client : ℕ) → listed (get kept.tasks client) ≡ tasks_of client work
+  pub tasks : (client : ℕ) → tasks_listed (get kept.tasks client) ≡ tasks_of client work
 
 -- work in front of the work of further lines
 abbrev pub onto_all : List Asked → Result (List Asked) ℕ → Result (List Asked) ℕ
@@ -45,6 +45,6 @@ pub record Counts (kept : Holding) (calls : List Call) : Type 0 where
   pub number : kept.count ≡ length calls
 
 -- how many tasks of each client were seen
-abbrev pub Sees : FinMap nat_cmp ℕ → List Asked → Type 0
-Sees seen before =
+abbrev pub CountsSeen : FinMap nat_cmp ℕ → List Asked → Type 0
+CountsSeen seen before =
     (client : ℕ) → unwrap_or (get seen client) 0 ≡ length (tasks_of client before)

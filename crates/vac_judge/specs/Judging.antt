@@ -11,7 +11,7 @@ use Rattle.vac_judge.specs.declared.verdict.Wrong.{Wrong}
 use Rattle.vac_judge.specs.declared.verdict.Wrong.TheVariants.{Client, Time, Reply}
 use Rattle.vac_judge.specs.declared.verdict.Verdict.{Verdict}
 use Rattle.vac_judge.specs.Call.{Call}
-use Rattle.vac_judge.specs.Order.{span_of, breaks_client, breaks_time, wrong_of}
+use Rattle.vac_judge.specs.Order.{span_of, call_breaks_client, call_breaks_time, wrong_of}
 use Rattle.vac_judge.specs.Verdict.{judged}
 use Rattle.vac_plain.specs.PlainState.{IsStateOf}
 use Rattle.std.specs.Prelude.{true, false}
@@ -31,10 +31,10 @@ TimesSay client time (Some (Reply expected)) = ⊥
 -- this is wrong with the times of a call
 abbrev pub JudgesTimes : List Call → Call → Option Wrong → Type 0
 JudgesTimes earlier call found =
-    TimesSay (breaks_client earlier call) (breaks_time earlier call) found
+    TimesSay (call_breaks_client earlier call) (call_breaks_time earlier call) found
 
 -- this is wrong with a call; where nothing is, it was taken
-pub record Judges (after : Judge) (s : State) (earlier : List Call) (call : Call)
+pub record JudgesCall (after : Judge) (s : State) (earlier : List Call) (call : Call)
     (found : Option Wrong) : Type 0 where
   pub found_is : wrong_of s earlier call ≡ found
   pub taken : found ≡ None → Follows after (run s call.task).0 (call ∷ earlier)
@@ -48,13 +48,14 @@ pub record Takes (judge after : Judge) (line : Result Call CallFault) : Type 0 w
       judged s earlier (line ∷ more) ≡ judged t calls more)
 
 -- this is the verdict, whatever lines follow
-pub record Ends (judge : Judge) (line : Result Call CallFault) (verdict : Verdict) : Type 0 where
+pub record DecidesVerdict (judge : Judge) (line : Result Call CallFault) (verdict : Verdict)
+    : Type 0 where
   pub on : (s : State) (earlier : List Call) → Follows judge s earlier →
       (more : List (Result Call CallFault)) → judged s earlier (line ∷ more) ≡ verdict
 
 -- why a judge did not judge a line: memory was refused, or it has judged as many calls as it can
 -- count
 -- Not said: that memory was refused where Memory is returned.
-abbrev pub IsStop : Judge → StreamFault → Type 0
-IsStop judge stop =
+abbrev pub IsJudgeStop : Judge → StreamFault → Type 0
+IsJudgeStop judge stop =
     (stop ≡ fault.Memory) ⊎ ((stop ≡ fault.Bound) × (judge.spans.count + 1 ≡ 2 ^ 64))

@@ -14,8 +14,8 @@ use Rattle.vac_judge.specs.Order.{span_of}
 use Rattle.vac_judge.specs.Verdict.{verdict_on, is_legal, summary_of}
 
 -- this call is at a place of the order
-abbrev pub IsAt : List Call → ℕ → Call → Type 0
-IsAt calls place call = spans.IsAt calls place call
+abbrev pub IsCallAt : List Call → ℕ → Call → Type 0
+IsCallAt calls place call = spans.IsAt calls place call
 
 -- a call may have been answered with this: it was, or it was never answered
 abbrev pub IsAnswerOf : Reply → Option (List ℕ) → Type 0
@@ -29,23 +29,23 @@ GiveReplies s (call ∷ rest) =
     IsAnswerOf (run s call.task).1 call.reply × GiveReplies (run s call.task).0 rest
 
 -- no call ends before it begins
-abbrev pub TakeTime : List Call → Type 0
-TakeTime calls = spans.TakeTime span_of calls
+abbrev pub CallsTakeTime : List Call → Type 0
+CallsTakeTime calls = spans.TakeTime span_of calls
 
 -- the calls of each client do not overlap, and are in their order
-abbrev pub AreSequential : List Call → Type 0
-AreSequential calls = spans.AreSequential span_of calls
+abbrev pub CallsAreSequential : List Call → Type 0
+CallsAreSequential calls = spans.AreSequential span_of calls
 
 -- a call that had ended before another began comes before it
-abbrev pub KeepPrecedence : List Call → Type 0
-KeepPrecedence calls = spans.KeepPrecedence span_of calls
+abbrev pub CallsKeepPrecedence : List Call → Type 0
+CallsKeepPrecedence calls = spans.KeepPrecedence span_of calls
 
 -- the order in which the calls are given is a linearization of them, for a system of n blocks
 pub record IsLinearization (n : ℕ) (calls : List Call) : Type 0 where
   pub replies : GiveReplies (empty_state n) calls
-  pub times : TakeTime calls
-  pub clients : AreSequential calls
-  pub precedence : KeepPrecedence calls
+  pub times : CallsTakeTime calls
+  pub clients : CallsAreSequential calls
+  pub precedence : CallsKeepPrecedence calls
 
 -- each line of a text is a call, and these are the calls
 abbrev pub Lists : List ℕ → List Call → Type 0

@@ -61,7 +61,7 @@ ForeignIsFirst = (n : ℕ) (tasks bytes : List ℕ) (line : ℕ) →
 -- one of the calls asks for a task that was handed out after these: it is its client's, has the
 -- same plain form, and as many calls of the client stand before it as tasks of the client before
 -- that task
-pub record AsksFor (calls : List Call) (before : List Asked) (task : Asked) : Type 0 where
+pub record AsksForTask (calls : List Call) (before : List Asked) (task : Asked) : Type 0 where
   pub earlier : List Call
   pub call : Call
   pub later : List Call
@@ -73,11 +73,11 @@ pub record AsksFor (calls : List Call) (before : List Asked) (task : Asked) : Ty
 -- one of the calls asks for a task, or is of its client and was never answered
 abbrev pub IsSettled : List Call → List Asked → Asked → Type 0
 IsSettled calls before task =
-    AsksFor calls before task ⊎ (has_stopped task.client calls ≡ true)
+    AsksForTask calls before task ⊎ (has_stopped task.client calls ≡ true)
 
 -- none of the calls asks for a task, and none of its client was never answered
 pub record IsLeftOut (calls : List Call) (before : List Asked) (task : Asked) : Type 0 where
-  pub none : AsksFor calls before task → ⊥
+  pub none : AsksForTask calls before task → ⊥
   pub answered : has_stopped task.client calls ≡ false
 
 -- a client's task with this number, counted from 1, is the first task of the work that is left out:

@@ -16,12 +16,12 @@ abbrev pub span_of : Call → Span
 span_of call = record { client = call.client; begin = call.begin; end = call.end }
 
 -- the call ends before it begins, or overlaps an earlier one of its client
-abbrev pub breaks_client : List Call → Call → Bool
-breaks_client earlier call = spans.breaks_client span_of earlier call
+abbrev pub call_breaks_client : List Call → Call → Bool
+call_breaks_client earlier call = spans.breaks_client span_of earlier call
 
 -- the call comes after one that began only after this one had ended
-abbrev pub breaks_time : List Call → Call → Bool
-breaks_time earlier call = spans.breaks_time span_of earlier call
+abbrev pub call_breaks_time : List Call → Call → Bool
+call_breaks_time earlier call = spans.breaks_time span_of earlier call
 
 -- the text of a reply is the expected one; where there was none, any is right
 abbrev pub is_right : Option (List ℕ) → Reply → Bool
@@ -32,11 +32,11 @@ is_right (Some text) expected = bytes_eq text (reply_text expected)
 abbrev pub wrong_of : State → List Call → Call → Option Wrong
 wrong_of s earlier call =
     let expected = (run s call.task).1 in
-    if breaks_client earlier call then Some wrong.Client
-    else if breaks_time earlier call then Some wrong.Time
+    if call_breaks_client earlier call then Some wrong.Client
+    else if call_breaks_time earlier call then Some wrong.Time
     else if is_right call.reply expected then None
     else Some (wrong.Reply expected)
 
 -- how many clients made these calls
-abbrev pub clients_of : List Call → ℕ
-clients_of calls = spans.clients_of span_of calls
+abbrev pub clients_of_calls : List Call → ℕ
+clients_of_calls calls = spans.clients_of span_of calls

@@ -6,7 +6,7 @@ use Rattle.vac_judge.specs.declared.arrow.CallParts.{CallParts}
 use Rattle.vac_judge.specs.declared.call.Answer.{Answer}
 use Rattle.vac_judge.specs.declared.call.CallLine.{CallLine}
 use Rattle.vac_judge.specs.declared.call.TheConstants.{NEVER}
-use Rattle.vac_judge.specs.Call.{Call, Parts, is_arrow, call_parts}
+use Rattle.vac_judge.specs.Call.{Call, CallTexts, is_arrow, call_parts}
 
 -- these texts are before and after the first word that is an arrow
 pub record IsCutAtArrow (line before behind : List ℕ) : Type 0 where
@@ -18,7 +18,7 @@ abbrev pub NoParts : List ℕ → Type 0
 NoParts line = call_parts line ≡ None
 
 -- the parts as texts
-abbrev pub shown_parts : CallParts → Parts
+abbrev pub shown_parts : CallParts → CallTexts
 shown_parts parts = record {
   client = parts.client.now;
   begin = parts.begin.now;

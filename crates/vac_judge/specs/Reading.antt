@@ -35,7 +35,7 @@ pub record HasJudgedInPart (n : ℕ) (unread left held holds : Option (List ℕ)
 -- a fault ended it: one of the output while the verdict was written, any other before
 -- Not said: which of Read, Memory and Bound ends it before it writes; that the output failed where
 -- Write is returned, since no contract says what a reader or a writer gives.
-abbrev pub HasStopped : ℕ → StreamFault → Option (List ℕ) → Option (List ℕ) → Option (List ℕ)
+abbrev pub HasStoppedJudging : ℕ → StreamFault → Option (List ℕ) → Option (List ℕ) → Option (List ℕ)
     → Option (List ℕ) → Type 0
-HasStopped n fault.Write unread left held holds = HasJudgedInPart n unread left held holds
-HasStopped n fault unread left held holds = Appends held holds []
+HasStoppedJudging n fault.Write unread left held holds = HasJudgedInPart n unread left held holds
+HasStoppedJudging n fault unread left held holds = Appends held holds []

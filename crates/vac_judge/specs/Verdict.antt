@@ -13,13 +13,13 @@ use Rattle.vac_judge.specs.declared.verdict.Summary.{Summary}
 use Rattle.vac_judge.specs.declared.verdict.Verdict.{Verdict}
 use Rattle.vac_judge.specs.declared.verdict.Verdict.TheVariants.{Legal, Fault, Illegal}
 use Rattle.vac_judge.specs.Call.{Call, line_call}
-use Rattle.vac_judge.specs.Order.{wrong_of, clients_of}
+use Rattle.vac_judge.specs.Order.{wrong_of, clients_of_calls}
 
 -- what is said of calls that are all right and leave this state
 abbrev pub summary_of : State → List Call → Summary
 summary_of s calls = record {
   calls = length calls;
-  clients = clients_of calls;
+  clients = clients_of_calls calls;
   report = report s;
 }
 

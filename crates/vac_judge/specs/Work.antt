@@ -14,7 +14,7 @@ use Rattle.vac_judge.specs.declared.verdict.Verdict.{Verdict}
 use Rattle.vac_judge.specs.declared.verdict.Verdict.TheVariants.{Legal, Fault, Illegal}
 use Rattle.vac_judge.specs.declared.held.HeldVerdict.{HeldVerdict}
 use Rattle.vac_judge.specs.declared.held.HeldVerdict.TheVariants.{BadTasks, Judged, Foreign, Missing}
-use Rattle.vac_judge.specs.Call.{Call, ◌>>=◌, at_client, as_call_fault, joined, line_call}
+use Rattle.vac_judge.specs.Call.{Call, ◌>>=◌, at_client, as_call_fault, joined_words, line_call}
 use Rattle.vac_judge.specs.Verdict.{verdict_on, verdict_text, is_legal}
 
 -- a task that was handed out to a client
@@ -31,7 +31,7 @@ text_asked first line = do
 
 -- the task that the words of a line hand out, or their first fault
 abbrev pub words_asked : List (List ℕ) → Result Asked CallFault
-words_asked (first ∷ word ∷ words) = text_asked first (joined (word ∷ words))
+words_asked (first ∷ word ∷ words) = text_asked first (joined_words (word ∷ words))
 words_asked _ = Err BadCall
 
 -- the task that a line hands out, or its first fault
@@ -128,15 +128,15 @@ joined_verdict (Some line) missing verdict =
     if comes_first line verdict then Foreign line else Judged verdict
 
 -- the verdict on the lines of a history, held against work
-abbrev pub held : ℕ → List Asked → List ℕ → HeldVerdict
-held n work bytes =
+abbrev pub held_against_work : ℕ → List Asked → List ℕ → HeldVerdict
+held_against_work n work bytes =
     let lines = map line_call (lines_of bytes) in
     joined_verdict (first_foreign work [] lines) (first_missing (calls_in [] lines) [] work)
     (verdict_on n bytes)
 
 -- the verdict on a history, held against work, where there is work
 abbrev pub held_by : ℕ → Result (List Asked) ℕ → List ℕ → HeldVerdict
-held_by n (Ok work) bytes = held n work bytes
+held_by n (Ok work) bytes = held_against_work n work bytes
 held_by n (Err line) bytes = BadTasks line
 
 -- the verdict on a history of a system of n blocks, held against the text of the work

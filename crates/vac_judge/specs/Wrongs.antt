@@ -12,21 +12,21 @@ use Rattle.vac_judge.specs.declared.verdict.Verdict.TheVariants.{Fault, Illegal}
 use Rattle.vac_judge.specs.Call.{Call, line_call}
 use Rattle.vac_judge.specs.Verdict.{verdict_on}
 use Rattle.vac_judge.specs.Order.{span_of}
-use Rattle.vac_judge.specs.Laws.{IsAnswerOf, KeepPrecedence}
+use Rattle.vac_judge.specs.Laws.{IsAnswerOf, CallsKeepPrecedence}
 use Rattle.vac_judge.specs.Laws.{IsLinearization, state_after}
 
 -- no call ends before it begins, and the calls of each client are in turn
-abbrev pub TakeTurns : List Call → Type 0
-TakeTurns calls = spans.TakeTurns span_of calls
+abbrev pub CallsTakeTurns : List Call → Type 0
+CallsTakeTurns calls = spans.TakeTurns span_of calls
 
 -- why no legal order goes on with this call after these calls: clients come first, then times, then
 -- the reply, which is not that of the sequential manager
 abbrev pub IsCause : ℕ → List Call → Call → Wrong → Type 0
-IsCause n calls call Client = TakeTurns (calls ++ call ∷ []) → ⊥
+IsCause n calls call Client = CallsTakeTurns (calls ++ call ∷ []) → ⊥
 IsCause n calls call Time =
-    TakeTurns (calls ++ call ∷ []) × (KeepPrecedence (calls ++ call ∷ []) → ⊥)
+    CallsTakeTurns (calls ++ call ∷ []) × (CallsKeepPrecedence (calls ++ call ∷ []) → ⊥)
 IsCause n calls call (Reply expected) =
-    TakeTurns (calls ++ call ∷ []) × KeepPrecedence (calls ++ call ∷ [])
+    CallsTakeTurns (calls ++ call ∷ []) × CallsKeepPrecedence (calls ++ call ∷ [])
     × (expected ≡ (run (state_after (empty_state n) calls) call.task).1)
     × (IsAnswerOf expected call.reply → ⊥)
 

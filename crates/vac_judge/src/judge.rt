@@ -8,8 +8,8 @@ ghost use Rattle.vac_lines.specs.Text.{reply_text};
 ghost use Rattle.vac_judge.specs.Call.{Call, line_call};
 ghost use Rattle.vac_judge.specs.Parts.{shown_call, shown_reply};
 ghost use Rattle.vac_judge.specs.Order.{wrong_of, is_right};
-ghost use Rattle.vac_judge.specs.Judging.{Follows, JudgesTimes, Judges, Takes, Ends as IsEnd};
-ghost use Rattle.vac_judge.specs.Judging.{IsStop};
+ghost use Rattle.vac_judge.specs.Judging.{Follows, JudgesTimes, JudgesCall, Takes, DecidesVerdict as IsEnd};
+ghost use Rattle.vac_judge.specs.Judging.{IsJudgeStop};
 ghost use Rattle.vac_judge.specs.Verdict.{summary_of};
 
 use crate::call::{Answer, CallLine, read_call};
@@ -89,7 +89,7 @@ impl Judge {
     /// The number of the next line.
     fn number(&self) -> Result<u64, StreamFault>
         ensures line { IfOk result (λ line. line ≡ self.now.spans.count + 1) }
-        ensures refused { IfErr result (λ fault. IsStop self.now fault) }
+        ensures refused { IfErr result (λ fault. IsJudgeStop self.now fault) }
     {
         let count = self.spans.count();
         if count == u64::MAX {
@@ -116,7 +116,7 @@ impl Judge {
         requires room { self.old.spans.count + 1 < 2 ^ 64 }
         ensures { IfOk result (λ found. (s : State) (earlier : List Call) →
             Follows self.old s earlier →
-            Judges self.new s earlier (shown_call call.now) found) }
+            JudgesCall self.new s earlier (shown_call call.now) found) }
     {
         if let Some(wrong) = self.judge_times(call) {
             return Ok(Some(wrong));
@@ -140,7 +140,7 @@ impl Judge {
         ensures judged { IfOk result (λ found. MatchOption found
             (Takes self.old self.new (line_call text.now))
             (λ verdict. IsEnd self.old (line_call text.now) verdict)) }
-        ensures refused { IfErr result (λ fault. IsStop self.old fault) }
+        ensures refused { IfErr result (λ fault. IsJudgeStop self.old fault) }
     {
         let line = self.number()?;
         match read_call(alloc, text) {
@@ -159,7 +159,7 @@ impl Judge {
     pub(crate) fn long_line(&self) -> Result<Verdict, StreamFault>
         ensures judged { IfOk result (λ verdict.
             IsEnd self.now (Err (CallFault.Line LineFault.LongLine)) verdict) }
-        ensures refused { IfErr result (λ fault. IsStop self.now fault) }
+        ensures refused { IfErr result (λ fault. IsJudgeStop self.now fault) }
     {
         let line = self.number()?;
         Ok(Verdict::Fault {

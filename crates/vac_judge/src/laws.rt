@@ -7,8 +7,8 @@ ghost use Rattle.vac_judge.specs.NotWhole.{BadTasksIsFirst, ForeignIsFirst, Miss
 ghost use Rattle.std.specs.Prelude.{◌≡◌, ◌≤◌, length, true};
 ghost use Rattle.vac_model.specs.Ranges.{is_task};
 ghost use Rattle.vac_lines.specs.TaskText.{task_text};
-ghost use Rattle.vac_judge.specs.CallText.{CallTextsAreRead, HistoriesAreRead, IsReadBack};
-ghost use Rattle.vac_judge.specs.CallText.{answered, unanswered};
+ghost use Rattle.vac_judge.specs.CallText.{CallTextsAreRead, HistoriesAreRead, IsReadBackAsCall};
+ghost use Rattle.vac_judge.specs.CallText.{answered_call, unanswered};
 
 use crate::answers::numbers_of_a_reply;
 use vac_lines::{LINE_BYTES, task_texts_are_read};
@@ -89,7 +89,7 @@ pub fn call_texts_are_read()
 pub fn an_answered_call_is_read(client: u32, begin: u64, end: u64, task: &Task, reply: &Reply)
     requires in_range { is_task task.now ≡ true }
     requires fits { length (task_text task.now) ≤ LINE_BYTES }
-    ensures { IsReadBack (answered client begin end task.now reply.now) }
+    ensures { IsReadBackAsCall (answered_call client begin end task.now reply.now) }
 {
     numbers_of_a_reply(reply);
     call_texts_are_read();
@@ -100,7 +100,7 @@ pub fn an_answered_call_is_read(client: u32, begin: u64, end: u64, task: &Task, 
 pub fn a_call_never_answered_is_read(client: u32, begin: u64, task: &Task)
     requires in_range { is_task task.now ≡ true }
     requires fits { length (task_text task.now) ≤ LINE_BYTES }
-    ensures { IsReadBack (unanswered client begin task.now) }
+    ensures { IsReadBackAsCall (unanswered client begin task.now) }
 {
     call_texts_are_read();
 }

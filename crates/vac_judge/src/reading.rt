@@ -2,7 +2,7 @@
 
 ghost use Rattle.std.specs.Prelude.{◌≡◌, ◌≢◌, ◌≤◌, IfOk, IfErr};
 ghost use Rattle.vac_judge.specs.Verdict.{is_legal};
-ghost use Rattle.vac_judge.specs.Reading.{HasVerdict, HasJudged, HasStopped};
+ghost use Rattle.vac_judge.specs.Reading.{HasVerdict, HasJudged, HasStoppedJudging};
 
 use crate::call::CALL_BYTES;
 use crate::judge::Judge;
@@ -100,7 +100,7 @@ pub fn judge_history<R: Read, W: Write>(
     ensures ok { IfOk result (λ legal. HasJudged blocks legal
         (R.remaining input.old) (R.remaining input.new)
         (W.contents output.old) (W.contents output.new)) }
-    ensures err { IfErr result (λ fault. HasStopped blocks fault
+    ensures err { IfErr result (λ fault. HasStoppedJudging blocks fault
         (R.remaining input.old) (R.remaining input.new)
         (W.contents output.old) (W.contents output.new)) }
 {

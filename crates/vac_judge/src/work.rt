@@ -6,7 +6,7 @@ ghost use Rattle.vac_lines.specs.Lines.{lines_of};
 ghost use Rattle.std.specs.FinMap as map;
 ghost use Rattle.std.specs.Prelude as list;
 ghost use Rattle.vac_judge.specs.Work.{Asked, text_asked, line_asked, work_of, tasks_of};
-ghost use Rattle.vac_judge.specs.Holding.{IsWork, asked_of, listed};
+ghost use Rattle.vac_judge.specs.Holding.{IsWork, asked_of, tasks_listed};
 
 use crate::by_client::ByClient;
 use crate::call::client_at;
@@ -77,7 +77,7 @@ impl Work {
 
     /// Takes the tasks of a client out.
     fn take_tasks(&mut self, alloc: Global, client: u32) -> Vec<Task>
-        ensures tasks { result.items ≡ listed (map.get self.old.tasks client) }
+        ensures tasks { result.items ≡ tasks_listed (map.get self.old.tasks client) }
         ensures left { self.new.tasks ≡ map.remove self.old.tasks client }
         ensures clients { self.new.clients ≡ self.old.clients }
     {

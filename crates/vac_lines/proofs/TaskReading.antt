@@ -18,7 +18,8 @@ use Rattle.vac_model.specs.Amounts.{has_deletable_units}
 use Rattle.vac_model.specs.Ranges.{is_change, is_command, is_task}
 use Rattle.vac_lines.specs.Words.{is_separator}
 use Rattle.vac_lines.specs.LineTable.{add_line, del_line, at_kind, at_id, at_amount, at_price, at_units, read_each}
-use Rattle.vac_lines.specs.LineTable.{asks_of, change_line, cut_parts, update_line, words_task, reserve_line, one}
+use Rattle.vac_lines.specs.LineTable.{asks_of, change_line, cut_parts, update_line, words_task, reserve_line}
+use Rattle.vac_lines.specs.LineTable.{one_command}
 use Rattle.vac_lines.specs.TaskText.{kind_word, item_words, price_word, units_words, command_words, further_words}
 use Rattle.vac_lines.specs.TaskText.{changes_words, task_words}
 use Rattle.vac_lines.proofs.Decimals.{number_read, number_no_dash, number_no_separator, number_in_word}
@@ -202,12 +203,12 @@ pub command_read : (c : Command) → is_command c ≡ true → words_task (comma
 command_read (command.Add kind id num price) h =
     let p = both (is_id id && is_amount num) (is_optional_amount price) h in
     let q = both (is_id id) (is_amount num) p.left in
-    ap one (add_read kind id num price q.left q.right p.right)
+    ap one_command (add_read kind id num price q.left q.right p.right)
 command_read (command.Delete kind id num) h =
     let p = both (has_deletable_units kind && is_id id) (is_amount num) h in
     let q = both (has_deletable_units kind) (is_id id) p.left in
-    ap one (del_read kind id num q.left q.right p.right)
-command_read (command.DropFlight id) h = ap one (drop_read id h)
+    ap one_command (del_read kind id num q.left q.right p.right)
+command_read (command.DropFlight id) h = ap one_command (drop_read id h)
 command_read (command.NewCustomer id) h = rw (id_read id h) refl
 command_read (command.DropCustomer id) h = rw (id_read id h) refl
 command_read (command.Free kind id) h = rw (kind_read kind, id_read id h) refl
@@ -216,7 +217,7 @@ command_read (command.Bill id) h = rw (id_read id h) refl
 command_read (command.Reserve customer kind id units) h =
     let p = both (is_id customer && is_id id) (is_unit_count units) h in
     let q = both (is_id customer) (is_id id) p.left in
-    ap one (units_cases customer kind id units (units == 1) refl q.left q.right p.right)
+    ap one_command (units_cases customer kind id units (units == 1) refl q.left q.right p.right)
 command_read (command.Cancel customer kind id) h =
     let q = both (is_id customer) (is_id id) h in
     rw (id_read customer q.left, kind_read kind, id_read id q.right) refl

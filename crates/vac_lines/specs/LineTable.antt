@@ -159,10 +159,10 @@ audit_line [] = Ok command.Audit
 audit_line _ = Err BadCount
 
 -- these words, two by two; one that is left over is not looked at
-abbrev pub pairs_of : List (List ℕ) → List (List ℕ × List ℕ)
-pairs_of [] = []
-pairs_of (word ∷ []) = []
-pairs_of (kind ∷ id ∷ rest) = (kind, id) ∷ pairs_of rest
+abbrev pub two_by_two : List (List ℕ) → List (List ℕ × List ℕ)
+two_by_two [] = []
+two_by_two (word ∷ []) = []
+two_by_two (kind ∷ id ∷ rest) = (kind, id) ∷ two_by_two rest
 
 -- 1 to 32 pairs of words
 abbrev pub are_pairs : List (List ℕ) → Bool
@@ -170,7 +170,7 @@ are_pairs words = length words % 2 == 0 && is_list_length (length words / 2)
 
 -- the asks of pairs of words, or the first fault
 abbrev pub asks_of : List (List ℕ) → Result (List (Kind × ℕ)) LineFault
-asks_of pairs = read_each (λ pair. at_place pair.0 pair.1) (pairs_of pairs)
+asks_of pairs = read_each (λ pair. at_place pair.0 pair.1) (two_by_two pairs)
 
 -- trip ID KIND ID .., with 1 to 32 pairs KIND ID
 abbrev pub trip_line : List (List ℕ) → Result Task LineFault
@@ -214,29 +214,29 @@ update_line (word ∷ rest) =
     else Err BadCount
 
 -- the task of a line of one command
-abbrev pub one : Result Command LineFault → Result Task LineFault
-one read = read >>= λ c. Ok (task.One c)
+abbrev pub one_command : Result Command LineFault → Result Task LineFault
+one_command read = read >>= λ c. Ok (task.One c)
 
 -- the task of a line with this name and these words after it
-abbrev pub task_of : LineName → List (List ℕ) → Result Task LineFault
-task_of name.Add rest = one (add_line rest)
-task_of name.Del rest = one (del_line rest)
-task_of name.NewCustomer rest = one (new_customer_line rest)
-task_of name.DropCustomer rest = one (drop_customer_line rest)
-task_of name.Free rest = one (free_line rest)
-task_of name.Price rest = one (price_line rest)
-task_of name.Bill rest = one (bill_line rest)
-task_of name.Reserve rest = one (reserve_line rest)
-task_of name.Cancel rest = one (cancel_line rest)
-task_of name.Audit rest = one (audit_line rest)
-task_of name.Trip rest = trip_line rest
-task_of name.Leave rest = leave_line rest
-task_of name.Update rest = update_line rest
+abbrev pub task_named : LineName → List (List ℕ) → Result Task LineFault
+task_named name.Add rest = one_command (add_line rest)
+task_named name.Del rest = one_command (del_line rest)
+task_named name.NewCustomer rest = one_command (new_customer_line rest)
+task_named name.DropCustomer rest = one_command (drop_customer_line rest)
+task_named name.Free rest = one_command (free_line rest)
+task_named name.Price rest = one_command (price_line rest)
+task_named name.Bill rest = one_command (bill_line rest)
+task_named name.Reserve rest = one_command (reserve_line rest)
+task_named name.Cancel rest = one_command (cancel_line rest)
+task_named name.Audit rest = one_command (audit_line rest)
+task_named name.Trip rest = trip_line rest
+task_named name.Leave rest = leave_line rest
+task_named name.Update rest = update_line rest
 
 -- the task of the words of a line
 abbrev pub words_task : List (List ℕ) → Result Task LineFault
 words_task [] = Err BadCommand
-words_task (word ∷ rest) = ok_or (line_name word) BadCommand >>= λ name. task_of name rest
+words_task (word ∷ rest) = ok_or (line_name word) BadCommand >>= λ name. task_named name rest
 
 -- a byte that no line may have: one below 32 or above 126
 abbrev pub is_bad_byte : ℕ → Bool

@@ -13,15 +13,15 @@ abbrev pub dump_text : List ℕ → List ℕ
 dump_text words = flat_map word_line words
 
 -- a word in front of others, where all of them are there
-abbrev pub word_before : Option ℕ → Option (List ℕ) → Option (List ℕ)
-word_before None words = None
-word_before (Some word) None = None
-word_before (Some word) (Some words) = Some (word ∷ words)
+abbrev pub word_in_front : Option ℕ → Option (List ℕ) → Option (List ℕ)
+word_in_front None words = None
+word_in_front (Some word) None = None
+word_in_front (Some word) (Some words) = Some (word ∷ words)
 
 -- the words that these lines write, where each line writes one
 abbrev pub words_of_lines : List (List ℕ) → Option (List ℕ)
 words_of_lines [] = Some []
-words_of_lines (line ∷ more) = word_before (memory_word_of line) (words_of_lines more)
+words_of_lines (line ∷ more) = word_in_front (memory_word_of line) (words_of_lines more)
 
 -- the words that a text writes, one a line, where each line writes one
 abbrev pub memory_words : List ℕ → Option (List ℕ)

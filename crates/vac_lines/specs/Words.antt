@@ -12,15 +12,15 @@ abbrev pub decimal_value : List ℕ → ℕ
 decimal_value digits = fold (λ n digit. 10 * n + (digit - 48)) 0 digits
 
 -- whether a word is 1 to n decimal digits
-abbrev pub is_number : ℕ → List ℕ → Bool
-is_number most_digits word =
+abbrev pub is_number_word : ℕ → List ℕ → Bool
+is_number_word most_digits word =
     nat_le 1 (length word) && nat_le (length word) most_digits && list_all is_ascii_digit word
 
 -- the number that a word of 1 to n digits stands for, where it is one between two bounds
 abbrev pub number_between : ℕ → ℕ → ℕ → List ℕ → Option ℕ
 number_between most_digits least most word =
     let value = decimal_value word in
-    if is_number most_digits word && nat_le least value && nat_le value most
+    if is_number_word most_digits word && nat_le least value && nat_le value most
     then Some value else None
 
 -- a dash, which stands for no price

@@ -4,7 +4,7 @@ ghost use Rattle.std.specs.Prelude.{◌≡◌, ◌≢◌, ◌≤◌, true, lengt
 ghost use Rattle.std.specs.List.{list_any};
 ghost use Rattle.vac_model.specs.Ranges.{is_task};
 ghost use Rattle.vac_lines.specs.Lines.{words_of, texts};
-ghost use Rattle.vac_lines.specs.LineTable.{words_task, task_of, line_task, is_bad_byte, leave_line};
+ghost use Rattle.vac_lines.specs.LineTable.{words_task, task_named, line_task, is_bad_byte, leave_line};
 
 use crate::booking_lines::{
     read_audit, read_bill, read_cancel, read_drop_customer, read_new_customer, read_reserve,
@@ -63,8 +63,8 @@ fn read_words(alloc: Global, words: &[&[u8]]) -> Result<Task, LineFault>
 
 /// The task of a line with this name and these words after it.
 fn read_named(alloc: Global, name: LineName, words: &[&[u8]]) -> Result<Task, LineFault>
-    ensures task { result ≢ Err LineFault.Memory → result ≡ task_of name (texts words.now) }
-    ensures inline { length words.now ≤ 8 → result ≡ task_of name (texts words.now) }
+    ensures task { result ≢ Err LineFault.Memory → result ≡ task_named name (texts words.now) }
+    ensures inline { length words.now ≤ 8 → result ≡ task_named name (texts words.now) }
     ensures in_range { IfOk result (λ task. is_task task ≡ true) }
 {
     let command = match name {

@@ -15,12 +15,14 @@ use Rattle.vac_manager.specs.declared.fault.Fault.TheVariants as fault
 use Rattle.vac_draws.specs.declared.settings.Settings.{Settings}
 use Rattle.vac_load.specs.declared.tally.Tally.{Tally}
 use Rattle.vac_draws.specs.Tasks.{task_of, DrawnTask}
-use Rattle.vac_load.specs.Looping.{AreOf, IsAdded, Answered, total, nothing, counted, least_attempts, attempts_of}
+use Rattle.vac_load.specs.Looping.{AreOfTasks, IsAdded, Answered, total, nothing, counted, least_attempts}
+use Rattle.vac_load.specs.Looping.{least_attempts_of}
 use Rattle.vac_load.specs.Looping.{answered_by, RanOne, Looped}
 use Rattle.vac_draws.proofs.Drawing.{drawn_always, drawn_times}
 use Rattle.vac_load.proofs.Order.{added_known, added_later, known_first}
 
-pub are_of_both : (ts us : List Task) (rs qs : List Record) → AreOf ts rs → AreOf us qs → AreOf (ts ++ us) (rs ++ qs)
+pub are_of_both : (ts us : List Task) (rs qs : List Record) → AreOfTasks ts rs → AreOfTasks us qs →
+    AreOfTasks (ts ++ us) (rs ++ qs)
 are_of_both [] us [] qs p q = q
 are_of_both [] us (r ∷ rs) qs p q = absurd p
 are_of_both (t ∷ ts) us [] qs p q = absurd p
@@ -119,7 +121,7 @@ one_more : (n k : ℕ) → (n + 1) * k ≡ n * k + 1 * k
 one_more n k = grind arith
 
 attempts_counted : {R : Type 0} (tries : ℕ) (end : Result R Fault) (t : Tally) →
-    least_attempts tries (counted end t) ≡ least_attempts tries t + attempts_of tries end
+    least_attempts tries (counted end t) ≡ least_attempts tries t + least_attempts_of tries end
 attempts_counted tries (Ok reply) t = omega arith
 attempts_counted tries (Err fault.Arguments) t = omega arith
 attempts_counted tries (Err fault.Memory) t = omega arith
@@ -137,7 +139,7 @@ busy_counted (Err (fault.Spent version)) t = omega arith
 -- what one task adds to a loop
 record Turn {R : Type 0} (n : ℕ) (t : Task) (end : Result R Fault) (tries : ℕ) (v v' : Client) : Type 0 where
   pub answered : Answered n (answered_by t end) v v'
-  pub attempts : v.attempt.number + attempts_of tries end ≤ v'.attempt.number
+  pub attempts : v.attempt.number + least_attempts_of tries end ≤ v'.attempt.number
   pub alone : HasAllGrants v → (counted end nothing).busy ≡ 0
 
 -- what one task adds to a loop, also one that was not built

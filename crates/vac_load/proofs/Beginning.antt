@@ -5,7 +5,7 @@ use Rattle.vac_model.specs.declared.items.Kind.{Kind}
 use Rattle.vac_model.specs.declared.items.Kind.TheVariants.{Car, Flight, Room}
 use Rattle.vac_model.specs.declared.commands.Command.{Command}
 use Rattle.vac_model.specs.declared.commands.Command.TheVariants as command
-use Rattle.vac_draws.specs.Draws.{Drew, Reader, always, going_on, after, joined, for_each, Reads, Drawn}
+use Rattle.vac_draws.specs.Draws.{Drew, Reader, always, going_on, followed_by, joined, for_each, Reads, Drawn}
 use Rattle.vac_draws.specs.Tasks.{stock, stocks, customers, opening}
 use Rattle.vac_draws.specs.declared.settings.Settings.{Settings}
 use Rattle.vac_load.specs.Opening.{Begun}
@@ -167,12 +167,13 @@ long_going first n m f ws zs us h k (Some r) e g =
 
 -- with a list put behind it
 long_then : {X : Type 0} (first : Reader (List X)) (n m : ℕ) (f : List X → List X) → Long first n →
-    ((xs : List X) → length (f xs) ≡ length xs + m) → Long (after first (λ xs. always (f xs))) (n + m)
+    ((xs : List X) → length (f xs) ≡ length xs + m) → Long (followed_by first (λ xs. always (f xs))) (n + m)
 long_then first n m f h k = λ ws zs us e. long_going first n m f ws zs us h k (first ws) refl e
 
 long_second : {X : Type 0} (first second : Reader (List X)) (n m : ℕ) (ws : List ℕ) (zs : List X) (us : List ℕ) →
     Long first n → Long second m →
-    (o : Option (List X × List ℕ)) → first ws ≡ o → going_on o (λ xs. after second (λ ys. always (xs ++ ys))) ≡ Some
+    (o : Option (List X × List ℕ)) → first ws ≡ o → going_on o
+    (λ xs. followed_by second (λ ys. always (xs ++ ys))) ≡ Some
     (zs, us) → length zs ≡ n + m
 long_second first second n m ws zs us h k None e g = absurd (none_some _ (zs, us) refl g)
 long_second first second n m ws zs us h k (Some r) e g =

@@ -11,7 +11,7 @@ use Rattle.vac_manager.specs.Called.{CallerShown}
 use Rattle.vac_manager.specs.Renewed.{ClosesSomewhere}
 use Rattle.vac_draws.specs.Draws.{Reader}
 use Rattle.vac_model.specs.declared.commands.Command.{Command}
-use Rattle.vac_load.specs.Opening.{Ran}
+use Rattle.vac_load.specs.Opening.{RanDrawn}
 use Rattle.vac_load.specs.Alone.{IsInRenewal}
 
 none_versioned : AreVersioned []
@@ -65,7 +65,7 @@ more_in n before rest after h e now = record {
 
 -- those of the opening are of one renewal
 pub opened_in : {D : Type 0} (leads : D → ℕ → D → Type 0) (renewal : ℕ) (reader : Reader (List Command)) (v v' : Client)
-    (state last : D) → v.records ≡ [] → Ran leads renewal reader v v' state last → IsInRenewal renewal v'.records
+    (state last : D) → v.records ≡ [] → RanDrawn leads renewal reader v v' state last → IsInRenewal renewal v'.records
 opened_in leads renewal reader v v' state last empty ran =
     let a = ran.answered in
     let none : IsInRenewal renewal v.records = record {

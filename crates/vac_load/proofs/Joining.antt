@@ -19,8 +19,8 @@ use Rattle.vac_load.specs.Looping.{total}
 use Rattle.vac_load.specs.Sums.{sum_of, plus, added_up}
 use Rattle.vac_load.specs.Lists.{Paired, none, both}
 use Rattle.vac_load.specs.Alone.{AreKnown}
-use Rattle.vac_load.specs.Keeping.{Kept, SeatShown, shown}
-use Rattle.vac_load.specs.Load.{InterleavedAll, Share, drawn_share, HasShare, HasKeptShare, RanAll, HasRun}
+use Rattle.vac_load.specs.Keeping.{KeptNotes, SeatShown, shown}
+use Rattle.vac_load.specs.Load.{InterleavedAll, Share, drawn_share, HasShare, HasKeptShare, RanAll, RoundHasRun}
 use Rattle.vac_draws.proofs.Drawing.{drawn_both}
 use Rattle.vac_load.proofs.Answering.{are_of_both}
 use Rattle.vac_load.proofs.Merging.{interleaved_both}
@@ -157,10 +157,10 @@ module _ {D P : Type 0} (leads : D → ℕ → D → Type 0) (s : Settings) (sho
       }
 
 -- one round more
-pub ran_more : {D G K : Type 0} (leads : D → ℕ → D → Type 0) (notes : K → Kept) (s : Settings) (rounds : ℕ)
+pub ran_more : {D G K : Type 0} (leads : D → ℕ → D → Type 0) (notes : K → KeptNotes) (s : Settings) (rounds : ℕ)
     (y ready : SessionShown) (seats : List (Seat D G K)) (r more : Round D G K) (t : Tally) →
-    HasRun leads notes s (rounds * s.tasks) y seats r → ready.client.value.records ≡ r.alone.client.value.records →
-    HasRun leads notes s s.tasks ready r.seats.items more → t ≡ plus r.tally.tally more.tally.tally →
+    RoundHasRun leads notes s (rounds * s.tasks) y seats r → ready.client.value.records ≡ r.alone.client.value.records →
+    RoundHasRun leads notes s s.tasks ready r.seats.items more → t ≡ plus r.tally.tally more.tally.tally →
     RanAll leads s (shown notes) ((rounds + 1) * s.tasks) y.client.value.records seats
     more.alone.client.value.records more.seats.items t
 ran_more leads notes s rounds y ready seats r more t h same k e =

@@ -28,10 +28,10 @@ use Rattle.vac_load.specs.declared.load.LoadFault.TheVariants as load
 use Rattle.vac_draws.specs.Streams.{stream_of, streams_of, gives}
 use Rattle.vac_load.specs.Streams.{KeptBySeed}
 use Rattle.vac_load.specs.Lists.{Paired, none, both}
-use Rattle.vac_load.specs.Alone.{IsReady}
-use Rattle.vac_load.specs.Keeping.{Kept, AreKept, AllKept, none_kept, one_kept, SeatShown, shown, kept_at}
+use Rattle.vac_load.specs.Alone.{IsReadyForRound}
+use Rattle.vac_load.specs.Keeping.{KeptNotes, AreKept, AllKept, none_kept, one_kept, SeatShown, shown, kept_at}
 use Rattle.vac_load.specs.Sums.{sum_of, added_up}
-use Rattle.vac_load.specs.Load.{InterleavedAll, Share, drawn_share, HasShare, HasKeptShare, HasOpened, HasRun}
+use Rattle.vac_load.specs.Load.{InterleavedAll, Share, drawn_share, HasShare, HasKeptShare, HasOpened, RoundHasRun}
 use Rattle.vac_load.specs.Load.{is_load, LoadedKept, WasOpened, WasStopped, IsTooShort, IsStopOfLoad}
 use Rattle.vac_load.specs.Load.{IsLoadFault}
 use Rattle.vac_load.proofs.Order.{added_known}
@@ -41,7 +41,7 @@ use Rattle.vac_load.proofs.Beginning.{long_opening}
 -- after the opening the first round can begin: what the opening added is known to its client, and it
 -- took the clock on by at most one for each of its commands
 pub opened_ready : {D : Type 0} (leads : D → ℕ → D → Type 0) (s : Settings) (state left : D) (y : SessionShown) →
-    HasOpened leads s state left y → IsReady s y
+    HasOpened leads s state left y → IsReadyForRound s y
 opened_ready leads s state left y h =
     let a = h.ran.answered in
     let all : y.client.value.records ≡ a.added = a.records ∙
@@ -100,13 +100,13 @@ module _ {D P : Type 0} (leads : D → ℕ → D → Type 0) (s : Settings) (sho
   kept_drawn [] [] (q ∷ qs) hs ks = elim ks [ ]
   kept_drawn (p ∷ ps) (x ∷ xs) [] hs ks = elim ks [ ]
 
-pub loaded_kept : {D G K : Type 0} (leads : D → ℕ → D → Type 0) (notes : K → Kept) (s : Settings) (state last : D)
-    (seats : List (Seat D G K)) (y : SessionShown) (end : Round D G K) (before kept : Kept) (words : List ℕ)
+pub loaded_kept : {D G K : Type 0} (leads : D → ℕ → D → Type 0) (notes : K → KeptNotes) (s : Settings) (state last : D)
+    (seats : List (Seat D G K)) (y : SessionShown) (end : Round D G K) (before kept : KeptNotes) (words : List ℕ)
     (r : Report) →
     length seats ≡ s.clients →
     HasOpened leads s state last y →
     AreKept y.client.value.records before kept →
-    HasRun leads notes s (s.rounds * s.tasks) y seats end →
+    RoundHasRun leads notes s (s.rounds * s.tasks) y seats end →
     AreVersioned end.alone.client.value.records →
     end.alone.manager.size ≡ y.manager.size →
     ClosesSomewhere end.alone.manager end.alone.client.value words →
@@ -170,8 +170,8 @@ paired_unmap f related (a ∷ ks) [] hs = elim hs [ ]
 
 -- a load is one of whatever its clients' draws begin with
 pub kept_on : {D P Q : Type 0} (leads : D → ℕ → D → Type 0) (s : Settings) (draws_of : P → D) (drawing : Q →
-    D) (state : D) (ps : List P) (qs : List Q) (t : Tally) (r : Report) (before after : Kept)
-    (befores afters : List Kept) →
+    D) (state : D) (ps : List P) (qs : List Q) (t : Tally) (r : Report) (before after : KeptNotes)
+    (befores afters : List KeptNotes) →
     map draws_of ps ≡ map drawing qs → LoadedKept leads s draws_of state ps t r before after befores afters →
     LoadedKept leads s drawing state qs t r before after befores afters
 kept_on leads s draws_of drawing state ps qs t r before after befores afters e h = record {
@@ -220,7 +220,8 @@ load_count s n m b same is holds =
 
 -- the same by the streams of a seed, with the keepers of the seats
 pub kept_by_seed : {P K : Type 0} (draws_of : P → Lcg) (keep_of : P → K) (notes : K →
-    Kept) (s : Settings) (t : Tally) (r : Report) (state : Lcg) (n : ℕ) (seats left : List P) (before after : Keepers K)
+    KeptNotes) (s : Settings) (t : Tally) (r : Report) (state : Lcg) (n : ℕ) (seats left : List P)
+    (before after : Keepers K)
     →
     state ≡ stream_of s.seed 0 → map draws_of seats ≡ streams_of s.seed n → n ≡ s.clients →
     map keep_of seats ≡ before.clients.items → after.clients.items ≡ map keep_of left →
@@ -237,9 +238,10 @@ kept_by_seed draws_of keep_of notes s t r state n seats left before after begins
     (are ∙ (ap (λ (k : ℕ). streams_of s.seed k) number ∙ sym (map_same streams)))
     (subst (λ (d : Lcg). LoadedKept gives s draws_of d seats t r (notes before.opening) (notes after.opening)
     (map notes before.clients.items) (map notes after.clients.items)) begins
-    (subst (λ (l : List Kept). LoadedKept gives s draws_of state seats t r (notes before.opening)
+    (subst (λ (l : List KeptNotes). LoadedKept gives s draws_of state seats t r (notes before.opening)
     (notes after.opening) l (map notes after.clients.items)) first
-    (subst (λ (l : List Kept). LoadedKept gives s draws_of state seats t r (notes before.opening) (notes after.opening)
+    (subst (λ (l : List KeptNotes). LoadedKept gives s draws_of state seats t r (notes before.opening)
+    (notes after.opening)
     (map (λ p. notes (keep_of p)) seats) l) last h)))
 
 too_short : {D : Type 0} (leads : D → ℕ → D → Type 0) (s : Settings) (renewal : ℕ) (e : Fault) (v v' : Client)

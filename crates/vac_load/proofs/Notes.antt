@@ -8,15 +8,15 @@ use Rattle.vac_model.specs.declared.tasks.Task.{Task}
 use Rattle.vac_model.specs.Code.{code}
 use Rattle.vac_manager.specs.declared.placed.Placed.{Placed}
 use Rattle.vac_model.specs.declared.replies.Reply.{Reply}
-use Rattle.vac_manager.specs.Placed.{AddsAt, IsPlaced, replied}
+use Rattle.vac_manager.specs.Placed.{AddsAt, IsAddedAtPlace, replied}
 use Rattle.vac_manager.specs.declared.fault.Fault.{Fault}
 use Rattle.stm_region.specs.Shown.{RegionShown}
 use Rattle.vac_manager.specs.declared.note.Note.{Note}
 use Rattle.vac_manager.specs.declared.note.AttemptNote.{AttemptNote}
-use Rattle.vac_manager.specs.Tracing.{Trace, trace_of, IsLast, IsTraceOf, IsOfAdded, HasTraced}
-use Rattle.vac_manager.specs.Keeping.{behind, HasKept, IsNoted}
+use Rattle.vac_manager.specs.Tracing.{Trace, trace_of, IsLastTraced, IsTraceOf, IsOfAdded, HasTraced}
+use Rattle.vac_manager.specs.Keeping.{notes_behind, HasKept, IsNoted}
 use Rattle.vac_load.specs.Lists.{Paired, none, both}
-use Rattle.vac_load.specs.Keeping.{Kept, AreKept, HasKeptAdded}
+use Rattle.vac_load.specs.Keeping.{KeptNotes, AreKept, HasKeptAdded}
 
 paired_both : {A B : Type 0} (related : A → B → Type 0) (xs us : List A) (ys vs : List B) → Paired related xs ys →
     Paired related us vs → Paired related (xs ++ us) (ys ++ vs)
@@ -25,23 +25,23 @@ paired_both related (x ∷ xs) us (y ∷ ys) vs (both r p) q = both r (paired_bo
 paired_both related [] us (y ∷ ys) vs p q = elim p [ ]
 paired_both related (x ∷ xs) us [] vs p q = elim p [ ]
 
-behind_none : (k : Kept) → behind k [] ≡ k
+behind_none : (k : KeptNotes) → notes_behind k [] ≡ k
 behind_none None = refl
 behind_none (Some ns) = ap (λ (l : List Note). Some l) (append-nil ns)
 
-behind_both : (k : Kept) (ns ms : List Note) → behind (behind k ns) ms ≡ behind k (ns ++ ms)
+behind_both : (k : KeptNotes) (ns ms : List Note) → notes_behind (notes_behind k ns) ms ≡ notes_behind k (ns ++ ms)
 behind_both None ns ms = refl
 behind_both (Some ks) ns ms = ap (λ (l : List Note). Some l) (append_assoc ks ns ms)
 
-pub are_kept_both : (rs qs : List Record) (a b c : Kept) → AreKept rs a b → AreKept qs b c → AreKept (rs ++ qs) a c
+pub are_kept_both : (rs qs : List Record) (a b c : KeptNotes) → AreKept rs a b → AreKept qs b c → AreKept (rs ++ qs) a c
 are_kept_both rs qs a b c p q = record {
   notes = p.notes ++ q.notes;
   are_of = paired_both IsNoted p.notes q.notes rs qs p.are_of q.are_of;
-  kept = q.kept ∙ (ap (λ (k : Kept). behind k q.notes) p.kept ∙ behind_both a p.notes q.notes);
+  kept = q.kept ∙ (ap (λ (k : KeptNotes). notes_behind k q.notes) p.kept ∙ behind_both a p.notes q.notes);
 }
 
 -- nothing was added, and nothing kept
-pub kept_none : (v v' : Client) (a b : Kept) → v'.records ≡ v.records → b ≡ a → HasKeptAdded v v' a b
+pub kept_none : (v v' : Client) (a b : KeptNotes) → v'.records ≡ v.records → b ≡ a → HasKeptAdded v v' a b
 kept_none v v' a b same e = record {
   added = [];
   records = same ∙ sym (append-nil v.records);
@@ -63,7 +63,7 @@ same_last xs ys x y e = sym (last_is x xs x) ∙ (ap (λ (l : List _). last_or x
 
 -- the last attempt that was traced is the one that was answered
 is_of_answer : (reply : Reply) (v v' : Client) (before traced : Option (List Trace)) (t : Trace) →
-    HasTraced {E = Fault} (Ok reply) v v' before traced → IsLast traced t → IsOfAdded v v' t
+    HasTraced {E = Fault} (Ok reply) v v' before traced → IsLastTraced traced t → IsOfAdded v v' t
 is_of_answer reply v v' before traced t h last =
     let k = h (last.0 ++ (t ∷ [])) last.1 in
     let a = k.4 in
@@ -81,13 +81,13 @@ is_of_record v v' r t e h = subst (λ (x : Record). IsTraceOf t x)
 noted_made : (o : Option (Box AttemptNote)) (reply : Reply) (v v' : Client) (r : Record)
     (before traced : Option (List Trace)) → v'.records ≡ v.records ++ (r ∷ []) →
     HasTraced {E = Fault} (Ok reply) v v' before traced →
-    IfSome o (λ a. IsLast traced (trace_of a.value)) → IfSome o (λ a. IsTraceOf (trace_of a.value) r)
+    IfSome o (λ a. IsLastTraced traced (trace_of a.value)) → IfSome o (λ a. IsTraceOf (trace_of a.value) r)
 noted_made (Some a) reply v v' r before traced e h last = is_of_record v v' r (trace_of a.value) e
     (is_of_answer reply v v' before traced (trace_of a.value) h last)
 noted_made None reply v v' r before traced e h last = tt
 
 -- the call that added a record was kept
-pub kept_one : (renewal : ℕ) (t : Task) (p : Placed) (v v' : Client) (a b c : Kept)
+pub kept_one : (renewal : ℕ) (t : Task) (p : Placed) (v v' : Client) (a b c : KeptNotes)
     (before traced : Option (List Trace)) → AddsAt renewal (code t p.reply) p.place v v' →
     HasTraced {E = Fault} (Ok p.reply) v v' before traced → b ≡ a → HasKept t p traced b c → HasKeptAdded v v' a c
 kept_one renewal t p v v' a b c before traced adds attempts same h = record {
@@ -101,12 +101,13 @@ kept_one renewal t p v v' a b c before traced adds attempts same h = record {
       attempt = noted_made h.note.attempt p.reply v v' adds.adds.added before traced adds.adds.records attempts
           h.attempt;
     }) none;
-    kept = h.kept ∙ ap (λ (k : Kept). behind k (h.note ∷ [])) same;
+    kept = h.kept ∙ ap (λ (k : KeptNotes). notes_behind k (h.note ∷ [])) same;
   };
 }
 
 -- one behind the other
-pub kept_both : (v w u : Client) (a b c : Kept) → HasKeptAdded v w a b → HasKeptAdded w u b c → HasKeptAdded v u a c
+pub kept_both : (v w u : Client) (a b c : KeptNotes) → HasKeptAdded v w a b → HasKeptAdded w u b c →
+    HasKeptAdded v u a c
 kept_both v w u a b c p q = record {
   added = p.added ++ q.added;
   records = q.records ∙ (ap (λ (l : List Record). l ++ q.added) p.records ∙ append_assoc v.records p.added q.added);
@@ -127,29 +128,29 @@ pub same_rest : {A : Type 0} (xs ys zs : List A) → xs ++ ys ≡ xs ++ zs → y
 same_rest xs ys zs e = sym (rest_is xs ys) ∙ (ap (λ (l : List _). rest_of xs l) e ∙ rest_is xs zs)
 
 -- the calls of exactly these records were kept
-pub kept_added : (v v' : Client) (rs : List Record) (a b : Kept) → v'.records ≡ v.records ++ rs →
+pub kept_added : (v v' : Client) (rs : List Record) (a b : KeptNotes) → v'.records ≡ v.records ++ rs →
     HasKeptAdded v v' a b → AreKept rs a b
 kept_added v v' rs a b e h = subst (λ (l : List Record). AreKept l a b)
     (same_rest v.records h.added rs (sym h.records ∙ e)) h.kept
 
 -- a call that was answered was kept
 pub kept_answered : (region : RegionShown) (t : Task) (end : Result Placed Fault) (p : Placed) (v v' : Client)
-    (a b c : Kept) (before traced noted : Option (List Trace)) → end ≡ Ok p → IsPlaced region t end v v' →
+    (a b c : KeptNotes) (before traced noted : Option (List Trace)) → end ≡ Ok p → IsAddedAtPlace region t end v v' →
     HasTraced (replied end) v v' before traced → b ≡ a → noted ≡ traced → HasKept t p noted b c → HasKeptAdded v v' a c
 kept_answered region t end p v v' a b c before traced noted is placed attempts same taken h =
     kept_one region.renewal t p v v' a b c before traced (subst
-    (λ (r : Result Placed Fault). IsPlaced region t r v v') is placed)
+    (λ (r : Result Placed Fault). IsAddedAtPlace region t r v v') is placed)
     (subst (λ (r : Result Placed Fault). HasTraced (replied r) v v' before traced) is attempts) same
     (subst (λ (o : Option (List Trace)). HasKept t p o b c) taken h)
 
 -- a call that was refused was not
 pub kept_refused : (region : RegionShown) (t : Task) (end : Result Placed Fault) (e : Fault) (v v' : Client)
-    (a b : Kept) → end ≡ Err e → IsPlaced region t end v v' → b ≡ a → HasKeptAdded v v' a b
+    (a b : KeptNotes) → end ≡ Err e → IsAddedAtPlace region t end v v' → b ≡ a → HasKeptAdded v v' a b
 kept_refused region t end e v v' a b is placed same =
-    kept_none v v' a b (subst (λ (r : Result Placed Fault). IsPlaced region t r v v') is placed) same
+    kept_none v v' a b (subst (λ (r : Result Placed Fault). IsAddedAtPlace region t r v v') is placed) same
 
 -- where the last of two was answered, both were kept
-pub kept_then : {X E : Type 0} (v w u : Client) (a b c : Kept) (result : Result X E) → HasKeptAdded v w a b →
+pub kept_then : {X E : Type 0} (v w u : Client) (a b c : KeptNotes) (result : Result X E) → HasKeptAdded v w a b →
     IfOk result (λ _. HasKeptAdded w u b c) → IfOk result (λ _. HasKeptAdded v u a c)
 kept_then v w u a b c (Ok x) p q = kept_both v w u a b c p q
 kept_then v w u a b c (Err e) p q = tt

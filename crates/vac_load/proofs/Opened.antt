@@ -12,14 +12,14 @@ use Rattle.vac_draws.specs.Tasks.{stocks, customers, opening}
 use Rattle.vac_draws.specs.declared.settings.Settings.{Settings}
 use Rattle.vac_load.specs.Looping.{Answered}
 use Rattle.stm_region.specs.Shown.{RegionShown}
-use Rattle.vac_manager.specs.Called.{IsWhole}
+use Rattle.vac_manager.specs.Called.{HasWholeHistory}
 use Rattle.vac_manager.specs.Legal.{WasLegal}
 use Rattle.vac_manager.specs.Session.{SessionShown, GoesOn}
 use Rattle.vac_manager.specs.Placed.{replied}
 use Rattle.vac_manager.specs.declared.placed.Placed.{Placed}
 use Rattle.vac_manager.specs.declared.fault.Fault.{Fault}
-use Rattle.vac_load.specs.Keeping.{Kept, HasKeptAdded}
-use Rattle.vac_load.specs.Opening.{as_tasks, Ran, RanIn, Begun, Stopped, StoppedIn, IsAnswered, IsOpeningFault}
+use Rattle.vac_load.specs.Keeping.{KeptNotes, HasKeptAdded}
+use Rattle.vac_load.specs.Opening.{as_tasks, RanDrawn, RanIn, Begun, Stopped, StoppedIn, IsAnswered, IsOpeningFault}
 use Rattle.vac_load.specs.Opening.{WasAnswered, WasRefused}
 use Rattle.vac_draws.proofs.Drawing.{plus_one, drawn_always, drawn_then_always, drawn_joined}
 use Rattle.vac_load.proofs.Answering.{answered_both, answered_quiet}
@@ -31,7 +31,7 @@ pub ran_joined : {D : Type 0} (leads : D → ℕ → D → Type 0) (first second
     (y z w : SessionShown) (a b c : D) → GoesOn y z → RanIn leads first y z a b → RanIn leads second z w b c →
     RanIn leads (joined first second) y w a c
 ran_joined leads first second y z w a b c e p k =
-    let q = of_manager (λ m. Ran leads m.renewal second z.client.value w.client.value b c) y z e k in
+    let q = of_manager (λ m. RanDrawn leads m.renewal second z.client.value w.client.value b c) y z e k in
     record {
       commands = p.commands ++ q.commands;
       drawn = drawn_joined leads first second a p.commands b q.commands c p.drawn q.drawn;
@@ -59,7 +59,7 @@ ran_more leads n f y z w a b c =
 
 -- where a call was answered, its commands were run
 pub ran_if_ok : {D E : Type 0} (leads : D → ℕ → D → Type 0) (reader : Reader (List Command)) (command : Command)
-    (y y' : SessionShown) (before after : Kept) (a b : D) (result : Result (Unit {0}) E) →
+    (y y' : SessionShown) (before after : KeptNotes) (a b : D) (result : Result (Unit {0}) E) →
     Drawn leads reader a (command ∷ []) b → IfOk result (λ _. WasAnswered command y y' before after) →
     IfOk result (λ _. RanIn leads reader y y' a b)
 ran_if_ok leads reader command y y' before after a b (Ok x) p q =
@@ -67,7 +67,7 @@ ran_if_ok leads reader command y y' before after a b (Ok x) p q =
 ran_if_ok leads reader command y y' before after a b (Err e) p q = tt
 
 -- and kept
-pub kept_if_ok : {E : Type 0} (command : Command) (y y' : SessionShown) (before after : Kept)
+pub kept_if_ok : {E : Type 0} (command : Command) (y y' : SessionShown) (before after : KeptNotes)
     (result : Result (Unit {0}) E) → IfOk result (λ _. WasAnswered command y y' before after) →
     IfOk result (λ _. HasKeptAdded y.client.value y'.client.value before after)
 kept_if_ok command y y' before after (Ok x) q = q.kept
@@ -91,11 +91,11 @@ customers_more renewal n v w u = rw (plus_one n) (λ p q. rw (map-append (λ c. 
 pub record Opening {D : Type 0} (leads : D → ℕ → D → Type 0) (renewal : ℕ) (m n : ℕ) (v u : Client) (a b : D) :
     Type 0 where
   pub between : Client
-  pub items : Ran leads renewal (for_each m stocks) v between a b
+  pub items : RanDrawn leads renewal (for_each m stocks) v between a b
   pub made : Answered renewal (as_tasks (customers n)) between u
   pub near : u.floor ≤ between.floor + n
 
-pub opening_more : {D : Type 0} (leads : D → ℕ → D → Type 0) (m n : ℕ) (y z w : SessionShown) (before after : Kept)
+pub opening_more : {D : Type 0} (leads : D → ℕ → D → Type 0) (m n : ℕ) (y z w : SessionShown) (before after : KeptNotes)
     (a b : D) → GoesOn y z → Opening leads y.manager.renewal m n y.client.value z.client.value a b →
     WasAnswered (NewCustomer (n + 1)) z w before after →
     Opening leads y.manager.renewal m (n + 1) y.client.value w.client.value a b
@@ -110,7 +110,7 @@ opening_more leads m n y z w before after a b e p q =
     }
 
 pub opening_all : {D : Type 0} (leads : D → ℕ → D → Type 0) (renewal : ℕ) (s : Settings) (v u : Client) (a b : D) →
-    Opening leads renewal s.items s.items v u a b → Ran leads renewal (opening s) v u a b
+    Opening leads renewal s.items s.items v u a b → RanDrawn leads renewal (opening s) v u a b
 opening_all leads renewal s v u a b p = record {
   commands = p.items.commands ++ customers s.items;
   drawn = drawn_then_always leads (for_each s.items stocks) (λ items. items ++ customers s.items) a p.items.commands b
@@ -250,7 +250,8 @@ handed_on (Err f) e P is holds = subst P (sym is) holds
 
 -- a call of a client that is alone was answered
 pub is_answered : {E : Type 0} (region : RegionShown) (end : Result Placed E) (p : Placed) (v : Client) → end ≡ Ok p →
-    IfOk (replied end) (λ _. WasLegal region v) → IfOk (replied end) (λ _. IsWhole region v) → IsAnswered region v
+    IfOk (replied end) (λ _. WasLegal region v) → IfOk (replied end) (λ _. HasWholeHistory region v) →
+    IsAnswered region v
 is_answered region (Ok x) p v is legal whole = record { whole = whole; legal = legal }
 is_answered region (Err e) p v is legal whole = absurd (let k : Err e ≡ Ok p = is in cc)
 

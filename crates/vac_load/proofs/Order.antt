@@ -4,10 +4,10 @@ use Rattle.tx_memory.specs.Image.{In}
 use Rattle.stm_core.specs.Client.{Record, before, rank, inserted, merged}
 use Rattle.vac_manager.proofs.Adding.{not_earlier, rank_small}
 use Rattle.vac_load.specs.Looping.{IsAdded}
-use Rattle.vac_load.specs.Alone.{IsKnown}
+use Rattle.vac_load.specs.Alone.{IsKnownRecord}
 
 -- what a client added, it knows
-pub added_known : (renewal before now : ℕ) (r : Record) → IsAdded renewal before now r → IsKnown renewal now r
+pub added_known : (renewal before now : ℕ) (r : Record) → IsAdded renewal before now r → IsKnownRecord renewal now r
 added_known renewal before now r h = record {
   present = omega (arith, h.renewal_is);
   known = λ e. h.known;
@@ -24,7 +24,7 @@ pub added_later : (renewal floor before now : ℕ) (r : Record) → floor ≤ be
 added_later renewal floor before now r l h = record { renewal_is = h.renewal_is; behind = omega (arith, l, h.behind) }
 
 -- what is added later stands before nothing that is known
-pub known_first : (renewal floor : ℕ) (x y : Record) → IsKnown renewal floor x → IsLater renewal floor y →
+pub known_first : (renewal floor : ℕ) (x y : Record) → IsKnownRecord renewal floor x → IsLater renewal floor y →
     before y x ≡ false
 known_first renewal floor x y k h =
     not_earlier y.renewal (rank y) y.point x.renewal (rank x) x.point

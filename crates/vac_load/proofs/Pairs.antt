@@ -6,7 +6,7 @@ use Rattle.vac_draws.specs.declared.settings.Settings.{Settings}
 use Rattle.vac_load.specs.declared.workers.Worker.{Worker}
 use Rattle.vac_load.specs.declared.workers.WorkOf.{WorkOf}
 use Rattle.vac_load.specs.Lists.{Paired, none, both}
-use Rattle.vac_load.specs.Keeping.{Kept}
+use Rattle.vac_load.specs.Keeping.{KeptNotes}
 use Rattle.vac_load.specs.Load.{IsPromise, DidWork}
 
 -- one place more
@@ -91,14 +91,15 @@ all_but_first P xs ys x e h = let g : All P (x ∷ ys) = subst (λ (l : List _).
 
 -- a promise of work that was kept
 pub kept_promise : {D G K : Type 0} (leads : D → ℕ → D → Type 0) (notes : K →
-    Kept) (s : Settings) (w : Worker D G K) (p : WorkOf D G K) (d : Worker D G K) →
+    KeptNotes) (s : Settings) (w : Worker D G K) (p : WorkOf D G K) (d : Worker D G K) →
     IsPromise s w p → DidWork leads notes p.settings p.worker.value d → DidWork leads notes s w d
 kept_promise leads notes s w p d h k =
     subst (λ (x : Settings). DidWork leads notes x w d) h.settings_is
     (subst (λ (x : Worker _ _ _). DidWork leads notes p.settings x d) h.worker_is k)
 
 -- promises of work that were kept
-pub worked_through : {D G K H : Type 0} (leads : D → ℕ → D → Type 0) (notes : K → Kept) (s : Settings) (promise : H →
+pub worked_through : {D G K H : Type 0} (leads : D → ℕ → D → Type 0) (notes : K →
+    KeptNotes) (s : Settings) (promise : H →
     WorkOf D G K) (ws : List (Worker D G K)) (hs : List H) (ds : List (Worker D G K)) →
     Paired (λ w h. IsPromise s w (promise h)) ws hs → Paired
     (λ h d. DidWork leads notes (promise h).settings (promise h).worker.value d) hs ds →

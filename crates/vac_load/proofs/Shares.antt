@@ -14,14 +14,14 @@ use Rattle.vac_load.specs.declared.seats.Seat.{Seat}
 use Rattle.vac_load.specs.declared.tally.Tally.{Tally}
 use Rattle.vac_load.specs.declared.workers.Worker.{Worker}
 use Rattle.vac_load.specs.declared.workers.Crew.{Crew}
-use Rattle.vac_draws.specs.Draws.{Drawn, times}
+use Rattle.vac_draws.specs.Draws.{Drawn, times_over}
 use Rattle.vac_draws.specs.Tasks.{task_of}
-use Rattle.vac_load.specs.Keeping.{AreKept, Kept, SeatShown, shown}
+use Rattle.vac_load.specs.Keeping.{AreKept, KeptNotes, SeatShown, shown}
 use Rattle.vac_load.specs.Sums.{sum_of, plus, added_up}
 use Rattle.vac_load.specs.Lists.{Paired, none, both, Interleaved}
 use Rattle.vac_load.specs.Load.{InterleavedAll, all_merged, Gathered, DidWork, DidAllWork, IsWorker, IsCrew, IsMember}
 use Rattle.vac_load.specs.Load.{CanGather, Share, HasKeptShare, RanAll}
-use Rattle.vac_load.specs.Alone.{AreKnown, IsInRenewal, IsReady}
+use Rattle.vac_load.specs.Alone.{AreKnown, IsInRenewal, IsReadyForRound}
 use Rattle.vac_load.proofs.Clocking.{clocked_in_time}
 use Rattle.vac_load.proofs.Eras.{more_in}
 use Rattle.vac_load.proofs.Order.{IsLater, added_later, known_first, merged_behind}
@@ -82,7 +82,7 @@ pub record Did {D : Type 0} (leads : D → ℕ → D → Type 0) (s : Settings) 
   pub later : (r : Record) → In r added → IsLater renewal floor r
   pub has : HasKeptShare leads s s.tasks state (record { records = added; tally = t; left = left })
 
-pub did : {D G K : Type 0} (leads : D → ℕ → D → Type 0) (notes : K → Kept) (s : Settings) (manager : RegionShown)
+pub did : {D G K : Type 0} (leads : D → ℕ → D → Type 0) (notes : K → KeptNotes) (s : Settings) (manager : RegionShown)
     (floor : ℕ) (before : List Record) (seat : Seat D G K) (w : Worker D G K) (r : Worker D G K) →
     IsWorker manager before floor seat w → DidWork leads notes s w r →
     Did leads s manager.renewal floor before (shown notes seat) (shown notes r.seat) r.session.client
@@ -104,7 +104,7 @@ did leads notes s manager floor before seat w r h k =
       has = record {
         has = record {
           tasks = l.tasks;
-          drawn = subst (λ (x : SeatShown _). Drawn leads (times s.tasks (task_of s)) x.draws l.tasks left.draws)
+          drawn = subst (λ (x : SeatShown _). Drawn leads (times_over s.tasks (task_of s)) x.draws l.tasks left.draws)
               same l.drawn;
           answered = l.done;
           among = l.among;
@@ -160,7 +160,8 @@ no_sum : {X : Type 0} (f : X → ℕ) (xs : List X) → length xs ≡ 0 → sum_
 no_sum f [] e = refl
 no_sum f (x ∷ xs) e = absurd (omega (arith, e))
 
-module _ {D G K : Type 0} (leads : D → ℕ → D → Type 0) (notes : K → Kept) (s : Settings) (opener : SessionShown) where
+module _ {D G K : Type 0} (leads : D → ℕ → D → Type 0) (notes : K →
+    KeptNotes) (s : Settings) (opener : SessionShown) where
   -- how the tasks ended
   abbrev tally_of : Worker D G K → Tally
   tally_of r = r.tally.tally
@@ -222,7 +223,8 @@ module _ {D G K : Type 0} (leads : D → ℕ → D → Type 0) (notes : K → Ke
         ++ all_merged (λ (x : Share (SeatShown D)). x.records) mine.added more.shares
 
   round : (seats : List (Seat D G K)) (crew : Crew D G K) (done : Crew D G K) (all : List Record)
-      (t : Tally) → IsReady s opener → (h : IsCrew opener s.tries seats crew) → DidAllWork leads notes s crew done →
+      (t : Tally) → IsReadyForRound s opener → (h : IsCrew opener s.tries seats crew) →
+      DidAllWork leads notes s crew done →
       Gathered records_of tally_of done.first done.others.items all t → Round seats crew done all h
   round seats crew done all t ready h k g =
       let floor = opener.client.value.floor in
@@ -238,7 +240,7 @@ module _ {D G K : Type 0} (leads : D → ℕ → D → Type 0) (notes : K → Ke
       }
 
   pub ran_all : (seats left : List (Seat D G K)) (crew : Crew D G K) (done : Crew D G K)
-      (after : Client) (t : Tally) → IsReady s opener → IsCrew opener s.tries seats crew →
+      (after : Client) (t : Tally) → IsReadyForRound s opener → IsCrew opener s.tries seats crew →
       DidAllWork leads notes s crew done →
       Gathered records_of tally_of done.first done.others.items after.records t →
       Paired (λ r p. p ≡ r.seat) (done.first ∷ done.others.items) left →
@@ -292,7 +294,7 @@ module _ {D G K : Type 0} (leads : D → ℕ → D → Type 0) (notes : K → Ke
 
   -- what they added is of this renewal
   pub ran_in : (seats : List (Seat D G K)) (crew : Crew D G K) (done : Crew D G K) (after : Client)
-      (t : Tally) → IsReady s opener → IsCrew opener s.tries seats crew → DidAllWork leads notes s crew done →
+      (t : Tally) → IsReadyForRound s opener → IsCrew opener s.tries seats crew → DidAllWork leads notes s crew done →
       Gathered records_of tally_of done.first done.others.items after.records t →
       IsInRenewal opener.manager.renewal opener.client.value.records → IsInRenewal opener.manager.renewal after.records
   ran_in seats crew done after t ready h k g in_it =

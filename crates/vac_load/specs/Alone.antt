@@ -8,14 +8,14 @@ use Rattle.vac_manager.specs.Legal.{AreVersioned}
 use Rattle.vac_draws.specs.declared.settings.Settings.{Settings}
 
 -- the record comes after none that is added in this renewal by a client that knows this version
-pub record IsKnown (renewal version : ℕ) (r : Record) : Type 0 where
+pub record IsKnownRecord (renewal version : ℕ) (r : Record) : Type 0 where
   pub present : r.renewal ≤ renewal
   pub known : r.renewal ≡ renewal → r.version ≤ version
   pub unplaced : r.renewal ≡ renewal → r.point ≡ 0
 
 -- each of these records comes after none that such a client adds in this renewal
 abbrev pub AreKnown : ℕ → ℕ → List Record → Type 0
-AreKnown renewal version records = (r : Record) → In r records → IsKnown renewal version r
+AreKnown renewal version records = (r : Record) → In r records → IsKnownRecord renewal version r
 
 -- after the records of earlier renewals, which have one writer a version and readers that wrote
 -- nothing, come those of this one
@@ -29,14 +29,14 @@ pub record IsInRenewal (renewal : ℕ) (records : List Record) : Type 0 where
 
 -- the client is of this manager, has all its grants, and has records of its renewal and of earlier
 -- ones
-pub record IsAlone (y : SessionShown) : Type 0 where
+pub record IsAloneInRenewal (y : SessionShown) : Type 0 where
   pub own : IsOwn y
   pub alone : HasAllGrants y.client.value
   pub era : IsInRenewal y.manager.renewal y.client.value.records
 
 -- a round of a load with these settings can begin: what its clients will add comes behind all
 -- records, and the clock has not gone beyond what an opening takes
-pub record IsReady (s : Settings) (y : SessionShown) : Type 0 where
+pub record IsReadyForRound (s : Settings) (y : SessionShown) : Type 0 where
   pub last : y.manager.last ≡ s.last
   pub known : AreKnown y.manager.renewal y.client.value.floor y.client.value.records
   pub early : y.client.value.floor ≤ 4 * s.items
@@ -46,4 +46,4 @@ pub record IsRenewed (s : Settings) (y y' : SessionShown) : Type 0 where
   pub renewal : y'.manager.renewal ≡ y.manager.renewal + 1
   pub size : y'.manager.size ≡ y.manager.size
   pub records : y'.client.value.records ≡ y.client.value.records
-  pub ready : IsReady s y'
+  pub ready : IsReadyForRound s y'

@@ -26,8 +26,8 @@ abbrev pub conflicts_in : Efforts → ℕ
 conflicts_in e = e.held + e.newer + e.moved + e.lost_lock + e.lost_tick
 
 -- how many of these conflicts were over a lock, by the kind of word that it guards
-abbrev pub locks_in : Efforts → ℕ
-locks_in e = e.roots + e.heads + e.nodes + e.uses + e.stocks
+abbrev pub lock_conflicts_in : Efforts → ℕ
+lock_conflicts_in e = e.roots + e.heads + e.nodes + e.uses + e.stocks
 
 -- with what one more call took
 abbrev pub with_call : Effort → Efforts → Efforts
@@ -85,4 +85,4 @@ pub record IsEffort (tries : ℕ) (t : Tally) (e : Efforts) : Type 0 where
   pub busy : t.busy * tries ≤ conflicts_in e
   pub few : e.attempts ≤ total t * tries
   pub others : conflicts_in e + t.answered + t.memory + t.spent ≤ total t * tries
-  pub locks : locks_in e + e.lost_tick ≡ conflicts_in e
+  pub locks : lock_conflicts_in e + e.lost_tick ≡ conflicts_in e

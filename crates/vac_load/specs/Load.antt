@@ -21,10 +21,10 @@ use Rattle.vac_load.specs.declared.workers.WorkOf.{WorkOf}
 use Rattle.vac_load.specs.declared.workers.Crew.{Crew}
 use Rattle.vac_load.specs.declared.rounds.Round.{Round}
 use Rattle.vac_load.specs.Attempted.{uncounted}
-use Rattle.vac_load.specs.Looping.{Looped, Clocked, AreOf, total}
+use Rattle.vac_load.specs.Looping.{Looped, Clocked, AreOfTasks, total}
 use Rattle.vac_load.specs.Lists.{Paired, Interleaved}
-use Rattle.vac_load.specs.Keeping.{Kept, AreKept, AllKept, HasKeptAdded, SeatShown, shown}
-use Rattle.vac_load.specs.Opening.{as_tasks, Ran, Stopped, IsAnswered}
+use Rattle.vac_load.specs.Keeping.{KeptNotes, AreKept, AllKept, HasKeptAdded, SeatShown, shown}
+use Rattle.vac_load.specs.Opening.{as_tasks, RanDrawn, Stopped, IsAnswered}
 use Rattle.vac_draws.specs.Setting.{is_settings}
 use Rattle.vac_load.specs.declared.load.LoadFault.{LoadFault}
 use Rattle.vac_load.specs.declared.load.LoadFault.TheVariants as load
@@ -32,7 +32,7 @@ use Rattle.vac_model.specs.declared.commands.Command.{Command}
 use Rattle.vac_model.specs.declared.replies.Report.{Report}
 use Rattle.vac_model.specs.State.{State, empty_state, report}
 use Rattle.vac_manager.specs.Legal.{IsLegal, AreVersioned}
-use Rattle.vac_draws.specs.Draws.{Drawn, times}
+use Rattle.vac_draws.specs.Draws.{Drawn, times_over}
 use Rattle.vac_draws.specs.Tasks.{task_of, opening}
 use Rattle.vac_load.specs.Sums.{added_up}
 
@@ -44,7 +44,8 @@ HasTime s = 4 * s.items + s.tasks ≤ s.last
 -- a worker ran its tasks of a round, with the settings' tries for each, and became that worker: its
 -- session went on, its client's value has what its loop made of it in its manager's renewal and,
 -- where it is alone, by its manager's clock, and its keeper kept its answered calls
-pub record DidWork {D G K : Type 0} (leads : D → ℕ → D → Type 0) (notes : K → Kept) (s : Settings)
+pub record DidWork {D G K : Type 0} (leads : D → ℕ → D → Type 0) (notes : K → KeptNotes)
+    (s : Settings)
     (w d : Worker D G K) : Type 0 where
   pub session : GoesOn w.session d.session
   pub looped : Looped leads s w.session.manager.renewal s.tasks w.session.client.value
@@ -56,7 +57,7 @@ pub record DidWork {D G K : Type 0} (leads : D → ℕ → D → Type 0) (notes 
       (notes w.seat.keep) (notes d.seat.keep)
 
 -- each worker of a crew ran its tasks of a round; the workers are in their order
-pub record DidAllWork {D G K : Type 0} (leads : D → ℕ → D → Type 0) (notes : K → Kept)
+pub record DidAllWork {D G K : Type 0} (leads : D → ℕ → D → Type 0) (notes : K → KeptNotes)
     (s : Settings) (crew : Crew D G K) (done : Crew D G K) : Type 0 where
   pub first : DidWork leads notes s crew.first done.first
   pub others : Paired (DidWork leads notes s) crew.others.items done.others.items
@@ -138,11 +139,11 @@ pub record Share (D : Type 0) : Type 0 where
 pub record HasShare {D : Type 0} (leads : D → ℕ → D → Type 0) (s : Settings) (n : ℕ)
     (state : D) (x : Share D) : Type 0 where
   pub tasks : List Task
-  pub drawn : Drawn leads (times n (task_of s)) state tasks x.left
+  pub drawn : Drawn leads (times_over n (task_of s)) state tasks x.left
   pub answered : List Task
   pub among : Sub answered tasks
   pub number : length answered ≡ x.tally.answered
-  pub are_of : AreOf answered x.records
+  pub are_of : AreOfTasks answered x.records
   pub all : total x.tally ≡ n
 
 -- the share without what its keeper keeps
@@ -175,9 +176,9 @@ pub record RanAll {D P : Type 0} (leads : D → ℕ → D → Type 0) (s : Setti
 
 -- all clients ran n tasks each, in one round or in several, from the records of this session's
 -- client and from these seats on; the round has what they left, and how these tasks ended
-abbrev pub HasRun : {D G K : Type 0} → (D → ℕ → D → Type 0) → (K → Kept) → Settings → ℕ
+abbrev pub RoundHasRun : {D G K : Type 0} → (D → ℕ → D → Type 0) → (K → KeptNotes) → Settings → ℕ
     → SessionShown → List (Seat D G K) → Round D G K → Type 0
-HasRun leads notes s n y seats r = RanAll leads s (shown notes) n y.client.value.records seats
+RoundHasRun leads notes s n y seats r = RanAll leads s (shown notes) n y.client.value.records seats
     r.alone.client.value.records r.seats.items r.tally.tally
 
 -- a round of a load with these settings: a seat for each client, and the settings' tries
@@ -190,8 +191,8 @@ abbrev pub is_load : Settings → ℕ → Bool
 is_load s clients = is_settings s && nat_eq clients s.clients
 
 -- memory was refused, or a thread was not started
-abbrev pub IsRefusal : LoadFault → Type 0
-IsRefusal e = (e ≡ load.Memory) ⊎ (e ≡ load.Spawn)
+abbrev pub IsLoadRefusal : LoadFault → Type 0
+IsLoadRefusal e = (e ≡ load.Memory) ⊎ (e ≡ load.Spawn)
 
 -- the manager of a load was made, and the opening was answered whole: from this state of its draws
 -- on all its commands were drawn, and each of them was asked for and answered, by a clock that
@@ -201,7 +202,7 @@ pub record HasOpened {D : Type 0} (leads : D → ℕ → D → Type 0) (s : Sett
   pub stripes : ℕ
   pub opener : CallerShown
   pub opens : Opens s.blocks s.last stripes y.manager opener
-  pub ran : Ran leads y.manager.renewal (opening s) opener.value y.client.value state left
+  pub ran : RanDrawn leads y.manager.renewal (opening s) opener.value y.client.value state left
   pub answered : IsAnswered y.manager y.client.value
 
 -- some manager was made so, and its client answered the opening whole
@@ -265,7 +266,7 @@ IsLoadFault {D} leads s state e =
 -- Not said: that threads run at once; that a thread is refused only where it could not be started.
 -- Not said: that the history is one of a manager's clients: it is any legal history with these
 -- tasks, and `tests/history` has the histories of loads judged.
-pub record Loaded {D P : Type 0} (leads : D → ℕ → D → Type 0) (s : Settings) (draws_of : P → D)
+pub record HasLoaded {D P : Type 0} (leads : D → ℕ → D → Type 0) (s : Settings) (draws_of : P → D)
     (state : D) (pairs : List P) (t : Tally) (r : Report) : Type 0 where
   pub history : List Record
   pub last : State
@@ -279,7 +280,7 @@ pub record Loaded {D P : Type 0} (leads : D → ℕ → D → Type 0) (s : Setti
   pub commands : List Command
   pub drawn : D
   pub opening_is : Drawn leads (opening s) state commands drawn
-  pub opened_are : AreOf (as_tasks commands) opened
+  pub opened_are : AreOfTasks (as_tasks commands) opened
   pub shares : List (Share D)
   pub each : Paired (λ p x. HasShare leads s (s.rounds * s.tasks) (draws_of p) x) pairs shares
   pub each_once : InterleavedAll (λ x. x.records) shares rest
@@ -296,7 +297,7 @@ pub record Loaded {D P : Type 0} (leads : D → ℕ → D → Type 0) (s : Setti
 -- anything else is told of it.
 pub record LoadedKept {D P : Type 0} (leads : D → ℕ → D → Type 0) (s : Settings)
     (draws_of : P → D) (state : D) (pairs : List P) (t : Tally) (r : Report)
-    (before after : Kept) (befores afters : List Kept) : Type 0 where
-  pub loaded : Loaded leads s draws_of state pairs t r
+    (before after : KeptNotes) (befores afters : List KeptNotes) : Type 0 where
+  pub loaded : HasLoaded leads s draws_of state pairs t r
   pub opening_kept : AreKept loaded.opened before after
   pub clients_kept : AllKept (λ x. x.records) loaded.shares befores afters

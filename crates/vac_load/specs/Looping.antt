@@ -13,15 +13,15 @@ use Rattle.vac_manager.specs.declared.fault.Fault.{Fault}
 use Rattle.vac_manager.specs.declared.fault.Fault.TheVariants as fault
 use Rattle.vac_draws.specs.declared.settings.Settings.{Settings}
 use Rattle.vac_load.specs.declared.tally.Tally.{Tally}
-use Rattle.vac_draws.specs.Draws.{Drawn, times}
+use Rattle.vac_draws.specs.Draws.{Drawn, times_over}
 use Rattle.vac_draws.specs.Tasks.{task_of}
 
 -- each record is of the task at its place and of some reply, and there are no others
-abbrev pub AreOf : List Task → List Record → Type 0
-AreOf [] [] = Unit {0}
-AreOf [] (r ∷ rs) = ⊥
-AreOf (t ∷ ts) [] = ⊥
-AreOf (t ∷ ts) (r ∷ rs) = ((reply : Reply) × (r.tag ≡ code t reply)) × AreOf ts rs
+abbrev pub AreOfTasks : List Task → List Record → Type 0
+AreOfTasks [] [] = Unit {0}
+AreOfTasks [] (r ∷ rs) = ⊥
+AreOfTasks (t ∷ ts) [] = ⊥
+AreOfTasks (t ∷ ts) (r ∷ rs) = ((reply : Reply) × (r.tag ≡ code t reply)) × AreOfTasks ts rs
 
 -- a record was added in this renewal by a client that knew the first version before and the second
 -- one after it: it is of no version below the first, comes after the writer of that version, and is
@@ -38,7 +38,7 @@ pub record IsAdded (renewal before after : ℕ) (r : Record) : Type 0 where
 pub record Answered (renewal : ℕ) (tasks : List Task) (v v' : Client) : Type 0 where
   pub added : List Record
   pub records : v'.records ≡ v.records ++ added
-  pub are_of : AreOf tasks added
+  pub are_of : AreOfTasks tasks added
   pub each : (r : Record) → In r added → IsAdded renewal v.floor v'.floor r
   pub sorted : Sorted added
   pub floor : v.floor ≤ v'.floor
@@ -71,7 +71,7 @@ least_attempts tries t = t.answered + t.spent + t.busy * tries
 pub record Looped {D : Type 0} (leads : D → ℕ → D → Type 0) (s : Settings) (renewal n : ℕ)
     (v v' : Client) (state last : D) (t : Tally) : Type 0 where
   pub tasks : List Task
-  pub drawn : Drawn leads (times n (task_of s)) state tasks last
+  pub drawn : Drawn leads (times_over n (task_of s)) state tasks last
   pub done : List Task
   pub among : Sub done tasks
   pub number : length done ≡ t.answered
@@ -88,8 +88,8 @@ pub record Clocked (last : ℕ) (v v' : Client) (t : Tally) : Type 0 where
   pub spent : 0 < t.spent → last ≤ v.floor + t.answered
 
 -- the least number of attempts of a task that ended so, with this many tries
-abbrev pub attempts_of : {R : Type 0} → ℕ → Result R Fault → ℕ
-attempts_of tries end = least_attempts tries (counted end nothing)
+abbrev pub least_attempts_of : {R : Type 0} → ℕ → Result R Fault → ℕ
+least_attempts_of tries end = least_attempts tries (counted end nothing)
 
 -- the task, where its end is an answer
 abbrev pub answered_by : {R : Type 0} → Task → Result R Fault → List Task
@@ -101,6 +101,6 @@ answered_by t (Err e) = []
 abbrev pub RanOne : {R E : Type 0} → ℕ → Result Task E → ℕ → Result R Fault → Client → Client
     → Type 0
 RanOne renewal (Ok t) tries end v v' = Answered renewal (answered_by t end) v v'
-    × (v.attempt.number + attempts_of tries end ≤ v'.attempt.number)
+    × (v.attempt.number + least_attempts_of tries end ≤ v'.attempt.number)
     × (HasAllGrants v → (counted end nothing).busy ≡ 0)
 RanOne renewal (Err e) tries end v v' = (end ≡ Err fault.Memory) × (v' ≡ v)

@@ -5,13 +5,13 @@ use Rattle.stm_region.specs.Shown.{RegionShown}
 use Rattle.vac_model.specs.declared.commands.Command.{Command}
 use Rattle.vac_model.specs.declared.tasks.Task.{Task}
 use Rattle.vac_model.specs.declared.tasks.Task.TheVariants as task
-use Rattle.vac_manager.specs.Called.{IsWhole}
+use Rattle.vac_manager.specs.Called.{HasWholeHistory}
 use Rattle.vac_manager.specs.Legal.{WasLegal}
 use Rattle.vac_manager.specs.Session.{SessionShown}
 use Rattle.vac_manager.specs.declared.fault.Fault.{Fault}
 use Rattle.vac_manager.specs.declared.fault.Fault.TheVariants as fault
 use Rattle.vac_draws.specs.Draws.{Reader, Reads, Drew, Drawn}
-use Rattle.vac_load.specs.Keeping.{Kept, HasKeptAdded}
+use Rattle.vac_load.specs.Keeping.{KeptNotes, HasKeptAdded}
 use Rattle.vac_load.specs.Looping.{Answered}
 
 -- each command as a task
@@ -20,7 +20,7 @@ as_tasks commands = map (λ c. task.One c) commands
 
 -- commands were read from drawn words, and each of them was asked for and answered, in their order;
 -- each raised the version that the client knows by at most one
-pub record Ran {D : Type 0} (leads : D → ℕ → D → Type 0) (renewal : ℕ)
+pub record RanDrawn {D : Type 0} (leads : D → ℕ → D → Type 0) (renewal : ℕ)
     (reader : Reader (List Command)) (v v' : Client) (state last : D) : Type 0 where
   pub commands : List Command
   pub drawn : Drawn leads reader state commands last
@@ -31,12 +31,12 @@ pub record Ran {D : Type 0} (leads : D → ℕ → D → Type 0) (renewal : ℕ)
 abbrev pub RanIn : {D : Type 0} → (D → ℕ → D → Type 0) → Reader (List Command)
     → SessionShown → SessionShown → D → D → Type 0
 RanIn leads reader y y' state last =
-    Ran leads y.manager.renewal reader y.client.value y'.client.value state last
+    RanDrawn leads y.manager.renewal reader y.client.value y'.client.value state last
 
 -- a client that is alone had its last call answered by this region's manager: its records are a
 -- whole history, and the last of them was decided in a state of the region's core
 pub record IsAnswered (region : RegionShown) (v : Client) : Type 0 where
-  pub whole : IsWhole region v
+  pub whole : HasWholeHistory region v
   pub legal : WasLegal region v
 
 -- words were drawn from the first state to the last one, and from these words, with some more after
@@ -59,7 +59,7 @@ IsOpeningFault last floor (fault.Spent version) = (version ≡ last) × (floor �
 
 -- a client that is alone had this command answered, and its keeper kept the call: it added its
 -- record, and raised the version that the client knows by at most one
-pub record WasAnswered (command : Command) (y y' : SessionShown) (before after : Kept)
+pub record WasAnswered (command : Command) (y y' : SessionShown) (before after : KeptNotes)
     : Type 0 where
   pub answered : Answered y.manager.renewal (task.One command ∷ []) y.client.value y'.client.value
   pub near : y'.client.value.floor ≤ y.client.value.floor + 1

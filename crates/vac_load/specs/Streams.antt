@@ -5,18 +5,18 @@ use Rattle.vac_draws.specs.declared.settings.Settings.{Settings}
 use Rattle.vac_load.specs.declared.tally.Tally.{Tally}
 use Rattle.vac_draws.specs.Streams.{stream_of, streams_of, gives}
 use Rattle.vac_load.specs.declared.seats.Keepers.{Keepers}
-use Rattle.vac_load.specs.Keeping.{Kept}
-use Rattle.vac_load.specs.Load.{Loaded, LoadedKept}
+use Rattle.vac_load.specs.Keeping.{KeptNotes}
+use Rattle.vac_load.specs.Load.{HasLoaded, LoadedKept}
 
 -- the load of a seed: the opening draws from stream 0, and each client from the stream of its
 -- number
 abbrev pub LoadedBySeed : Settings → Tally → Report → Type 0
 LoadedBySeed s t r =
-    Loaded gives s (λ stream. stream) (stream_of s.seed 0) (streams_of s.seed s.clients) t r
+    HasLoaded gives s (λ stream. stream) (stream_of s.seed 0) (streams_of s.seed s.clients) t r
 
 -- the load of a seed whose keepers kept the answered calls: the opening's keeper those of the
 -- opening, and the keeper of each client those of its client
-abbrev pub KeptBySeed : {K : Type 0} → (K → Kept) → Settings → Tally → Report
+abbrev pub KeptBySeed : {K : Type 0} → (K → KeptNotes) → Settings → Tally → Report
     → Keepers K → Keepers K → Type 0
 KeptBySeed notes s t r before after =
     LoadedKept gives s (λ stream. stream) (stream_of s.seed 0) (streams_of s.seed s.clients) t r

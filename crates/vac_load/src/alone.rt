@@ -26,13 +26,13 @@ pub(crate) struct Alone {
 
 impl Model for Alone {
     ghost use Rattle.vac_manager.specs.Session.{SessionShown};
-    ghost use Rattle.vac_load.specs.Alone.{IsAlone};
+    ghost use Rattle.vac_load.specs.Alone.{IsAloneInRenewal};
 
     ghost Value = { SessionShown };
 
     ghost view = { λ y. record { manager = y.manager; client = y.client } };
 
-    ghost invariant = { λ y. IsAlone (record { manager = y.manager; client = y.client }) };
+    ghost invariant = { λ y. IsAloneInRenewal (record { manager = y.manager; client = y.client }) };
 }
 
 impl Alone {

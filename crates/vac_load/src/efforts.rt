@@ -2,7 +2,7 @@
 
 ghost use Rattle.std.specs.Prelude.{◌≡◌, ◌<◌, ◌≤◌, ◌+◌, ◌^◌};
 ghost use Rattle.vac_manager.specs.Placed.{conflicts_of};
-ghost use Rattle.vac_load.specs.Attempted.{no_effort, conflicts_in, locks_in, with_call, both_efforts};
+ghost use Rattle.vac_load.specs.Attempted.{no_effort, conflicts_in, lock_conflicts_in, with_call, both_efforts};
 
 use vac_manager::Effort;
 
@@ -58,7 +58,7 @@ impl Efforts {
     pub(crate) fn add(&mut self, effort: Effort)
         requires few { self.old.attempts < 2 ^ 62 }
         requires conflicts { conflicts_in self.old ≤ self.old.attempts }
-        requires locks { locks_in self.old ≤ conflicts_in self.old }
+        requires locks { lock_conflicts_in self.old ≤ conflicts_in self.old }
         requires fits { conflicts_of effort ≤ effort.attempts }
         ensures { self.new ≡ with_call effort self.old }
     {
@@ -80,8 +80,8 @@ impl Efforts {
         requires fits { self.attempts + other.attempts < 2 ^ 63 }
         requires conflicts { conflicts_in self ≤ self.attempts }
         requires others { conflicts_in other ≤ other.attempts }
-        requires locks { locks_in self ≤ conflicts_in self }
-        requires others_locks { locks_in other ≤ conflicts_in other }
+        requires locks { lock_conflicts_in self ≤ conflicts_in self }
+        requires others_locks { lock_conflicts_in other ≤ conflicts_in other }
         ensures { result ≡ both_efforts self other }
     {
         Efforts {

@@ -3,7 +3,7 @@
 ghost use Rattle.std.specs.Prelude.{◌≡◌, ◌↔◌, true, false, vec_len, IfOk, IfErr, IsErrOf};
 ghost use Rattle.vac_draws.specs.Setting.{is_settings};
 ghost use Rattle.vac_load.specs.Keeping.{AreKept, kept_at};
-ghost use Rattle.vac_load.specs.Load.{HasOpened, Loaded, LoadedKept, is_load, IsLoadFault, IsStopOfLoad};
+ghost use Rattle.vac_load.specs.Load.{HasOpened, HasLoaded, LoadedKept, is_load, IsLoadFault, IsStopOfLoad};
 ghost use Rattle.vac_draws.specs.Streams.{gives, stream_of};
 ghost use Rattle.vac_load.specs.Streams.{LoadedBySeed, KeptBySeed};
 ghost use Rattle.vac_load.specs.Attempted.{IsEffort};
@@ -137,7 +137,7 @@ pub fn run_load_with<
 ) -> Result<LoadReport, LoadFault>
     ensures arguments { IsErrOf result LoadFault.Arguments
         ↔ (is_load settings.now (vec_len clients) ≡ false) }
-    ensures loaded { IfOk result (λ r. Loaded D.leads settings.now (λ p. p.0)
+    ensures loaded { IfOk result (λ r. HasLoaded D.leads settings.now (λ p. p.0)
         opening clients.items r.tally r.report) }
     ensures refused { IfErr result (λ fault. IsLoadFault D.leads settings.now opening fault) }
 {

@@ -2,8 +2,8 @@
 
 ghost use Rattle.std.specs.Prelude.{◌≡◌, ◌*◌, true, vec_len, IfOk, IfErr};
 ghost use Rattle.vac_draws.specs.Setting.{is_settings};
-ghost use Rattle.vac_load.specs.Alone.{IsReady};
-ghost use Rattle.vac_load.specs.Load.{HasRun, IsRefusal, IsRound};
+ghost use Rattle.vac_load.specs.Alone.{IsReadyForRound};
+ghost use Rattle.vac_load.specs.Load.{RoundHasRun, IsLoadRefusal, IsRound};
 
 use crate::alone::Alone;
 use crate::counts::Counts;
@@ -46,12 +46,12 @@ fn run_round<
 ) -> Result<Round<D, G, K>, LoadFault>
     requires settings { is_settings settings.now ≡ true }
     requires number { vec_len seats ≡ settings.now.clients }
-    requires ready { IsReady settings.now alone }
+    requires ready { IsReadyForRound settings.now alone }
     ensures manager { IfOk result (λ r. r.alone.manager ≡ alone.manager) }
     ensures round { IfOk result (λ r. IsRound settings.now r) }
-    ensures ran { IfOk result (λ r. HasRun D.leads K.notes settings.now settings.now.tasks
+    ensures ran { IfOk result (λ r. RoundHasRun D.leads K.notes settings.now settings.now.tasks
         alone seats.items r) }
-    ensures refused { IfErr result (λ fault. IsRefusal fault) }
+    ensures refused { IfErr result (λ fault. IsLoadRefusal fault) }
 {
     let Ok(left) = Vec::with_capacity(alloc, seats.len()) else {
         return Err(LoadFault::Memory);
@@ -87,12 +87,12 @@ pub(crate) fn run_rounds<
     requires renewals { alone.manager.renewal ≡ 0 }
     requires settings { is_settings settings.now ≡ true }
     requires number { vec_len seats ≡ settings.now.clients }
-    requires ready { IsReady settings.now alone }
+    requires ready { IsReadyForRound settings.now alone }
     ensures size { IfOk result (λ r. r.alone.manager.size ≡ alone.manager.size) }
     ensures round { IfOk result (λ r. IsRound settings.now r) }
-    ensures ran { IfOk result (λ r. HasRun D.leads K.notes settings.now
+    ensures ran { IfOk result (λ r. RoundHasRun D.leads K.notes settings.now
         (settings.now.rounds * settings.now.tasks) alone seats.items r) }
-    ensures refused { IfErr result (λ fault. IsRefusal fault) }
+    ensures refused { IfErr result (λ fault. IsLoadRefusal fault) }
 {
     let mut round = run_round(rt, alloc, settings, alone, seats, phases)?;
     'rounds: for done in 1..settings.rounds {

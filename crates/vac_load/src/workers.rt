@@ -3,7 +3,7 @@
 ghost use Rattle.std.specs.Prelude.{◌≡◌, ◌≤◌, [], true, IfOk, IfErr, vec_len, vec_capacity};
 ghost use Rattle.vac_draws.specs.Setting.{is_settings};
 ghost use Rattle.vac_load.specs.Lists.{Paired};
-ghost use Rattle.vac_load.specs.Load.{DidWork, DidAllWork, IsPromise, IsRefusal};
+ghost use Rattle.vac_load.specs.Load.{DidWork, DidAllWork, IsPromise, IsLoadRefusal};
 
 use crate::counts::Counts;
 use crate::load::LoadFault;
@@ -193,7 +193,7 @@ fn run_in<
 ) -> Result<Crew<'m, D, G, K>, LoadFault>
     requires settings { is_settings settings ≡ true }
     ensures worked { IfOk result (λ r. DidAllWork D.leads K.notes settings crew.entry r) }
-    ensures refused { IfErr result (λ fault. IsRefusal fault) }
+    ensures refused { IfErr result (λ fault. IsLoadRefusal fault) }
 {
     let Crew { first, others } = crew;
     let Ok(mut handles) = Vec::with_capacity(alloc, others.len()) else {
@@ -228,7 +228,7 @@ pub(crate) fn run_all<
 ) -> Result<Crew<'m, D, G, K>, LoadFault>
     requires settings { is_settings settings ≡ true }
     ensures worked { IfOk result (λ r. DidAllWork D.leads K.notes settings crew.entry r) }
-    ensures refused { IfErr result (λ fault. IsRefusal fault) }
+    ensures refused { IfErr result (λ fault. IsLoadRefusal fault) }
 {
     thread::scope(
         thread::scope_env(),
@@ -236,7 +236,7 @@ pub(crate) fn run_all<
         move |scope| -> Result<Crew<'_, D, G, K>, LoadFault>
             requires { is_settings settings ≡ true }
             ensures worked { IfOk result (λ r. DidAllWork D.leads K.notes settings crew.entry r) }
-            ensures refused { IfErr result (λ fault. IsRefusal fault) }
+            ensures refused { IfErr result (λ fault. IsLoadRefusal fault) }
         { run_in(scope, rt, alloc, settings, crew, phases) },
     )
 }

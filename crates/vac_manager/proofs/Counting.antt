@@ -6,7 +6,7 @@ use Rattle.vac_manager.specs.declared.placed.Effort.{Effort}
 use Rattle.vac_manager.specs.declared.sites.Site.{Site}
 use Rattle.vac_manager.specs.declared.sites.Site.TheVariants.{Root, Head, Node, Use, Stock}
 use Rattle.vac_manager.specs.Sites.{site_of}
-use Rattle.vac_manager.specs.Placed.{over, conflicted, conflicts_of, locks_of, effort_of}
+use Rattle.vac_manager.specs.Placed.{one_more_over, conflicted, conflicts_of, locks_of, effort_of}
 
 -- what a count by the word of a lock changes
 record IsOver (e o : Effort) : Type 0 where
@@ -15,7 +15,7 @@ record IsOver (e o : Effort) : Type 0 where
   pub ticks : o.lost_tick ≡ e.lost_tick
   pub locks : locks_of o ≡ locks_of e + 1
 
-counted_over : (s : Site) (e : Effort) → IsOver e (over s e)
+counted_over : (s : Site) (e : Effort) → IsOver e (one_more_over s e)
 counted_over Root e = record { attempts = refl; kinds = refl; ticks = refl; locks = omega arith }
 counted_over Head e = record { attempts = refl; kinds = refl; ticks = refl; locks = omega arith }
 counted_over Node e = record { attempts = refl; kinds = refl; ticks = refl; locks = omega arith }

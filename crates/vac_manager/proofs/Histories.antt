@@ -18,8 +18,8 @@ use Rattle.vac_model.specs.Run.{run}
 use Rattle.vac_model.specs.Code.{code}
 use Rattle.vac_model.proofs.Codes.{code_determines}
 use Rattle.vac_manager.specs.Law.{IsLawful}
-use Rattle.vac_manager.specs.Legal.{Runs, IsLegal, IsHistory, WasLegal, capacity_of}
-use Rattle.vac_manager.specs.Called.{HasAllGrants, Adds, Records, Continues, LeadsOn, IsWhole}
+use Rattle.vac_manager.specs.Legal.{RecordRuns, IsLegal, IsHistoryTo, WasLegal, capacity_of}
+use Rattle.vac_manager.specs.Called.{HasAllGrants, Adds, Records, Continues, LeadsOn, HasWholeHistory}
 use Rattle.vac_manager.proofs.Adding.{in_snoc, inserted_last}
 
 -- a sorted list of which nothing stands before what is in another is put behind it
@@ -54,7 +54,7 @@ all_of_one (x ∷ cs) (suc i) v e s f =
     ∙ merged_last [] v.records s (λ x y i j. absurd (nothing_in x i)))
 
 -- the records of a client with all grants are a history
-pub whole : (region : RegionShown) (v : Client) → WasLegal region v → HasAllGrants v → IsWhole region v
+pub whole : (region : RegionShown) (v : Client) → WasLegal region v → HasAllGrants v → HasWholeHistory region v
 whole region v h all =
     let law : List ℕ → List (ℕ × ℕ) → List (ℕ × ℕ) → Type 0 = λ tag reads writes. IsLawful tag reads writes in
     let k = h.decided.decides in
@@ -67,10 +67,10 @@ whole region v h all =
     let sorted = own_sorted law (stripe_of region.stripes) k.core k.rule k.number then k.member in
     let mine = all_of_one k.core.clients k.number then k.member sorted
     (λ j w t n. ap (λ (c : Client). c.records) (k.rule.past.are_gone j w t (alone j w t n))) in
-    (h.last, subst (λ (rs : List Record). IsHistory region rs h.last) (mine ∙ records) h.legal)
+    (h.last, subst (λ (rs : List Record). IsHistoryTo region rs h.last) (mine ∙ records) h.legal)
 
 -- a record's tag says its task and its reply
-one_step : (r : Record) (s a b : State) → Runs r s a → Runs r s b → a ≡ b
+one_step : (r : Record) (s a b : State) → RecordRuns r s a → RecordRuns r s b → a ≡ b
 one_step r s a b p q =
     let same = code_determines p.task q.task p.reply q.reply (sym p.told ∙ q.told) in
     sym (ap (λ (x : State × Reply). x.0) p.runs) ∙ (ap (λ (t : Task). (run s t).0) same.0 ∙
@@ -84,33 +84,34 @@ one_last s (r ∷ rs) a b h g =
     one_last g.0 rs a b (subst (λ (x : State). IsLegal x rs a) same h.2) g.2
 
 last_runs : (s : State) (rs : List Record) (r : Record) (last : State) → IsLegal s (rs ++ (r ∷ [])) last →
-    (mid : State) × IsLegal s rs mid × Runs r mid last
-last_runs s [] r last h = (s, refl, subst (λ (x : State). Runs r s x) h.2 h.1)
+    (mid : State) × IsLegal s rs mid × RecordRuns r mid last
+last_runs s [] r last h = (s, refl, subst (λ (x : State). RecordRuns r s x) h.2 h.1)
 last_runs s (x ∷ rs) r last h = let q = last_runs h.0 rs r last h.2 in (q.0, (h.0, h.1, q.1), q.2)
 
 leads_on : (region : RegionShown) (t : Task) (reply : Reply) (v v' : Client) → Adds region.renewal (code t reply) v v' →
-    IsWhole region v' → (s : State) → IsHistory region v.records s →
+    HasWholeHistory region v' → (s : State) → IsHistoryTo region v.records s →
     LeadsOn region t reply s v'
 leads_on region t reply v v' a w s h =
     let q = last_runs (empty_state (capacity_of region)) v.records a.added w.0
-    (subst (λ (rs : List Record). IsHistory region rs w.0) a.records w.1) in
+    (subst (λ (rs : List Record). IsHistoryTo region rs w.0) a.records w.1) in
     let same = one_last (empty_state (capacity_of region)) v.records q.0 s q.1 h in
-    let p : Runs a.added s w.0 = subst (λ (x : State). Runs a.added x w.0) same q.2 in
+    let p : RecordRuns a.added s w.0 = subst (λ (x : State). RecordRuns a.added x w.0) same q.2 in
     let c = code_determines t p.task reply p.reply (sym a.tag_is ∙ p.told) in
     let ran : run s t ≡ (w.0, reply) = ap (λ (u : Task). run s u) c.0 ∙
     (p.runs ∙ ap (λ (r : Reply). (w.0, r)) (sym c.1)) in
     record {
       reply_is = sym (ap (λ (x : State × Reply). x.1) ran);
-      history = subst (λ (x : State). IsHistory region v'.records x) (sym (ap (λ (x : State × Reply). x.0) ran)) w.1;
+      history = subst (λ (x : State). IsHistoryTo region v'.records x) (sym (ap (λ (x : State × Reply). x.0) ran)) w.1;
     }
 
 pub continues : {E : Type 0} (region : RegionShown) (t : Task) (result : Result Reply E) (v v' : Client) →
-    Records region t result v v' → IfOk result (λ _. IsWhole region v') → Continues region t result v v'
+    Records region t result v v' → IfOk result (λ _. HasWholeHistory region v') → Continues region t result v v'
 continues region t (Ok reply) v v' a w = λ s h. leads_on region t reply v v' a w s h
-continues region t (Err e) v v' r w = λ s h. subst (λ (rs : List Record). IsHistory region rs s) (sym r) h
+continues region t (Err e) v v' r w = λ s h. subst (λ (rs : List Record). IsHistoryTo region rs s) (sym r) h
 
 -- the same at a result that was made of another
 pub whole_of : {E : Type 0} (region : RegionShown) (result : Result Reply E) (v v' : Client) →
-    IfOk result (λ _. WasLegal region v') → v'.grants ≡ v.grants → HasAllGrants v → IfOk result (λ _. IsWhole region v')
+    IfOk result (λ _. WasLegal region v') → v'.grants ≡ v.grants → HasAllGrants v →
+    IfOk result (λ _. HasWholeHistory region v')
 whole_of region (Ok reply) v v' h same all = whole region v' h (same ∙ all)
 whole_of region (Err e) v v' h same all = tt

@@ -27,7 +27,7 @@ use Rattle.vac_model.specs.declared.replies.Reply.TheVariants as reply
 use Rattle.vac_tasks.specs.Reading.{is_question, only_reads}
 use Rattle.vac_commands.specs.Ran.{Untouched, Idle}
 use Rattle.vac_tasks.specs.RanTask.{RanTask}
-use Rattle.vac_manager.specs.Law.{words_of, IsFitting, IsLawful}
+use Rattle.vac_manager.specs.Law.{memory_of_image, IsFitting, IsLawful}
 use Rattle.vac_manager.specs.Called.{IsOpened, has_no_change, changes_nothing}
 
 and_true : (a b : Bool) → (a && b) ≡ true → (a ≡ true) × (b ≡ true)
@@ -50,7 +50,7 @@ state_within : (m m' : ℕ → ℕ) (n : ℕ) (s : State) → ((x : ℕ) → x <
 state_within m m' n s same h = record { represents = same_words m m' n [] s h.represents same; small = h.small }
 
 -- nothing is laid over the image
-unwritten : (image : List ℕ) → memory image (empty {K = ℕ} {X = ℕ} {R = nat_cmp}) ≡ words_of image
+unwritten : (image : List ℕ) → memory image (empty {K = ℕ} {X = ℕ} {R = nat_cmp}) ≡ memory_of_image image
 unwritten image = λ i a. ap (λ (o : Option ℕ). unwrap_or o (slice_index image a)) (get-empty nat_cmp a) i
 
 -- an attempt that has not written holds a state
@@ -98,10 +98,11 @@ lawful_in region region' v v' w w' t r e range ran = record {
       let before : IsState (memory image w.words) (length image) s = rw e (rw (unwritten image) shown) in
       let o = ran.outcome image s i before in
       let long = length-laid image (log_pairs w') in
-      let after = state_within (memory image w'.words) (words_of (laid image (log_pairs w'))) (length image) (run s t).0
+      let after = state_within (memory image w'.words) (memory_of_image (laid image (log_pairs w'))) (length image)
+      (run s t).0
       (λ a less. laid-entries w'.words image a less) o.state in
       record {
-        state = subst (λ (n : ℕ). IsState (words_of (laid image (log_pairs w'))) n (run s t).0) (sym long) after;
+        state = subst (λ (n : ℕ). IsState (memory_of_image (laid image (log_pairs w'))) n (run s t).0) (sym long) after;
         reply_is = o.reply_is;
       };
 }

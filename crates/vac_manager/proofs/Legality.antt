@@ -9,13 +9,13 @@ use Rattle.stm_attempt.specs.Committing.{DecidesWith, WasDecided}
 use Rattle.vac_model.specs.State.{State, empty_state}
 use Rattle.vac_model.specs.Run.{run}
 use Rattle.vac_records.proofs.Single.{one_state}
-use Rattle.vac_manager.specs.Law.{words_of, Shows, IsFitting, IsLawful}
-use Rattle.vac_manager.specs.Legal.{Runs, IsLegal, capacity_of, WasLegal}
+use Rattle.vac_manager.specs.Law.{memory_of_image, Shows, IsFitting, IsLawful}
+use Rattle.vac_manager.specs.Legal.{RecordRuns, IsLegal, capacity_of, WasLegal}
 use Rattle.vac_manager.specs.Called.{IsOpened}
 
 -- an image represents one state
 same_shown : (image : List ℕ) (s s' : State) → Shows image s → Shows image s' → s ≡ s'
-same_shown image s s' h g = one_state (words_of image) (length image) [] [] s s' h.represents g.represents
+same_shown image s s' h g = one_state (memory_of_image image) (length image) [] [] s s' h.represents g.represents
 
 pub legal : (image : List ℕ) (s : State) (rs : List Record) → Shows image s → Serial image rs →
     ((r : Record) → In r rs → IsLawful r.tag r.reads r.writes) →
@@ -25,7 +25,7 @@ legal image s (r ∷ rs) h serial lawful =
     let l = lawful r (zero, refl) in
     let o = l.runs image s h serial.0 in
     let after = (run s l.task).0 in
-    let step : Runs r s after = record {
+    let step : RecordRuns r s after = record {
       task = l.task;
       reply = l.reply;
       range = l.range;

@@ -13,7 +13,7 @@ use Rattle.vac_model.proofs.Empty.{empty-balanced}
 use Rattle.vac_manager.specs.Law.{Shows, IsFitting, IsLawful}
 use Rattle.vac_manager.specs.Legal.{capacity_of}
 use Rattle.vac_manager.specs.Called.{IsOpened}
-use Rattle.vac_manager.specs.Opening.{Opens, Closes}
+use Rattle.vac_manager.specs.Opening.{Opens, ClosesInState}
 use Rattle.vac_manager.proofs.Legality.{legal}
 use Rattle.vac_manager.proofs.Versions.{versioned}
 
@@ -81,7 +81,7 @@ opens region client xs ys n last stripes e h is c =
 
 closes_in : (region : RegionShown) (v : Client) (words : List ℕ) (version : ℕ) → IsOpened region →
     Ends (λ (tag : List ℕ) reads writes. IsLawful tag reads writes) region v words version →
-    Closes region v words version
+    ClosesInState region v words version
 closes_in region v words version h k =
     let l = legal region.first (empty_state (capacity_of region)) v.records h.shown k.serial k.abides in
     record {
@@ -94,10 +94,10 @@ closes_in region v words version h k =
 
 pub closes : (region region' : RegionShown) (v v' : Client) (words : List ℕ) (version : ℕ) → IsOpened region →
     Ends (λ (tag : List ℕ) reads writes. IsLawful tag reads writes) region v words version → region' ≡ region → v' ≡ v →
-    Closes region' v' words version
+    ClosesInState region' v' words version
 closes region region' v v' words version h k e f =
-    subst (λ (r : RegionShown). Closes r v' words version) (sym e)
-    (subst (λ (x : Client). Closes region x words version) (sym f) (closes_in region v words version h k))
+    subst (λ (r : RegionShown). ClosesInState r v' words version) (sym e)
+    (subst (λ (x : Client). ClosesInState region x words version) (sym f) (closes_in region v words version h k))
 
 pub only_of : (rs xs xs' ys ys' : List Record) → ((r : Record) → In r rs → In r xs ⊎ In r ys) → xs' ≡ xs → ys' ≡ ys →
     (r : Record) → In r rs → In r xs' ⊎ In r ys'

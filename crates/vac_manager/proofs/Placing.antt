@@ -11,7 +11,8 @@ use Rattle.vac_model.specs.declared.tasks.Task.{Task}
 use Rattle.vac_manager.specs.declared.placed.Effort.{Effort}
 use Rattle.vac_manager.specs.Called.{Tried, IsStop, WasShown}
 use Rattle.vac_manager.proofs.Counting.{one_conflict, each_located}
-use Rattle.vac_manager.specs.Placed.{conflicted, conflicts_of, locks_of, effort_of, ended, left_by, newest, StopsWith}
+use Rattle.vac_manager.specs.Placed.{conflicted, conflicts_of, locks_of, effort_of, ended, effort_left_by, newest}
+use Rattle.vac_manager.specs.Placed.{StopsWith}
 use Rattle.vac_manager.specs.Placed.{HasShown, HaveShown, Tallies}
 
 -- all attempts so far met conflicts
@@ -75,7 +76,8 @@ met_newest region v w w' e c h next records grants shown = refl
 
 -- how the last attempt ended, where it met no conflict
 pub tallied_one : (region : RegionShown) (v w w' : Client) (e : Effort) (end : Result Reply Stop) (h : Met region v w e)
-    → w'.attempt.number ≡ w.attempt.number + 1 → ((x : Effort) → left_by end x ≡ record x { attempts = x.attempts + 1 })
+    → w'.attempt.number ≡ w.attempt.number + 1 → ((x : Effort) →
+    effort_left_by end x ≡ record x { attempts = x.attempts + 1 })
     → ended end e ≡ record e { attempts = e.attempts + 1 } → IfErr end (λ s. StopsWith s h.conflicts) →
     Tallies region v w' end (ended end e)
 tallied_one region v w w' e end h next left is closes =

@@ -13,7 +13,7 @@ use Rattle.stm_attempt.specs.Committing.{HasCommitted, commit_record}
 use Rattle.stm_attempt.specs.Meaning.{memory_of, Origin, origin_of}
 use Rattle.vac_model.specs.declared.replies.Reply.{Reply}
 use Rattle.vac_manager.specs.Law.{IsFitting}
-use Rattle.vac_manager.specs.Tracing.{Trace, IsFresh, OneMore, IsOfAdded, IsOfEnd, AreGivenUp, AreOfEnd, HasTraced}
+use Rattle.vac_manager.specs.Tracing.{Trace, HasNoAccess, OneMore, IsOfAdded, IsOfEnd, AreGivenUp, AreOfEnd, HasTraced}
 use Rattle.vac_manager.proofs.Adding.{place_at, wrote_in, record_place}
 
 record_reads : (region : RegionShown) (tag : List ℕ) (v : Client) (pairs : List (ℕ × ℕ)) (version : ℕ) →
@@ -28,7 +28,7 @@ record_writes region tag v (p ∷ ps) version = refl
 
 -- an attempt that has just begun has neither read nor written anything
 pub tracked_begun : (in_use : Bool) (region : RegionShown) (v : Client) (w : LogValue) (accesses : Option (List Access))
-    → v.attempt.reads ≡ [] → w ≡ empty_log → IsFresh accesses →
+    → v.attempt.reads ≡ [] → w ≡ empty_log → HasNoAccess accesses →
     IsTracked accesses (memory_of in_use region (λ (image : List ℕ). IsFitting image) v w).reads
     (memory_of in_use region (λ (image : List ℕ). IsFitting image) v w).writes
 tracked_begun true region v w accesses none e fresh = λ all is.

@@ -11,7 +11,7 @@ use Rattle.stm_core.specs.declared.limits.TheConstants.{MOST_GRANTS}
 use Rattle.stm_region.specs.Shown.{RegionShown, ClientShown, acted}
 use Rattle.stm_core.specs.Guards.{stripe_of}
 use Rattle.stm_attempt.specs.Begun.{still, IsQuiet, is_quiet}
-use Rattle.stm_attempt.specs.Answers.{IsSpent as IsSpentStop}
+use Rattle.stm_attempt.specs.Answers.{IsSpentStop}
 use Rattle.stm_attempt.specs.Conflicts.{IsReadConflict, IsLockConflict, IsValidateConflict, IsTickConflict}
 use Rattle.stm_attempt.specs.Committing.{HasCommitted, HasStopped}
 use Rattle.stm_attempt.specs.declared.conflict.Conflict.{Conflict}

@@ -13,7 +13,7 @@ use Rattle.vac_model.specs.State.{State, report}
 use Rattle.vac_records.specs.Items.{mem}
 use Rattle.vac_records.specs.InMemory.{HoldsState}
 use Rattle.vac_report.specs.Reported.{Reported}
-use Rattle.vac_manager.specs.Law.{Shows, IsFitting, words_of}
+use Rattle.vac_manager.specs.Law.{Shows, IsFitting, memory_of_image}
 
 none_some : (o : Option ℕ) (v : ℕ) → o ≡ None → o ≡ Some v → ⊥
 none_some o v e f = cc
@@ -25,7 +25,7 @@ flat_at xs image a e = elim (cases_lt a (length xs)) [
       (get_or_past image a 0 (omega arith) ∙ sym (get_or_past xs a 0 behind))
 ]
 
-flat_mem : (xs image : List ℕ) → length image ≡ length xs → mem (flat_view xs) image ≡ words_of xs
+flat_mem : (xs image : List ℕ) → length image ≡ length xs → mem (flat_view xs) image ≡ memory_of_image xs
 flat_mem xs image e = λ i a. flat_at xs image a e i
 
 -- words that represent a state, as plain memory

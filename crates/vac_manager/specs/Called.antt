@@ -34,7 +34,7 @@ use Rattle.vac_manager.specs.declared.fault.Fault.TheVariants as fault
 use Rattle.vac_tasks.specs.Reading.{only_reads}
 use Rattle.vac_model.specs.declared.limits.TheConstants.{MOST_TRIES}
 use Rattle.vac_manager.specs.Law.{Shows, IsLawful}
-use Rattle.vac_manager.specs.Legal.{capacity_of, IsHistory, WasLegal}
+use Rattle.vac_manager.specs.Legal.{capacity_of, IsHistoryTo, WasLegal}
 
 -- a client of a manager: of which region it is, its value, and the free lists that its new entries
 -- and the next client split off begin with
@@ -134,19 +134,19 @@ Records region t (Err e) v v' = v'.records ≡ v.records
 pub record LeadsOn (region : RegionShown) (t : Task) (reply : Reply) (s : State) (v' : Client) :
     Type 0 where
   pub reply_is : reply ≡ (run s t).1
-  pub history : IsHistory region v'.records (run s t).0
+  pub history : IsHistoryTo region v'.records (run s t).0
 
 -- what a call makes of a history: at an answer it leads on, at a refusal to the same state
 abbrev pub Continues : {E : Type 0} → RegionShown → Task → Result Reply E → Client → Client
     → Type 0
 Continues region t (Ok reply) v v' =
-    (s : State) → IsHistory region v.records s → LeadsOn region t reply s v'
+    (s : State) → IsHistoryTo region v.records s → LeadsOn region t reply s v'
 Continues region t (Err e) v v' =
-    (s : State) → IsHistory region v.records s → IsHistory region v'.records s
+    (s : State) → IsHistoryTo region v.records s → IsHistoryTo region v'.records s
 
 -- the records of a client that is alone are a whole history
-abbrev pub IsWhole : RegionShown → Client → Type 0
-IsWhole region v = (last : State) × IsHistory region v.records last
+abbrev pub HasWholeHistory : RegionShown → Client → Type 0
+HasWholeHistory region v = (last : State) × IsHistoryTo region v.records last
 
 -- one attempt was made
 pub record Tried {E : Type 0} (region : RegionShown) (t : Task) (v v' : Client)
@@ -196,10 +196,10 @@ IsStop region t (stop.Conflict conflict) v = WasShown region conflict v
 IsStop region t (stop.Spent version) v = (only_reads t ≡ false) × IsSpent region t version v
 
 -- the attempt stopped for another reason than a conflict
-abbrev pub IsNoConflict : Stop → Type 0
-IsNoConflict stop.Memory = Unit {0}
-IsNoConflict (stop.Conflict conflict) = ⊥
-IsNoConflict (stop.Spent version) = Unit {0}
+abbrev pub IsStopWithoutConflict : Stop → Type 0
+IsStopWithoutConflict stop.Memory = Unit {0}
+IsStopWithoutConflict (stop.Conflict conflict) = ⊥
+IsStopWithoutConflict (stop.Spent version) = Unit {0}
 
 -- how many attempts were made, where each stop but a conflict ends the call: all of them where the
 -- last one met a conflict
@@ -228,7 +228,7 @@ pub record Repeated (region : RegionShown) (t : Task) (tries : ℕ) (v v' : Clie
 -- how many attempts a call made: at most as many as tries, all of them where it returns Busy, none
 -- where it returns Arguments
 -- Not said: of a client that is not alone, that refused memory and a spent clock end the call at
--- once: `Took` of `call_placed` says it, by its counts.
+-- once: `TookEffort` of `call_placed` says it, by its counts.
 abbrev pub Attempts : ℕ → ℕ → ℕ → Result Reply Fault → Type 0
 Attempts tries before now (Ok reply) = (before < now) × (now ≤ before + tries)
 Attempts tries before now (Err fault.Arguments) = now ≡ before
@@ -277,7 +277,7 @@ pub record HasCalled (region : RegionShown) (t : Task) (tries : ℕ) (result : R
       → Attempts 1 c.value.attempt.number c'.value.attempt.number result
   pub next : HasAllGrants c.value → IsNext region.last c.value.floor c'.value.floor result
   pub legal : IfOk result (λ _. WasLegal region c'.value)
-  pub whole : HasAllGrants c.value → IfOk result (λ _. IsWhole region c'.value)
+  pub whole : HasAllGrants c.value → IfOk result (λ _. HasWholeHistory region c'.value)
   pub history : HasAllGrants c.value → Continues region t result c.value c'.value
   pub fault : IfErr result (λ why. IsFault region t tries why c.value c'.value)
   pub alone : HasAllGrants c.value → IfErr result (λ why. IsNotBusy why)

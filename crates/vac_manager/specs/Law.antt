@@ -12,12 +12,12 @@ use Rattle.vac_records.specs.Represents.{IsState}
 use Rattle.vac_commands.specs.Ran.{IsOutcome}
 
 -- the words of an image as a memory
-abbrev pub words_of : List ℕ → ℕ → ℕ
-words_of image address = slice_index image address
+abbrev pub memory_of_image : List ℕ → ℕ → ℕ
+memory_of_image image address = slice_index image address
 
 -- the image represents this balanced state
 abbrev pub Shows : List ℕ → State → Type 0
-Shows image s = IsState (words_of image) (length image) s
+Shows image s = IsState (memory_of_image image) (length image) s
 
 -- an image fits where it represents a balanced state, of any capacity up to 262,144
 pub record IsFitting (image : List ℕ) : Type 0 where
@@ -33,7 +33,8 @@ pub record IsLawful (tag : List ℕ) (reads writes : List (ℕ × ℕ)) : Type 0
   pub range : is_task task ≡ true
   pub told : tag ≡ code task reply
   pub runs : (image : List ℕ) (s : State) → Shows image s → Agrees image reads →
-      IsOutcome (words_of (laid image writes)) (length (laid image writes)) (run s task) reply
+      IsOutcome (memory_of_image (laid image writes)) (length (laid image writes))
+      (run s task) reply
 
 -- a lawful record on a fitting image that agrees with its reads gives a fitting image
 pub keeps_fitting : (tag image : List ℕ) (reads writes : List (ℕ × ℕ)) → IsFitting image →

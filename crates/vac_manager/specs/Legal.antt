@@ -16,7 +16,7 @@ use Rattle.vac_manager.specs.Law.{Shows, IsFitting, IsLawful}
 
 -- from the state s the record's task gives the record's reply and the state s', which is s where
 -- the record wrote nothing
-pub record Runs (r : Record) (s s' : State) : Type 0 where
+pub record RecordRuns (r : Record) (s s' : State) : Type 0 where
   pub task : Task
   pub reply : Reply
   pub range : is_task task ≡ true
@@ -27,7 +27,7 @@ pub record Runs (r : Record) (s s' : State) : Type 0 where
 -- run from s, each record's task gives its reply, and the last state is this one
 abbrev pub IsLegal : State → List Record → State → Type 0
 IsLegal s [] last = s ≡ last
-IsLegal s (r ∷ rs) last = (s' : State) × Runs r s s' × IsLegal s' rs last
+IsLegal s (r ∷ rs) last = (s' : State) × RecordRuns r s s' × IsLegal s' rs last
 
 -- lawful records that are serial from an image of a balanced state are legal from that state, and
 -- the last state is the one that the last image shows
@@ -57,8 +57,8 @@ capacity_of region = (region.size - FIRST_BLOCK) / BLOCK_WORDS
 
 -- the records are a whole history of a manager's region: legal from the empty state, and leading
 -- to this one
-abbrev pub IsHistory : RegionShown → List Record → State → Type 0
-IsHistory region records last = IsLegal (empty_state (capacity_of region)) records last
+abbrev pub IsHistoryTo : RegionShown → List Record → State → Type 0
+IsHistoryTo region records last = IsLegal (empty_state (capacity_of region)) records last
 
 -- when a client that now has this value decided its last record, in the core state of its region
 -- right after that step, the records of all clients were a history, and its own were among them,
@@ -72,5 +72,5 @@ pub record WasLegal (region : RegionShown) (v : Client) : Type 0 where
   pub decided : WasDecided IsFitting IsLawful region made v
   pub out : v.is_gathered ≡ false
   pub last : State
-  pub legal : IsHistory region (all_records decided.decides.core.clients) last
+  pub legal : IsHistoryTo region (all_records decided.decides.core.clients) last
   pub among : Sub v.records (all_records decided.decides.core.clients)

@@ -14,8 +14,8 @@ use Rattle.vac_manager.specs.Legal.{IsLegal, AreVersioned, capacity_of}
 use Rattle.vac_manager.specs.Called.{CallerShown}
 
 -- the clock may end at this version
-abbrev pub is_last : ℕ → Bool
-is_last last = nat_le 1 last && nat_lt last VERSION_LIMIT
+abbrev pub is_last_version : ℕ → Bool
+is_last_version last = nat_le 1 last && nat_lt last VERSION_LIMIT
 
 -- there may be this many lock words
 abbrev pub is_stripe_count : ℕ → Bool
@@ -23,7 +23,8 @@ is_stripe_count stripes = nat_le 1 stripes && nat_le stripes MOST_STRIPES
 
 -- a manager may be opened with these numbers
 abbrev pub is_opening : ℕ → ℕ → ℕ → Bool
-is_opening blocks last stripes = is_block_count blocks && (is_last last && is_stripe_count stripes)
+is_opening blocks last stripes =
+    is_block_count blocks && (is_last_version last && is_stripe_count stripes)
 
 -- a manager's region was opened with this many blocks and lock words, this last version, and words
 -- that represent the empty state, and was never renewed; its first client has all grants and no
@@ -43,7 +44,8 @@ pub record Opens (blocks last stripes : ℕ) (region : RegionShown) (client : Ca
 -- the words and the version are the last ones of the region; the closing client's records are
 -- legal from the empty state, and the words represent their last state; those of this renewal have
 -- one writer a version, and readers that wrote nothing
-pub record Closes (region : RegionShown) (v : Client) (words : List ℕ) (version : ℕ) : Type 0 where
+pub record ClosesInState (region : RegionShown) (v : Client) (words : List ℕ) (version : ℕ)
+    : Type 0 where
   pub ends : Ends (λ (tag : List ℕ) reads writes. IsLawful tag reads writes) region v words version
   pub last : State
   pub legal : IsLegal (empty_state (capacity_of region)) v.records last

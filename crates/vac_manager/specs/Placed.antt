@@ -36,10 +36,11 @@ replied (Ok placed) = Ok placed.reply
 replied (Err e) = Err e
 
 -- at an answer the record of the task and its reply was added, at the place that is returned
-abbrev pub IsPlaced : {E : Type 0} → RegionShown → Task → Result Placed E → Client → Client → Type 0
-IsPlaced region t (Ok placed) v v' =
+abbrev pub IsAddedAtPlace : {E : Type 0} → RegionShown → Task → Result Placed E → Client
+    → Client → Type 0
+IsAddedAtPlace region t (Ok placed) v v' =
     AddsAt region.renewal (code t placed.reply) placed.place v v'
-IsPlaced region t (Err e) v v' = v'.records ≡ v.records
+IsAddedAtPlace region t (Err e) v v' = v'.records ≡ v.records
 
 -- at an answer the record of the task and its reply was added, at the place that is given beside
 -- the reply
@@ -91,24 +92,24 @@ abbrev pub one_more : Effort → Effort
 one_more e = record e { attempts = e.attempts + 1 }
 
 -- one more conflict over the lock of such a word
-abbrev pub over : Site → Effort → Effort
-over Root e = record e { roots = e.roots + 1 }
-over Head e = record e { heads = e.heads + 1 }
-over Node e = record e { nodes = e.nodes + 1 }
-over Use e = record e { uses = e.uses + 1 }
-over Stock e = record e { stocks = e.stocks + 1 }
+abbrev pub one_more_over : Site → Effort → Effort
+one_more_over Root e = record e { roots = e.roots + 1 }
+one_more_over Head e = record e { heads = e.heads + 1 }
+one_more_over Node e = record e { nodes = e.nodes + 1 }
+one_more_over Use e = record e { uses = e.uses + 1 }
+one_more_over Stock e = record e { stocks = e.stocks + 1 }
 
 -- one more attempt, which aborted on this conflict: it is counted by its kind, and by its lock's
 -- word
 abbrev pub conflicted : Conflict → Effort → Effort
 conflicted (Held lock word) e =
-    over (site_of lock) (record (one_more e) { held = e.held + 1 })
+    one_more_over (site_of lock) (record (one_more e) { held = e.held + 1 })
 conflicted (Newer lock version rv) e =
-    over (site_of lock) (record (one_more e) { newer = e.newer + 1 })
+    one_more_over (site_of lock) (record (one_more e) { newer = e.newer + 1 })
 conflicted (Moved lock first second) e =
-    over (site_of lock) (record (one_more e) { moved = e.moved + 1 })
+    one_more_over (site_of lock) (record (one_more e) { moved = e.moved + 1 })
 conflicted (LostLock lock found) e =
-    over (site_of lock) (record (one_more e) { lost_lock = e.lost_lock + 1 })
+    one_more_over (site_of lock) (record (one_more e) { lost_lock = e.lost_lock + 1 })
 conflicted (LostTick found) e = record (one_more e) { lost_tick = e.lost_tick + 1 }
 
 -- one more attempt, which ended so
@@ -143,11 +144,11 @@ HaveShown region v (conflict ∷ earlier) =
     HasShown region v (length (conflict ∷ earlier)) conflict × HaveShown region v earlier
 
 -- one more attempt, unless that one met a conflict too
-abbrev pub left_by : {R : Type 0} → Result R Stop → Effort → Effort
-left_by (Ok reply) e = one_more e
-left_by (Err stop.Memory) e = one_more e
-left_by (Err (stop.Conflict conflict)) e = e
-left_by (Err (stop.Spent version)) e = one_more e
+abbrev pub effort_left_by : {R : Type 0} → Result R Stop → Effort → Effort
+effort_left_by (Ok reply) e = one_more e
+effort_left_by (Err stop.Memory) e = one_more e
+effort_left_by (Err (stop.Conflict conflict)) e = e
+effort_left_by (Err (stop.Spent version)) e = one_more e
 
 -- the newest of these conflicts, the first one
 abbrev pub newest : List Conflict → Option Conflict
@@ -167,7 +168,7 @@ pub record Tallies {R : Type 0} (region : RegionShown) (v v' : Client) (result :
   pub conflicts : List Conflict
   pub shown : HaveShown region v conflicts
   pub closes : IfErr result (λ stop. StopsWith stop conflicts)
-  pub effort : e ≡ left_by result (effort_of conflicts)
+  pub effort : e ≡ effort_left_by result (effort_of conflicts)
   pub begun : v.attempt.number + e.attempts ≡ v'.attempt.number
 
 -- one more attempt of a call, unless the call made none, or that one met a conflict too
@@ -187,7 +188,7 @@ ClosesWith (fault.Spent version) conflicts = Unit {0}
 
 -- this is what a call took: each attempt that was begun is counted; all but the last one, and that
 -- one too where the call returns Busy, are counted by the conflict that they ended with
-pub record Took {R : Type 0} (region : RegionShown) (v v' : Client) (result : Result R Fault)
+pub record TookEffort {R : Type 0} (region : RegionShown) (v v' : Client) (result : Result R Fault)
     (e : Effort) : Type 0 where
   pub conflicts : List Conflict
   pub shown : HaveShown region v conflicts

@@ -4,19 +4,19 @@ use Rattle.stm_core.specs.Client.{Client}
 use Rattle.stm_region.specs.Shown.{RegionShown}
 use Rattle.stm_region.specs.Refused.{MayRenew, RenewsNot}
 use Rattle.vac_manager.specs.Called.{CallerShown}
-use Rattle.vac_manager.specs.Opening.{Closes}
+use Rattle.vac_manager.specs.Opening.{ClosesInState}
 use Rattle.vac_manager.specs.declared.renew.RenewFault.{RenewFault}
 use Rattle.vac_manager.specs.declared.renew.RenewFault.TheVariants.{Kept, Closed}
 
 -- the manager ended with these words, at some version
 abbrev pub ClosesSomewhere : RegionShown → Client → List ℕ → Type 0
-ClosesSomewhere region v words = (version : ℕ) × Closes region v words version
+ClosesSomewhere region v words = (version : ℕ) × ClosesInState region v words version
 
 -- when a manager is not renewed: it and its client are as they were, with the reason; or it ended
 -- with these words at this version
-abbrev pub NotRenewed : RegionShown → CallerShown → ℕ → RenewFault → Type 0
-NotRenewed region client last (Kept manager c fault) = (manager ≡ region) × (c ≡ client)
+abbrev pub StaysUnrenewed : RegionShown → CallerShown → ℕ → RenewFault → Type 0
+StaysUnrenewed region client last (Kept manager c fault) = (manager ≡ region) × (c ≡ client)
     × RenewsNot region.renewal last client.value.grants fault
-NotRenewed region client last (Closed words version) =
-    Closes region client.value words.items version
+StaysUnrenewed region client last (Closed words version) =
+    ClosesInState region client.value words.items version
     × MayRenew region.renewal last client.value.grants

@@ -23,12 +23,12 @@ abbrev pub trace_of : AttemptNote → Trace
 trace_of a = record { commits = a.commits; place = a.place; accesses = a.accesses.items }
 
 -- it is the last of those that are traced
-abbrev pub IsLast : Option (List Trace) → Trace → Type 0
-IsLast traced t = (earlier : List Trace) × (traced ≡ Some (earlier ++ (t ∷ [])))
+abbrev pub IsLastTraced : Option (List Trace) → Trace → Type 0
+IsLastTraced traced t = (earlier : List Trace) × (traced ≡ Some (earlier ++ (t ∷ [])))
 
 -- nothing was read or written yet, if that is known
-abbrev pub IsFresh : Option (List Access) → Type 0
-IsFresh accesses = (all : List Access) → accesses ≡ Some all → all ≡ []
+abbrev pub HasNoAccess : Option (List Access) → Type 0
+HasNoAccess accesses = (all : List Access) → accesses ≡ Some all → all ≡ []
 
 -- one attempt more is traced, of which this holds, behind the others; nothing is said where none
 -- are traced, or where there was no room for all
@@ -38,9 +38,9 @@ OneMore is before after = (all : List Trace) → after ≡ Some all →
     × (all ≡ earlier ++ (last ∷ [])) × is last
 
 -- an attempt that has read and written this has committed, and its record stands at this place
-abbrev pub HasCommitted : Place → Option (List Access) → Option (List Trace)
+abbrev pub HasTracedCommit : Place → Option (List Access) → Option (List Trace)
     → Option (List Trace) → Type 0
-HasCommitted place accesses before after = OneMore (λ t. (t.commits ≡ true)
+HasTracedCommit place accesses before after = OneMore (λ t. (t.commits ≡ true)
     × (t.place ≡ place) × (accesses ≡ Some t.accesses)) before after
 
 -- one that has read and written this was given up
@@ -67,18 +67,18 @@ pub record IsOfAdded (v v' : Client) (t : Trace) : Type 0 where
 
 -- at an answer the attempt, whose record stands at this place, and which has read and written this,
 -- if that is known, made the one record that was added
-abbrev pub HasMade : {E : Type 0} → Result Reply E → Option Place → Option (List Access)
+abbrev pub HasMadeRecord : {E : Type 0} → Result Reply E → Option Place → Option (List Access)
     → Client → Client → Type 0
-HasMade (Ok reply) (Some place) accesses v v' = (all : List Access) → accesses ≡ Some all →
+HasMadeRecord (Ok reply) (Some place) accesses v v' = (all : List Access) → accesses ≡ Some all →
     IsOfAdded v v' (record { commits = true; place = place; accesses = all })
-HasMade (Ok reply) None accesses v v' = ⊥
-HasMade (Err e) place accesses v v' = Unit {0}
+HasMadeRecord (Ok reply) None accesses v v' = ⊥
+HasMadeRecord (Err e) place accesses v v' = Unit {0}
 
 -- the end of an attempt that has read and written this is traced: at an answer it committed, and
 -- its record stands at this place, else it was given up
 abbrev pub HasEnded : {E : Type 0} → Result Reply E → Option Place → Option (List Access)
     → Option (List Trace) → Option (List Trace) → Type 0
-HasEnded (Ok reply) (Some place) accesses before after = HasCommitted place accesses before after
+HasEnded (Ok reply) (Some place) accesses before after = HasTracedCommit place accesses before after
 HasEnded (Ok reply) None accesses before after = HasGivenUp accesses before after
 HasEnded (Err e) place accesses before after = HasGivenUp accesses before after
 

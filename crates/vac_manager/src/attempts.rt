@@ -4,9 +4,9 @@ ghost use Rattle.std.specs.Prelude.{◌≡◌, ◌≤◌, IfErr, IsOk, false, tr
 ghost use Rattle.vac_model.specs.declared.limits.TheConstants.{MOST_TRIES};
 ghost use Rattle.vac_tasks.specs.Reading as reading;
 ghost use Rattle.vac_manager.specs.Called.{HasAllGrants, MayTry, Tried, Repeated};
-ghost use Rattle.vac_manager.specs.Called.{WasShown, IsStop, IsNoConflict, IsNear, IsCount};
+ghost use Rattle.vac_manager.specs.Called.{WasShown, IsStop, IsStopWithoutConflict, IsNear, IsCount};
 ghost use Rattle.vac_manager.specs.Placed.{Leaves, Tallies, nothing_done};
-ghost use Rattle.vac_manager.specs.Tracing.{IsFresh, HasMade, HasEnded, OneMore, IsOfEnd, HasTraced};
+ghost use Rattle.vac_manager.specs.Tracing.{HasNoAccess, HasMadeRecord, HasEnded, OneMore, IsOfEnd, HasTraced};
 
 use crate::law::ManagerLaw;
 use crate::pauses::Pauses;
@@ -31,7 +31,7 @@ fn try_reading<G: Gate, T: Tracer>(
 ) -> Result<Reply, Conflict>
     requires may { MayTry region.now client.old task.now }
     requires reads { reading.only_reads task.now ≡ true }
-    requires fresh { IsFresh (T.accesses tracer.old) }
+    requires fresh { HasNoAccess (T.accesses tracer.old) }
     ensures leaves { Leaves region.now task.now client.old client.new result place.new }
     ensures tried { Tried region.now task.now client.old.value client.new.value result }
     ensures stopped { IfErr result (λ conflict. WasShown region.now conflict client.new.value) }
@@ -39,7 +39,7 @@ fn try_reading<G: Gate, T: Tracer>(
     ensures near { HasAllGrants client.old.value
         → client.new.value.floor ≡ client.old.value.floor }
     ensures ended { T.ended tracer.new ≡ T.ended tracer.old }
-    ensures made { HasMade result place.new (T.accesses tracer.new)
+    ensures made { HasMadeRecord result place.new (T.accesses tracer.new)
         client.old.value client.new.value }
 {
     let mut attempt = ReadAttempt::begin(region, client);
@@ -80,16 +80,17 @@ fn try_writing<G: Gate, T: Tracer>(
 ) -> Result<Reply, Stop>
     requires may { MayTry region.now client.old task.now }
     requires writes { reading.only_reads task.now ≡ false }
-    requires fresh { IsFresh (T.accesses tracer.old) }
+    requires fresh { HasNoAccess (T.accesses tracer.old) }
     ensures leaves { Leaves region.now task.now client.old client.new result place.new }
     ensures tried { Tried region.now task.now client.old.value client.new.value result }
     ensures stopped { IfErr result (λ stop. IsStop region.now task.now stop client.new.value) }
-    ensures lone { HasAllGrants client.old.value → IfErr result (λ stop. IsNoConflict stop) }
+    ensures lone { HasAllGrants client.old.value
+        → IfErr result (λ stop. IsStopWithoutConflict stop) }
     ensures near { HasAllGrants client.old.value
         → IsNear region.now.last
         client.old.value.floor client.new.value.floor result }
     ensures ended { T.ended tracer.new ≡ T.ended tracer.old }
-    ensures made { HasMade result place.new (T.accesses tracer.new)
+    ensures made { HasMadeRecord result place.new (T.accesses tracer.new)
         client.old.value client.new.value }
 {
     let mut attempt = Attempt::begin(region, client, logs);
@@ -133,16 +134,17 @@ fn try_untold<G: Gate, T: Tracer>(
     tracer: &mut T,
 ) -> Result<Reply, Stop>
     requires may { MayTry region.now client.old task.now }
-    requires fresh { IsFresh (T.accesses tracer.old) }
+    requires fresh { HasNoAccess (T.accesses tracer.old) }
     ensures leaves { Leaves region.now task.now client.old client.new result place.new }
     ensures tried { Tried region.now task.now client.old.value client.new.value result }
     ensures stopped { IfErr result (λ stop. IsStop region.now task.now stop client.new.value) }
-    ensures lone { HasAllGrants client.old.value → IfErr result (λ stop. IsNoConflict stop) }
+    ensures lone { HasAllGrants client.old.value
+        → IfErr result (λ stop. IsStopWithoutConflict stop) }
     ensures near { HasAllGrants client.old.value
         → IsNear region.now.last
         client.old.value.floor client.new.value.floor result }
     ensures ended { T.ended tracer.new ≡ T.ended tracer.old }
-    ensures made { HasMade result place.new (T.accesses tracer.new)
+    ensures made { HasMadeRecord result place.new (T.accesses tracer.new)
         client.old.value client.new.value }
 {
     let renewal = region.renewal();
@@ -185,7 +187,8 @@ fn try_once<G: Gate, T: Tracer>(
     ensures leaves { Leaves region.now task.now client.old client.new result place.new }
     ensures tried { Tried region.now task.now client.old.value client.new.value result }
     ensures stopped { IfErr result (λ stop. IsStop region.now task.now stop client.new.value) }
-    ensures lone { HasAllGrants client.old.value → IfErr result (λ stop. IsNoConflict stop) }
+    ensures lone { HasAllGrants client.old.value
+        → IfErr result (λ stop. IsStopWithoutConflict stop) }
     ensures near { HasAllGrants client.old.value
         → IsNear region.now.last
         client.old.value.floor client.new.value.floor result }
@@ -224,7 +227,8 @@ pub(crate) fn run_in_attempts<G: Gate, T: Tracer>(
     ensures repeated { Repeated region.now task.now tries
         client.old.value client.new.value result }
     ensures stopped { IfErr result (λ stop. IsStop region.now task.now stop client.new.value) }
-    ensures lone { HasAllGrants client.old.value → IfErr result (λ stop. IsNoConflict stop) }
+    ensures lone { HasAllGrants client.old.value
+        → IfErr result (λ stop. IsStopWithoutConflict stop) }
     ensures near { HasAllGrants client.old.value
         → IsNear region.now.last
         client.old.value.floor client.new.value.floor result }

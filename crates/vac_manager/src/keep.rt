@@ -3,7 +3,7 @@
 ghost use Rattle.std.specs.Prelude.{◌≡◌, List, Option, None, OnOk};
 ghost use Rattle.vac_manager.specs.declared.note.Note.{Note};
 ghost use Rattle.vac_manager.specs.Tracing.{Trace};
-ghost use Rattle.vac_manager.specs.Keeping.{HasKept, HasTaken};
+ghost use Rattle.vac_manager.specs.Keeping.{HasKept, HasTakenOut};
 
 use crate::placed::Placed;
 use crate::tracer::{Tracer, Untraced};
@@ -49,7 +49,7 @@ pub trait Keep {
     fn keep(&mut self, task: Task, placed: Placed)
         requires { ready self.old }
         ensures kept { HasKept task placed (traced self.old) (notes self.old) (notes self.new) }
-        ensures taken { HasTaken (traced self.old) (traced self.new) };
+        ensures taken { HasTakenOut (traced self.old) (traced self.new) };
 }
 
 /// Keeps nothing.

@@ -7,9 +7,9 @@ ghost use Rattle.stm_region.specs.Shown.{joined};
 ghost use Rattle.stm_region.specs.Refused.{ClosesNot};
 ghost use Rattle.tx_alloc.specs.Pool.{heap_words};
 ghost use Rattle.vac_manager.specs.Called.{HasAllGrants, HasCalled, Splits, SplitsNot, OnlyOf};
-ghost use Rattle.vac_manager.specs.Placed.{IsPlaced, Took, WasPlaced, nothing_done, replied};
+ghost use Rattle.vac_manager.specs.Placed.{IsAddedAtPlace, TookEffort, WasPlaced, nothing_done, replied};
 ghost use Rattle.vac_manager.specs.Tracing.{HasTraced};
-ghost use Rattle.vac_manager.specs.Opening.{is_opening, Opens, Closes};
+ghost use Rattle.vac_manager.specs.Opening.{is_opening, Opens, ClosesInState};
 
 use crate::attempts::run_in_attempts;
 use crate::client::Client;
@@ -143,9 +143,9 @@ impl Manager {
         requires own { client.old.table ≡ self.now.table }
         ensures called { HasCalled self.now task.now tries (replied result.0)
             client.old client.new }
-        ensures placed { IsPlaced self.now task.now result.0
+        ensures placed { IsAddedAtPlace self.now task.now result.0
             client.old.value client.new.value }
-        ensures took { Took self.now client.old.value client.new.value result.0 result.1 }
+        ensures took { TookEffort self.now client.old.value client.new.value result.0 result.1 }
     {
         self.trace_call(client, task, tries, gate, &mut Untraced)
     }
@@ -162,9 +162,9 @@ impl Manager {
         requires own { client.old.table ≡ self.now.table }
         ensures called { HasCalled self.now task.now tries (replied result.0)
             client.old client.new }
-        ensures placed { IsPlaced self.now task.now result.0
+        ensures placed { IsAddedAtPlace self.now task.now result.0
             client.old.value client.new.value }
-        ensures took { Took self.now client.old.value client.new.value result.0 result.1 }
+        ensures took { TookEffort self.now client.old.value client.new.value result.0 result.1 }
         ensures traced { HasTraced (replied result.0) client.old.value client.new.value
             (T.ended tracer.old) (T.ended tracer.new) }
     {
@@ -194,7 +194,7 @@ impl Manager {
         ensures called { HasCalled self.now task.now tries result client.old client.new }
         ensures placed { WasPlaced self.now task.now result traced.new.place
             client.old.value client.new.value }
-        ensures took { Took self.now client.old.value client.new.value
+        ensures took { TookEffort self.now client.old.value client.new.value
             result traced.new.effort }
         ensures traced { HasTraced result client.old.value client.new.value
             (T.ended tracer.old) (T.ended tracer.new) }
@@ -264,7 +264,7 @@ impl Manager {
     /// is refused, the manager and the client are given back as they were.
     pub fn close(self, client: Client) -> Result<(Vec<u64>, Version), Kept>
         requires { client.table ≡ self.table }
-        ensures closes { IfOk result (λ r. Closes self client.value r.0.items r.1) }
+        ensures closes { IfOk result (λ r. ClosesInState self client.value r.0.items r.1) }
         ensures all { IfOk result (λ _. HasAllGrants client.value) }
         ensures kept { IfErr result
             (λ r. (r.0 ≡ self) × (r.1 ≡ client) × ClosesNot client.value.grants r.2) }

@@ -3,7 +3,7 @@
 ghost use Rattle.std.specs.Prelude.{◌≡◌, ◌≤◌, ◌<◌};
 ghost use Rattle.vac_model.specs.declared.limits.TheConstants.{MOST_TRIES};
 ghost use Rattle.vac_manager.specs.Placed.{nothing_done, conflicts_of, locks_of};
-ghost use Rattle.vac_manager.specs.Placed.{over, conflicted, ended};
+ghost use Rattle.vac_manager.specs.Placed.{one_more_over, conflicted, ended};
 ghost use Rattle.vac_manager.specs.Sites.{site_of};
 
 use crate::sites::{Site, site_of};
@@ -101,7 +101,7 @@ impl Effort {
     /// Counts a conflict by the word of its lock.
     fn count_over(&mut self, lock: u32)
         requires few { locks_of self.old < MOST_TRIES }
-        ensures { self.new ≡ over (site_of lock) self.old }
+        ensures { self.new ≡ one_more_over (site_of lock) self.old }
     {
         match site_of(lock) {
             Site::Root => self.roots += 1,

@@ -3,7 +3,7 @@
 ghost use Rattle.std.specs.Prelude.{◌≡◌, ◌+◌, IfOk, IfErr};
 ghost use Rattle.stm_core.specs.Event.{renewing};
 ghost use Rattle.stm_region.specs.Refused.{MayRenew};
-ghost use Rattle.vac_manager.specs.Renewed.{ClosesSomewhere, NotRenewed};
+ghost use Rattle.vac_manager.specs.Renewed.{ClosesSomewhere, StaysUnrenewed};
 
 use crate::client::Client;
 use crate::manager::Manager;
@@ -36,7 +36,7 @@ impl Manager {
             ≡ record client { table = r.0.table; value = renewing client.value }) }
         ensures words { IfOk result (λ r. ClosesSomewhere self client.value r.0.opening) }
         ensures ranges { IfOk result (λ _. MayRenew self.renewal last client.value.grants) }
-        ensures refused { IfErr result (λ fault. NotRenewed self client last fault) }
+        ensures refused { IfErr result (λ fault. StaysUnrenewed self client last fault) }
     {
         let Manager { alloc, region } = self;
         let Client {

@@ -4,7 +4,7 @@ ghost use Rattle.std.specs.Prelude.{◌≡◌, IfOk, IfErr};
 ghost use Rattle.stm_core.specs.History.{Sub};
 ghost use Rattle.stm_region.specs.Shown.{joined};
 ghost use Rattle.vac_manager.specs.Called.{HasCalled, Splits, SplitsNot, OnlyOf};
-ghost use Rattle.vac_manager.specs.Placed.{IsPlaced, Took, replied};
+ghost use Rattle.vac_manager.specs.Placed.{IsAddedAtPlace, TookEffort, replied};
 ghost use Rattle.vac_manager.specs.Tracing.{HasTraced};
 ghost use Rattle.vac_manager.specs.Session.{GoesOn};
 
@@ -87,9 +87,9 @@ impl<'a> Session<'a> {
         ensures session { GoesOn self.old self.new }
         ensures called { HasCalled self.old.manager task.now tries (replied result.0)
             self.old.client self.new.client }
-        ensures placed { IsPlaced self.old.manager task.now result.0
+        ensures placed { IsAddedAtPlace self.old.manager task.now result.0
             self.old.client.value self.new.client.value }
-        ensures took { Took self.old.manager self.old.client.value self.new.client.value
+        ensures took { TookEffort self.old.manager self.old.client.value self.new.client.value
             result.0 result.1 }
     {
         self.manager
@@ -107,9 +107,9 @@ impl<'a> Session<'a> {
         ensures session { GoesOn self.old self.new }
         ensures called { HasCalled self.old.manager task.now tries (replied result.0)
             self.old.client self.new.client }
-        ensures placed { IsPlaced self.old.manager task.now result.0
+        ensures placed { IsAddedAtPlace self.old.manager task.now result.0
             self.old.client.value self.new.client.value }
-        ensures took { Took self.old.manager self.old.client.value self.new.client.value
+        ensures took { TookEffort self.old.manager self.old.client.value self.new.client.value
             result.0 result.1 }
         ensures traced { HasTraced (replied result.0) self.old.client.value self.new.client.value
             (T.ended tracer.old) (T.ended tracer.new) }

@@ -7,7 +7,7 @@ ghost use Rattle.vac_model.specs.Ranges.{is_task};
 ghost use Rattle.vac_records.specs.InMemory.{HoldsState};
 ghost use Rattle.vac_tasks.specs.Reading as reading;
 ghost use Rattle.vac_tasks.specs.RanTask.{RanTask};
-ghost use Rattle.vac_manager.specs.Tracing.{Trace, IsFresh, HasCommitted, HasGivenUp};
+ghost use Rattle.vac_manager.specs.Tracing.{Trace, HasNoAccess, HasTracedCommit, HasGivenUp};
 
 use crate::placed::Place;
 use stm_words::Version;
@@ -28,7 +28,7 @@ pub trait Tracer {
     /// An attempt is about to begin.
     fn prepare(&mut self)
         ensures ended { ended self.new ≡ ended self.old }
-        ensures fresh { IsFresh (accesses self.new) };
+        ensures fresh { HasNoAccess (accesses self.new) };
 
     /// It has begun, in this renewal and with this read version.
     ///
@@ -73,7 +73,7 @@ pub trait Tracer {
 
     /// It has committed, or finished, and its record stands at this place.
     fn commit(&mut self, place: Place)
-        ensures { HasCommitted place (accesses self.old) (ended self.old) (ended self.new) };
+        ensures { HasTracedCommit place (accesses self.old) (ended self.old) (ended self.new) };
 
     /// It was given up, and has left no record.
     fn give_up(&mut self)

@@ -7,7 +7,7 @@ use Rattle.std.specs.FinMap as map
 use Rattle.std.specs.FinMap.{get, insert, len, values, empty, nat_cmp-IsAntisymmetric}
 use Rattle.vac_model.specs.declared.items.Kind.{Kind}
 use Rattle.vac_model.specs.declared.items.Item.{Item}
-use Rattle.vac_model.specs.State.{State, Booking, Bookings, Place, Table, table_of, item_of, with_item, bookings_of}
+use Rattle.vac_model.specs.State.{State, Booking, Bookings, Place, ItemTable, table_of, item_of, with_item, bookings_of}
 use Rattle.vac_model.specs.State.{with_bookings, without_customer, units_of, units_held, size, place_cmp}
 use Rattle.vac_model.specs.Step.{total_limit, unit_limit}
 use Rattle.vac_model.specs.Amounts.{is_id}
@@ -26,7 +26,7 @@ some_same x y e = ap (λ o. unwrap_or o x) e
 pub item_here : (s : State) (kind : Kind) (id : ℕ) (item : Item) →
     item_of (with_item s kind id item) kind id ≡ Some item
 item_here s kind id item =
-    ap (λ (t : Table). get t id) (table_of-with_table s kind (insert (table_of s kind) id item))
+    ap (λ (t : ItemTable). get t id) (table_of-with_table s kind (insert (table_of s kind) id item))
     ∙ get_here nat_cmp_total nat_cmp-IsAntisymmetric (table_of s kind) id item
 
 pub item_elsewhere : (s : State) (kind : Kind) (id : ℕ) (item : Item) (k : Kind) (i : ℕ) →
@@ -35,10 +35,10 @@ pub item_elsewhere : (s : State) (kind : Kind) (id : ℕ) (item : Item) (k : Kin
 item_elsewhere s kind id item k i apart = elim (other_table s kind (insert (table_of s kind) id item) k) [
   | inl same ↦
       let place : i ≢ id = λ e. apart (λ j. (same.0 j, e j)) in
-      ap (λ (t : Table). get t i) same.1 ∙ get_elsewhere nat_cmp_total nat_cmp-IsAntisymmetric
+      ap (λ (t : ItemTable). get t i) same.1 ∙ get_elsewhere nat_cmp_total nat_cmp-IsAntisymmetric
       (table_of s kind) id item i place
       ∙ ap (λ x. item_of s x i) (sym same.0)
-  | inr other ↦ ap (λ (t : Table). get t i) other
+  | inr other ↦ ap (λ (t : ItemTable). get t i) other
 ]
 
 -- what is found after an item was put was put, or was there before

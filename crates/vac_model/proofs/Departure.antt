@@ -9,10 +9,11 @@ use Rattle.std.specs.FinMap as map
 use Rattle.std.specs.FinMap.{find, is_sorted, get, insert, remove, entries, nat_cmp-IsAntisymmetric}
 use Rattle.vac_model.specs.declared.items.Kind.{Kind}
 use Rattle.vac_model.specs.declared.items.Item.{Item}
-use Rattle.vac_model.specs.State.{State, Booking, Bookings, Place, Table, table_of, item_of, without_item, bookings_of}
+use Rattle.vac_model.specs.State.{State, Booking, Bookings, Place, ItemTable, table_of, item_of, without_item}
+use Rattle.vac_model.specs.State.{bookings_of}
 use Rattle.vac_model.specs.State.{without_customer, units_of, units_held, size, place_cmp}
 use Rattle.vac_model.specs.Step.{given_back, give_back, give_back_all}
-use Rattle.vac_model.specs.Fits.{units_in, IsItemInRange, CanGiveBack}
+use Rattle.vac_model.specs.Fits.{units_among, IsItemInRange, CanGiveBack}
 use Rattle.vac_model.specs.Balanced.{IsBalanced, IsItem, IsBooking}
 use Rattle.vac_model.proofs.Sums.{get_removed, removed_elsewhere, either_key, apart_test, len_removed, remove_missing}
 use Rattle.vac_model.proofs.Sums.{find_below, first, second}
@@ -26,7 +27,7 @@ use Rattle.vac_model.proofs.Balance.{held-without_customer}
 -- an item after one was taken out, at its place and at another
 gone_here : (s : State) (kind : Kind) (id : ℕ) → item_of (without_item s kind id) kind id ≡ None
 gone_here s kind id =
-    ap (λ (t : Table). get t id) (table_of-with_table s kind (remove (table_of s kind) id)) ∙
+    ap (λ (t : ItemTable). get t id) (table_of-with_table s kind (remove (table_of s kind) id)) ∙
     get_removed nat_cmp_total nat_cmp-IsAntisymmetric (table_of s kind) id
 
 gone_elsewhere : (s : State) (kind : Kind) (id : ℕ) (k : Kind) (i : ℕ) → (◌≢◌ {A = Place} (k, i) (kind, id)) →
@@ -34,10 +35,10 @@ gone_elsewhere : (s : State) (kind : Kind) (id : ℕ) (k : Kind) (i : ℕ) → (
 gone_elsewhere s kind id k i apart = elim (other_table s kind (remove (table_of s kind) id) k) [
   | inl same ↦
       let place : i ≢ id = λ e. apart (λ j. (same.0 j, e j)) in
-      ap (λ (t : Table). get t i) same.1 ∙ removed_elsewhere nat_cmp_total nat_cmp-IsAntisymmetric
+      ap (λ (t : ItemTable). get t i) same.1 ∙ removed_elsewhere nat_cmp_total nat_cmp-IsAntisymmetric
       (table_of s kind) id i place
       ∙ ap (λ x. item_of s x i) (sym same.0)
-  | inr other ↦ ap (λ (t : Table). get t i) other
+  | inr other ↦ ap (λ (t : ItemTable). get t i) other
 ]
 
 module _ (s : State) (kind : Kind) (id : ℕ) (old : Item) (balanced : IsBalanced s)
@@ -109,7 +110,7 @@ none_plus : (a b : ℕ) → a ≡ b → 0 + a ≡ b
 none_plus a b h = omega arith
 
 units_in_sorted : (es : List (Place × Booking)) (q : Place) → T (is_sorted place_cmp es) →
-    units_in es q ≡ found_units (find place_cmp q es)
+    units_among es q ≡ found_units (find place_cmp q es)
 units_in_sorted [] q h = refl
 units_in_sorted (e ∷ es) q h =
     let rest = units_in_sorted es q (second _ _ h) in
@@ -119,19 +120,19 @@ units_in_sorted (e ∷ es) q h =
           (ap is_eq (tied_itself place_cmp_total q)) in
           let none : find place_cmp q es ≡ None = ap (λ x. find place_cmp x es) same ∙ find_below place_cmp e.0 es
           (first _ _ h) in
-          let nothing : units_in es q ≡ 0 = rest ∙ ap found_units none in
-          let sums : e.1.units + units_in es q ≡ e.1.units = plus_none e.1.units (units_in es q) nothing in
-          ap (λ b. cond b e.1.units 0 + units_in es q) test ∙ sums ∙
+          let nothing : units_among es q ≡ 0 = rest ∙ ap found_units none in
+          let sums : e.1.units + units_among es q ≡ e.1.units = plus_none e.1.units (units_among es q) nothing in
+          ap (λ b. cond b e.1.units 0 + units_among es q) test ∙ sums ∙
           sym (ap (λ b. found_units (cond b (Some e.1) (find place_cmp q es))) test)
       | inr apart ↦
           let test = apart_test place_cmp_total place_cmp-IsAntisymmetric q e.0 apart in
-          let sums : 0 + units_in es q ≡ found_units (find place_cmp q es) =
-          none_plus (units_in es q) (found_units (find place_cmp q es)) rest in
-          ap (λ b. cond b e.1.units 0 + units_in es q) test ∙ sums ∙
+          let sums : 0 + units_among es q ≡ found_units (find place_cmp q es) =
+          none_plus (units_among es q) (found_units (find place_cmp q es)) rest in
+          ap (λ b. cond b e.1.units 0 + units_among es q) test ∙ sums ∙
           sym (ap (λ b. found_units (cond b (Some e.1) (find place_cmp q es))) test)
     ]
 
-pub units_in-entries : (b : Bookings) (q : Place) → units_in (entries b) q ≡ units_of b q
+pub units_in-entries : (b : Bookings) (q : Place) → units_among (entries b) q ≡ units_of b q
 units_in-entries b q = units_in_sorted (entries b) q (map.entries_sorted b) ∙ ap found_units (sym (map.get-entries b q))
 
 given_back_none : (x : Item) → given_back x 0 ≡ x
@@ -194,12 +195,12 @@ item_of-give_back s p units k i =
 
 -- an item after all these bookings were given back
 pub item_of-give_back_all : (s : State) (es : List (Place × Booking)) (k : Kind) (i : ℕ) →
-    item_of (give_back_all s es) k i ≡ lowered (item_of s k i) (units_in es (k, i))
+    item_of (give_back_all s es) k i ≡ lowered (item_of s k i) (units_among es (k, i))
 item_of-give_back_all s [] k i = sym (lowered_none (item_of s k i))
 item_of-give_back_all s (e ∷ es) k i =
     item_of-give_back_all (give_back s e.0 e.1.units (item_of s e.0.0 e.0.1)) es k i
-    ∙ ap (λ o. lowered o (units_in es (k, i))) (item_of-give_back s e.0 e.1.units k i)
-    ∙ lowered_twice (item_of s k i) (cond (eq_by_cmp place_cmp (k, i) e.0) e.1.units 0) (units_in es (k, i))
+    ∙ ap (λ o. lowered o (units_among es (k, i))) (item_of-give_back s e.0 e.1.units k i)
+    ∙ lowered_twice (item_of s k i) (cond (eq_by_cmp place_cmp (k, i) e.0) e.1.units 0) (units_among es (k, i))
 
 -- what giving back leaves alone
 pub record Leaves (s s' : State) : Type 0 where
@@ -232,7 +233,7 @@ pub item_of-departed : (s : State) (c : ℕ) (b : Bookings) (k : Kind) (i : ℕ)
     → item_of (give_back_all (without_customer s c) (entries b)) k i ≡ lowered (item_of s k i) (units_of b (k, i))
 item_of-departed s c b k i =
     item_of-give_back_all (without_customer s c) (entries b) k i
-    ∙ ap (λ o. lowered o (units_in (entries b) (k, i))) (item_of-without_customer s c k i)
+    ∙ ap (λ o. lowered o (units_among (entries b) (k, i))) (item_of-without_customer s c k i)
     ∙ ap (lowered (item_of s k i)) (units_in-entries b (k, i))
 
 -- an item that is there after some were lowered was there before

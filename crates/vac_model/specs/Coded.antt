@@ -5,7 +5,7 @@ use Rattle.std.specs.FinMap as map
 use Rattle.vac_model.specs.declared.items.Kind.{Kind}
 use Rattle.vac_model.specs.declared.items.Kind.TheVariants.{Car, Flight, Room}
 use Rattle.vac_model.specs.declared.items.Item.{Item}
-use Rattle.vac_model.specs.State.{State, Booking, Bookings, Customers, Table, kind_number}
+use Rattle.vac_model.specs.State.{State, Booking, Bookings, Customers, ItemTable, kind_number}
 
 -- the kind that a number stands for
 abbrev pub kind_of_number : ℕ → Kind
@@ -36,7 +36,7 @@ booking_coded =
     (λ p. record { units = p.0; sum = p.1 }) (λ _. refl)
 
 -- a table is coded as a finite map from ids to items
-abbrev pub table_coded : Coded Table
+abbrev pub table_coded : Coded ItemTable
 table_coded = map.code coded_ℕ item_coded
 
 -- a customer's bookings are coded as a finite map from places to bookings
@@ -50,7 +50,7 @@ customers_coded = map.code coded_ℕ bookings_coded
 -- a state is stored as the tuple of its fields
 abbrev pub state_coded : Coded State
 state_coded =
-    code_by ((ℕ × Customers) × (Table × (Table × Table)))
+    code_by ((ℕ × Customers) × (ItemTable × (ItemTable × ItemTable)))
     (coded× (coded× coded_ℕ customers_coded)
     (coded× table_coded (coded× table_coded table_coded)))
     (λ s. ((s.capacity, s.customers), (s.cars, (s.flights, s.rooms))))

@@ -24,17 +24,17 @@ pub record IsItemInRange (item : Item) : Type 0 where
   pub counts : item.used + item.free ≡ item.total
 
 -- how many units of an item are among these bookings
-abbrev pub units_in : List (Place × Booking) → Place → ℕ
-units_in [] place = 0
-units_in (b ∷ bs) place =
-    (if eq_by_cmp place_cmp place b.0 then b.1.units else 0) + units_in bs place
+abbrev pub units_among : List (Place × Booking) → Place → ℕ
+units_among [] place = 0
+units_among (b ∷ bs) place =
+    (if eq_by_cmp place_cmp place b.0 then b.1.units else 0) + units_among bs place
 
 -- the items are in their ranges, and as many units of each are used as these bookings have
 pub record CanGiveBack (s : State) (bookings : List (Place × Booking)) : Type 0 where
   pub in_range : (kind : Kind) (id : ℕ) (item : Item) → item_of s kind id ≡ Some item →
       IsItemInRange item
   pub used : (kind : Kind) (id : ℕ) (item : Item) → item_of s kind id ≡ Some item
-      → units_in bookings (kind, id) ≤ item.used
+      → units_among bookings (kind, id) ≤ item.used
 
 -- a booking whose numbers are in their ranges
 pub record IsBookingInRange (b : Booking) : Type 0 where

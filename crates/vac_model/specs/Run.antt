@@ -15,7 +15,7 @@ use Rattle.vac_model.specs.declared.replies.Pick.{Pick}
 use Rattle.vac_model.specs.declared.tasks.Task.{Task}
 use Rattle.vac_model.specs.declared.tasks.Task.TheVariants as task
 use Rattle.vac_model.specs.State.{State, Place, bookings_of, bill_of, kind_number}
-use Rattle.vac_model.specs.Step.{Outcome, step, when_found, answered, price_of}
+use Rattle.vac_model.specs.Step.{Outcome, step, when_found, number_answered, price_of}
 
 -- why a reply refused, if it did
 abbrev pub refusal_of : Reply → Option Why
@@ -84,8 +84,8 @@ trip s customer asks =
 -- a leave returns the bill of a customer that is there, and drops that customer
 abbrev pub leave : State → ℕ → Outcome
 leave s customer =
-    when_found (bookings_of s customer) (answered s None) (λ bookings.
-    answered (step s (command.DropCustomer customer)).0 (Some (bill_of bookings)))
+    when_found (bookings_of s customer) (number_answered s None) (λ bookings.
+    number_answered (step s (command.DropCustomer customer)).0 (Some (bill_of bookings)))
 
 -- the state after these commands, and why each of them was refused, if it was
 abbrev pub steps : State → List Command → State × List (Option Why)

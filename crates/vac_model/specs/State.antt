@@ -26,8 +26,8 @@ abbrev pub place_cmp : Place → Place → Ordering
 place_cmp p q = ordering_then (nat_cmp (kind_number p.0) (kind_number q.0)) (nat_cmp p.1 q.1)
 
 -- the items of one kind, by their ids
-abbrev pub Table : Type 0
-Table = FinMap nat_cmp Item
+abbrev pub ItemTable : Type 0
+ItemTable = FinMap nat_cmp Item
 
 -- the bookings of one customer, by the item that is booked
 abbrev pub Bookings : Type 0
@@ -40,9 +40,9 @@ Customers = FinMap nat_cmp Bookings
 -- the four tables, and how many entries there may be
 pub record State : Type 0 where
   pub capacity : ℕ
-  pub cars : Table
-  pub flights : Table
-  pub rooms : Table
+  pub cars : ItemTable
+  pub flights : ItemTable
+  pub rooms : ItemTable
   pub customers : Customers
 
 -- the state with no entries
@@ -56,13 +56,13 @@ empty_state n = record {
 }
 
 -- the table of a kind
-abbrev pub table_of : State → Kind → Table
+abbrev pub table_of : State → Kind → ItemTable
 table_of s Car = s.cars
 table_of s Flight = s.flights
 table_of s Room = s.rooms
 
 -- the state with another table of a kind
-abbrev pub with_table : State → Kind → Table → State
+abbrev pub with_table : State → Kind → ItemTable → State
 with_table s Car t = record s { cars = t }
 with_table s Flight t = record s { flights = t }
 with_table s Room t = record s { rooms = t }

@@ -37,8 +37,8 @@ abbrev pub done : State → Outcome
 done s = (s, reply.Done)
 
 -- a number that was asked for
-abbrev pub answered : State → Option ℕ → Outcome
-answered s n = (s, reply.Number n)
+abbrev pub number_answered : State → Option ℕ → Outcome
+number_answered s n = (s, reply.Number n)
 
 -- goes on with an entry that is there, and has the other outcome where it is not
 abbrev pub when_found : {X : Type 0} → Option X → Outcome → (X → Outcome) → Outcome
@@ -197,9 +197,10 @@ step s (command.Delete kind id num) = delete s kind id num
 step s (command.DropFlight id) = drop_flight s id
 step s (command.NewCustomer id) = new_customer s id
 step s (command.DropCustomer id) = drop_customer s id
-step s (command.Free kind id) = answered s (option_map (λ item. item.free) (item_of s kind id))
-step s (command.Price kind id) = answered s (price_of s kind id)
-step s (command.Bill id) = answered s (option_map bill_of (bookings_of s id))
+step s (command.Free kind id) =
+    number_answered s (option_map (λ item. item.free) (item_of s kind id))
+step s (command.Price kind id) = number_answered s (price_of s kind id)
+step s (command.Bill id) = number_answered s (option_map bill_of (bookings_of s id))
 step s (command.Reserve customer kind id num) = reserve s customer kind id num
 step s (command.Cancel customer kind id) = cancel s customer kind id
 step s command.Audit = (s, reply.Report (report s))

@@ -8,7 +8,7 @@ use Rattle.vac_opaque.specs.declared.attempt.Access.{Access}
 use Rattle.vac_opaque.specs.declared.attempt.Access.TheVariants.{Read, Write}
 use Rattle.vac_opaque.specs.declared.finding.Breach.TheVariants as breach
 use Rattle.vac_opaque.specs.declared.memory.Covered.{Covered}
-use Rattle.vac_opaque.specs.Words.{changed, after, wrong_read}
+use Rattle.vac_opaque.specs.Words.{image_with, words_after, wrong_read}
 use Rattle.vac_opaque.specs.Covered.{image_of, uncovered}
 use Rattle.vac_opaque.specs.Parts.{AllAmong}
 use Rattle.vac_opaque.proofs.Legal.{unless_right, unless_wrong}
@@ -25,7 +25,7 @@ set_at words word value other h =
     ]
 
 set_image : (words : List ℕ) (word value : ℕ) → word < length words →
-    image_of (slice_set words word value) ≡ changed (image_of words) word value
+    image_of (slice_set words word value) ≡ image_with (image_of words) word value
 set_image words word value h = fun_ext (λ other. set_at words word value other h)
 
 -- the last that was covered is given back first
@@ -46,7 +46,7 @@ written covered covered' words words' word value old c o w =
 -- of an attempt this is still to be done
 pub record RunTo (first words : List ℕ) (all rest : List Access) : Type 0 where
   pub found : wrong_read (image_of first) all ≡ wrong_read (image_of words) rest
-  pub left : after (image_of first) all ≡ after (image_of words) rest
+  pub left : words_after (image_of first) all ≡ words_after (image_of words) rest
   pub size : length words ≡ length first
   pub among : AllAmong (length words) rest
 
@@ -62,7 +62,7 @@ run_read first words all rest behind x word value r e is same =
     record {
       found = r.found ∙ ap (wrong_read (image_of words)) cut ∙ unless_right word value (image_of words word)
           (wrong_read (image_of words) behind) same;
-      left = r.left ∙ ap (after (image_of words)) cut;
+      left = r.left ∙ ap (words_after (image_of words)) cut;
       size = r.size;
       among = (subst (AllAmong (length words)) cut r.among).1;
     }
@@ -84,12 +84,12 @@ pub run_write : (first words words' : List ℕ) (all rest behind : List Access) 
 run_write first words words' all rest behind x word value r e is w =
     let cut : rest ≡ Write word value ∷ behind = e ∙ ap (λ t. t ∷ behind) is in
     let among = subst (AllAmong (length words)) cut r.among in
-    let image : changed (image_of words) word value ≡ image_of words' =
+    let image : image_with (image_of words) word value ≡ image_of words' =
     sym (ap image_of w ∙ set_image words word value among.0) in
     let long : length words ≡ length words' = sym (ap length w ∙ length-set words word value) in
     record {
       found = r.found ∙ ap (wrong_read (image_of words)) cut ∙ ap (λ m. wrong_read m behind) image;
-      left = r.left ∙ ap (after (image_of words)) cut ∙ ap (λ m. after m behind) image;
+      left = r.left ∙ ap (words_after (image_of words)) cut ∙ ap (λ m. words_after m behind) image;
       size = sym long ∙ r.size;
       among = subst (λ n. AllAmong n behind) long among.1;
     }
@@ -100,8 +100,8 @@ pub run_end : (first words : List ℕ) (all rest : List Access) → RunTo first 
 run_end first words all rest r e = r.found ∙ ap (wrong_read (image_of words)) e
 
 pub run_left : (first words : List ℕ) (all rest : List Access) → RunTo first words all rest → rest ≡ [] →
-    image_of words ≡ after (image_of first) all
-run_left first words all rest r e = sym (r.left ∙ ap (after (image_of words)) e)
+    image_of words ≡ words_after (image_of first) all
+run_left first words all rest r e = sym (r.left ∙ ap (words_after (image_of words)) e)
 
 -- nothing is covered
 pub nothing_covered : (covered : List Covered) (words : List ℕ) → length covered ≡ 0 → words ≡ uncovered covered words

@@ -9,27 +9,28 @@ use Rattle.vac_spans.proofs.Order.{goes_on, last_placed, front_turns, front_prec
 use Rattle.vac_spans.proofs.Order.{cause_of, of_cause}
 use Rattle.vac_opaque.specs.declared.finding.Breach.{Breach}
 use Rattle.vac_opaque.specs.declared.finding.Breach.TheVariants as breach
-use Rattle.vac_opaque.specs.Attempt.{Attempt, span_of}
-use Rattle.vac_opaque.specs.Words.{Image, zeros, after, left_by, wrong_read}
+use Rattle.vac_opaque.specs.Attempt.{Attempt, span_of_attempt}
+use Rattle.vac_opaque.specs.Words.{Image, zeros, words_after, left_by, wrong_read}
 use Rattle.vac_opaque.specs.Verdict.{place_first, breach_of}
-use Rattle.vac_opaque.specs.Laws.{HasWord, AreLegal, committed, visible, EachIsLegal, IsOpaqueOrder}
+use Rattle.vac_opaque.specs.Laws.{HasWord, ReadsAreLegal, committed, visible, EachIsLegal, IsOpaqueOrder}
 use Rattle.vac_opaque.specs.Wrongs.{IsBreach}
 use Rattle.vac_opaque.proofs.Legal.{after_both, has_word, word_is, legal_of, of_legal, wrong_both, first_right, WrongAt}
 use Rattle.vac_opaque.proofs.Legal.{wrong_at, at_wrong}
 
 -- what committed attempts leave is what their accesses leave
-left_on : (before earlier : List Attempt) → left_by (reverse_aux before earlier) ≡ after (left_by earlier)
+left_on : (before earlier : List Attempt) → left_by (reverse_aux before earlier) ≡ words_after (left_by earlier)
     (committed before)
 left_on [] earlier = refl
 left_on (a ∷ more) earlier =
     left_on more (a ∷ earlier)
-    ∙ elim a.commits as (λ b. after (cond b (after (left_by earlier) a.accesses) (left_by earlier)) (committed more)
-    ≡ after (left_by earlier) (cond b (a.accesses ++ committed more) (committed more))) [
+    ∙ elim a.commits as (λ b. words_after (cond b (words_after (left_by earlier) a.accesses) (left_by earlier))
+    (committed more)
+    ≡ words_after (left_by earlier) (cond b (a.accesses ++ committed more) (committed more))) [
       | true ↦ sym (after_both (left_by earlier) a.accesses (committed more))
       | false ↦ refl
     ]
 
-pub left_is : (before : List Attempt) → left_by (reverse_aux before []) ≡ after zeros (committed before)
+pub left_is : (before : List Attempt) → left_by (reverse_aux before []) ≡ words_after zeros (committed before)
 left_is before = left_on before []
 
 committed_both : (xs ys : List Attempt) → committed (xs ++ ys) ≡ committed xs ++ committed ys
@@ -92,7 +93,8 @@ more_legal before a l h front later x e =
           let own : wrong_read zeros (visible before a) ≡ None =
           wrong_both zeros (committed before) a.accesses (committed_right before l) ∙ ap (λ m. wrong_read m a.accesses)
           (sym (left_is before)) ∙ h in
-          subst (λ t. AreLegal (visible t x)) (sym same.0) (subst (λ t. AreLegal (visible before t)) (sym same.1)
+          subst (λ t. ReadsAreLegal (visible t x)) (sym same.0)
+          (subst (λ t. ReadsAreLegal (visible before t)) (sym same.1)
           (legal_of (visible before a) own))
       | inr earlier ↦ l front earlier.0 x earlier.1
     ]
@@ -122,16 +124,16 @@ place_none (Some wrong) rest h = absurd (some_none (breach.Place wrong) h)
 pub opaque_none : IsOpaqueOrder []
 opaque_none = record {
   legal = λ before later a e. absurd (no_split a before later e);
-  turns = turns_none span_of;
-  precedence = precedence_none span_of;
+  turns = turns_none span_of_attempt;
+  precedence = precedence_none span_of_attempt;
 }
 
 pub opaque_more : (xs : List Attempt) (a : Attempt) → IsOpaqueOrder xs → breach_of (reverse_aux xs []) a ≡ None →
     IsOpaqueOrder (xs ++ a ∷ [])
 opaque_more xs a o h =
-    let both = place_none (misplaced span_of (reverse_aux xs []) a)
+    let both = place_none (misplaced span_of_attempt (reverse_aux xs []) a)
     (wrong_read (left_by (reverse_aux xs [])) a.accesses) h in
-    let order = goes_on span_of xs a o.turns o.precedence both.0 in
+    let order = goes_on span_of_attempt xs a o.turns o.precedence both.0 in
     record {
       legal = more_legal xs a o.legal both.1;
       turns = order.0;
@@ -142,14 +144,14 @@ pub opaque_last : (xs : List Attempt) (a : Attempt) → IsOpaqueOrder (xs ++ a �
     breach_of (reverse_aux xs []) a ≡ None
 opaque_last xs a o =
     ap (λ p. place_first p (wrong_read (left_by (reverse_aux xs [])) a.accesses))
-    (last_placed span_of xs a o.turns o.precedence)
+    (last_placed span_of_attempt xs a o.turns o.precedence)
     ∙ last_right xs a o.legal
 
 pub opaque_front : (xs ys : List Attempt) → IsOpaqueOrder (xs ++ ys) → IsOpaqueOrder xs
 opaque_front xs ys o = record {
   legal = front_legal xs ys o.legal;
-  turns = front_turns span_of xs ys o.turns;
-  precedence = front_precedence span_of xs ys o.precedence;
+  turns = front_turns span_of_attempt xs ys o.turns;
+  precedence = front_precedence span_of_attempt xs ys o.precedence;
 }
 
 -- ---- why an order does not go on
@@ -169,15 +171,15 @@ found_by (Some wrong) rest found h = by_place wrong refl (same_some (breach.Plac
 
 wrong_of : (xs : List Attempt) (a : Attempt) (found : Breach) → IsOpaqueOrder xs →
     WrongAt (left_by (reverse_aux xs [])) a.accesses found
-    → TakeTurns span_of (xs ++ a ∷ []) × KeepPrecedence span_of (xs ++ a ∷ []) → IsBreach xs a found
+    → TakeTurns span_of_attempt (xs ++ a ∷ []) × KeepPrecedence span_of_attempt (xs ++ a ∷ []) → IsBreach xs a found
 wrong_of xs a found o w order =
     let first : wrong_read zeros (committed xs ++ w.own) ≡ None =
     wrong_both zeros (committed xs) w.own (committed_right xs o.legal) ∙ ap (λ m. wrong_read m w.own) (sym (left_is xs))
     ∙ w.first in
-    let leaves : after zeros (committed xs ++ w.own) ≡ after (left_by (reverse_aux xs [])) w.own =
-    after_both zeros (committed xs) w.own ∙ ap (λ m. after m w.own) (sym (left_is xs)) in
-    let expected = after (left_by (reverse_aux xs [])) w.own w.word in
-    let at : after zeros (committed xs ++ w.own) w.word ≡ expected = ap (λ (m : Image). m w.word) leaves in
+    let leaves : words_after zeros (committed xs ++ w.own) ≡ words_after (left_by (reverse_aux xs [])) w.own =
+    after_both zeros (committed xs) w.own ∙ ap (λ m. words_after m w.own) (sym (left_is xs)) in
+    let expected = words_after (left_by (reverse_aux xs [])) w.own w.word in
+    let at : words_after zeros (committed xs ++ w.own) w.word ≡ expected = ap (λ (m : Image). m w.word) leaves in
     subst (IsBreach xs a) (sym w.is) (
       order.0,
       order.1,
@@ -195,18 +197,18 @@ wrong_of xs a found o w order =
 pub breach_is : (xs : List Attempt) (a : Attempt) (found : Breach) → IsOpaqueOrder xs →
     breach_of (reverse_aux xs []) a ≡ Some found → IsBreach xs a found
 breach_is xs a found o h =
-    elim (found_by (misplaced span_of (reverse_aux xs []) a)
+    elim (found_by (misplaced span_of_attempt (reverse_aux xs []) a)
     (wrong_read (left_by (reverse_aux xs [])) a.accesses) found h) [
-      | by_place wrong p e ↦ subst (IsBreach xs a) (sym e) (cause_of span_of xs a wrong o.turns p)
+      | by_place wrong p e ↦ subst (IsBreach xs a) (sym e) (cause_of span_of_attempt xs a wrong o.turns p)
       | by_read p r ↦ wrong_of xs a found o (wrong_at (left_by (reverse_aux xs [])) a.accesses found r)
-          (goes_on span_of xs a o.turns o.precedence p)
+          (goes_on span_of_attempt xs a o.turns o.precedence p)
     ]
 
 pub is_breach : (xs : List Attempt) (a : Attempt) (found : Breach) → IsOpaqueOrder xs → IsBreach xs a found →
     breach_of (reverse_aux xs []) a ≡ Some found
 is_breach xs a (breach.Place wrong) o c =
     ap (λ p. place_first p (wrong_read (left_by (reverse_aux xs [])) a.accesses))
-    (of_cause span_of xs a wrong o.turns o.precedence c)
+    (of_cause span_of_attempt xs a wrong o.turns o.precedence c)
 is_breach xs a (breach.Read word expected) o c =
     let w = c.2 in
     let m = left_by (reverse_aux xs []) in
@@ -214,9 +216,9 @@ is_breach xs a (breach.Read word expected) o c =
     let own : wrong_read m w.own ≡ None =
     ap (λ n. wrong_read n w.own) (left_is xs) ∙ sym (wrong_both zeros (committed xs) w.own (committed_right xs o.legal))
     ∙ all in
-    let at : after m w.own word ≡ expected =
-    ap (λ (n : Image). after n w.own word) (left_is xs) ∙ ap (λ (n : Image). n word)
+    let at : words_after m w.own word ≡ expected =
+    ap (λ (n : Image). words_after n w.own word) (left_is xs) ∙ ap (λ (n : Image). n word)
     (sym (after_both zeros (committed xs) w.own)) ∙ word_is (committed xs ++ w.own) word expected w.has in
-    ap (λ p. place_first p (wrong_read m a.accesses)) (last_placed span_of xs a c.0 c.1)
+    ap (λ p. place_first p (wrong_read m a.accesses)) (last_placed span_of_attempt xs a c.0 c.1)
     ∙ ap (wrong_read m) w.split ∙ at_wrong m w.own w.later word w.value own (λ e. w.other (e ∙ at)) ∙
     ap (λ v. Some (breach.Read word v)) at

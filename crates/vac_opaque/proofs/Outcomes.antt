@@ -10,9 +10,10 @@ use Rattle.vac_opaque.specs.declared.finding.Counts.{Counts}
 use Rattle.vac_opaque.specs.declared.finding.Finding.{Finding}
 use Rattle.vac_opaque.specs.declared.finding.Finding.TheVariants.{Opaque, Fault, Illegal}
 use Rattle.vac_opaque.specs.Attempt.{Attempt, line_attempt}
-use Rattle.vac_opaque.specs.Verdict.{breach_of, counts_of, unless_breach, judged, finding_on, is_opaque}
+use Rattle.vac_opaque.specs.Verdict.{breach_of, counts_of, unless_breach, judged_attempts, finding_on, is_opaque}
 use Rattle.vac_opaque.specs.Laws.{IsOpaqueOrder, IsOpaqueText, OpaqueIsOpacity, OpaqueCounts}
-use Rattle.vac_opaque.specs.Wrongs.{IsFirstWrong, IsFirstFault, IllegalIsFirstWrong, FaultIsFirst}
+use Rattle.vac_opaque.specs.Wrongs.{IsFirstWrongAttempt, IsFirstNoAttempt, IllegalIsFirstWrongAttempt}
+use Rattle.vac_opaque.specs.Wrongs.{FaultIsFirstNoAttempt}
 use Rattle.vac_opaque.proofs.Orders.{opaque_none, opaque_more, opaque_last, opaque_front, breach_is, is_breach}
 
 -- lines as they are read
@@ -56,7 +57,7 @@ outcome_later before a lines finding (wrong more x found rest e o b f) =
     (f ∙ ap (λ t. Illegal (length t + 1) found) same)
 
 outcome : (before : List Attempt) (lines : Lines) → IsOpaqueOrder before →
-    Outcome before lines (judged (reverse_aux before []) lines)
+    Outcome before lines (judged_attempts (reverse_aux before []) lines)
 outcome before [] o =
     let same = sym (append-nil before) in
     ended [] refl (subst IsOpaqueOrder same o) (ap (λ t. Opaque (counts_of (reverse_aux t []))) same)
@@ -68,13 +69,13 @@ outcome before (Ok a ∷ rest) o =
     decide (λ e. outcome (before ++ a ∷ []) rest (opaque_more before a o e)) (breach_of (reverse_aux before []) a) refl
   where
     decide : (breach_of (reverse_aux before []) a ≡ None → Outcome (before ++ a ∷ []) rest
-        (judged (reverse_aux (before ++ a ∷ []) []) rest))
+        (judged_attempts (reverse_aux (before ++ a ∷ []) []) rest))
         → (found : Option Breach) → breach_of (reverse_aux before []) a ≡ found →
         Outcome before (Ok a ∷ rest) (unless_breach found (length (reverse_aux before []) + 1)
-        (judged (a ∷ reverse_aux before []) rest))
+        (judged_attempts (a ∷ reverse_aux before []) rest))
     decide next None e =
-        outcome_later before a rest (judged (a ∷ reverse_aux before []) rest)
-        (subst (λ t. Outcome (before ++ a ∷ []) rest (judged t rest)) (back_more before [] a) (next e))
+        outcome_later before a rest (judged_attempts (a ∷ reverse_aux before []) rest)
+        (subst (λ t. Outcome (before ++ a ∷ []) rest (judged_attempts t rest)) (back_more before [] a) (next e))
     decide next (Some found) e =
         let same = sym (append-nil before) in
         wrong [] a found rest refl (subst IsOpaqueOrder same o) (ap (λ t. breach_of (reverse_aux t []) a) (sym same) ∙
@@ -83,16 +84,18 @@ outcome before (Ok a ∷ rest) o =
 
 -- lines of attempts in an opaque order are taken
 taken : (before more : List Attempt) (rest : Lines) → IsOpaqueOrder (before ++ more) →
-    judged (reverse_aux before []) (map Ok more ++ rest) ≡ judged (reverse_aux (before ++ more) []) rest
-taken before [] rest o = ap (λ t. judged (reverse_aux t []) rest) (sym (append-nil before))
+    judged_attempts (reverse_aux before []) (map Ok more ++ rest) ≡ judged_attempts
+    (reverse_aux (before ++ more) []) rest
+taken before [] rest o = ap (λ t. judged_attempts (reverse_aux t []) rest) (sym (append-nil before))
 taken before (a ∷ more) rest o =
     let same = append_assoc before (a ∷ []) more in
     let all : IsOpaqueOrder ((before ++ a ∷ []) ++ more) = subst IsOpaqueOrder (sym same) o in
     let right = opaque_last before a (opaque_front (before ++ a ∷ []) more all) in
     ap (λ b. unless_breach b (length (reverse_aux before []) + 1)
-    (judged (a ∷ reverse_aux before []) (map Ok more ++ rest))) right
-    ∙ ap (λ t. judged t (map Ok more ++ rest)) (sym (back_more before [] a)) ∙ taken (before ++ a ∷ []) more rest all ∙
-    ap (λ t. judged (reverse_aux t []) rest) same
+    (judged_attempts (a ∷ reverse_aux before []) (map Ok more ++ rest))) right
+    ∙ ap (λ t. judged_attempts t (map Ok more ++ rest)) (sym (back_more before [] a)) ∙
+    taken (before ++ a ∷ []) more rest all ∙
+    ap (λ t. judged_attempts (reverse_aux t []) rest) same
 
 -- ---- the laws
 
@@ -124,7 +127,7 @@ opaque_text words bytes h =
 
 pub opaque_counts : OpaqueCounts
 opaque_counts words bytes attempts listed o =
-    ap (judged []) (listed ∙ sym (append-nil (map Ok attempts))) ∙ taken [] attempts [] o
+    ap (judged_attempts []) (listed ∙ sym (append-nil (map Ok attempts))) ∙ taken [] attempts [] o
 
 text_opaque : (words : ℕ) (bytes : List ℕ) → IsOpaqueText words bytes → is_opaque (finding_on words bytes) ≡ true
 text_opaque words bytes t = ap is_opaque (opaque_counts words bytes t.attempts t.listed t.order)
@@ -136,7 +139,7 @@ none_some : (found : Breach) → None ≡ Some found → ⊥
 none_some found e = cc
 
 first_wrong : (words : ℕ) (bytes : List ℕ) (line : ℕ) (found : Breach) → finding_on words bytes ≡ Illegal line found →
-    IsFirstWrong words bytes line found
+    IsFirstWrongAttempt words bytes line found
 first_wrong words bytes line found h =
     elim (outcome [] (map (line_attempt words) (lines_of bytes)) opaque_none) [
       | ended more e o f ↦ absurd (wrong_opaque line found (counts_of (reverse_aux more [])) (sym f ∙ h))
@@ -156,19 +159,20 @@ first_wrong words bytes line found h =
           }
     ]
 
-wrong_first : (words : ℕ) (bytes : List ℕ) (line : ℕ) (found : Breach) → IsFirstWrong words bytes line found →
+wrong_first : (words : ℕ) (bytes : List ℕ) (line : ℕ) (found : Breach) → IsFirstWrongAttempt words bytes line found →
     finding_on words bytes ≡ Illegal line found
 wrong_first words bytes line found w =
-    ap (judged []) w.listed ∙ taken [] w.before (Ok w.attempt ∷ w.rest) w.opaque
+    ap (judged_attempts []) w.listed ∙ taken [] w.before (Ok w.attempt ∷ w.rest) w.opaque
     ∙ ap (λ b. unless_breach b (length (reverse_aux w.before []) + 1)
-    (judged (w.attempt ∷ reverse_aux w.before []) w.rest)) (is_breach w.before w.attempt found w.opaque w.cause)
+    (judged_attempts (w.attempt ∷ reverse_aux w.before []) w.rest))
+    (is_breach w.before w.attempt found w.opaque w.cause)
     ∙ ap (λ n. Illegal (n + 1) found) (back_long w.before) ∙ ap (λ n. Illegal n found) (sym w.number)
 
-pub illegal_is_first_wrong : IllegalIsFirstWrong
+pub illegal_is_first_wrong : IllegalIsFirstWrongAttempt
 illegal_is_first_wrong words bytes line found = (first_wrong words bytes line found, wrong_first words bytes line found)
 
 first_fault : (words : ℕ) (bytes : List ℕ) (line : ℕ) (fault : LineFault) → finding_on words bytes ≡ Fault line fault →
-    IsFirstFault words bytes line fault
+    IsFirstNoAttempt words bytes line fault
 first_fault words bytes line fault h =
     elim (outcome [] (map (line_attempt words) (lines_of bytes)) opaque_none) [
       | ended more e o f ↦ absurd (fault_opaque line fault (counts_of (reverse_aux more [])) (sym f ∙ h))
@@ -184,11 +188,11 @@ first_fault words bytes line fault h =
       | wrong more a found rest e o b f ↦ absurd (wrong_fault (length more + 1) line found fault (sym h ∙ f))
     ]
 
-fault_first : (words : ℕ) (bytes : List ℕ) (line : ℕ) (fault : LineFault) → IsFirstFault words bytes line fault →
+fault_first : (words : ℕ) (bytes : List ℕ) (line : ℕ) (fault : LineFault) → IsFirstNoAttempt words bytes line fault →
     finding_on words bytes ≡ Fault line fault
 fault_first words bytes line fault w =
-    ap (judged []) w.listed ∙ taken [] w.before (Err fault ∷ w.rest) w.opaque
+    ap (judged_attempts []) w.listed ∙ taken [] w.before (Err fault ∷ w.rest) w.opaque
     ∙ ap (λ n. Fault (n + 1) fault) (back_long w.before) ∙ ap (λ n. Fault n fault) (sym w.number)
 
-pub fault_is_first : FaultIsFirst
+pub fault_is_first : FaultIsFirstNoAttempt
 fault_is_first words bytes line fault = (first_fault words bytes line fault, fault_first words bytes line fault)

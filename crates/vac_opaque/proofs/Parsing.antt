@@ -9,7 +9,8 @@ use Rattle.vac_lines.specs.Lines.{words_of, HasNo}
 use Rattle.vac_opaque.specs.declared.attempt.Access.{Access}
 use Rattle.vac_spans.specs.declared.span.Span.{Span}
 use Rattle.vac_opaque.specs.declared.attempt.Head.{Head}
-use Rattle.vac_opaque.specs.Attempt.{Attempt, ◌>>=◌, at_client, at_number, at_outcome, accesses_of, onto_accesses}
+use Rattle.vac_opaque.specs.Attempt.{Attempt, ◌>>=◌, at_attempt_client, at_memory_word, at_outcome, accesses_of}
+use Rattle.vac_opaque.specs.Attempt.{onto_accesses}
 use Rattle.vac_opaque.specs.Attempt.{words_attempt}
 use Rattle.vac_opaque.specs.Parts.{read_span, with_accesses, put_before, IsAmong, AllAmong}
 
@@ -90,5 +91,5 @@ pub words_read : (words : ℕ) (all first second third left : List (List ℕ)) (
     words_attempt words all ≡ with_accesses head (accesses_of words left)
 words_read words all first second third left client begin end outcome head a b c d s o =
     ap (words_attempt words) (a ∙ ap (λ t. client ∷ t) (b ∙ ap (λ t. begin ∷ t) (c ∙ ap (λ t. end ∷ t) d)))
-    ∙ head_read (at_client client) (at_number begin) (at_number end) (at_outcome outcome)
+    ∙ head_read (at_attempt_client client) (at_memory_word begin) (at_memory_word end) (at_outcome outcome)
     (accesses_of words left) head s o

@@ -18,9 +18,9 @@ use Rattle.vac_opaque.specs.declared.finding.Finding.{Finding}
 use Rattle.vac_opaque.specs.declared.finding.Finding.TheVariants.{Opaque}
 use Rattle.vac_opaque.specs.declared.reading.Attempts.{Attempts}
 use Rattle.vac_opaque.specs.Attempt.{Attempt, text_attempt, line_attempt}
-use Rattle.vac_opaque.specs.Verdict.{counts_of, judged, finding_on}
-use Rattle.vac_opaque.specs.Judging.{Follows, Takes}
-use Rattle.vac_opaque.specs.Hearing.{told_attempt, Hears}
+use Rattle.vac_opaque.specs.Verdict.{counts_of, judged_attempts, finding_on}
+use Rattle.vac_opaque.specs.Judging.{FollowsAttempts, TakesAttempt}
+use Rattle.vac_opaque.specs.Hearing.{told_attempt, AttemptsHear}
 use Rattle.vac_opaque.specs.Reading.{HasFinding}
 
 -- a line that was told
@@ -38,19 +38,19 @@ lines_are words (line ∷ more) = ap (λ r. r ∷ map (read words) (map (told_of
     ap (λ t. line_attempt words line ∷ t) (lines_are words more)
 
 -- the verdict on a text is that on what is told of it
-finding_is : (words : ℕ) (bytes : List ℕ) → finding_on words bytes ≡ judged []
+finding_is : (words : ℕ) (bytes : List ℕ) → finding_on words bytes ≡ judged_attempts []
     (map (read words) (told_lines 1048576 bytes))
-finding_is words bytes = ap (judged []) (sym (lines_are words (lines_of bytes)))
+finding_is words bytes = ap (judged_attempts []) (sym (lines_are words (lines_of bytes)))
 
 -- these were taken: whatever follows, the verdict is the same
 abbrev Taken : ℕ → Attempts → List Attempt → List Told → Attempts → Type 0
-Taken words x earlier lines y = (attempts : List Attempt) × Follows words y.judge attempts
-    × ((more : List (Result Attempt LineFault)) → judged earlier
-    (map (read words) lines ++ more) ≡ judged attempts more)
+Taken words x earlier lines y = (attempts : List Attempt) × FollowsAttempts words y.judge attempts
+    × ((more : List (Result Attempt LineFault)) → judged_attempts earlier
+    (map (read words) lines ++ more) ≡ judged_attempts attempts more)
 
 taken_line : (words : ℕ) (x u y : Attempts) (earlier : List Attempt) (told : Told) (lines : List Told) →
-    Takes x.judge u.judge (told_attempt told) → Follows words x.judge earlier
-    → ((attempts : List Attempt) → Follows words u.judge attempts → Taken words u attempts lines y) →
+    TakesAttempt x.judge u.judge (told_attempt told) → FollowsAttempts words x.judge earlier
+    → ((attempts : List Attempt) → FollowsAttempts words u.judge attempts → Taken words u attempts lines y) →
     Taken words x earlier (told ∷ lines) y
 taken_line words x u y earlier told lines t f next =
     let one = t.on words earlier f in
@@ -65,9 +65,9 @@ same_found a b e = cc
 
 -- the last line that was told brought the verdict, whatever follows
 stopped : (words : ℕ) (u : Attempts) (last : Told) (y : Attempts) (finding : Finding) (earlier : List Attempt)
-    (more : List (Result Attempt LineFault)) → Hears u last (Ok Stop) y
-    → y.found ≡ Some finding → Follows words u.judge earlier →
-    judged earlier (map (read words) (lines_in (last ∷ [])) ++ more) ≡ finding
+    (more : List (Result Attempt LineFault)) → AttemptsHear u last (Ok Stop) y
+    → y.found ≡ Some finding → FollowsAttempts words u.judge earlier →
+    judged_attempts earlier (map (read words) (lines_in (last ∷ [])) ++ more) ≡ finding
 stopped words u (Line text) y finding earlier more h e f = h.ends.on words earlier f more ∙ same_found h.finding finding
     (sym h.found ∙ e)
 stopped words u LongLine y finding earlier more h e f = h.ends.on words earlier f more ∙ same_found h.finding finding
@@ -84,14 +84,14 @@ of_whole words (Some xs) (Some ys) bytes finding c h = ap (finding_on words) c �
 
 module _ {O : Type 0} where
   abbrev hears : Attempts → O → Told → Result Next StreamFault → Attempts → O → Type 0
-  hears x o told answer y p = Hears x told answer y
+  hears x o told answer y p = AttemptsHear x told answer y
 
   taken_told : (x : Attempts) (o : O) (told : List Told) (y : Attempts) (p : O) → ToldAll hears x o told y p →
-      (words : ℕ) (earlier : List Attempt) → Follows words x.judge earlier
+      (words : ℕ) (earlier : List Attempt) → FollowsAttempts words x.judge earlier
       → Taken words x earlier (lines_in told) y
   taken_told x o [] y p h words earlier f = (
     earlier,
-    subst (λ (z : Attempts). Follows words z.judge earlier)
+    subst (λ (z : Attempts). FollowsAttempts words z.judge earlier)
         (sym h.0) f,
     λ more. refl,
   )
@@ -102,20 +102,21 @@ module _ {O : Type 0} where
       taken_line words x h.0 y earlier LongLine (lines_in told) h.2 f
       (λ attempts g. taken_told h.0 h.1 told y p h.3 words attempts g)
   taken_told x o (Pause ∷ told) y p h words earlier f =
-      taken_told h.0 h.1 told y p h.3 words earlier (subst (λ (z : Attempts). Follows words z.judge earlier)
+      taken_told h.0 h.1 told y p h.3 words earlier (subst (λ (z : Attempts). FollowsAttempts words z.judge earlier)
       (sym h.2.1) f)
 
   -- the input was read to its end
   heard_all : (words : ℕ) (unread left : Option (List ℕ)) (x : Attempts) (o : O) (y : Attempts) (p : O)
-      (counts : Counts) → Follows words x.judge []
-      → HeardAll hears 1048576 unread left x o y p → ((w : ℕ) (earlier : List Attempt) → Follows w y.judge earlier →
+      (counts : Counts) → FollowsAttempts words x.judge []
+      → HeardAll hears 1048576 unread left x o y p → ((w : ℕ) (earlier : List Attempt) →
+      FollowsAttempts w y.judge earlier →
       counts ≡ counts_of earlier)
       → HasFinding words unread left (Opaque counts)
   heard_all words unread left x o y p counts f h sums =
       let t = taken_told x o h.told y p h.heard words [] f in
       let same : finding_on words h.bytes ≡ Opaque counts =
-      finding_is words h.bytes ∙ ap (λ l. judged [] (map (read words) l)) (sym h.lines) ∙
-      ap (judged []) (sym (append-nil (map (read words) (lines_in h.told))))
+      finding_is words h.bytes ∙ ap (λ l. judged_attempts [] (map (read words) l)) (sym h.lines) ∙
+      ap (judged_attempts []) (sym (append-nil (map (read words) (lines_in h.told))))
       ∙ t.2 [] ∙ ap Opaque (sym (sums words t.0 t.1)) in
       record {
         bytes = h.bytes;
@@ -126,9 +127,9 @@ module _ {O : Type 0} where
       }
 
   of_told : (words : ℕ) (x : Attempts) (o : O) (told : List Told) (y : Attempts) (p : O) (finding : Finding)
-      (more : List Told) → Follows words x.judge []
+      (more : List Told) → FollowsAttempts words x.judge []
       → ToldLast hears x o told (Ok Stop) y p → y.found ≡ Some finding →
-      judged [] (map (read words) (lines_in told ++ more)) ≡ finding
+      judged_attempts [] (map (read words) (lines_in told ++ more)) ≡ finding
   of_told words x o told y p finding more f h e =
       let t = taken_told x o h.before h.sink h.output h.first words [] f in
       let lines : map (read words) (lines_in told ++ more) ≡ map (read words) (lines_in h.before) ++
@@ -138,19 +139,19 @@ module _ {O : Type 0} where
       ∙ ap (λ l. l ++ map (read words) more) (map-append (read words) (lines_in h.before) (lines_in (h.last ∷ [])))
       ∙ append_assoc (map (read words) (lines_in h.before)) (map (read words) (lines_in (h.last ∷ [])))
       (map (read words) more) in
-      ap (judged []) lines ∙ t.2 (map (read words) (lines_in (h.last ∷ [])) ++ map (read words) more)
+      ap (judged_attempts []) lines ∙ t.2 (map (read words) (lines_in (h.last ∷ [])) ++ map (read words) more)
       ∙ stopped words h.sink h.last y finding t.0 (map (read words) more) h.then e t.1
 
   of_first : (words : ℕ) (x : Attempts) (o : O) (told : List Told) (y : Attempts) (p : O) (finding : Finding)
-      (text : List ℕ) → Follows words x.judge []
+      (text : List ℕ) → FollowsAttempts words x.judge []
       → ToldLast hears x o told (Ok Stop) y p → y.found ≡ Some finding → AreFirst 1048576 (lines_in told) text →
       finding_on words text ≡ finding
   of_first words x o told y p finding text f h e first =
-      finding_is words text ∙ ap (λ l. judged [] (map (read words) l)) first.1 ∙
+      finding_is words text ∙ ap (λ l. judged_attempts [] (map (read words) l)) first.1 ∙
       of_told words x o told y p finding first.0 f h e
 
   by_first : (words : ℕ) (unread left : Option (List ℕ)) (x : Attempts) (o : O) (told : List Told) (y : Attempts)
-      (p : O) (finding : Finding) (bytes : List ℕ) → Follows words x.judge []
+      (p : O) (finding : Finding) (bytes : List ℕ) → FollowsAttempts words x.judge []
       → ToldLast hears x o told (Ok Stop) y p → y.found ≡ Some finding → Consumes unread left bytes →
       AreFirstOf 1048576 (lines_in told) bytes left → HasFinding words unread left finding
   by_first words unread left x o told y p finding bytes f h e c (inl first) =
@@ -173,16 +174,16 @@ module _ {O : Type 0} where
 
   -- what was read, by what the reading answered
   pub opaque_heard : (next : Next) (words : ℕ) (unread left : Option (List ℕ)) (x : Attempts) (o : O) (y : Attempts)
-      (p : O) (counts : Counts) → next ≡ GoOn → Follows words x.judge []
+      (p : O) (counts : Counts) → next ≡ GoOn → FollowsAttempts words x.judge []
       → Heard hears 1048576 (Ok next) unread left x o y p → ((w : ℕ) (earlier : List Attempt) →
-      Follows w y.judge earlier → counts ≡ counts_of earlier)
+      FollowsAttempts w y.judge earlier → counts ≡ counts_of earlier)
       → HasFinding words unread left (Opaque counts)
   opaque_heard next words unread left x o y p counts e f h sums =
       heard_all words unread left x o y p counts f (subst (λ z. Heard hears 1048576 (Ok z) unread left x o y p) e h)
       sums
 
   pub finding_heard : (next : Next) (words : ℕ) (unread left : Option (List ℕ)) (x : Attempts) (o : O) (y : Attempts)
-      (p : O) (finding : Finding) → next ≡ Stop → Follows words x.judge []
+      (p : O) (finding : Finding) → next ≡ Stop → FollowsAttempts words x.judge []
       → Heard hears 1048576 (Ok next) unread left x o y p → y.found ≡ Some finding →
       HasFinding words unread left finding
   finding_heard next words unread left x o y p finding e f h found =

@@ -10,7 +10,7 @@ use Rattle.vac_lines.specs.Lines.{words_of}
 use Rattle.vac_lines.specs.Words.{memory_word_of}
 use Rattle.vac_lines.specs.LineTable.{is_bad_byte}
 use Rattle.vac_spans.specs.declared.span.Span.{Span}
-use Rattle.vac_spans.specs.Client.{client_of}
+use Rattle.vac_spans.specs.Client.{client_number}
 use Rattle.vac_opaque.specs.declared.attempt.Access.{Access}
 use Rattle.vac_opaque.specs.declared.attempt.Access.TheVariants.{Read, Write}
 use Rattle.vac_opaque.specs.declared.attempt.TheConstants.{ATTEMPT_BYTES}
@@ -23,8 +23,8 @@ pub record Attempt : Type 0 where
   pub accesses : List Access
 
 -- the span of an attempt
-abbrev pub span_of : Attempt → Span
-span_of attempt = attempt.span
+abbrev pub span_of_attempt : Attempt → Span
+span_of_attempt attempt = attempt.span
 
 infixl 10 ◌>>=◌
 -- goes on with what was read; the first fault ends the reading
@@ -34,12 +34,12 @@ abbrev pub ◌>>=◌ : {A B : Type 0} → Result A LineFault → (A → Result B
 (Err e) >>= f = Err e
 
 -- CLIENT: 0 to 4,294,967,295, of 1 to 10 digits
-abbrev pub at_client : List ℕ → Result ℕ LineFault
-at_client word = ok_or (client_of word) fault.BadNumber
+abbrev pub at_attempt_client : List ℕ → Result ℕ LineFault
+at_attempt_client word = ok_or (client_number word) fault.BadNumber
 
 -- BEGIN, END and V: 0 to 2 ^ 64 - 1, of 1 to 20 digits
-abbrev pub at_number : List ℕ → Result ℕ LineFault
-at_number word = ok_or (memory_word_of word) fault.BadNumber
+abbrev pub at_memory_word : List ℕ → Result ℕ LineFault
+at_memory_word word = ok_or (memory_word_of word) fault.BadNumber
 
 -- a number of these words, counted from 0
 abbrev pub among : ℕ → Option ℕ → Option ℕ
@@ -58,8 +58,8 @@ at_outcome word =
     else Err fault.BadCommand
 
 -- whether an access is a read
-abbrev pub at_kind : List ℕ → Result Bool LineFault
-at_kind word =
+abbrev pub at_access_kind : List ℕ → Result Bool LineFault
+at_access_kind word =
     if bytes_eq word (codes "r") then Ok true
     else if bytes_eq word (codes "w") then Ok false
     else Err fault.BadKind
@@ -71,9 +71,9 @@ access_of reads word value = if reads then Read word value else Write word value
 -- the access that three words write, or their first fault
 abbrev pub at_access : ℕ → List ℕ → List ℕ → List ℕ → Result Access LineFault
 at_access words kind word value = do
-  reads ← at_kind kind
+  reads ← at_access_kind kind
   word ← at_word words word
-  value ← at_number value
+  value ← at_memory_word value
   Ok (access_of reads word value)
 
 -- one more access in front
@@ -91,9 +91,9 @@ accesses_of words _ = Err fault.BadCount
 -- the attempt that the words of a line write, or their first fault
 abbrev pub words_attempt : ℕ → List (List ℕ) → Result Attempt LineFault
 words_attempt words (client ∷ begin ∷ end ∷ outcome ∷ more) = do
-  client ← at_client client
-  begin ← at_number begin
-  end ← at_number end
+  client ← at_attempt_client client
+  begin ← at_memory_word begin
+  end ← at_memory_word end
   commits ← at_outcome outcome
   accesses ← accesses_of words more
   Ok (record {

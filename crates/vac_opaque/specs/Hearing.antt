@@ -10,7 +10,7 @@ use Rattle.vac_streams.specs.Told.{Told, Line, LongLine, Pause}
 use Rattle.vac_opaque.specs.declared.finding.Finding.{Finding}
 use Rattle.vac_opaque.specs.declared.reading.Attempts.{Attempts}
 use Rattle.vac_opaque.specs.Attempt.{Attempt, text_attempt}
-use Rattle.vac_opaque.specs.Judging.{Takes, Ends}
+use Rattle.vac_opaque.specs.Judging.{TakesAttempt, DecidesFinding}
 
 -- the attempt of a line that was told, or its fault; a pause has none
 abbrev pub told_attempt : Told → ℕ → Result Attempt LineFault
@@ -22,21 +22,21 @@ told_attempt Pause words = Err fault.LongLine
 pub record Brings (x : Attempts) (told : Told) (y : Attempts) : Type 0 where
   pub finding : Finding
   pub found : y.found ≡ Some finding
-  pub ends : Ends x.judge (told_attempt told) finding
+  pub ends : DecidesFinding x.judge (told_attempt told) finding
 
 -- a line was taken, or brought a verdict; or a fault that is none of an output ended it
-abbrev pub HearsLine : Attempts → Told → Result Next StreamFault → Attempts → Type 0
-HearsLine x told (Ok GoOn) y = Takes x.judge y.judge (told_attempt told)
-HearsLine x told (Ok Stop) y = Brings x told y
-HearsLine x told (Err stop) y = stop ≢ Write
+abbrev pub AttemptsHearLine : Attempts → Told → Result Next StreamFault → Attempts → Type 0
+AttemptsHearLine x told (Ok GoOn) y = TakesAttempt x.judge y.judge (told_attempt told)
+AttemptsHearLine x told (Ok Stop) y = Brings x told y
+AttemptsHearLine x told (Err stop) y = stop ≢ Write
 
 -- a pause changes nothing
-abbrev pub HearsPause : Attempts → Result Next StreamFault → Attempts → Type 0
-HearsPause x (Ok next) y = (next ≡ GoOn) × (y ≡ x)
-HearsPause x (Err stop) y = stop ≢ Write
+abbrev pub AttemptsHearPause : Attempts → Result Next StreamFault → Attempts → Type 0
+AttemptsHearPause x (Ok next) y = (next ≡ GoOn) × (y ≡ x)
+AttemptsHearPause x (Err stop) y = stop ≢ Write
 
 -- what telling this does to a text that is read
-abbrev pub Hears : Attempts → Told → Result Next StreamFault → Attempts → Type 0
-Hears x (Line text) answer y = HearsLine x (Line text) answer y
-Hears x LongLine answer y = HearsLine x LongLine answer y
-Hears x Pause answer y = HearsPause x answer y
+abbrev pub AttemptsHear : Attempts → Told → Result Next StreamFault → Attempts → Type 0
+AttemptsHear x (Line text) answer y = AttemptsHearLine x (Line text) answer y
+AttemptsHear x LongLine answer y = AttemptsHearLine x LongLine answer y
+AttemptsHear x Pause answer y = AttemptsHearPause x answer y

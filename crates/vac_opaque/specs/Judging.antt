@@ -5,34 +5,36 @@ use Rattle.vac_spans.specs.Keeping.{Keeps}
 use Rattle.vac_opaque.specs.declared.finding.Breach.{Breach}
 use Rattle.vac_opaque.specs.declared.finding.Finding.{Finding}
 use Rattle.vac_opaque.specs.declared.judge.Judge.{Judge}
-use Rattle.vac_opaque.specs.Attempt.{Attempt, span_of}
+use Rattle.vac_opaque.specs.Attempt.{Attempt, span_of_attempt}
 use Rattle.vac_opaque.specs.Words.{left_by}
 use Rattle.vac_opaque.specs.Covered.{image_of}
-use Rattle.vac_opaque.specs.Verdict.{breach_of, committed_of, judged}
+use Rattle.vac_opaque.specs.Verdict.{breach_of, committed_of, judged_attempts}
 
 -- the judge has judged these attempts at this many words
-pub record Follows (words : ℕ) (judge : Judge) (earlier : List Attempt) : Type 0 where
+pub record FollowsAttempts (words : ℕ) (judge : Judge) (earlier : List Attempt) : Type 0 where
   pub size : length judge.memory.words.items ≡ words
   pub left : image_of judge.memory.words.items ≡ left_by earlier
-  pub spans : Keeps judge.spans (map span_of earlier)
+  pub spans : Keeps judge.spans (map span_of_attempt earlier)
   pub committed : judge.committed ≡ committed_of earlier
 
 -- this is wrong with an attempt; where nothing is, it was taken
-pub record Judges (words : ℕ) (after : Judge) (earlier : List Attempt) (attempt : Attempt)
+pub record JudgesAttempt (words : ℕ) (after : Judge) (earlier : List Attempt) (attempt : Attempt)
     (found : Option Breach) : Type 0 where
   pub found_is : breach_of earlier attempt ≡ found
-  pub taken : found ≡ None → Follows words after (attempt ∷ earlier)
+  pub taken : found ≡ None → FollowsAttempts words after (attempt ∷ earlier)
 
 -- the judge has taken a line: the verdict on it and the lines after it is that on the lines after
 -- it
-pub record Takes (judge after : Judge) (line : ℕ → Result Attempt LineFault) : Type 0 where
-  pub on : (words : ℕ) (earlier : List Attempt) → Follows words judge earlier →
-      (attempts : List Attempt) × Follows words after attempts
+pub record TakesAttempt (judge after : Judge) (line : ℕ → Result Attempt LineFault) : Type 0 where
+  pub on : (words : ℕ) (earlier : List Attempt) → FollowsAttempts words judge earlier →
+      (attempts : List Attempt) × FollowsAttempts words after attempts
       × ((more : List (Result Attempt LineFault)) →
-      judged earlier (line words ∷ more) ≡ judged attempts more)
+      judged_attempts earlier (line words ∷ more) ≡ judged_attempts attempts more)
 
 -- this is the verdict, whatever lines follow
-pub record Ends (judge : Judge) (line : ℕ → Result Attempt LineFault) (finding : Finding) :
+pub record DecidesFinding (judge : Judge) (line : ℕ → Result Attempt LineFault)
+    (finding : Finding) :
     Type 0 where
-  pub on : (words : ℕ) (earlier : List Attempt) → Follows words judge earlier →
-      (more : List (Result Attempt LineFault)) → judged earlier (line words ∷ more) ≡ finding
+  pub on : (words : ℕ) (earlier : List Attempt) → FollowsAttempts words judge earlier →
+      (more : List (Result Attempt LineFault))
+      → judged_attempts earlier (line words ∷ more) ≡ finding

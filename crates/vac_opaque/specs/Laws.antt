@@ -7,18 +7,18 @@ use Rattle.vac_spans.specs.Laws.{TakeTurns, KeepPrecedence}
 use Rattle.vac_opaque.specs.declared.attempt.Access.{Access}
 use Rattle.vac_opaque.specs.declared.attempt.Access.TheVariants.{Read, Write}
 use Rattle.vac_opaque.specs.declared.finding.Finding.TheVariants.{Opaque}
-use Rattle.vac_opaque.specs.Attempt.{Attempt, span_of, line_attempt}
+use Rattle.vac_opaque.specs.Attempt.{Attempt, span_of_attempt, line_attempt}
 use Rattle.vac_opaque.specs.Verdict.{finding_on, is_opaque, counts_of}
 
 -- an access writes nothing at a word
-abbrev pub Leaves : ℕ → Access → Type 0
-Leaves word (Read at value) = ⊤
-Leaves word (Write at value) = at ≢ word
+abbrev pub LeavesWord : ℕ → Access → Type 0
+LeavesWord word (Read at value) = ⊤
+LeavesWord word (Write at value) = at ≢ word
 
 -- none of these accesses writes at a word
 abbrev pub AllLeave : ℕ → List Access → Type 0
 AllLeave word [] = ⊤
-AllLeave word (access ∷ more) = Leaves word access × AllLeave word more
+AllLeave word (access ∷ more) = LeavesWord word access × AllLeave word more
 
 -- this is the value that these accesses write last at a word
 pub record IsLastWritten (accesses : List Access) (word value : ℕ) : Type 0 where
@@ -34,8 +34,8 @@ HasWord accesses word value =
     IsLastWritten accesses word value ⊎ (AllLeave word accesses × (value ≡ 0))
 
 -- each read gives the value that its word has at that point
-abbrev pub AreLegal : List Access → Type 0
-AreLegal accesses = (before after : List Access) (word value : ℕ) →
+abbrev pub ReadsAreLegal : List Access → Type 0
+ReadsAreLegal accesses = (before after : List Access) (word value : ℕ) →
     accesses ≡ before ++ Read word value ∷ after → HasWord before word value
 
 -- the accesses of those attempts that committed
@@ -52,23 +52,23 @@ visible before attempt = committed before ++ attempt.accesses
 -- each attempt, committed or not, reads what the committed ones before it and its own writes leave
 abbrev pub EachIsLegal : List Attempt → Type 0
 EachIsLegal attempts = (before after : List Attempt) (attempt : Attempt) →
-    attempts ≡ before ++ attempt ∷ after → AreLegal (visible before attempt)
+    attempts ≡ before ++ attempt ∷ after → ReadsAreLegal (visible before attempt)
 
 -- the order in which the attempts are given shows that they are opaque: each is legal, each
 -- client's are in turn, and none comes before one that had ended before it began
 pub record IsOpaqueOrder (attempts : List Attempt) : Type 0 where
   pub legal : EachIsLegal attempts
-  pub turns : TakeTurns span_of attempts
-  pub precedence : KeepPrecedence span_of attempts
+  pub turns : TakeTurns span_of_attempt attempts
+  pub precedence : KeepPrecedence span_of_attempt attempts
 
 -- each line of a text is an attempt at this many words, and these are the attempts
-abbrev pub Lists : ℕ → List ℕ → List Attempt → Type 0
-Lists words bytes attempts = map (line_attempt words) (lines_of bytes) ≡ map Ok attempts
+abbrev pub ListsAttempts : ℕ → List ℕ → List Attempt → Type 0
+ListsAttempts words bytes attempts = map (line_attempt words) (lines_of bytes) ≡ map Ok attempts
 
 -- each line is an attempt, and their order shows that they are opaque
 pub record IsOpaqueText (words : ℕ) (bytes : List ℕ) : Type 0 where
   pub attempts : List Attempt
-  pub listed : Lists words bytes attempts
+  pub listed : ListsAttempts words bytes attempts
   pub order : IsOpaqueOrder attempts
 
 -- the verdict is opaque exactly for such a text
@@ -80,5 +80,5 @@ OpaqueIsOpacity = (words : ℕ) (bytes : List ℕ) →
 -- them
 abbrev pub OpaqueCounts : Type 0
 OpaqueCounts = (words : ℕ) (bytes : List ℕ) (attempts : List Attempt) →
-    Lists words bytes attempts → IsOpaqueOrder attempts →
+    ListsAttempts words bytes attempts → IsOpaqueOrder attempts →
     finding_on words bytes ≡ Opaque (counts_of (reverse attempts))

@@ -7,7 +7,7 @@ use Rattle.vac_spans.specs.declared.span.Span.{Span}
 use Rattle.vac_opaque.specs.declared.attempt.Access.{Access}
 use Rattle.vac_opaque.specs.declared.attempt.Access.TheVariants.{Read, Write}
 use Rattle.vac_opaque.specs.declared.attempt.Head.{Head}
-use Rattle.vac_opaque.specs.Attempt.{Attempt, ◌>>=◌, at_client, at_number}
+use Rattle.vac_opaque.specs.Attempt.{Attempt, ◌>>=◌, at_attempt_client, at_memory_word}
 
 -- the words that are left of a line
 abbrev pub words_left : Option (Bor (List ℕ)) → List (List ℕ)
@@ -17,9 +17,9 @@ words_left (Some text) = words_of text.now
 -- the span that three words write, or their first fault
 abbrev pub read_span : List ℕ → List ℕ → List ℕ → Result Span LineFault
 read_span client begin end = do
-  client ← at_client client
-  begin ← at_number begin
-  end ← at_number end
+  client ← at_attempt_client client
+  begin ← at_memory_word begin
+  end ← at_memory_word end
   Ok (record { client = client; begin = begin; end = end })
 
 -- the attempt with these accesses

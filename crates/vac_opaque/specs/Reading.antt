@@ -19,7 +19,8 @@ pub record HasFinding (words : ℕ) (unread left : Option (List ℕ)) (finding :
   pub of_input : IfSome unread (λ input. finding_on words input ≡ finding)
 
 -- the verdict was written and nothing else, and this says whether it is that they are opaque
-pub record HasJudged (words : ℕ) (opaque : Bool) (unread left held holds : Option (List ℕ)) :
+pub record HasJudgedAttempts (words : ℕ) (opaque : Bool)
+    (unread left held holds : Option (List ℕ)) :
     Type 0 where
   pub finding : Finding
   pub is : HasFinding words unread left finding
@@ -27,7 +28,8 @@ pub record HasJudged (words : ℕ) (opaque : Bool) (unread left held holds : Opt
   pub written : Appends held holds (finding_text finding)
 
 -- the verdict was written in part
-pub record HasJudgedInPart (words : ℕ) (unread left held holds : Option (List ℕ)) : Type 0 where
+pub record HasJudgedAttemptsInPart (words : ℕ) (unread left held holds : Option (List ℕ))
+    : Type 0 where
   pub finding : Finding
   pub is : HasFinding words unread left finding
   pub written : AppendsPrefix held holds (finding_text finding)
@@ -35,8 +37,9 @@ pub record HasJudgedInPart (words : ℕ) (unread left held holds : Option (List 
 -- a fault ended it: one of the output while the verdict was written, any other before
 -- Not said: which of Read, Memory and Bound ends it before it writes; that the output failed where
 -- Write is returned, since no contract says what a reader or a writer gives.
-abbrev pub HasStopped : ℕ → StreamFault → Option (List ℕ) → Option (List ℕ) → Option (List ℕ)
+abbrev pub HasStoppedOnAttempts : ℕ → StreamFault → Option (List ℕ) → Option (List ℕ)
+    → Option (List ℕ)
     → Option (List ℕ) → Type 0
-HasStopped words fault.Write unread left held holds =
-    HasJudgedInPart words unread left held holds
-HasStopped words fault unread left held holds = Appends held holds []
+HasStoppedOnAttempts words fault.Write unread left held holds =
+    HasJudgedAttemptsInPart words unread left held holds
+HasStoppedOnAttempts words fault unread left held holds = Appends held holds []

@@ -13,7 +13,7 @@ use Rattle.vac_opaque.specs.declared.finding.Breach.TheVariants as breach
 use Rattle.vac_opaque.specs.declared.finding.Counts.{Counts}
 use Rattle.vac_opaque.specs.declared.finding.Finding.{Finding}
 use Rattle.vac_opaque.specs.declared.finding.Finding.TheVariants.{Opaque, Fault, Illegal}
-use Rattle.vac_opaque.specs.Attempt.{Attempt, span_of, line_attempt}
+use Rattle.vac_opaque.specs.Attempt.{Attempt, span_of_attempt, line_attempt}
 use Rattle.vac_opaque.specs.Words.{left_by, wrong_read}
 
 -- the place of an attempt comes before its reads
@@ -24,7 +24,8 @@ place_first (Some wrong) rest = Some (breach.Place wrong)
 -- the first thing that is wrong with an attempt after these earlier ones
 abbrev pub breach_of : List Attempt → Attempt → Option Breach
 breach_of earlier attempt =
-    place_first (misplaced span_of earlier attempt) (wrong_read (left_by earlier) attempt.accesses)
+    place_first (misplaced span_of_attempt earlier attempt)
+    (wrong_read (left_by earlier) attempt.accesses)
 
 -- how many of these attempts committed
 abbrev pub committed_of : List Attempt → ℕ
@@ -37,7 +38,7 @@ abbrev pub counts_of : List Attempt → Counts
 counts_of attempts = record {
   attempts = length attempts;
   committed = committed_of attempts;
-  clients = clients_of span_of attempts;
+  clients = clients_of span_of_attempt attempts;
 }
 
 -- a line that is wrong ends it; otherwise the rest decides
@@ -46,16 +47,16 @@ unless_breach None line rest = rest
 unless_breach (Some breach) line rest = Illegal line breach
 
 -- the verdict on these lines after earlier attempts
-abbrev pub judged : List Attempt → List (Result Attempt LineFault) → Finding
-judged earlier [] = Opaque (counts_of earlier)
-judged earlier (Err fault ∷ rest) = Fault (length earlier + 1) fault
-judged earlier (Ok attempt ∷ rest) =
+abbrev pub judged_attempts : List Attempt → List (Result Attempt LineFault) → Finding
+judged_attempts earlier [] = Opaque (counts_of earlier)
+judged_attempts earlier (Err fault ∷ rest) = Fault (length earlier + 1) fault
+judged_attempts earlier (Ok attempt ∷ rest) =
     unless_breach (breach_of earlier attempt) (length earlier + 1)
-    (judged (attempt ∷ earlier) rest)
+    (judged_attempts (attempt ∷ earlier) rest)
 
 -- the verdict on a text of attempts at this many words
 abbrev pub finding_on : ℕ → List ℕ → Finding
-finding_on words bytes = judged [] (map (line_attempt words) (lines_of bytes))
+finding_on words bytes = judged_attempts [] (map (line_attempt words) (lines_of bytes))
 
 -- whether a verdict is that the order is opaque
 abbrev pub is_opaque : Finding → Bool
@@ -64,8 +65,8 @@ is_opaque (Fault line fault) = false
 is_opaque (Illegal line breach) = false
 
 -- what is said of attempts that are all right
-abbrev pub counts_text : Counts → List ℕ
-counts_text counts =
+abbrev pub attempts_counts_text : Counts → List ℕ
+attempts_counts_text counts =
     field_text (codes "opaque attempts=") counts.attempts
     ++ field_text (codes " committed=") counts.committed
     ++ field_text (codes " clients=") counts.clients
@@ -84,6 +85,6 @@ breach_text (breach.Read word expected) line = read_text line word expected
 
 -- what is written of a verdict
 abbrev pub finding_text : Finding → List ℕ
-finding_text (Opaque counts) = as_line (counts_text counts)
+finding_text (Opaque counts) = as_line (attempts_counts_text counts)
 finding_text (Fault line fault) = as_line (fault_text fault ++ field_text (codes " ") line)
 finding_text (Illegal line breach) = as_line (breach_text breach line)

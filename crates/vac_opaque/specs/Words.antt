@@ -16,24 +16,24 @@ abbrev pub zeros : Image
 zeros word = 0
 
 -- one word has another value
-abbrev pub changed : Image → ℕ → ℕ → Image
-changed image word value = λ other. if word == other then value else image other
+abbrev pub image_with : Image → ℕ → ℕ → Image
+image_with image word value = λ other. if word == other then value else image other
 
 -- the words after an access
-abbrev pub behind : Image → Access → Image
-behind image (Read word value) = image
-behind image (Write word value) = changed image word value
+abbrev pub after_access : Image → Access → Image
+after_access image (Read word value) = image
+after_access image (Write word value) = image_with image word value
 
 -- the words after these accesses, one after the other
-abbrev pub after : Image → List Access → Image
-after image [] = image
-after image (access ∷ more) = after (behind image access) more
+abbrev pub words_after : Image → List Access → Image
+words_after image [] = image
+words_after image (access ∷ more) = words_after (after_access image access) more
 
 -- what committed attempts leave, one after the other; they are listed from the newest on
 abbrev pub left_by : List Attempt → Image
 left_by [] = zeros
 left_by (attempt ∷ earlier) =
-    if attempt.commits then after (left_by earlier) attempt.accesses else left_by earlier
+    if attempt.commits then words_after (left_by earlier) attempt.accesses else left_by earlier
 
 -- a read of a word that has this value
 abbrev pub unless_same : ℕ → ℕ → ℕ → Option Breach → Option Breach
@@ -45,4 +45,4 @@ abbrev pub wrong_read : Image → List Access → Option Breach
 wrong_read image [] = None
 wrong_read image (Read word value ∷ more) =
     unless_same word value (image word) (wrong_read image more)
-wrong_read image (Write word value ∷ more) = wrong_read (changed image word value) more
+wrong_read image (Write word value ∷ more) = wrong_read (image_with image word value) more

@@ -2,7 +2,7 @@
 
 ghost use Rattle.std.specs.Prelude.{◌≡◌, ◌++◌, OnOk, codes, decimal};
 ghost use Rattle.vac_lines.specs.Text.{reply_text, field_text};
-ghost use Rattle.vac_opaque.specs.Verdict.{counts_text, read_text, breach_text, finding_text};
+ghost use Rattle.vac_opaque.specs.Verdict.{attempts_counts_text, read_text, breach_text, finding_text};
 ghost use Rattle.vac_opaque.specs.Verdict.{is_opaque};
 
 use std::alloc::AllocError;
@@ -52,7 +52,7 @@ fn append_field(out: &mut Vec<u8>, text: &[u8], number: u64) -> Result<(), Alloc
 
 /// Appends what is said of attempts that are opaque.
 fn append_counts(out: &mut Vec<u8>, counts: &Counts) -> Result<(), AllocError>
-    ensures { OnOk result (out.new.items ≡ out.old.items ++ counts_text counts.now) }
+    ensures { OnOk result (out.new.items ≡ out.old.items ++ attempts_counts_text counts.now) }
 {
     append_field(out, b"opaque attempts=", counts.attempts)?;
     append_field(out, b" committed=", counts.committed)?;

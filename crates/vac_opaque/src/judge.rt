@@ -5,7 +5,7 @@ ghost use Rattle.vac_streams.specs.declared.fault.StreamFault.TheVariants.{Write
 ghost use Rattle.vac_opaque.specs.Attempt.{Attempt, text_attempt};
 ghost use Rattle.vac_opaque.specs.Parts.{AllAmong, attempt_of};
 ghost use Rattle.vac_opaque.specs.Verdict.{counts_of};
-ghost use Rattle.vac_opaque.specs.Judging.{Follows, Judges, Takes, Ends};
+ghost use Rattle.vac_opaque.specs.Judging.{FollowsAttempts, JudgesAttempt, TakesAttempt, DecidesFinding};
 
 use crate::attempt::{Access, Head, read_attempt};
 use crate::finding::{Breach, Counts, Finding};
@@ -43,7 +43,7 @@ fn count_commit(committed: u64, commits: bool) -> Result<u64, StreamFault>
 impl Judge {
     /// A judge of attempts at `words` words, which has seen none.
     pub(crate) fn new(alloc: Global, words: u32) -> Result<Judge, AllocError>
-        ensures { IfOk result (λ judge. Follows words judge []) }
+        ensures { IfOk result (λ judge. FollowsAttempts words judge []) }
     {
         Ok(Judge {
             memory: Memory::new(alloc, words)?,
@@ -66,7 +66,7 @@ impl Judge {
         requires among { AllAmong (length self.old.memory.words.items) self.old.accesses.items }
         requires room { self.old.spans.count + 1 < 2 ^ 64 }
         ensures judged { IfOk result (λ found. (words : ℕ) (earlier : List Attempt) →
-            Follows words self.old earlier → Judges words self.new earlier
+            FollowsAttempts words self.old earlier → JudgesAttempt words self.new earlier
             (attempt_of head.now self.old.accesses.items) found) }
         ensures refused { IfErr result (λ fault. fault ≢ Write) }
     {
@@ -90,8 +90,8 @@ impl Judge {
     /// it brings, whatever lines follow; or `None`, where its attempt is right and was taken.
     pub(crate) fn judge_line(&mut self, text: &[u8]) -> Result<Option<Finding>, StreamFault>
         ensures judged { IfOk result (λ found. MatchOption found
-            (Takes self.old self.new (λ words. text_attempt words text.now))
-            (λ finding. Ends self.old (λ words. text_attempt words text.now) finding)) }
+            (TakesAttempt self.old self.new (λ words. text_attempt words text.now))
+            (λ finding. DecidesFinding self.old (λ words. text_attempt words text.now) finding)) }
         ensures refused { IfErr result (λ fault. fault ≢ Write) }
     {
         let line = self.next_line()?;
@@ -107,7 +107,7 @@ impl Judge {
     /// The verdict that a line which is too long brings.
     pub(crate) fn long_line(&self) -> Result<Finding, StreamFault>
         ensures judged { IfOk result (λ finding.
-            Ends self.now (λ words. Err LineFault.LongLine) finding) }
+            DecidesFinding self.now (λ words. Err LineFault.LongLine) finding) }
         ensures refused { IfErr result (λ fault. fault ≢ Write) }
     {
         let line = self.next_line()?;
@@ -119,7 +119,7 @@ impl Judge {
 
     /// What is said of the attempts, where no further line follows.
     pub(crate) fn counts(&self) -> Counts
-        ensures { (words : ℕ) (earlier : List Attempt) → Follows words self.now earlier →
+        ensures { (words : ℕ) (earlier : List Attempt) → FollowsAttempts words self.now earlier →
             result ≡ counts_of earlier }
     {
         Counts {

@@ -1,7 +1,7 @@
 //! Laws on verdicts. Each is the contract of a function that does nothing.
 
 ghost use Rattle.vac_opaque.specs.Laws.{OpaqueIsOpacity, OpaqueCounts};
-ghost use Rattle.vac_opaque.specs.Wrongs.{IllegalIsFirstWrong, FaultIsFirst};
+ghost use Rattle.vac_opaque.specs.Wrongs.{IllegalIsFirstWrongAttempt, FaultIsFirstNoAttempt};
 
 /// A text of attempts is found opaque exactly where each of its lines is an attempt and the order
 /// in which they are given shows that they are opaque: each attempt, committed or not, reads what
@@ -25,11 +25,11 @@ pub fn opaque_attempts_are_counted()
 /// it in the order began; or no time is broken, and its first read that is not legal is of this
 /// word, which has this value at that point.
 pub fn a_finding_names_the_first_wrong_attempt()
-    ensures { IllegalIsFirstWrong }
+    ensures { IllegalIsFirstWrongAttempt }
 {}
 
 /// The verdict is the fault of a line exactly where that line is no attempt by this fault, and the
 /// order of those before it shows that they are opaque.
 pub fn a_fault_names_the_first_line_that_is_no_attempt()
-    ensures { FaultIsFirst }
+    ensures { FaultIsFirstNoAttempt }
 {}

@@ -1,7 +1,7 @@
 //! The words, and what an attempt does to them.
 
 ghost use Rattle.std.specs.Prelude.{◌≡◌, ◌≢◌, ◌<◌, ℕ, length, IfOk, OnOk, None, List, [], slice_set, get_or};
-ghost use Rattle.vac_opaque.specs.Words.{zeros, after, wrong_read};
+ghost use Rattle.vac_opaque.specs.Words.{zeros, words_after, wrong_read};
 ghost use Rattle.vac_opaque.specs.Parts.{AllAmong};
 ghost use Rattle.vac_opaque.specs.Covered.{image_of, uncovered};
 
@@ -104,7 +104,7 @@ impl Memory {
         ensures found { IfOk result (λ found.
             wrong_read (image_of self.old.words.items) accesses.now ≡ found) }
         ensures words { IfOk result (λ found. found ≡ None → image_of self.new.words.items
-            ≡ after (image_of self.old.words.items) accesses.now) }
+            ≡ words_after (image_of self.old.words.items) accesses.now) }
         ensures size { OnOk result
             (length self.new.words.items ≡ length self.old.words.items) }
         ensures covered { OnOk result (uncovered self.new.covered.items self.new.words.items

@@ -1,7 +1,7 @@
 //! What the words of a line stand for.
 
 ghost use Rattle.std.specs.Prelude.{◌≡◌, ◌<◌, IfOk};
-ghost use Rattle.vac_opaque.specs.Attempt.{at_client, at_number, at_word, at_outcome, at_kind};
+ghost use Rattle.vac_opaque.specs.Attempt.{at_attempt_client, at_memory_word, at_word, at_outcome, at_access_kind};
 
 use vac_lines::{LineFault, read_memory_word};
 use vac_spans::read_client;
@@ -20,14 +20,14 @@ const WRITE: &[u8] = b"w";
 
 /// The client that a word names.
 pub(crate) fn client_at(word: &[u8]) -> Result<u32, LineFault>
-    ensures { result ≡ at_client word.now }
+    ensures { result ≡ at_attempt_client word.now }
 {
     read_client(word).ok_or(LineFault::BadNumber)
 }
 
 /// The reading of the clock, or the value, that a word writes.
 pub(crate) fn number_at(word: &[u8]) -> Result<u64, LineFault>
-    ensures { result ≡ at_number word.now }
+    ensures { result ≡ at_memory_word word.now }
 {
     read_memory_word(word).ok_or(LineFault::BadNumber)
 }
@@ -58,7 +58,7 @@ pub(crate) fn outcome_at(word: &[u8]) -> Result<bool, LineFault>
 
 /// Whether an access is a read.
 pub(crate) fn kind_at(word: &[u8]) -> Result<bool, LineFault>
-    ensures { result ≡ at_kind word.now }
+    ensures { result ≡ at_access_kind word.now }
 {
     if word == READ {
         Ok(true)

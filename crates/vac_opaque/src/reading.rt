@@ -2,8 +2,8 @@
 
 ghost use Rattle.std.specs.Prelude.{◌≡◌, ◌≢◌, IfOk, IfErr, [], MatchOption};
 ghost use Rattle.vac_streams.specs.declared.fault.StreamFault.TheVariants.{Write};
-ghost use Rattle.vac_opaque.specs.Judging.{Follows};
-ghost use Rattle.vac_opaque.specs.Reading.{HasFinding, HasJudged, HasStopped};
+ghost use Rattle.vac_opaque.specs.Judging.{FollowsAttempts};
+ghost use Rattle.vac_opaque.specs.Reading.{HasFinding, HasJudgedAttempts, HasStoppedOnAttempts};
 
 use crate::attempt::ATTEMPT_BYTES;
 use crate::finding::{Finding, is_opaque, print_finding};
@@ -23,11 +23,11 @@ struct Attempts {
 
 impl Sink<()> for Attempts {
     ghost use Rattle.vac_streams.specs.declared.reading.TheConstants.{MOST_LINES};
-    ghost use Rattle.vac_opaque.specs.Hearing.{Hears};
+    ghost use Rattle.vac_opaque.specs.Hearing.{AttemptsHear};
 
     ghost room = { λ _. MOST_LINES };
 
-    ghost hears = { λ x _ told answer y _. Hears x told answer y };
+    ghost hears = { λ x _ told answer y _. AttemptsHear x told answer y };
 
     fn line(&mut self, line: &[u8], _output: &mut ()) -> Result<Next, StreamFault> {
         match self.judge.judge_line(line)? {
@@ -85,10 +85,10 @@ pub fn judge_attempts<R: Read, W: Write>(
     input: &mut R,
     output: &mut W,
 ) -> Result<bool, StreamFault>
-    ensures ok { IfOk result (λ opaque. HasJudged words opaque
+    ensures ok { IfOk result (λ opaque. HasJudgedAttempts words opaque
         (R.remaining input.old) (R.remaining input.new)
         (W.contents output.old) (W.contents output.new)) }
-    ensures err { IfErr result (λ fault. HasStopped words fault
+    ensures err { IfErr result (λ fault. HasStoppedOnAttempts words fault
         (R.remaining input.old) (R.remaining input.new)
         (W.contents output.old) (W.contents output.new)) }
 {

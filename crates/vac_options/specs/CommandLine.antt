@@ -239,7 +239,7 @@ pub record HasSearch (rows : List Row) : Type 0 where
   pub progress : IsFlag rows (codes "progress")
 
 -- a search is what its options say
-pub record IsSearch (rows : List Row) (search : Search) : Type 0 where
+pub record IsSearchOfRows (rows : List Row) (search : Search) : Type 0 where
   pub steps : Gives rows (codes "steps") search.steps
   pub progress : Says rows (codes "progress") search.progress
 
@@ -252,7 +252,7 @@ pub record HasJudging (rows : List Row) : Type 0 where
 pub record IsJudging (rows : List Row) (how : Judging) : Type 0 where
   pub tasks : NamesFile rows (codes "tasks") how.tasks
   pub any_order : Says rows (codes "any-order") how.any_order
-  pub search : IsSearch rows how.search
+  pub search : IsSearchOfRows rows how.search
 
 -- what it says of each flag of a load
 pub record HasFlags (rows : List Row) : Type 0 where
@@ -310,7 +310,8 @@ AsksFor words Check = (rows : List Row) × Names words (codes "check") rows
 AsksFor words (Judge blocks how) = (rows : List Row) × Names words (codes "judge") rows
     × Gives rows (codes "blocks") blocks × (is_block_count blocks ≡ true) × IsJudging rows how
 AsksFor words (Order blocks search) = (rows : List Row) × Names words (codes "order") rows
-    × Gives rows (codes "blocks") blocks × (is_block_count blocks ≡ true) × IsSearch rows search
+    × Gives rows (codes "blocks") blocks × (is_block_count blocks ≡ true)
+    × IsSearchOfRows rows search
 AsksFor words (Opaque n) = (rows : List Row) × Names words (codes "opaque") rows
     × Gives rows (codes "words") n × (1 ≤ n) × (n ≤ MOST_WORDS)
 AsksFor words (Load settings how) = (rows : List Row) × Names words (codes "load") rows

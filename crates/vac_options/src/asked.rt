@@ -8,7 +8,7 @@ ghost use Rattle.vac_model.specs.declared.limits.TheConstants.{MOST_BLOCKS};
 ghost use Rattle.vac_model.specs.Ranges.{is_block_count};
 ghost use Rattle.vac_options.specs.CommandLine.{vacation, Gives, GivesIn, HasSettings, AreGiven};
 ghost use Rattle.vac_options.specs.CommandLine.{Says, IsFlag, HasFlags, IsTold, NamesFile, AsksFor};
-ghost use Rattle.vac_options.specs.CommandLine.{HasSearch, IsSearch, HasJudging, IsJudging};
+ghost use Rattle.vac_options.specs.CommandLine.{HasSearch, IsSearchOfRows, HasJudging, IsJudging};
 
 use crate::options::command_line;
 use clap::{ArgMatches, Error};
@@ -171,7 +171,7 @@ fn steps_of(matches: &ArgMatches) -> u64
 /// How an order is searched for.
 fn search_of(matches: &ArgMatches) -> Search
     requires { HasSearch (rows_of (found_of matches.now)) }
-    ensures { IsSearch (rows_of (found_of matches.now)) result }
+    ensures { IsSearchOfRows (rows_of (found_of matches.now)) result }
 {
     Search {
         steps: steps_of(matches),

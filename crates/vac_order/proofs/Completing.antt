@@ -7,7 +7,7 @@ use Rattle.vac_judge.specs.Follows.{IsBehind}
 use Rattle.vac_judge.specs.Laws.{GiveReplies, IsLinearization}
 use Rattle.vac_judge.proofs.Order.{answer_of, of_answer}
 use Rattle.vac_order.specs.Orders.{IsMerge, is_answered, IsOrderOf}
-use Rattle.vac_order.specs.Configurations.{Configuration, Goes, Reaches, start, without_next, after, answered}
+use Rattle.vac_order.specs.Configurations.{Configuration, Goes, CallsReach, start, without_next, after_call, answered}
 use Rattle.vac_order.specs.Walk.{IsTimed, IsWhole, Completes}
 use Rattle.vac_order.proofs.Each.{Each}
 use Rattle.vac_order.proofs.Clients.{InTurn, each_order, turn_order, order_first, order_rest, order_more}
@@ -42,7 +42,7 @@ ends_last last b (c ∷ cs) l h n = (let e : last ≤ c.end = h.0.ends n.0 in om
 
 -- an order begins with a call that goes, and goes on with an order of the others
 goes_first : (at : Configuration) (c : Call) (order : List Call) → IsWhole at.rest → Orders at (c ∷ order) →
-    Goes at c × Orders (after at c) order
+    Goes at c × Orders (after_call at c) order
 goes_first at c order w h =
     let all = c ∷ (order ++ h.left) in
     let turn : InTurn all = turn_order at.rest all h.merges w.turn in
@@ -75,11 +75,12 @@ completes_of : (at : Configuration) (order : List Call) → IsWhole at.rest → 
 completes_of at [] w h = record { to = at; reaches = refl; done = none_left at.rest h.left h.merges h.never }
 completes_of at (c ∷ order) w h =
     let first = goes_first at c order w h in
-    let rest = completes_of (after at c) order (whole_after at c w) first.1 in
+    let rest = completes_of (after_call at c) order (whole_after at c w) first.1 in
     record { to = rest.to; reaches = (first.0, rest.reaches); done = rest.done }
 
 -- and the converse
-orders_of : (at to : Configuration) (order : List Call) → IsWhole at.rest → Reaches at order to → answered to.rest ≡ 0 →
+orders_of : (at to : Configuration) (order : List Call) → IsWhole at.rest → CallsReach at order to →
+    answered to.rest ≡ 0 →
     Orders at order
 orders_of at to [] w r d = record {
   left = at.rest;
@@ -89,7 +90,7 @@ orders_of at to [] w r d = record {
   precedes = tt;
 }
 orders_of at to (c ∷ order) w r d =
-    let h = orders_of (after at c) to order (whole_after at c w) r.1 d in
+    let h = orders_of (after_call at c) to order (whole_after at c w) r.1 d in
     let later = each_without (λ e. c.begin ≤ e.end) c.client at.rest r.0.may.early in
     record {
       left = h.left;

@@ -33,8 +33,9 @@ use Rattle.vac_order.specs.Stuck.{AreStuck}
 use Rattle.vac_order.specs.Judging.{calls_at, IsLinearizedBy, HasNoOrder}
 use Rattle.vac_order.specs.Reading.{first_wrong, texts_of, numbers_of, call_at, IsLineAt, AreKeptLines, ReadWhole}
 use Rattle.vac_order.specs.Reading.{ReadWrong}
-use Rattle.vac_order.specs.Found.{Found, Wrong, NoOrder, Order, Undecided, numbered, AreNumbers, IsOrdered, AreKept}
-use Rattle.vac_order.specs.Found.{HasNone, IsOpen, told_by, line_at, order_text, placed_text, none_text, open_text}
+use Rattle.vac_order.specs.Found.{FoundOfText, Wrong, NoOrder, Order, Undecided, calls_numbered, AreNumbers, IsOrdered}
+use Rattle.vac_order.specs.Found.{AreKeptInOrder}
+use Rattle.vac_order.specs.Found.{HasNone, IsLeftOpen, told_by, line_at, order_text, placed_text, none_text, open_text}
 use Rattle.vac_order.specs.Ordering.{FindsText, HasText}
 use Rattle.vac_order.proofs.Placing.{times}
 use Rattle.vac_order.proofs.Kept.{times_cons}
@@ -42,7 +43,7 @@ use Rattle.vac_order.proofs.Judged.{order_given, none_given}
 
 -- the calls as they are kept are those of the lines with their numbers
 pub kept_calls : (lines kept : List Line) → All (IsLineAt lines) kept →
-    calls_of kept ≡ numbered (calls_of lines) (numbers_of kept)
+    calls_of kept ≡ calls_numbered (calls_of lines) (numbers_of kept)
 kept_calls lines [] h = refl
 kept_calls lines (k ∷ ks) h =
     ap (λ c. c ∷ calls_of ks) (sym (All-head (IsLineAt lines) k ks h).call)
@@ -81,7 +82,7 @@ numbers_at ns places = map (λ p. get_or ns p 0) places
 
 module _ (lines kept : List Line) (each : All (IsLineAt lines) kept) where
   order_calls : (places : List ℕ) → All (λ p. p < length kept) places →
-      calls_at (calls_of kept) places ≡ numbered (calls_of lines) (numbers_at (numbers_of kept) places)
+      calls_at (calls_of kept) places ≡ calls_numbered (calls_of lines) (numbers_at (numbers_of kept) places)
   order_calls [] h = refl
   order_calls (p ∷ ps) h =
       let at = at_place lines kept p each (All-head (λ p. p < length kept) p ps h) in
@@ -224,7 +225,7 @@ module _ (lines kept : List Line) (k : AreKeptLines lines kept) (bytes : List �
   long : length (calls_of lines) ≡ length lines
   long = length-map lines call_of
 
-  kept_are : AreKept bytes (calls_of lines) (numbers_of kept)
+  kept_are : AreKeptInOrder bytes (calls_of lines) (numbers_of kept)
   kept_are = record {
     listed = listed;
     right = right;
@@ -245,7 +246,7 @@ module _ (lines kept : List Line) (k : AreKeptLines lines kept) (bytes : List �
       let numbers = numbers_at (numbers_of kept) places in
       let inside : All (λ p. p < length (numbers_of kept)) places =
       subst (λ m. All (λ p. p < m) places) (sym (length-map kept (λ (l : Line). l.number))) within in
-      let calls : calls_at (calls_of kept) places ≡ numbered (calls_of lines) numbers =
+      let calls : calls_at (calls_of kept) places ≡ calls_numbered (calls_of lines) numbers =
       order_calls lines kept k.each places within in
       record {
         found = Order numbers;

@@ -12,13 +12,13 @@ use Rattle.vac_order.specs.Orders.{IsMerge, IsOrderOf, IsLinearizable}
 use Rattle.vac_order.specs.Configurations.{Configuration, start, answered, PlacesAtMost, Deepest}
 use Rattle.vac_order.specs.Walk.{IsTimed, IsWhole, Completes}
 use Rattle.vac_order.specs.Searching.{IsUndecided}
-use Rattle.vac_order.specs.Walking.{Finds}
+use Rattle.vac_order.specs.Walking.{FindsFrom}
 use Rattle.std.specs.Prelude.{All, ◌<◌}
 use Rattle.vac_order.proofs.Sorted.{length_calls}
 use Rattle.vac_order.specs.Marks.{is_made}
 use Rattle.vac_order.specs.Calls.{calls_of, rest_of}
 use Rattle.vac_order.specs.Point.{point_at, point_views}
-use Rattle.vac_order.specs.Judging.{calls_at, Judges}
+use Rattle.vac_order.specs.Judging.{calls_at, IsFoundOfCalls}
 use Rattle.vac_order.proofs.Clients.{each_order, turn_order}
 use Rattle.vac_order.proofs.Completing.{linearization_of, completes_start}
 
@@ -57,8 +57,8 @@ none_order n most calls at w d b l =
 pub judges : {M : Type 0} (state : M → State) (calls : Calls) (point : Point M) (n steps : ℕ) →
     IsWhole (calls_of calls.lines.items)
     → point.low ≡ 0 → point.beyond.items ≡ [] → state point.machine ≡ empty_state n → (found : Finding (Point M))
-    → Finds (point_views state calls) (point_at state calls point) steps found →
-    Judges (point_at state calls) n (calls_of calls.lines.items) steps found
+    → FindsFrom (point_views state calls) (point_at state calls point) steps found →
+    IsFoundOfCalls (point_at state calls) n (calls_of calls.lines.items) steps found
 judges state calls point n steps w e f g (finding.Order places) h =
     let cs = calls_of calls.lines.items in
     let both = linearization_of n cs (calls_at cs places.items) w

@@ -3,7 +3,7 @@ use Rattle.std.proofs.Common.{◌≡◌, ℕ, ◌+◌, Bool, true, false, cond, 
 use Rattle.vac_judge.specs.Call.{Call}
 use Rattle.vac_judge.specs.Follows.{IsBehind}
 use Rattle.vac_order.specs.Orders.{of_client, is_answered}
-use Rattle.vac_order.specs.Configurations.{Configuration, Goes, without_next, after, weight, answered}
+use Rattle.vac_order.specs.Configurations.{Configuration, Goes, without_next, after_call, weight, answered}
 use Rattle.vac_order.specs.Walk.{IsTimed, IsWhole}
 use Rattle.vac_order.proofs.Each.{Each, test}
 use Rattle.vac_order.proofs.Clients.{InTurn, IsFirst}
@@ -30,7 +30,7 @@ turn_without k (c ∷ cs) h =
       | inr t ↦ rw t.0 (h.0, each_without (λ d. IsBehind d c) k cs h.1, turn_without k cs h.2)
     ]
 
-pub whole_after : (at : Configuration) (c : Call) → IsWhole at.rest → IsWhole (after at c).rest
+pub whole_after : (at : Configuration) (c : Call) → IsWhole at.rest → IsWhole (after_call at c).rest
 whole_after at c h = record {
   turn = turn_without c.client at.rest h.turn;
   last = h.last;
@@ -49,7 +49,7 @@ answered_without (d ∷ ds) c f =
     ]
 
 pub answered_after : (at : Configuration) (c : Call) → Goes at c →
-    answered at.rest ≡ weight c + answered (after at c).rest
+    answered at.rest ≡ weight c + answered (after_call at c).rest
 answered_after at c goes = answered_without at.rest c goes.may.first
 
 -- calls that were never answered do not count

@@ -5,7 +5,7 @@ use Rattle.std.specs.Prelude.{⊤, slice_get}
 use Rattle.std.proofs.lemmas.Bool.{cases_lt}
 use Rattle.vac_judge.specs.Call.{Call}
 use Rattle.vac_judge.specs.Follows.{IsBehind}
-use Rattle.vac_judge.specs.Laws.{IsAt, TakeTime, AreSequential, KeepPrecedence}
+use Rattle.vac_judge.specs.Laws.{IsCallAt, CallsTakeTime, CallsAreSequential, CallsKeepPrecedence}
 use Rattle.vac_order.proofs.Each.{Each}
 use Rattle.vac_order.proofs.Clients.{InTurn}
 
@@ -20,28 +20,28 @@ none_some c e = cc
 some_same : (a b : Call) → Some a ≡ Some b → a ≡ b
 some_same a b e = cc
 
-each_at : (P : Call → Type 0) (cs : List Call) (i : ℕ) (a : Call) → Each P cs → IsAt cs i a → P a
+each_at : (P : Call → Type 0) (cs : List Call) (i : ℕ) (a : Call) → Each P cs → IsCallAt cs i a → P a
 each_at P [] i a h e = absurd (none_some a e)
 each_at P (c ∷ cs) zero a h e = subst P (some_same c a e) h.0
 each_at P (c ∷ cs) (suc i) a h e = each_at P cs i a h.1 e
 
-each_from : (P : Call → Type 0) (cs : List Call) → ((i : ℕ) (a : Call) → IsAt cs i a → P a) → Each P cs
+each_from : (P : Call → Type 0) (cs : List Call) → ((i : ℕ) (a : Call) → IsCallAt cs i a → P a) → Each P cs
 each_from P [] h = tt
 each_from P (c ∷ cs) h = (h 0 c refl, each_from P cs (λ i a e. h (suc i) a e))
 
-pub times_of : (cs : List Call) → InTurn cs → TakeTime cs
+pub times_of : (cs : List Call) → InTurn cs → CallsTakeTime cs
 times_of [] h i a e = absurd (none_some a e)
 times_of (c ∷ cs) h zero a e = subst (λ d. d.begin ≤ d.end) (some_same c a e) h.0
 times_of (c ∷ cs) h (suc i) a e = times_of cs h.2 i a e
 
-pub turns_of : (cs : List Call) → InTurn cs → AreSequential cs
+pub turns_of : (cs : List Call) → InTurn cs → CallsAreSequential cs
 turns_of [] h i j a b e f l = absurd (none_some a e)
 turns_of (c ∷ cs) h i zero a b e f l = absurd (omega arith)
 turns_of (c ∷ cs) h zero (suc j) a b e f l = subst (λ d. IsBehind b d) (some_same c a e)
     (each_at (λ d. IsBehind d c) cs j b h.1 f)
 turns_of (c ∷ cs) h (suc i) (suc j) a b e f l = turns_of cs h.2 i j a b e f (omega arith)
 
-began_before : (cs : List Call) → Precedes cs → (i j : ℕ) (a b : Call) → IsAt cs i a → IsAt cs j b → i < j →
+began_before : (cs : List Call) → Precedes cs → (i j : ℕ) (a b : Call) → IsCallAt cs i a → IsCallAt cs j b → i < j →
     a.begin ≤ b.end
 began_before [] h i j a b e f l = absurd (none_some a e)
 began_before (c ∷ cs) h i zero a b e f l = absurd (omega arith)
@@ -49,7 +49,7 @@ began_before (c ∷ cs) h zero (suc j) a b e f l = subst (λ d. d.begin ≤ b.en
     (each_at (λ d. c.begin ≤ d.end) cs j b h.0 f)
 began_before (c ∷ cs) h (suc i) (suc j) a b e f l = began_before cs h.1 i j a b e f (omega arith)
 
-pub precedence_of : (cs : List Call) → InTurn cs → Precedes cs → KeepPrecedence cs
+pub precedence_of : (cs : List Call) → InTurn cs → Precedes cs → CallsKeepPrecedence cs
 precedence_of cs t p i j a b e f l =
     elim (cases_lt i j) [
       | inl h ↦ h
@@ -64,7 +64,7 @@ precedence_of cs t p i j a b e f l =
       ]
     ]
 
-pub in_turn_from : (cs : List Call) → TakeTime cs → AreSequential cs → InTurn cs
+pub in_turn_from : (cs : List Call) → CallsTakeTime cs → CallsAreSequential cs → InTurn cs
 in_turn_from [] t s = tt
 in_turn_from (c ∷ cs) t s = (
   t 0 c refl,
@@ -72,7 +72,8 @@ in_turn_from (c ∷ cs) t s = (
   in_turn_from cs (λ i a e. t (suc i) a e) (λ i j a b e f l. s (suc i) (suc j) a b e f (omega arith)),
 )
 
-not_before : (cs : List Call) → KeepPrecedence cs → (i j : ℕ) (a b : Call) → IsAt cs i a → IsAt cs j b → i < j →
+not_before : (cs : List Call) → CallsKeepPrecedence cs → (i j : ℕ) (a b : Call) → IsCallAt cs i a → IsCallAt cs j b →
+    i < j →
     a.begin ≤ b.end
 not_before cs k i j a b e f l =
     elim (cases_lt b.end a.begin) [
@@ -80,7 +81,7 @@ not_before cs k i j a b e f l =
       | inr h ↦ h
     ]
 
-pub precedes_from : (cs : List Call) → KeepPrecedence cs → Precedes cs
+pub precedes_from : (cs : List Call) → CallsKeepPrecedence cs → Precedes cs
 precedes_from [] k = tt
 precedes_from (c ∷ cs) k = (
   each_from (λ d. c.begin ≤ d.end) cs (λ j b f. not_before (c ∷ cs) k 0 (suc j) c b refl f (omega arith)),

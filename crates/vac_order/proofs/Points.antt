@@ -13,7 +13,7 @@ use Rattle.vac_model.specs.declared.replies.Reply.{Reply}
 use Rattle.vac_judge.specs.Call.{Call}
 use Rattle.vac_judge.specs.Order.{is_right}
 use Rattle.vac_order.specs.declared.line.Line.{Line}
-use Rattle.vac_order.specs.Configurations.{Configuration, fits, after, without_next, answered}
+use Rattle.vac_order.specs.Configurations.{Configuration, fits, after_call, without_next, answered}
 use Rattle.vac_order.specs.declared.calls.Calls.{Calls}
 use Rattle.vac_order.specs.declared.point.Point.{Point}
 use Rattle.vac_order.specs.Point.{made_of, point_views}
@@ -245,7 +245,7 @@ pub led_on : (made more : ℕ → Bool) (s : State) (lines : List Line) (p : ℕ
     → ((j : ℕ) → more j ≡ (made j || j == p))
     → (fits s (at (calls_of lines) p) ≡ true)
     × (◌≡◌ {A = Configuration} (record { rest = rest_of more 0 (calls_of lines); state = next })
-    (after (record { rest = rest_of made 0 (calls_of lines); state = s }) (at (calls_of lines) p)))
+    (after_call (record { rest = rest_of made 0 (calls_of lines); state = s }) (at (calls_of lines) p)))
     × ((j : ℕ) → more j ≡ (made j || j == p))
 led_on made more s lines p line next reply l e r w can m =
     let cs = calls_of lines in

@@ -4,8 +4,8 @@ use Rattle.std.specs.Prelude.{All}
 use Rattle.std.specs.List.{Contains}
 use Rattle.std.proofs.lemmas.List.Elements.{All-append, All-cons, All-head, All-tail, All-nil}
 use Rattle.vac_judge.specs.Call.{Call}
-use Rattle.vac_order.specs.Configurations.{Configuration, Goes, Reaches, after, answered, weight, PlacesAtMost}
-use Rattle.vac_order.specs.Walk.{IsWhole, AreChoices, IsLost, HangsOn, Place, Made, Leads, IsWalk, Completes}
+use Rattle.vac_order.specs.Configurations.{Configuration, Goes, CallsReach, after_call, answered, weight, PlacesAtMost}
+use Rattle.vac_order.specs.Walk.{IsWhole, AreChoices, IsLost, HangsOn, PathPlace, Made, PathLeads, IsWalk, Completes}
 use Rattle.vac_order.proofs.Left.{whole_after, answered_after}
 
 pub all_at : {X : Type 0} (P : X → Type 0) (xs : List X) (x : X) → All P xs → Contains xs x → P x
@@ -20,26 +20,26 @@ pub more_placed : (total m n : ℕ) (at : Configuration) → m ≤ n → PlacesA
 more_placed total m n at l h calls b r = let x : total ≤ m + answered b.rest = h calls b r in omega arith
 
 more_lost : (total m n : ℕ) (at : Configuration) (c : Call) → m ≤ n → IsLost total m at c → IsLost total n at c
-more_lost total m n at c l h goes = more_placed total m n (after at c) l (h goes)
+more_lost total m n at c l h goes = more_placed total m n (after_call at c) l (h goes)
 
 more_hangs : (total m n : ℕ) (at : Configuration) (cs : List Call) → m ≤ n → HangsOn total m at cs →
     HangsOn total n at cs
 more_hangs total m n at cs l h most g lost own = h most (omega arith) lost own
 
-more_made : (total m n : ℕ) (place : Place) → m ≤ n → Made total m place → Made total n place
+more_made : (total m n : ℕ) (place : PathPlace) → m ≤ n → Made total m place → Made total n place
 more_made total m n place l h = record {
   goes = h.goes;
   count = h.count;
   hangs = λ most g after lost own. h.hangs most (omega arith) after lost own;
 }
 
-more_leads : (total m n : ℕ) (a : Configuration) (path : List Place) (b : Configuration) → m ≤ n →
-    Leads total m a path b → Leads total n a path b
+more_leads : (total m n : ℕ) (a : Configuration) (path : List PathPlace) (b : Configuration) → m ≤ n →
+    PathLeads total m a path b → PathLeads total n a path b
 more_leads total m n a [] b l h = h
 more_leads total m n a (p ∷ path) b l h = (
   h.0,
   more_made total m n p l h.1,
-  more_leads total m n (after p.at p.call) path b l h.2,
+  more_leads total m n (after_call p.at p.call) path b l h.2,
 )
 
 -- where the choices are all lost, no more have a place
@@ -59,52 +59,61 @@ hangs_none : (total m : ℕ) (at : Configuration) → HangsOn total m at [] → 
     PlacesAtMost total m at
 hangs_none total m at h own = h m (omega arith) (All-nil (IsLost total m at)) own
 
-leads_push : (total m : ℕ) (a : Configuration) (path : List Place) (place : Place) → Leads total m a path place.at →
+leads_push : (total m : ℕ) (a : Configuration) (path : List PathPlace) (place : PathPlace) →
+    PathLeads total m a path place.at →
     Made total m place
-    → Leads total m a (path ++ place ∷ []) (after place.at place.call)
+    → PathLeads total m a (path ++ place ∷ []) (after_call place.at place.call)
 leads_push total m a [] place l made = (l, made, refl)
-leads_push total m a (p ∷ path) place l made = (l.0, l.1, leads_push total m (after p.at p.call) path place l.2 made)
+leads_push total m a (p ∷ path) place l made = (
+  l.0,
+  l.1,
+  leads_push total m
+      (after_call p.at p.call) path place l.2 made,
+)
 
 -- what led to a configuration by a last place
-record LedBy (total m : ℕ) (a : Configuration) (path : List Place) (place : Place) (b : Configuration) : Type 0 where
+record LedBy (total m : ℕ) (a : Configuration) (path : List PathPlace) (place : PathPlace) (b : Configuration) :
+    Type 0 where
   made : Made total m place
-  is : after place.at place.call ≡ b
-  before : Leads total m a path place.at
+  is : after_call place.at place.call ≡ b
+  before : PathLeads total m a path place.at
 
-leads_pop : (total m : ℕ) (a : Configuration) (path : List Place) (place : Place) (b : Configuration) →
-    Leads total m a (path ++ place ∷ []) b → LedBy total m a path place b
+leads_pop : (total m : ℕ) (a : Configuration) (path : List PathPlace) (place : PathPlace) (b : Configuration) →
+    PathLeads total m a (path ++ place ∷ []) b → LedBy total m a path place b
 leads_pop total m a [] place b l = record { made = l.1; is = l.2; before = l.0 }
 leads_pop total m a (p ∷ path) place b l =
-    let rest = leads_pop total m (after p.at p.call) path place b l.2 in
+    let rest = leads_pop total m (after_call p.at p.call) path place b l.2 in
     record { made = rest.made; is = rest.is; before = (l.0, l.1, rest.before) }
 
-pub whole_leads : (total m : ℕ) (a : Configuration) (path : List Place) (b : Configuration) → Leads total m a path b →
+pub whole_leads : (total m : ℕ) (a : Configuration) (path : List PathPlace) (b : Configuration) →
+    PathLeads total m a path b →
     IsWhole a.rest → IsWhole b.rest
 whole_leads total m a [] b l h = subst (λ (x : Configuration). IsWhole x.rest) l h
 whole_leads total m a (p ∷ path) b l h =
-    whole_leads total m (after p.at p.call) path b l.2 (whole_after p.at p.call
+    whole_leads total m (after_call p.at p.call) path b l.2 (whole_after p.at p.call
     (subst (λ (x : Configuration). IsWhole x.rest) l.0 h))
 
-abbrev calls_of : List Place → List Call
-calls_of path = map (λ (p : Place). p.call) path
+abbrev calls_of : List PathPlace → List Call
+calls_of path = map (λ (p : PathPlace). p.call) path
 
 -- the calls of a path lead where it leads
-pub leads_reaches : (total m : ℕ) (a : Configuration) (path : List Place) (b : Configuration) → Leads total m a path b →
-    Reaches a (calls_of path) b
+pub leads_reaches : (total m : ℕ) (a : Configuration) (path : List PathPlace) (b : Configuration) →
+    PathLeads total m a path b →
+    CallsReach a (calls_of path) b
 leads_reaches total m a [] b l = l
 leads_reaches total m a (p ∷ path) b l =
-    subst (λ (x : Configuration). Reaches x (calls_of (p ∷ path)) b) (sym l.0) (
+    subst (λ (x : Configuration). CallsReach x (calls_of (p ∷ path)) b) (sym l.0) (
       l.1.goes,
-      leads_reaches total m (after p.at p.call) path b l.2,
+      leads_reaches total m (after_call p.at p.call) path b l.2,
     )
 
-pub reaches_more : (a b : Configuration) (calls : List Call) (c : Call) → Reaches a calls b → Goes b c →
-    Reaches a (calls ++ c ∷ []) (after b c)
-reaches_more a b [] c r goes = (subst (λ x. Goes x c) (sym r) goes, ap (λ (x : Configuration). after x c) r)
-reaches_more a b (d ∷ calls) c r goes = (r.0, reaches_more (after a d) b calls c r.1 goes)
+pub reaches_more : (a b : Configuration) (calls : List Call) (c : Call) → CallsReach a calls b → Goes b c →
+    CallsReach a (calls ++ c ∷ []) (after_call b c)
+reaches_more a b [] c r goes = (subst (λ x. Goes x c) (sym r) goes, ap (λ (x : Configuration). after_call x c) r)
+reaches_more a b (d ∷ calls) c r goes = (r.0, reaches_more (after_call a d) b calls c r.1 goes)
 
 -- where nothing is left to try, no more have a place than have one, or had one before
-pub walk_dead : (start at : Configuration) (most placed n : ℕ) (path : List Place) (known : List Configuration) →
+pub walk_dead : (start at : Configuration) (most placed n : ℕ) (path : List PathPlace) (known : List Configuration) →
     IsWalk start most at placed [] path known
     → most ≤ n → placed ≤ n → PlacesAtMost (answered start.rest) n at
 walk_dead start at most placed n path known w l own =
@@ -117,7 +126,7 @@ all_more total m n known l h = all_map (PlacesAtMost total m) (PlacesAtMost tota
     (λ at p. more_placed total m n at l p) known h
 
 -- the search goes back by a place
-pub walk_back : (start at : Configuration) (most placed n : ℕ) (path : List Place) (place : Place)
+pub walk_back : (start at : Configuration) (most placed n : ℕ) (path : List PathPlace) (place : PathPlace)
     (known : List Configuration)
     → IsWalk start most at placed [] (path ++ place ∷ []) known → most ≤ n → placed ≤ n
     → IsWalk start n place.at place.placed place.others path (known ++ at ∷ [])
@@ -125,16 +134,17 @@ walk_back start at most placed n path place known w l own =
     let total = answered start.rest in
     let led = leads_pop total most start path place at w.leads in
     let dead = walk_dead start at most placed n (path ++ place ∷ []) known w l own in
-    let less : answered place.at.rest ≡ weight place.call + answered (after place.at place.call).rest =
+    let less : answered place.at.rest ≡ weight place.call + answered (after_call place.at place.call).rest =
     answered_after place.at place.call led.made.goes in
-    let same : answered (after place.at place.call).rest ≡ answered at.rest =
+    let same : answered (after_call place.at place.call).rest ≡ answered at.rest =
     ap (λ (x : Configuration). answered x.rest) led.is in
     record {
       whole = w.whole;
       leads = more_leads total most n start path place.at l led.before;
       hangs = λ number g lost mine.
           led.made.hangs number (omega arith)
-          (more_placed total n number (after place.at place.call) g (subst (PlacesAtMost total n) (sym led.is) dead))
+          (more_placed total n number (after_call place.at place.call) g
+          (subst (PlacesAtMost total n) (sym led.is) dead))
           lost mine;
       dead = All-append (PlacesAtMost total n) known (at ∷ []) (all_more total most n known l w.dead)
           (All-cons (PlacesAtMost total n) at [] dead (All-nil (PlacesAtMost total n)));
@@ -143,22 +153,22 @@ walk_back start at most placed n path place known w l own =
     }
 
 -- where it had placed no more calls
-pub back_less : (start at : Configuration) (most placed : ℕ) (path : List Place) (place : Place)
+pub back_less : (start at : Configuration) (most placed : ℕ) (path : List PathPlace) (place : PathPlace)
     (known : List Configuration)
     → IsWalk start most at placed [] (path ++ place ∷ []) known → place.placed ≤ placed
 back_less start at most placed path place known w =
     let total = answered start.rest in
     let led = leads_pop total most start path place at w.leads in
-    let less : answered place.at.rest ≡ weight place.call + answered (after place.at place.call).rest =
+    let less : answered place.at.rest ≡ weight place.call + answered (after_call place.at place.call).rest =
     answered_after place.at place.call led.made.goes in
-    let same : answered (after place.at place.call).rest ≡ answered at.rest =
+    let same : answered (after_call place.at place.call).rest ≡ answered at.rest =
     ap (λ (x : Configuration). answered x.rest) led.is in
     let old = led.made.count in
     let own = w.count in
     omega arith
 
 -- a call that is lost is not tried again
-pub walk_lost : (start at : Configuration) (most placed : ℕ) (c : Call) (tries : List Call) (path : List Place)
+pub walk_lost : (start at : Configuration) (most placed : ℕ) (c : Call) (tries : List Call) (path : List PathPlace)
     (known : List Configuration)
     → IsWalk start most at placed (c ∷ tries) path known → IsLost (answered start.rest) most at c →
     IsWalk start most at placed tries path known
@@ -172,11 +182,12 @@ walk_lost start at most placed c tries path known w lost = record {
 }
 
 -- and one that is not is made
-pub walk_on : (start at : Configuration) (most placed count : ℕ) (c : Call) (tries ids : List Call) (path : List Place)
+pub walk_on : (start at : Configuration) (most placed count : ℕ) (c : Call) (tries ids : List Call)
+    (path : List PathPlace)
     (known : List Configuration)
     → IsWalk start most at placed (c ∷ tries) path known → Goes at c → count ≡ placed + weight c →
-    1 ≤ answered (after at c).rest → AreChoices (after at c).rest ids
-    → IsWalk start most (after at c) count ids (path ++ (record {
+    1 ≤ answered (after_call at c).rest → AreChoices (after_call at c).rest ids
+    → IsWalk start most (after_call at c) count ids (path ++ (record {
       at = at;
       placed = placed;
       call = c;
@@ -195,7 +206,7 @@ walk_on start at most placed count c tries ids path known w goes e some choices 
                 (All-cons (IsLost total number at) c tries (λ g. gone) lost)
                 own;
           });
-      hangs = hangs_on total most (after at c) ids choices;
+      hangs = hangs_on total most (after_call at c) ids choices;
       dead = w.dead;
       count = (let own = w.count in omega arith);
       some = some;
@@ -214,12 +225,12 @@ walk_start start ids whole some choices = record {
 }
 
 -- a path that leaves no answered call is an order
-pub walk_found : (start at : Configuration) (most placed : ℕ) (tries : List Call) (path : List Place)
+pub walk_found : (start at : Configuration) (most placed : ℕ) (tries : List Call) (path : List PathPlace)
     (known : List Configuration) (c : Call)
-    → IsWalk start most at placed tries path known → Goes at c → answered (after at c).rest ≡ 0 →
+    → IsWalk start most at placed tries path known → Goes at c → answered (after_call at c).rest ≡ 0 →
     Completes start (calls_of path ++ c ∷ [])
 walk_found start at most placed tries path known c w goes e = record {
-  to = after at c;
+  to = after_call at c;
   reaches = reaches_more start at (calls_of path) c (leads_reaches (answered start.rest) most start path at w.leads)
       goes;
   done = e;

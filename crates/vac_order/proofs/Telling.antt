@@ -17,13 +17,14 @@ use Rattle.vac_judge.specs.declared.verdict.Verdict.{Verdict}
 use Rattle.vac_judge.specs.declared.verdict.Verdict.TheVariants.{Fault, Illegal}
 use Rattle.vac_judge.specs.declared.verdict.Wrong.TheVariants.{Client}
 use Rattle.vac_judge.specs.Call.{Call, line_call}
-use Rattle.vac_judge.specs.Order.{breaks_client}
+use Rattle.vac_judge.specs.Order.{call_breaks_client}
 use Rattle.vac_judge.specs.Hearing.{told_call}
 use Rattle.vac_judge.proofs.Telling.{lines_told}
 use Rattle.vac_order.specs.declared.history.History.{History}
 use Rattle.vac_order.specs.declared.reading.HistoryText.{HistoryText}
 use Rattle.vac_order.specs.Calls.{calls_of}
-use Rattle.vac_order.specs.Reading.{wrong_behind, first_wrong, texts_of, IsHeld, Took, TookLine, StopsAt, HearsLine}
+use Rattle.vac_order.specs.Reading.{wrong_behind, first_wrong, texts_of, IsHeld, Took, TookLine, StopsAt}
+use Rattle.vac_order.specs.Reading.{HistoryHearsLine}
 use Rattle.vac_order.specs.Reading.{ReadWhole, ReadWrong}
 
 -- what is wrong with a text is wrong with its lines as they are told
@@ -119,7 +120,7 @@ go_stop : GoOn ≡ Stop → ⊥
 go_stop e = cc
 
 abbrev hears : {O : Type 0} → HistoryText → O → Told → Result Next StreamFault → HistoryText → O → Type 0
-hears x o told answer y p = HearsLine x told answer y
+hears x o told answer y p = HistoryHearsLine x told answer y
 
 module _ {O : Type 0} where
   taken_told : (x : HistoryText) (o : O) (told_all : List Told) (y : HistoryText) (p : O) → IsHeld x.history →

@@ -13,13 +13,14 @@ use Rattle.vac_judge.specs.Call.{Call}
 use Rattle.vac_judge.specs.declared.call.CallLine.{CallLine}
 use Rattle.vac_judge.specs.declared.call.Answer.{Answer}
 use Rattle.vac_judge.specs.Parts.{shown_call, shown_end, shown_reply}
-use Rattle.vac_judge.specs.Order.{breaks_client}
+use Rattle.vac_judge.specs.Order.{call_breaks_client}
 use Rattle.vac_judge.specs.Follows.{IsBehind, EachCall}
 use Rattle.vac_order.specs.declared.line.Line.{Line}
 use Rattle.vac_order.specs.declared.history.History.{History}
 use Rattle.vac_order.specs.Walk.{InTurn, IsTimed}
 use Rattle.vac_order.specs.Calls.{call_of, calls_of}
-use Rattle.vac_order.specs.Reading.{overlaps, AreNumbered, began_before, KeepsEnds, IsHeld, IsLineOf, Took, texts_of}
+use Rattle.vac_order.specs.Reading.{calls_overlap, AreNumbered, began_before, KeepsEnds, IsHeld, IsLineOf, Took}
+use Rattle.vac_order.specs.Reading.{texts_of}
 use Rattle.std.specs.Prelude.{◌-◌, ◌^◌}
 use Rattle.std.proofs.lemmas.List.{map-append}
 use Rattle.vac_order.proofs.Each.{test}
@@ -41,7 +42,7 @@ get_other m a v b ne =
 -- where no call was read no client has ended one
 pub keeps_none : (ends : FinMap nat_cmp ℕ) (calls : List Call) → ends ≡ empty → calls ≡ [] → KeepsEnds ends calls
 keeps_none ends calls e f call =
-    ap (list_any (overlaps call)) f
+    ap (list_any (calls_overlap call)) f
     ∙ sym (ap (λ (m : FinMap nat_cmp ℕ). began_before (get m call.client) call.begin) e
     ∙ ap (λ o. began_before o call.begin) (get-empty nat_cmp call.client))
 
@@ -67,14 +68,14 @@ later (Some e) begin end b h l = go (nat_lt b e) refl (nat_lt b end) refl
 
 -- one call more
 pub keeps_more : (ends : FinMap nat_cmp ℕ) (calls : List Call) (c : Call) → KeepsEnds ends calls →
-    breaks_client calls c ≡ false
+    call_breaks_client calls c ≡ false
     → KeepsEnds (insert ends c.client c.end) (calls ++ c ∷ [])
 keeps_more ends calls c k n d =
-    let none = both_false (nat_lt c.end c.begin) (list_any (overlaps c) calls) n in
+    let none = both_false (nat_lt c.end c.begin) (list_any (calls_overlap c) calls) n in
     let own : c.begin ≤ c.end = (let f = none.0 in grind (arith, nat_tests)) in
-    let all : list_any (overlaps d) (calls ++ c ∷ []) ≡ (began_before (get ends d.client) d.begin || ((c.client ==
+    let all : list_any (calls_overlap d) (calls ++ c ∷ []) ≡ (began_before (get ends d.client) d.begin || ((c.client ==
     d.client && nat_lt d.begin c.end) || false)) =
-    list_any-append (overlaps d) calls (c ∷ []) ∙ ap (λ b. b || ((c.client ==
+    list_any-append (calls_overlap d) calls (c ∷ []) ∙ ap (λ b. b || ((c.client ==
     d.client && nat_lt d.begin c.end) || false)) (k d) in
     elim (test c.client d.client) [
       | inl s ↦
@@ -102,19 +103,20 @@ behind_from : (a b x y : ℕ) → (a == b && nat_lt x y) ≡ false → a ≡ b �
 behind_from a b x y h e = grind (arith, nat_tests)
 
 -- the calls are in turn with one more
-turn_on : (calls : List Call) (c : Call) → InTurn calls → c.begin ≤ c.end → list_any (overlaps c) calls ≡ false →
+turn_on : (calls : List Call) (c : Call) → InTurn calls → c.begin ≤ c.end → list_any (calls_overlap c) calls ≡ false →
     InTurn (calls ++ c ∷ [])
 turn_on [] c t own h = (own, tt, tt)
 turn_on (x ∷ xs) c t own h =
-    let two = both_false (overlaps c x) (list_any (overlaps c) xs) h in (
+    let two = both_false (calls_overlap c x) (list_any (calls_overlap c) xs) h in (
       t.0,
       each_more (λ later. IsBehind later x) xs c t.1 (behind_from x.client c.client c.begin x.end two.0),
       turn_on xs c t.2 own two.1,
     )
 
-pub turn_more : (calls : List Call) (c : Call) → InTurn calls → breaks_client calls c ≡ false → InTurn (calls ++ c ∷ [])
+pub turn_more : (calls : List Call) (c : Call) → InTurn calls → call_breaks_client calls c ≡ false →
+    InTurn (calls ++ c ∷ [])
 turn_more calls c t n =
-    let none = both_false (nat_lt c.end c.begin) (list_any (overlaps c) calls) n in
+    let none = both_false (nat_lt c.end c.begin) (list_any (calls_overlap c) calls) n in
     turn_on calls c t (let f = none.0 in grind (arith, nat_tests)) none.1
 
 pub numbered_more : (n : ℕ) (lines : List Line) (l : Line) → AreNumbered n lines → l.number ≡ n + length lines →
@@ -139,30 +141,30 @@ said (Some end) begin = go (nat_lt begin end) refl (nat_le end begin) refl
     go false p false q = absurd (let one : end ≤ begin = grind (arith, nat_tests) in let two : begin < end =
         grind (arith, nat_tests) in omega arith)
 
-pub too_early : (calls : List Call) (c : Call) → c.end < c.begin → false ≡ not (breaks_client calls c)
+pub too_early : (calls : List Call) (c : Call) → c.end < c.begin → false ≡ not (call_breaks_client calls c)
 too_early calls c l = let t : nat_lt c.end c.begin ≡ true = grind (arith, nat_tests) in
-    sym (ap (λ b. not (b || list_any (overlaps c) calls)) t)
+    sym (ap (λ b. not (b || list_any (calls_overlap c) calls)) t)
 
 said_of : (ends : FinMap nat_cmp ℕ) (calls : List Call) (c : Call) → KeepsEnds ends calls → c.begin ≤ c.end →
-    not (breaks_client calls c) ≡ fits_behind (get ends c.client) c.begin
+    not (call_breaks_client calls c) ≡ fits_behind (get ends c.client) c.begin
 said_of ends calls c k l =
     let t : nat_lt c.end c.begin ≡ false = grind (arith, nat_tests) in
-    ap (λ b. not (b || list_any (overlaps c) calls)) t ∙ ap not (k c) ∙ said (get ends c.client) c.begin
+    ap (λ b. not (b || list_any (calls_overlap c) calls)) t ∙ ap not (k c) ∙ said (get ends c.client) c.begin
 
 pub said_some : (ends : FinMap nat_cmp ℕ) (calls : List Call) (c : Call) (last : ℕ) → KeepsEnds ends calls →
     c.begin ≤ c.end → get ends c.client ≡ Some last
-    → nat_le last c.begin ≡ not (breaks_client calls c)
+    → nat_le last c.begin ≡ not (call_breaks_client calls c)
 said_some ends calls c last k l e = sym (said_of ends calls c k l ∙ ap (λ o. fits_behind o c.begin) e)
 
 pub said_none : (ends : FinMap nat_cmp ℕ) (calls : List Call) (c : Call) → KeepsEnds ends calls → c.begin ≤ c.end →
-    get ends c.client ≡ None → true ≡ not (breaks_client calls c)
+    get ends c.client ≡ None → true ≡ not (call_breaks_client calls c)
 said_none ends calls c k l e = sym (said_of ends calls c k l ∙ ap (λ o. fits_behind o c.begin) e)
 
 -- a call that is in turn was taken
 pub took : (before after : History) (text : List ℕ) (c : Call) (l : Line) (n : ℕ) → IsHeld before →
     after.ends ≡ insert before.ends c.client c.end
     → n ≡ length before.lines.items + 1 → IsLineOf n text c l → after.lines.items ≡ before.lines.items ++ l ∷ [] →
-    breaks_client (calls_of before.lines.items) c ≡ false
+    call_breaks_client (calls_of before.lines.items) c ≡ false
     → IsTimed (2 ^ 64 - 1) c → Took before after text c
 took before after text c l n h e m i p f t =
     let calls : calls_of after.lines.items ≡ calls_of before.lines.items ++ c ∷ [] =

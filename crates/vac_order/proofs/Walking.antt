@@ -12,14 +12,15 @@ use Rattle.std.specs.Prelude.{All}
 use Rattle.vac_judge.specs.Call.{Call}
 use Rattle.vac_order.specs.declared.path.Frame.{Frame}
 use Rattle.vac_order.specs.declared.path.Walk.{Walk}
-use Rattle.vac_order.specs.Configurations.{Configuration, MayBegin, after, fits, answered, weight, PlacesAtMost}
+use Rattle.vac_order.specs.Configurations.{Configuration, MayBegin, after_call, fits, answered, weight, PlacesAtMost}
 use Rattle.vac_order.specs.Configurations.{Deepest}
-use Rattle.vac_order.specs.Walk.{IsWhole, AreChoices, AreApart, Place, IsWalk, IsDeepest, KeepsDeepest, Completes}
+use Rattle.vac_order.specs.Walk.{IsWhole, AreChoices, AreApart, PathPlace, IsWalk, IsDeepest, KeepsDeepest, Completes}
 use Rattle.vac_order.specs.Views.{Views, TellsLeft}
 use Rattle.std.specs.Global.{Vec}
 use Rattle.vac_order.specs.declared.known.Known.{Known}
 use Rattle.vac_order.specs.Searching.{HasMade, MakesStep, IsUndecided, Places}
-use Rattle.vac_order.specs.Walking.{place_of, search_of, AreDistinct, AreMadeBy, WalksWith, Walks, Tries, places_of}
+use Rattle.vac_order.specs.Walking.{path_place, search_of, AreDistinct, AreMadeBy, WalksWith, Walks, TriesPlace}
+use Rattle.vac_order.specs.Walking.{places_of}
 use Rattle.vac_order.specs.Walking.{best_of, CompletesBy, FailsBy}
 use Rattle.vac_order.proofs.Placing.{made_none, made_one, made_all, made_push, made_pop}
 use Rattle.vac_order.proofs.Steps.{all_at, leads_reaches, walk_found, walk_dead, walk_back, walk_lost, walk_on}
@@ -30,7 +31,7 @@ map_more f [] x = refl
 map_more f (y ∷ ys) x = ap (λ l. f y ∷ l) (map_more f ys x)
 
 places_calls : {W : Type 0} (views : Views W) (path : List (Frame W)) →
-    map (λ (p : Place). p.call) (map (place_of views) path) ≡ map views.call (places_of path)
+    map (λ (p : PathPlace). p.call) (map (path_place views) path) ≡ map views.call (places_of path)
 places_calls views [] = refl
 places_calls views (f ∷ fs) = ap (λ l. views.call f.place ∷ l) (places_calls views fs)
 
@@ -55,8 +56,8 @@ deepest_more : (start at : Configuration) (n b : ℕ) (known : List Configuratio
 deepest_more start at n b [] h = h
 deepest_more start at n b (k ∷ ks) h = h
 
-abbrev calls_of : List Place → List Call
-calls_of path = map (λ (p : Place). p.call) path
+abbrev calls_of : List PathPlace → List Call
+calls_of path = map (λ (p : PathPlace). p.call) path
 
 -- the deepest of those that are known, where one more is
 record Better (start at : Configuration) (most placed : ℕ) (known : List Configuration) (pair : ℕ × ℕ) : Type 0 where
@@ -80,7 +81,7 @@ some_deepest start most best [] h e = absurd (true_false e)
     true_false e = cc
 some_deepest start most best (k ∷ ks) h e = h
 
-better : (start at : Configuration) (most placed best : ℕ) (tries : List Call) (path : List Place)
+better : (start at : Configuration) (most placed best : ℕ) (tries : List Call) (path : List PathPlace)
     (known : List Configuration)
     → IsWalk start most at placed tries path known → KeepsDeepest start most best known →
     Better start at most placed known (best_of (length known) placed best most)
@@ -122,11 +123,11 @@ better_of views start steps walk w =
     subst (λ n. Better start (views.at walk.world) walk.most walk.placed (map views.at walk.known.worlds.items)
     (best_of n walk.placed walk.best walk.most))
     (length-map walk.known.worlds.items views.at)
-    (better start (views.at walk.world) walk.most walk.placed walk.best [] (map (place_of views) walk.path.items)
+    (better start (views.at walk.world) walk.most walk.placed walk.best [] (map (path_place views) walk.path.items)
     (map views.at walk.known.worlds.items) w.is w.deepest)
 
 -- the most that had a place where one more is known, and the world that is gone back to has less
-best_most : (start at : Configuration) (most placed best : ℕ) (tries : List Call) (path : List Place)
+best_most : (start at : Configuration) (most placed best : ℕ) (tries : List Call) (path : List PathPlace)
     (known : List Configuration)
     → IsWalk start most at placed tries path known → KeepsDeepest start most best known → (back : ℕ) → back ≤ placed
     → max (best_of (length known) placed best most).1 back ≡ max most placed
@@ -171,27 +172,30 @@ steps_back {W = W} views start steps walk frame path known pair p k b w =
     let tries = views.tries frame.world frame.next in
     let best = best_of (length walk.known.worlds.items) walk.placed walk.best walk.most in
     let one = better_of views start steps walk w in
-    let places : map (place_of views) walk.path.items ≡ map (place_of views) path.items ++ place_of views frame ∷ [] =
-    ap (map (place_of views)) p ∙ map_more (place_of views) path.items frame in
-    let gone : IsWalk start walk.most at walk.placed [] (map (place_of views) path.items ++ place_of views frame ∷ [])
+    let places : map (path_place views) walk.path.items ≡ map
+    (path_place views) path.items ++ path_place views frame ∷ [] =
+    ap (map (path_place views)) p ∙ map_more (path_place views) path.items frame in
+    let gone : IsWalk start walk.most at walk.placed [] (map
+    (path_place views) path.items ++ path_place views frame ∷ [])
     worlds =
     subst (λ ps. IsWalk start walk.most at walk.placed [] ps worlds) places w.is in
     let all : map views.at known.worlds.items ≡ worlds ++ at ∷ [] =
     ap (map views.at) k ∙ map_more views.at walk.known.worlds.items walk.world in
-    let less : frame.placed ≤ walk.placed = back_less start at walk.most walk.placed (map (place_of views) path.items)
-    (place_of views frame) worlds gone in
+    let less : frame.placed ≤ walk.placed = back_less start at walk.most walk.placed (map (path_place views) path.items)
+    (path_place views frame) worlds gone in
     let same : max best.1 frame.placed ≡ max walk.most walk.placed =
     ap (λ n. max (best_of n walk.placed walk.best walk.most).1 frame.placed)
     (sym (length-map walk.known.worlds.items views.at))
-    ∙ best_most start at walk.most walk.placed walk.best [] (map (place_of views) walk.path.items) worlds w.is w.deepest
+    ∙ best_most start at walk.most walk.placed walk.best [] (map (path_place views) walk.path.items) worlds w.is
+    w.deepest
     frame.placed less in
     record {
       is = subst (λ ks. IsWalk start pair.1 (views.at frame.world) frame.placed tries
-          (map (place_of views) path.items) ks) (sym all)
-          (subst (λ q. IsWalk start q.1 (views.at frame.world) frame.placed tries (map (place_of views) path.items)
+          (map (path_place views) path.items) ks) (sym all)
+          (subst (λ q. IsWalk start q.1 (views.at frame.world) frame.placed tries (map (path_place views) path.items)
           (worlds ++ at ∷ [])) (sym b)
-          (walk_back start at walk.most walk.placed best.1 (map (place_of views) path.items)
-          (place_of views frame) worlds gone one.more one.own));
+          (walk_back start at walk.most walk.placed best.1 (map (path_place views) path.items)
+          (path_place views frame) worlds gone one.more one.own));
       deepest = subst (λ ks. KeepsDeepest start pair.1 pair.0 ks) (sym all)
           (subst (λ q. KeepsDeepest start q.1 q.0 (worlds ++ at ∷ [])) (sym b)
           (deepest_more start at best.1 best.0 worlds one.deepest));
@@ -200,15 +204,15 @@ steps_back {W = W} views start steps walk frame path known pair p k b w =
         max walk.most walk.placed,
         w.made,
         inr (inr (record {
-          path = map (place_of views) path.items;
-          place = place_of views frame;
+          path = map (path_place views) path.items;
+          place = path_place views frame;
           none = refl;
           led = places;
           is = ap (λ ks. record {
             at = views.at frame.world;
             placed = frame.placed;
             tries = tries;
-            path = map (place_of views) path.items;
+            path = map (path_place views) path.items;
             known = ks;
           }) all;
         })),
@@ -238,7 +242,7 @@ steps_none views start steps walk known pair deepest p k b w got =
     some_same one.deepest.at (views.at deepest) (sym one.deepest.is ∙ ap (λ l. slice_get l pair.0) (sym all) ∙
     slice_get-map views.at known pair.0 ∙ ap (option_map views.at) got) in
     let none : IsWalk start walk.most at walk.placed [] [] worlds =
-    subst (λ ps. IsWalk start walk.most at walk.placed [] ps worlds) (ap (map (place_of views)) p) w.is in (
+    subst (λ ps. IsWalk start walk.most at walk.placed [] ps worlds) (ap (map (path_place views)) p) w.is in (
       subst (Deepest start pair.1) same one.deepest.deepest,
       subst (PlacesAtMost (answered start.rest) pair.1) (sym none.leads)
           (walk_dead start at walk.most walk.placed pair.1 [] worlds none one.more one.own),
@@ -260,7 +264,7 @@ pub steps_lost : {W : Type 0} (views : Views W) (start : Configuration) (steps :
     fits (views.at walk.world).state call ≡ false
     → WalksWith views start (suc steps) walk tries
 steps_lost views start steps walk call tries w may f = record {
-  is = walk_lost start (views.at walk.world) walk.most walk.placed call tries (map (place_of views) walk.path.items)
+  is = walk_lost start (views.at walk.world) walk.most walk.placed call tries (map (path_place views) walk.path.items)
       (map views.at walk.known.worlds.items) w.is
       (λ goes. absurd (false_true (sym f ∙ goes.fit)));
   deepest = w.deepest;
@@ -280,8 +284,8 @@ steps_lost views start steps walk call tries w may f = record {
 
 pub steps_found : {W : Type 0} (views : Views W) (start : Configuration) (steps : ℕ) (walk : Walk W) (place : ℕ)
     (next : W) (places : List ℕ)
-    → Tries views start steps walk place → place < views.count →
-    views.at next ≡ after (views.at walk.world) (views.call place) → TellsLeft (answered (views.at next).rest) true
+    → TriesPlace views start steps walk place → place < views.count →
+    views.at next ≡ after_call (views.at walk.world) (views.call place) → TellsLeft (answered (views.at next).rest) true
     → ((p : ℕ) → views.made next p ≡ (views.made walk.world p || p == place))
     → places ≡ places_of walk.path.items ++ place ∷ [] → CompletesBy views start places
 steps_found views start steps walk place next places w within e l more p =
@@ -292,7 +296,7 @@ steps_found views start steps walk place next places w within e l more p =
           (ap (λ l. l ++ views.call place ∷ []) (places_calls views walk.path.items) ∙
           sym (map_more views.call (places_of walk.path.items) place) ∙ sym (ap (map views.call) p))
           (walk_found start (views.at walk.world) walk.most walk.placed
-          (views.call place ∷ views.tries walk.world walk.next) (map (place_of views) walk.path.items)
+          (views.call place ∷ views.tries walk.world walk.next) (map (path_place views) walk.path.items)
           (map views.at walk.known.worlds.items) (views.call place) w.walks.is w.goes
           (ap (λ (x : Configuration). answered x.rest) (sym e) ∙ l.0 refl));
       distinct = subst AreDistinct (sym p) all.distinct;
@@ -301,14 +305,15 @@ steps_found views start steps walk place next places w within e l more p =
 
 pub steps_known : {W : Type 0} (views : Views W) (start : Configuration) (steps : ℕ) (walk : Walk W) (place : ℕ)
     (next : Configuration)
-    → Tries views start steps walk place → next ≡ after (views.at walk.world) (views.call place)
+    → TriesPlace views start steps walk place → next ≡ after_call (views.at walk.world) (views.call place)
     → Contains (map views.at walk.known.worlds.items) next → Walks views start (suc steps) walk
 steps_known views start steps walk place next w e k =
     let total = answered start.rest in
     let call = views.call place in
     let tries = views.tries walk.world walk.next in
     record {
-      is = walk_lost start (views.at walk.world) walk.most walk.placed call tries (map (place_of views) walk.path.items)
+      is = walk_lost start (views.at walk.world) walk.most walk.placed call tries
+          (map (path_place views) walk.path.items)
           (map views.at walk.known.worlds.items) w.walks.is
           (λ goes. subst (PlacesAtMost total walk.most) e (all_at (PlacesAtMost total walk.most)
           (map views.at walk.known.worlds.items) next w.walks.is.dead k));
@@ -335,8 +340,8 @@ max_more m p q l = omega arith
 
 pub steps_on : {W : Type 0} (views : Views W) (start : Configuration) (steps : ℕ) (walk : Walk W) (place count : ℕ)
     (next : W) (path : Vec (Frame W))
-    → Tries views start steps walk place → place < views.count →
-    views.at next ≡ after (views.at walk.world) (views.call place)
+    → TriesPlace views start steps walk place → place < views.count →
+    views.at next ≡ after_call (views.at walk.world) (views.call place)
     → TellsLeft (answered (views.at next).rest) false
     → ((p : ℕ) → views.made next p ≡ (views.made walk.world p || p == place))
     → AreChoices (views.at next).rest (views.tries next 0) → AreApart (views.tries next 0) →
@@ -361,17 +366,19 @@ steps_on {W = W} views start steps walk place count next path w within e l more 
     let known = map views.at walk.known.worlds.items in
     let call = views.call place in
     let tries = views.tries walk.world walk.next in
-    let some : 1 ≤ answered (after (views.at walk.world) call).rest =
+    let some : 1 ≤ answered (after_call (views.at walk.world) call).rest =
     subst (λ (x : Configuration). 1 ≤ answered x.rest) e (l.1 refl) in
     let on = walk_on start (views.at walk.world) walk.most walk.placed count call tries (views.tries next 0)
-    (map (place_of views) walk.path.items) known w.walks.is w.goes c some
+    (map (path_place views) walk.path.items) known w.walks.is w.goes c some
     (subst (λ (x : Configuration). AreChoices x.rest (views.tries next 0)) e choices) in
-    let places : map (place_of views) path.items ≡ map (place_of views) walk.path.items ++ place_of views frame ∷ [] =
-    ap (map (place_of views)) p ∙ map_more (place_of views) walk.path.items frame in
+    let places : map (path_place views) path.items ≡ map (path_place views) walk.path.items ++ path_place views frame ∷
+    [] =
+    ap (map (path_place views)) p ∙ map_more (path_place views) walk.path.items frame in
     record {
-      is = subst (λ x. IsWalk start walk.most x count (views.tries next 0) (map (place_of views) path.items) known)
+      is = subst (λ x. IsWalk start walk.most x count (views.tries next 0) (map (path_place views) path.items) known)
           (sym e)
-          (subst (λ ps. IsWalk start walk.most (after (views.at walk.world) call) count (views.tries next 0) ps known)
+          (subst (λ ps. IsWalk start walk.most (after_call (views.at walk.world) call) count
+          (views.tries next 0) ps known)
           (sym places) on);
       deepest = w.walks.deepest;
       made = (
@@ -413,16 +420,16 @@ pub starts : {W : Type 0} (views : Views W) (world : W) (path : Vec (Frame W)) (
     })
 starts views world path known p k whole l choices apart = record {
   is = subst (λ ks. IsWalk (views.at world) 0 (views.at world) 0 (views.tries world 0)
-      (map (place_of views) path.items) ks) (ap (map views.at) (sym k))
+      (map (path_place views) path.items) ks) (ap (map views.at) (sym k))
       (subst (λ ps. IsWalk (views.at world) 0 (views.at world) 0 (views.tries world 0) ps [])
-      (ap (map (place_of views)) (sym p))
+      (ap (map (path_place views)) (sym p))
       (walk_start (views.at world) (views.tries world 0) whole (l.1 refl) choices));
   deepest = subst (λ ks. KeepsDeepest (views.at world) 0 0 ks) (ap (map views.at) (sym k)) refl;
   made = (
     record {
       at = refl;
       placed = refl;
-      path = ap (map (place_of views)) p;
+      path = ap (map (path_place views)) p;
       known = ap (map views.at) k;
       some = l.1 refl;
       choices = choices;
@@ -443,9 +450,9 @@ places_max : {W : Type 0} (views : Views W) (start : Configuration) (steps : ℕ
     (n : ℕ) → WalksWith views start steps walk tries
     → (n ≡ walk.placed) ⊎ ((n ≡ walk.most) × (walk.placed ≤ walk.most)) → Places start n
 places_max views start steps walk tries n w (inl e) = record {
-  calls = calls_of (map (place_of views) walk.path.items);
+  calls = calls_of (map (path_place views) walk.path.items);
   at = views.at walk.world;
-  reaches = leads_reaches (answered start.rest) walk.most start (map (place_of views) walk.path.items)
+  reaches = leads_reaches (answered start.rest) walk.most start (map (path_place views) walk.path.items)
       (views.at walk.world) w.is.leads;
   count = (let c = w.is.count in omega arith);
 }

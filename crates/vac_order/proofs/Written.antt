@@ -20,7 +20,8 @@ use Rattle.vac_order.specs.declared.ordering.Outcome.{Outcome}
 use Rattle.vac_order.specs.declared.ordering.Outcome.TheVariants as outcome
 use Rattle.vac_order.specs.Calls.{no_call}
 use Rattle.vac_order.specs.Reading.{call_at}
-use Rattle.vac_order.specs.Found.{Found, Wrong, Order, NoOrder, Undecided, IsFound, numbered, line_at, order_text}
+use Rattle.vac_order.specs.Found.{FoundOfText, Wrong, Order, NoOrder, Undecided, IsFound, calls_numbered, line_at}
+use Rattle.vac_order.specs.Found.{order_text}
 use Rattle.vac_order.specs.Found.{found_text}
 use Rattle.vac_order.specs.Ordering.{outcome_of, FindsText}
 use Rattle.vac_order.specs.Laws.{IsJudgedLegal, IsOrderOfText, OrderIsJudgedLegal}
@@ -65,7 +66,7 @@ read_at (x ∷ xs) (c ∷ cs) (suc p) e l =
 
 -- the lines with these numbers are the calls with these numbers
 order_listed : (bytes : List ℕ) (calls : List Call) (ns : List ℕ) → Lists bytes calls → All (λ n. 1 ≤ n) ns
-    → All (λ n. n ≤ length calls) ns → Lists (order_text bytes ns) (numbered calls ns)
+    → All (λ n. n ≤ length calls) ns → Lists (order_text bytes ns) (calls_numbered calls ns)
 order_listed bytes calls [] l f h = refl
 order_listed bytes calls (n ∷ ns) l f h =
     let first : 1 ≤ n = All-head (λ n. 1 ≤ n) n ns f in
@@ -91,12 +92,12 @@ legal_text : LegalSummary → (n steps : ℕ) (bytes text : List ℕ) → FindsT
     → (calls : List Call) × IsJudgedLegal n text calls × IsOrderOfText bytes calls
 legal_text summary n steps bytes text f = go f.found f.is f.answered f.text_is
   where
-    go : (found : Found) → IsFound n steps bytes found → outcome.Ordered ≡ outcome_of found →
+    go : (found : FoundOfText) → IsFound n steps bytes found → outcome.Ordered ≡ outcome_of found →
         text ≡ found_text bytes found
         → (calls : List Call) × IsJudgedLegal n text calls × IsOrderOfText bytes calls
     go (Wrong verdict) is a t = absurd (illegal_not a)
     go (Order numbers) is a t =
-        let calls = numbered is.calls numbers in
+        let calls = calls_numbered is.calls numbers in
         let listed : Lists text calls =
         subst (λ x. Lists x calls) (sym t) (order_listed bytes is.calls numbers is.listed is.numbers_are.first
         is.numbers_are.last) in (

@@ -42,16 +42,16 @@ without_next client (call ∷ rest) =
     if call.client == client then rest else call ∷ without_next client rest
 
 -- the configuration that a call leaves
-abbrev pub after : Configuration → Call → Configuration
-after at call = record {
+abbrev pub after_call : Configuration → Call → Configuration
+after_call at call = record {
   rest = without_next call.client at.rest;
   state = (run at.state call.task).0;
 }
 
 -- these calls, one after the other, may come next and give their replies, and lead there
-abbrev pub Reaches : Configuration → List Call → Configuration → Type 0
-Reaches a [] b = a ≡ b
-Reaches a (call ∷ calls) b = Goes a call × Reaches (after a call) calls b
+abbrev pub CallsReach : Configuration → List Call → Configuration → Type 0
+CallsReach a [] b = a ≡ b
+CallsReach a (call ∷ calls) b = Goes a call × CallsReach (after_call a call) calls b
 
 -- what a call is counted as: those that were never answered do not count
 abbrev pub weight : Call → ℕ
@@ -65,11 +65,11 @@ answered (call ∷ calls) = weight call + answered calls
 -- of `total` answered calls in all, at most `most` ever have a place from here on
 abbrev pub PlacesAtMost : ℕ → ℕ → Configuration → Type 0
 PlacesAtMost total most at = (calls : List Call) (b : Configuration) →
-    Reaches at calls b → total ≤ most + answered b.rest
+    CallsReach at calls b → total ≤ most + answered b.rest
 
 -- from the start these calls lead here, where `most` answered ones have a place and some have none
 pub record Deepest (start : Configuration) (most : ℕ) (at : Configuration) : Type 0 where
   pub calls : List Call
-  pub reaches : Reaches start calls at
+  pub reaches : CallsReach start calls at
   pub count : most + answered at.rest ≡ answered start.rest
   pub some : 1 ≤ answered at.rest

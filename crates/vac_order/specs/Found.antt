@@ -21,15 +21,15 @@ use Rattle.vac_order.specs.Reading.{first_wrong, call_at}
 -- what is found: a line that is wrong; the numbers of the lines in an order that is a
 -- linearization; that there is none, the most answered calls that have a place, and there the lines
 -- of the calls that are stuck, each with the reply that was expected; or that neither is known
-pub data Found : Type 0 where
-  Wrong : (verdict : Verdict) → Found
-  Order : (numbers : List ℕ) → Found
-  NoOrder : (most : ℕ) → (stuck : List (ℕ × Reply)) → Found
-  Undecided : (most : ℕ) → Found
+pub data FoundOfText : Type 0 where
+  Wrong : (verdict : Verdict) → FoundOfText
+  Order : (numbers : List ℕ) → FoundOfText
+  NoOrder : (most : ℕ) → (stuck : List (ℕ × Reply)) → FoundOfText
+  Undecided : (most : ℕ) → FoundOfText
 
 -- the calls of the lines with these numbers, in this order
-abbrev pub numbered : List Call → List ℕ → List Call
-numbered calls numbers = map (call_at calls) numbers
+abbrev pub calls_numbered : List Call → List ℕ → List Call
+calls_numbered calls numbers = map (call_at calls) numbers
 
 -- these are numbers of lines, each once
 pub record AreNumbers (calls : List Call) (numbers : List ℕ) : Type 0 where
@@ -43,16 +43,16 @@ pub record IsOrdered (n : ℕ) (bytes : List ℕ) (numbers : List ℕ) : Type 0 
   pub calls : List Call
   pub listed : Lists bytes calls
   pub numbers_are : AreNumbers calls numbers
-  pub orders : IsOrderOf calls (numbered calls numbers)
-  pub linearization : IsLinearization n (numbered calls numbers)
+  pub orders : IsOrderOf calls (calls_numbered calls numbers)
+  pub linearization : IsLinearization n (calls_numbered calls numbers)
 
 -- the lines of a text are calls, each client's in turn, which a search keeps in the order of these
 -- numbers
-pub record AreKept (bytes : List ℕ) (calls : List Call) (numbers : List ℕ) : Type 0 where
+pub record AreKeptInOrder (bytes : List ℕ) (calls : List Call) (numbers : List ℕ) : Type 0 where
   pub listed : Lists bytes calls
   pub right : first_wrong bytes ≡ None
   pub numbers_are : AreNumbers calls numbers
-  pub merges : IsMerge calls (numbered calls numbers)
+  pub merges : IsMerge calls (calls_numbered calls numbers)
 
 -- the calls that are stuck are given by the numbers of their lines
 abbrev pub told_by : List ℕ → List Stuck → List (ℕ × Reply)
@@ -65,32 +65,32 @@ told_by numbers stuck = map (λ one. (get_or numbers one.place 0, one.expected))
 pub record HasNone (n : ℕ) (bytes : List ℕ) (most : ℕ) (stuck : List (ℕ × Reply)) : Type 0 where
   pub calls : List Call
   pub numbers : List ℕ
-  pub kept : AreKept bytes calls numbers
+  pub kept : AreKeptInOrder bytes calls numbers
   pub none : IsLinearizable n calls → ⊥
   pub made : ℕ → Bool
   pub state : State
-  pub deepest : Deepest (start n (numbered calls numbers)) most
-      (record { rest = rest_of made 0 (numbered calls numbers); state = state })
-  pub bound : PlacesAtMost (answered (numbered calls numbers)) most
-      (start n (numbered calls numbers))
+  pub deepest : Deepest (start n (calls_numbered calls numbers)) most
+      (record { rest = rest_of made 0 (calls_numbered calls numbers); state = state })
+  pub bound : PlacesAtMost (answered (calls_numbered calls numbers)) most
+      (start n (calls_numbered calls numbers))
   pub found : List Stuck
-  pub are : AreStuck state made (numbered calls numbers) found
+  pub are : AreStuck state made (calls_numbered calls numbers) found
   pub told : stuck ≡ told_by numbers found
 
 -- after `steps` steps neither an order is found nor that there is none; `most` answered calls had a
 -- place in what was tried, and nowhere had more
-pub record IsOpen (n : ℕ) (bytes : List ℕ) (steps most : ℕ) : Type 0 where
+pub record IsLeftOpen (n : ℕ) (bytes : List ℕ) (steps most : ℕ) : Type 0 where
   pub calls : List Call
   pub numbers : List ℕ
-  pub kept : AreKept bytes calls numbers
-  pub undecided : IsUndecided (start n (numbered calls numbers)) steps most
+  pub kept : AreKeptInOrder bytes calls numbers
+  pub undecided : IsUndecided (start n (calls_numbered calls numbers)) steps most
 
 -- this is found of a text, for a system of n blocks, in this many steps
-abbrev pub IsFound : ℕ → ℕ → List ℕ → Found → Type 0
+abbrev pub IsFound : ℕ → ℕ → List ℕ → FoundOfText → Type 0
 IsFound n steps bytes (Wrong verdict) = first_wrong bytes ≡ Some verdict
 IsFound n steps bytes (Order numbers) = IsOrdered n bytes numbers
 IsFound n steps bytes (NoOrder most stuck) = HasNone n bytes most stuck
-IsFound n steps bytes (Undecided most) = IsOpen n bytes steps most
+IsFound n steps bytes (Undecided most) = IsLeftOpen n bytes steps most
 
 -- the line with a number, the first being 1, as it came
 abbrev pub line_at : List ℕ → ℕ → List ℕ
@@ -115,7 +115,7 @@ abbrev pub open_text : ℕ → List ℕ
 open_text most = as_line (codes "undecided " ++ decimal most)
 
 -- what is written of it
-abbrev pub found_text : List ℕ → Found → List ℕ
+abbrev pub found_text : List ℕ → FoundOfText → List ℕ
 found_text bytes (Wrong verdict) = verdict_text verdict
 found_text bytes (Order numbers) = order_text bytes numbers
 found_text bytes (NoOrder most stuck) = none_text most stuck

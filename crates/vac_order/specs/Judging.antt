@@ -30,7 +30,8 @@ pub record HasNoOrder (n : ℕ) (calls : List Call) (most : ℕ) (at : Configura
   pub bound : PlacesAtMost (answered calls) most (start n calls)
 
 -- what is found of the calls, for a system of n blocks, in this many steps
-abbrev pub Judges : {W : Type 0} → (W → Configuration) → ℕ → List Call → ℕ → Finding W → Type 0
-Judges at n calls steps (finding.Order places) = IsLinearizedBy n calls places.items
-Judges at n calls steps (finding.NoOrder most world) = HasNoOrder n calls most (at world)
-Judges at n calls steps (finding.Unknown most) = IsUndecided (start n calls) steps most
+abbrev pub IsFoundOfCalls : {W : Type 0} → (W → Configuration) → ℕ → List Call → ℕ
+    → Finding W → Type 0
+IsFoundOfCalls at n calls steps (finding.Order places) = IsLinearizedBy n calls places.items
+IsFoundOfCalls at n calls steps (finding.NoOrder most world) = HasNoOrder n calls most (at world)
+IsFoundOfCalls at n calls steps (finding.Unknown most) = IsUndecided (start n calls) steps most

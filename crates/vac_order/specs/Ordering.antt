@@ -6,10 +6,10 @@ use Rattle.vac_streams.specs.declared.fault.StreamFault.{StreamFault}
 use Rattle.vac_streams.specs.declared.fault.StreamFault.TheVariants as fault
 use Rattle.vac_order.specs.declared.ordering.Outcome.{Outcome}
 use Rattle.vac_order.specs.declared.ordering.Outcome.TheVariants as outcome
-use Rattle.vac_order.specs.Found.{Found, Wrong, Order, NoOrder, Undecided, IsFound, found_text}
+use Rattle.vac_order.specs.Found.{FoundOfText, Wrong, Order, NoOrder, Undecided, IsFound, found_text}
 
 -- what is returned for what is found
-abbrev pub outcome_of : Found → Outcome
+abbrev pub outcome_of : FoundOfText → Outcome
 outcome_of (Wrong verdict) = outcome.Illegal
 outcome_of (Order numbers) = outcome.Ordered
 outcome_of (NoOrder most stuck) = outcome.Illegal
@@ -18,7 +18,7 @@ outcome_of (Undecided most) = outcome.Undecided
 -- this is found of a text; this is what is written of it, and this is returned
 pub record FindsText (n steps : ℕ) (bytes : List ℕ) (result : Outcome) (text : List ℕ) :
     Type 0 where
-  pub found : Found
+  pub found : FoundOfText
   pub is : IsFound n steps bytes found
   pub answered : result ≡ outcome_of found
   pub text_is : text ≡ found_text bytes found
@@ -53,8 +53,8 @@ pub record HasOrderedInPart (n steps : ℕ) (unread left held holds : Option (Li
 -- a fault ended it: one of the output while the text was written, any other before
 -- Not said: which of Read, Memory and Bound ends it; that the output failed where Write is
 -- returned.
-abbrev pub HasStopped : ℕ → ℕ → StreamFault → Option (List ℕ) → Option (List ℕ)
+abbrev pub HasStoppedOrdering : ℕ → ℕ → StreamFault → Option (List ℕ) → Option (List ℕ)
     → Option (List ℕ) → Option (List ℕ) → Type 0
-HasStopped n steps fault.Write unread left held holds =
+HasStoppedOrdering n steps fault.Write unread left held holds =
     HasOrderedInPart n steps unread left held holds
-HasStopped n steps fault unread left held holds = Appends held holds []
+HasStoppedOrdering n steps fault unread left held holds = Appends held holds []

@@ -17,7 +17,7 @@ use Rattle.vac_judge.specs.declared.verdict.Verdict.{Verdict}
 use Rattle.vac_judge.specs.declared.verdict.Verdict.TheVariants.{Fault, Illegal}
 use Rattle.vac_judge.specs.declared.verdict.Wrong.TheVariants.{Client}
 use Rattle.vac_judge.specs.Call.{Call, line_call}
-use Rattle.vac_judge.specs.Order.{breaks_client}
+use Rattle.vac_judge.specs.Order.{call_breaks_client}
 use Rattle.vac_judge.specs.Follows.{EachCall}
 use Rattle.vac_judge.specs.Laws.{Lists}
 use Rattle.vac_order.specs.declared.line.Line.{Line}
@@ -36,7 +36,7 @@ abbrev pub wrong_behind : List Call → List (Result Call CallFault) → Option 
 wrong_behind calls [] = None
 wrong_behind calls (Err fault ∷ rest) = Some (Fault (length calls + 1) fault)
 wrong_behind calls (Ok call ∷ rest) =
-    if breaks_client calls call then Some (Illegal (length calls + 1) Client)
+    if call_breaks_client calls call then Some (Illegal (length calls + 1) Client)
     else wrong_behind (calls ++ call ∷ []) rest
 
 -- what is wrong with the first line of a text that is no call or not in turn
@@ -64,13 +64,13 @@ began_before None begin = false
 began_before (Some end) begin = nat_lt begin end
 
 -- both calls are of one client, and the later one began before the earlier one had ended
-abbrev pub overlaps : Call → Call → Bool
-overlaps call earlier = earlier.client == call.client && nat_lt call.begin earlier.end
+abbrev pub calls_overlap : Call → Call → Bool
+calls_overlap call earlier = earlier.client == call.client && nat_lt call.begin earlier.end
 
 -- the last end of each client shows whether a call overlaps an earlier one
 abbrev pub KeepsEnds : FinMap nat_cmp ℕ → List Call → Type 0
 KeepsEnds ends calls = (call : Call) →
-    list_any (overlaps call) calls ≡ began_before (get ends call.client) call.begin
+    list_any (calls_overlap call) calls ≡ began_before (get ends call.client) call.begin
 
 -- the calls that were read are each client's in turn, and their lines are numbered
 pub record IsHeld (history : History) : Type 0 where
@@ -109,7 +109,7 @@ AreSortOf lines sorted =
 
 -- the call of a line, which is in turn, was taken
 pub record Took (before after : History) (text : List ℕ) (call : Call) : Type 0 where
-  pub fits : breaks_client (calls_of before.lines.items) call ≡ false
+  pub fits : call_breaks_client (calls_of before.lines.items) call ≡ false
   pub held : IsHeld after
   pub texts : texts_of after.lines.items ≡ texts_of before.lines.items ++ text ∷ []
   pub calls : calls_of after.lines.items ≡ calls_of before.lines.items ++ call ∷ []
@@ -133,12 +133,14 @@ abbrev pub next_line : HistoryText → ℕ
 next_line text = length text.history.lines.items + 1
 
 -- what telling a line does to a text
-abbrev pub HearsLine : HistoryText → told.Told → Result Next StreamFault → HistoryText → Type 0
-HearsLine x told (Err fault) y = fault ≢ Write
-HearsLine x (told.Line text) (Ok GoOn) y = IsHeld x.history → TookLine x y text
-HearsLine x (told.Line text) (Ok Stop) y = IsHeld x.history → StopsAt x y (line_call text)
-HearsLine x told.LongLine (Ok next) y = (next ≡ Stop) × StopsAt x y (Err (fault.Line LongLine))
-HearsLine x told.Pause (Ok next) y = (next ≡ GoOn) × (y ≡ x)
+abbrev pub HistoryHearsLine : HistoryText → told.Told → Result Next StreamFault
+    → HistoryText → Type 0
+HistoryHearsLine x told (Err fault) y = fault ≢ Write
+HistoryHearsLine x (told.Line text) (Ok GoOn) y = IsHeld x.history → TookLine x y text
+HistoryHearsLine x (told.Line text) (Ok Stop) y = IsHeld x.history → StopsAt x y (line_call text)
+HistoryHearsLine x told.LongLine (Ok next) y =
+    (next ≡ Stop) × StopsAt x y (Err (fault.Line LongLine))
+HistoryHearsLine x told.Pause (Ok next) y = (next ≡ GoOn) × (y ≡ x)
 
 -- the input was read to its end, and its lines are these calls, each client's in turn
 pub record ReadWhole (unread left : Option (List ℕ)) (history : History) : Type 0 where
@@ -159,6 +161,6 @@ pub record ReadWrong (unread left : Option (List ℕ)) (verdict : Verdict) : Typ
       ⊎ ((x : List ℕ) → first_wrong (bytes ++ x) ≡ Some verdict)
 
 -- what was read
-abbrev pub WasRead : Option (List ℕ) → Option (List ℕ) → Reading → Type 0
-WasRead unread left (Whole history) = ReadWhole unread left history
-WasRead unread left (Wrong verdict) = ReadWrong unread left verdict
+abbrev pub WasReadAs : Option (List ℕ) → Option (List ℕ) → Reading → Type 0
+WasReadAs unread left (Whole history) = ReadWhole unread left history
+WasReadAs unread left (Wrong verdict) = ReadWrong unread left verdict

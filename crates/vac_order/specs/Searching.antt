@@ -2,8 +2,8 @@
 use Rattle.std.specs.Prelude.{◌≡◌, ◌⊎◌, ◌+◌, ◌≤◌, ℕ, suc, zero, max, true, false, List, [], ◌∷◌, ◌++◌}
 use Rattle.std.specs.List.{Contains}
 use Rattle.vac_judge.specs.Call.{Call}
-use Rattle.vac_order.specs.Configurations.{Configuration, MayBegin, Reaches, fits, after, weight, answered}
-use Rattle.vac_order.specs.Walk.{AreChoices, AreApart, Place}
+use Rattle.vac_order.specs.Configurations.{Configuration, MayBegin, CallsReach, fits, after_call, weight, answered}
+use Rattle.vac_order.specs.Walk.{AreChoices, AreApart, PathPlace}
 
 -- where a search is, how many answered calls have a place there, the calls that are left to try,
 -- the path that led there, and the configurations from which nothing is left to try
@@ -11,12 +11,12 @@ pub record Search : Type 0 where
   pub at : Configuration
   pub placed : ℕ
   pub tries : List Call
-  pub path : List Place
+  pub path : List PathPlace
   pub known : List Configuration
 
 -- no step was made: answered calls are left, and those that may come next are all left to try, each
 -- client's once
-pub record HasBegun (start : Configuration) (search : Search) : Type 0 where
+pub record SearchHasBegun (start : Configuration) (search : Search) : Type 0 where
   pub at : search.at ≡ start
   pub placed : search.placed ≡ 0
   pub path : search.path ≡ []
@@ -26,7 +26,7 @@ pub record HasBegun (start : Configuration) (search : Search) : Type 0 where
   pub apart : AreApart search.tries
 
 -- this call is tried, which may come next; these are left
-pub record Tried (search : Search) (call : Call) (others : List Call) : Type 0 where
+pub record IsTried (search : Search) (call : Call) (others : List Call) : Type 0 where
   pub is : search.tries ≡ call ∷ others
   pub may : MayBegin search.at.rest call
 
@@ -34,21 +34,21 @@ pub record Tried (search : Search) (call : Call) (others : List Call) : Type 0 w
 pub record PassesOver (search next : Search) : Type 0 where
   pub call : Call
   pub others : List Call
-  pub tried : Tried search call others
-  pub why : (fits search.at.state call ≡ false) ⊎ Contains search.known (after search.at call)
+  pub tried : IsTried search call others
+  pub why : (fits search.at.state call ≡ false) ⊎ Contains search.known (after_call search.at call)
   pub is : next ≡ record search { tries = others }
 
 -- a call is tried and made, and answered calls are left; those that may come next are all left to
 -- try, each client's once
 -- Not said: that a configuration that is known is not entered again; in which order the calls that
 -- may come next are tried.
-pub record GoesOn (search next : Search) : Type 0 where
+pub record GoesDeeper (search next : Search) : Type 0 where
   pub call : Call
   pub others : List Call
-  pub tried : Tried search call others
+  pub tried : IsTried search call others
   pub fit : fits search.at.state call ≡ true
-  pub some : 1 ≤ answered (after search.at call).rest
-  pub at : next.at ≡ after search.at call
+  pub some : 1 ≤ answered (after_call search.at call).rest
+  pub at : next.at ≡ after_call search.at call
   pub placed : next.placed ≡ search.placed + weight call
   pub choices : AreChoices next.at.rest next.tries
   pub apart : AreApart next.tries
@@ -62,8 +62,8 @@ pub record GoesOn (search next : Search) : Type 0 where
 
 -- nothing is left to try: that is known now, and the search goes back by one place of the path
 pub record GoesBack (search next : Search) : Type 0 where
-  pub path : List Place
-  pub place : Place
+  pub path : List PathPlace
+  pub place : PathPlace
   pub none : search.tries ≡ []
   pub led : search.path ≡ path ++ place ∷ []
   pub is : next ≡ record {
@@ -76,12 +76,12 @@ pub record GoesBack (search next : Search) : Type 0 where
 
 -- what one step makes of a search
 abbrev pub MakesStep : Search → Search → Type 0
-MakesStep search next = PassesOver search next ⊎ GoesOn search next ⊎ GoesBack search next
+MakesStep search next = PassesOver search next ⊎ GoesDeeper search next ⊎ GoesBack search next
 
 -- a search that began there has made this many steps, and nowhere placed more than this many
 -- answered calls
 abbrev pub HasMade : ℕ → Configuration → Search → ℕ → Type 0
-HasMade zero start search most = HasBegun start search × (most ≡ 0)
+HasMade zero start search most = SearchHasBegun start search × (most ≡ 0)
 HasMade (suc steps) start search most =
     (before : Search) × (less : ℕ) × HasMade steps start before less × MakesStep before search
     × (most ≡ max less search.placed)
@@ -90,7 +90,7 @@ HasMade (suc steps) start search most =
 pub record Places (start : Configuration) (most : ℕ) : Type 0 where
   pub calls : List Call
   pub at : Configuration
-  pub reaches : Reaches start calls at
+  pub reaches : CallsReach start calls at
   pub count : most + answered at.rest ≡ answered start.rest
 
 -- a search that began there has made `steps` steps, and neither found an order nor seen that there

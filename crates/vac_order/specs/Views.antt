@@ -1,7 +1,7 @@
 -- How the worlds of a search are seen.
 use Rattle.std.specs.Prelude.{◌≡◌, ◌+◌, ◌<◌, ◌^◌, ◌==◌, ◌||◌, ℕ, Bool, true, false, Option, Some, None, List, [], ◌∷◌}
 use Rattle.vac_judge.specs.Call.{Call}
-use Rattle.vac_order.specs.Configurations.{Configuration, MayBegin, fits, after}
+use Rattle.vac_order.specs.Configurations.{Configuration, MayBegin, fits, after_call}
 
 -- where a world is, how many places there are, the call that a place names, whether the call at a
 -- place has one in the order, whether it may come next, and the calls that are left to try in a
@@ -19,7 +19,7 @@ abbrev pub TellsLeft : ℕ → Bool → Type 0
 TellsLeft left done = (done ≡ true → left ≡ 0) × (done ≡ false → 0 < left)
 
 -- the next call to try from a place on is there
-pub record IsNext {W : Type 0} (views : Views W) (world : W) (from place : ℕ) : Type 0 where
+pub record IsNextToTry {W : Type 0} (views : Views W) (world : W) (from place : ℕ) : Type 0 where
   pub is : views.tries world from ≡ views.call place ∷ views.tries world (place + 1)
   pub may : MayBegin (views.at world).rest (views.call place)
   pub can : views.can world place ≡ true
@@ -30,12 +30,12 @@ pub record IsNext {W : Type 0} (views : Views W) (world : W) (from place : ℕ) 
 -- what is left to try from a place on
 abbrev pub TellsNext : {W : Type 0} → Views W → W → ℕ → Option ℕ → Type 0
 TellsNext views world from None = views.tries world from ≡ []
-TellsNext views world from (Some place) = IsNext views world from place
+TellsNext views world from (Some place) = IsNextToTry views world from place
 
 -- what a call led to: no world where it has another reply
 abbrev pub LedTo : {W : Type 0} → Views W → W → ℕ → Option W → Type 0
 LedTo views world place None = fits (views.at world).state (views.call place) ≡ false
 LedTo views world place (Some next) =
     (fits (views.at world).state (views.call place) ≡ true)
-    × (views.at next ≡ after (views.at world) (views.call place))
+    × (views.at next ≡ after_call (views.at world) (views.call place))
     × ((p : ℕ) → views.made next p ≡ (views.made world p || p == place))

@@ -5,7 +5,7 @@ use Rattle.std.specs.List.{Contains}
 use Rattle.vac_judge.specs.Call.{Call}
 use Rattle.vac_judge.specs.Follows.{IsBehind, EachCall}
 use Rattle.vac_order.specs.Orders.{is_answered}
-use Rattle.vac_order.specs.Configurations.{Configuration, MayBegin, Goes, Reaches, after, answered, PlacesAtMost, Deepest}
+use Rattle.vac_order.specs.Configurations.{Configuration, MayBegin, Goes, CallsReach, after_call, answered, PlacesAtMost, Deepest}
 
 -- each client's calls are in their order, and take time
 abbrev pub InTurn : List Call → Type 0
@@ -35,7 +35,7 @@ AreApart (call ∷ calls) = EachCall (λ other. other.client ≢ call.client) ca
 
 -- through this call at most `most` calls have a place
 abbrev pub IsLost : ℕ → ℕ → Configuration → Call → Type 0
-IsLost total most at call = Goes at call → PlacesAtMost total most (after at call)
+IsLost total most at call = Goes at call → PlacesAtMost total most (after_call at call)
 
 -- from a configuration at most this many calls have a place, where that is so through these calls;
 -- this holds of each number from the least on
@@ -45,31 +45,32 @@ HangsOn total least at calls = (most : ℕ) → least ≤ most → All (IsLost t
 
 -- a place of the path: its configuration, how many answered calls have a place there, the call that
 -- was made there, and the calls that are left to try
-pub record Place : Type 0 where
+pub record PathPlace : Type 0 where
   pub at : Configuration
   pub placed : ℕ
   pub call : Call
   pub others : List Call
 
 -- at this place this call was made
-pub record Made (total least : ℕ) (place : Place) : Type 0 where
+pub record Made (total least : ℕ) (place : PathPlace) : Type 0 where
   pub goes : Goes place.at place.call
   pub count : place.placed + answered place.at.rest ≡ total
-  pub hangs : (most : ℕ) → least ≤ most → PlacesAtMost total most (after place.at place.call) →
+  pub hangs : (most : ℕ) → least ≤ most → PlacesAtMost total most (after_call place.at place.call) →
       All (IsLost total most place.at) place.others → total ≤ most + answered place.at.rest →
       PlacesAtMost total most place.at
 
 -- the path leads from one configuration to another
-abbrev pub Leads : ℕ → ℕ → Configuration → List Place → Configuration → Type 0
-Leads total least a [] b = a ≡ b
-Leads total least a (place ∷ path) b =
-    (a ≡ place.at) × Made total least place × Leads total least (after place.at place.call) path b
+abbrev pub PathLeads : ℕ → ℕ → Configuration → List PathPlace → Configuration → Type 0
+PathLeads total least a [] b = a ≡ b
+PathLeads total least a (place ∷ path) b =
+    (a ≡ place.at) × Made total least place
+    × PathLeads total least (after_call place.at place.call) path b
 
 -- a search that began at a configuration, and has seen `most` answered calls placed
 pub record IsWalk (start : Configuration) (most : ℕ) (at : Configuration) (placed : ℕ)
-    (tries : List Call) (path : List Place) (known : List Configuration) : Type 0 where
+    (tries : List Call) (path : List PathPlace) (known : List Configuration) : Type 0 where
   pub whole : IsWhole start.rest
-  pub leads : Leads (answered start.rest) most start path at
+  pub leads : PathLeads (answered start.rest) most start path at
   pub hangs : HangsOn (answered start.rest) most at tries
   pub dead : All (PlacesAtMost (answered start.rest) most) known
   pub count : placed + answered at.rest ≡ answered start.rest
@@ -90,5 +91,5 @@ KeepsDeepest start most place (at ∷ known) = IsDeepest start most place (at �
 -- these calls, in this order, are an order of all, and each gives its reply
 pub record Completes (at : Configuration) (order : List Call) : Type 0 where
   pub to : Configuration
-  pub reaches : Reaches at order to
+  pub reaches : CallsReach at order to
   pub done : answered to.rest ≡ 0

@@ -10,12 +10,12 @@ use Rattle.vac_order.specs.declared.walk.Finding.{Finding}
 use Rattle.vac_order.specs.declared.walk.Finding.TheVariants as finding
 use Rattle.vac_order.specs.Configurations.{Configuration, Goes, answered, PlacesAtMost, Deepest}
 use Rattle.vac_order.specs.Searching.{Search, HasMade, IsUndecided}
-use Rattle.vac_order.specs.Walk.{Place, IsWalk, KeepsDeepest, Completes}
+use Rattle.vac_order.specs.Walk.{PathPlace, IsWalk, KeepsDeepest, Completes}
 use Rattle.vac_order.specs.Views.{Views}
 
 -- the place of the path that a frame stands for
-abbrev pub place_of : {W : Type 0} → Views W → Frame W → Place
-place_of views frame = record {
+abbrev pub path_place : {W : Type 0} → Views W → Frame W → PathPlace
+path_place views frame = record {
   at = views.at frame.world;
   placed = frame.placed;
   call = views.call frame.place;
@@ -47,7 +47,7 @@ search_of views world placed path known tries = record {
   at = views.at world;
   placed = placed;
   tries = tries;
-  path = map (place_of views) path;
+  path = map (path_place views) path;
   known = map views.at known;
 }
 
@@ -57,7 +57,7 @@ search_of views world placed path known tries = record {
 pub record IsSearch {W : Type 0} (views : Views W) (start : Configuration) (steps : ℕ) (world : W)
     (placed : ℕ) (path : List (Frame W)) (known : List W) (best most : ℕ) (tries : List Call) :
     Type 0 where
-  pub is : IsWalk start most (views.at world) placed tries (map (place_of views) path)
+  pub is : IsWalk start most (views.at world) placed tries (map (path_place views) path)
       (map views.at known)
   pub deepest : KeepsDeepest start most best (map views.at known)
   pub made : HasMade steps start (search_of views world placed path known tries) (max most placed)
@@ -76,7 +76,7 @@ Walks views start steps walk =
 
 -- a search that tries the call at a place, which may come next, gives its reply and has no place
 -- yet
-pub record Tries {W : Type 0} (views : Views W) (start : Configuration) (steps : ℕ)
+pub record TriesPlace {W : Type 0} (views : Views W) (start : Configuration) (steps : ℕ)
     (walk : Walk W) (place : ℕ) : Type 0 where
   pub walks : WalksWith views start steps walk
       (views.call place ∷ views.tries walk.world walk.next)
@@ -84,11 +84,11 @@ pub record Tries {W : Type 0} (views : Views W) (start : Configuration) (steps :
   pub left : views.made walk.world place ≡ false
 
 -- the deepest of the worlds that are known is one of them, where there are any
-abbrev pub IsWithin : {W : Type 0} → Walk W → Type 0
-IsWithin walk = walk.best ≤ vec_len walk.known.worlds
+abbrev pub BestIsWithin : {W : Type 0} → Walk W → Type 0
+BestIsWithin walk = walk.best ≤ vec_len walk.known.worlds
 
 abbrev pub StaysWithin : {W : Type 0} → Step W → Type 0
-StaysWithin (step.On walk) = IsWithin walk
+StaysWithin (step.On walk) = BestIsWithin walk
 StaysWithin (step.Found places) = ⊤
 StaysWithin (step.NoOrder most world) = ⊤
 
@@ -121,7 +121,7 @@ StepsTo views start steps (step.Found places) = CompletesBy views start places.i
 StepsTo views start steps (step.NoOrder most world) = FailsBy views start most world
 
 -- what is found from a configuration, in `steps` steps
-abbrev pub Finds : {W : Type 0} → Views W → Configuration → ℕ → Finding W → Type 0
-Finds views start steps (finding.Order places) = CompletesBy views start places.items
-Finds views start steps (finding.NoOrder most world) = FailsBy views start most world
-Finds views start steps (finding.Unknown most) = IsUndecided start steps most
+abbrev pub FindsFrom : {W : Type 0} → Views W → Configuration → ℕ → Finding W → Type 0
+FindsFrom views start steps (finding.Order places) = CompletesBy views start places.items
+FindsFrom views start steps (finding.NoOrder most world) = FailsBy views start most world
+FindsFrom views start steps (finding.Unknown most) = IsUndecided start steps most

@@ -2,7 +2,7 @@
 
 ghost use Rattle.std.specs.Prelude.{◌≡◌, ◌<◌, ◌^◌, true, [], not, IfOk, MatchBool};
 ghost use Rattle.vac_model.specs.Ranges.{is_task};
-ghost use Rattle.vac_judge.specs.Order.{breaks_client};
+ghost use Rattle.vac_judge.specs.Order.{call_breaks_client};
 ghost use Rattle.vac_judge.specs.Parts.{shown_call, shown_end, shown_reply};
 ghost use Rattle.vac_order.specs.Calls.{calls_of, given_text};
 ghost use Rattle.vac_order.specs.Reading.{IsHeld, IsLineOf, Took};
@@ -75,7 +75,8 @@ impl History {
     /// Whether a call is in turn after those of its client.
     fn is_in_turn(&self, call: &CallLine<'_>) -> bool
         ensures { IsHeld self.now →
-            result ≡ not (breaks_client (calls_of self.now.lines.items) (shown_call call.now)) }
+            result ≡ not (call_breaks_client (calls_of self.now.lines.items)
+            (shown_call call.now)) }
     {
         let begin = u128::from(call.begin);
         if end_of(call.answer) < begin {
@@ -97,7 +98,7 @@ impl History {
         requires { is_task call.task ≡ true }
         ensures { IfOk result (λ taken. IsHeld self.old → MatchBool taken
             (Took self.old self.new text.now (shown_call call.entry))
-            (breaks_client (calls_of self.old.lines.items) (shown_call call.entry) ≡ true)) }
+            (call_breaks_client (calls_of self.old.lines.items) (shown_call call.entry) ≡ true)) }
     {
         if !self.is_in_turn(&call) {
             return Ok(false);

@@ -3,7 +3,7 @@
 ghost use Rattle.std.specs.Prelude.{◌≡◌, ℕ, IfOk, IfSome};
 ghost use Rattle.vac_model.specs.State.{empty_state};
 ghost use Rattle.vac_order.specs.Calls.{calls_of};
-ghost use Rattle.vac_order.specs.Judging.{IsLinearizedBy, Judges};
+ghost use Rattle.vac_order.specs.Judging.{IsLinearizedBy, IsFoundOfCalls};
 ghost use Rattle.vac_order.specs.Point.{point_at};
 ghost use Rattle.vac_order.specs.Walk.{IsWhole};
 ghost use Rattle.vac_order.specs.Reading.{IsHeld, AreKeptLines};
@@ -54,7 +54,8 @@ pub(crate) fn judge_order<M: Machine + Drop, P: Watcher>(
 ) -> Result<Finding<Point<M>>, AllocError>
     requires { IsWhole (calls_of calls.now.lines.items) }
     ensures { IfOk result (λ found. (n : ℕ) → M.state machine ≡ empty_state n →
-        Judges (point_at M.state calls.now) n (calls_of calls.now.lines.items) steps found) }
+        IsFoundOfCalls (point_at M.state calls.now) n (calls_of calls.now.lines.items)
+        steps found) }
 {
     if let Some(places) = quick_order(alloc, calls, &machine, steps, watcher)? {
         return Ok(Finding::Order(places));
@@ -84,7 +85,7 @@ pub(crate) fn judge_lines<M: Machine + Drop, P: Watcher>(
     ensures kept { IfOk result (λ ordered.
         AreKeptLines history.lines.items ordered.calls.lines.items) }
     ensures judged { IfOk result (λ ordered. (n : ℕ) → M.state machine ≡ empty_state n →
-        Judges (point_at M.state ordered.calls) n (calls_of ordered.calls.lines.items) steps
+        IsFoundOfCalls (point_at M.state ordered.calls) n (calls_of ordered.calls.lines.items) steps
         ordered.finding) }
 {
     let calls = Calls::new(history)?;

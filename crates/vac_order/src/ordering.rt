@@ -7,10 +7,10 @@ ghost use Rattle.vac_lines.specs.Lines.{lines_of};
 ghost use Rattle.vac_judge.specs.Laws.{Lists};
 ghost use Rattle.vac_streams.specs.declared.fault.StreamFault.TheVariants.{Write};
 ghost use Rattle.vac_order.specs.Calls.{calls_of};
-ghost use Rattle.vac_order.specs.Judging.{Judges};
+ghost use Rattle.vac_order.specs.Judging.{IsFoundOfCalls};
 ghost use Rattle.vac_order.specs.Point.{point_at};
 ghost use Rattle.vac_order.specs.Reading.{IsHeld, AreKeptLines, texts_of, first_wrong};
-ghost use Rattle.vac_order.specs.Ordering.{FindsText, HasText, HasOrdered, HasStopped};
+ghost use Rattle.vac_order.specs.Ordering.{FindsText, HasText, HasOrdered, HasStoppedOrdering};
 
 use crate::found::{print_no_order, print_order, print_undecided};
 use crate::history::History;
@@ -63,7 +63,8 @@ fn print_finding<M: Machine + Drop>(
 ) -> Result<Outcome, AllocError>
     ensures { IfOk result (λ outcome. (lines : List Line) (n steps : ℕ) (bytes : List ℕ) →
         AreKeptLines lines ordered.now.calls.lines.items →
-        Judges (point_at M.state ordered.now.calls) n (calls_of ordered.now.calls.lines.items)
+        IsFoundOfCalls (point_at M.state ordered.now.calls) n
+        (calls_of ordered.now.calls.lines.items)
         steps ordered.now.finding → texts_of lines ≡ lines_of bytes →
         Lists bytes (calls_of lines) → first_wrong bytes ≡ None → text.old.items ≡ [] →
         FindsText n steps bytes outcome text.new.items) }
@@ -154,7 +155,7 @@ pub fn order_history<R: Read, W: Write, P: Watcher>(
     ensures ok { IfOk result (λ outcome. HasOrdered blocks steps outcome
         (R.remaining input.old) (R.remaining input.new)
         (W.contents output.old) (W.contents output.new)) }
-    ensures err { IfErr result (λ fault. HasStopped blocks steps fault
+    ensures err { IfErr result (λ fault. HasStoppedOrdering blocks steps fault
         (R.remaining input.old) (R.remaining input.new)
         (W.contents output.old) (W.contents output.new)) }
 {

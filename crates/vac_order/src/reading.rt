@@ -5,7 +5,7 @@ ghost use Rattle.vac_judge.specs.declared.verdict.Verdict.TheVariants.{Fault};
 ghost use Rattle.vac_streams.specs.declared.next.Next.TheVariants.{Stop};
 ghost use Rattle.vac_streams.specs.Told.{Line};
 ghost use Rattle.vac_streams.specs.declared.fault.StreamFault.TheVariants.{Write};
-ghost use Rattle.vac_order.specs.Reading.{WasRead, HearsLine, next_line};
+ghost use Rattle.vac_order.specs.Reading.{WasReadAs, HistoryHearsLine, next_line};
 
 use crate::history::History;
 use std::alloc::Global;
@@ -53,7 +53,7 @@ impl HistoryText {
 
     /// Takes a line as one more call.
     fn take_line(&mut self, line: &[u8]) -> Result<Next, StreamFault>
-        ensures { HearsLine self.old (Line line.now) result self.new }
+        ensures { HistoryHearsLine self.old (Line line.now) result self.new }
     {
         let call = match read_call(self.alloc, line) {
             Ok(call) => call,
@@ -77,7 +77,7 @@ impl Sink<()> for HistoryText {
 
     ghost room = { λ _. MOST_LINES };
 
-    ghost hears = { λ x _ told answer y _. HearsLine x told answer y };
+    ghost hears = { λ x _ told answer y _. HistoryHearsLine x told answer y };
 
     fn line(&mut self, line: &[u8], _output: &mut ()) -> Result<Next, StreamFault> {
         self.take_line(line)
@@ -95,7 +95,7 @@ impl Sink<()> for HistoryText {
 /// Reads a history to the end of the input, or to the first line that is no call or not in turn.
 pub(crate) fn read_history<R: Read>(alloc: Global, input: &mut R) -> Result<Reading, StreamFault>
     ensures read { IfOk result (λ reading.
-        WasRead (R.remaining input.old) (R.remaining input.new) reading) }
+        WasReadAs (R.remaining input.old) (R.remaining input.new) reading) }
     ensures refused { IfErr result (λ fault. fault ≢ Write) }
 {
     let mut text = HistoryText {

@@ -2,9 +2,9 @@
 //! left to try.
 
 ghost use Rattle.std.specs.Prelude.{◌≡◌, ◌<◌, ◌≤◌, ◌+◌, ◌++◌, ◌∷◌, [], ◌||◌, ◌==◌, ℕ, suc, max, true, false, IfOk, IfSome, map, if◌then◌else◌};
-ghost use Rattle.vac_order.specs.Configurations.{Configuration, after};
+ghost use Rattle.vac_order.specs.Configurations.{Configuration, after_call};
 ghost use Rattle.vac_order.specs.Walk.{IsWhole};
-ghost use Rattle.vac_order.specs.Walking.{IsWithin, StaysWithin, Walks, WalksWith, Tries, StepsTo, Finds, places_of, best_of};
+ghost use Rattle.vac_order.specs.Walking.{BestIsWithin, StaysWithin, Walks, WalksWith, TriesPlace, StepsTo, FindsFrom, places_of, best_of};
 
 use crate::known::Known;
 use crate::path::{Frame, Walk};
@@ -63,7 +63,7 @@ fn go_back<W: World + Drop>(
     ground: &W::Ground,
     walk: Walk<W>,
 ) -> Result<Step<W>, AllocError>
-    requires { IsWithin walk }
+    requires { BestIsWithin walk }
     ensures within { IfOk result StaysWithin }
     ensures steps { IfOk result (λ step. (start : Configuration) (steps : ℕ)
         → WalksWith (W.view ground.now) start steps walk []
@@ -114,13 +114,13 @@ fn go_on<W: World + Drop>(
     place: usize,
     next: W,
 ) -> Result<Step<W>, AllocError>
-    requires walk { IsWithin walk }
+    requires walk { BestIsWithin walk }
     requires place { place < (W.view ground.now).count }
     ensures within { IfOk result StaysWithin }
     ensures steps { IfOk result (λ step. (start : Configuration) (steps : ℕ)
-        → Tries (W.view ground.now) start steps walk place
+        → TriesPlace (W.view ground.now) start steps walk place
         → (W.view ground.now).at next ≡
-        after ((W.view ground.now).at walk.world) ((W.view ground.now).call place)
+        after_call ((W.view ground.now).at walk.world) ((W.view ground.now).call place)
         → ((p : ℕ) → (W.view ground.now).made next p ≡
         ((W.view ground.now).made walk.world p || p == place))
         → StepsTo (W.view ground.now) start (suc steps) step) }
@@ -163,7 +163,7 @@ fn go_on<W: World + Drop>(
 impl<W: World + Drop> Walk<W> {
     /// One step of the search.
     fn step(self, alloc: Global, ground: &W::Ground) -> Result<Step<W>, AllocError>
-        requires { IsWithin self }
+        requires { BestIsWithin self }
         ensures within { IfOk result StaysWithin }
         ensures steps { IfOk result (λ step. (start : Configuration) (steps : ℕ)
             → Walks (W.view ground.now) start steps self
@@ -202,7 +202,7 @@ pub fn find_order<W: World + Drop, P: Watcher>(
 ) -> Result<Finding<W>, AllocError>
     requires { IsWhole ((W.view ground.now).at start).rest }
     ensures { IfOk result (λ found.
-        Finds (W.view ground.now) ((W.view ground.now).at start) steps found) }
+        FindsFrom (W.view ground.now) ((W.view ground.now).at start) steps found) }
 {
     if start.is_done(ground) {
         return Ok(Finding::Order(Vec::new(alloc)));

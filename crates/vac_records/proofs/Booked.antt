@@ -18,7 +18,7 @@ use Rattle.tx_alloc.proofs.Sums.{with_here, with_else}
 use Rattle.tx_list.specs.Bookings.{IsList}
 use Rattle.vac_model.specs.Coded.{kind_of_number}
 use Rattle.vac_records.specs.Bookings.{place_in, booking_in, place_key}
-use Rattle.vac_records.specs.Represents.{items_in, bookings_in, customers_in, opened, Represents}
+use Rattle.vac_records.specs.Represents.{items_in, bookings_in, customers_in, opened_bookings, Represents}
 use Rattle.vac_records.specs.Laws.{Stays, BookingFound, BookingMissing, BookingInserted, BookingReplaced}
 use Rattle.vac_records.specs.Laws.{BookingRemoved, IsCustomerAt}
 use Rattle.vac_records.proofs.Keyed.{HasRow, Matches, entries_remove, find_absent, find_present, put_absent}
@@ -141,11 +141,12 @@ module _ (m : ℕ → ℕ) (n : ℕ) (out : List ℕ) (s : State) (h : Represent
   -- other bookings of this customer, and those of the others as they were
   rebooked : (m' : ℕ → ℕ) (changed : Bookings) (lists : ℕ → Rows) → entries changed ≡ bookings_in m' (lists c) →
       ((d : ℕ) → 0 < times d (h.parts.tables 3) → d ≢ c → bookings_in m' (lists d) ≡ bookings_in m (h.parts.lists d)) →
-      opened (entries (insert s.customers id changed)) ≡ customers_in m' lists (h.parts.tables 3)
+      opened_bookings (entries (insert s.customers id changed)) ≡ customers_in m' lists (h.parts.tables 3)
   rebooked m' changed lists new others =
       let rows = h.parts.tables 3 in
       let l4 : 3 < 4 = omega arith in
-      ap opened (entries-insert nat_cmp_total s.customers id changed) ∙ (opened_put id changed (entries s.customers)
+      ap opened_bookings (entries-insert nat_cmp_total s.customers id changed) ∙
+      (opened_put id changed (entries s.customers)
       ∙ (ap (λ (z : List (ℕ × List Entry)). put nat_cmp id (entries changed) z) h.customers
       ∙ put_present nat_cmp id id (shelf m h.parts.lists) (shelf m' lists) (entries changed) 0 c rows
       (table_rises m n (m 4) rows (h.heap.tables 3 l4)) (shelf_matches m h.parts.lists id rows) at.at at.some

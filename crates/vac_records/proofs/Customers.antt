@@ -18,7 +18,7 @@ use Rattle.tx_alloc.proofs.Sums.{with_here, with_else}
 use Rattle.tx_alloc.proofs.Outside.{outside_links}
 use Rattle.vac_records.specs.Bookings.{place_in, booking_in}
 use Rattle.vac_records.specs.Heap.{Parts, IsHeap}
-use Rattle.vac_records.specs.Represents.{items_in, bookings_in, customers_in, opened, Represents}
+use Rattle.vac_records.specs.Represents.{items_in, bookings_in, customers_in, opened_bookings, Represents}
 use Rattle.vac_records.specs.Laws.{CustomerFound, CustomerMissing, CustomerInserted, CustomerRemoved, IsCustomerAt}
 use Rattle.vac_records.proofs.Keyed.{Matches, entries_remove, find_absent, find_present, put_absent, cut_present}
 use Rattle.tx_tree.proofs.TableFrame.{table_rises}
@@ -147,8 +147,8 @@ customer_inserted m m' n b out s id bb h none zero_head grown =
     (let is : with_at p.tables 3 (put_row rows id b) 3 ≡ put_row rows id b =
     with_here p.tables 3 3 (put_row rows id b) refl in
     let first : shelf m ls (id, b) ≡ (id, []) = ap (λ (z : Rows). (id, bookings_in m z)) bare in
-    ap opened (entries-insert nat_cmp_total s.customers id empty) ∙ (opened_put id empty (entries s.customers)
-    ∙ (ap (λ (z : List Entry). put nat_cmp id z (opened (entries s.customers))) (entries-empty place_cmp)
+    ap opened_bookings (entries-insert nat_cmp_total s.customers id empty) ∙ (opened_put id empty (entries s.customers)
+    ∙ (ap (λ (z : List Entry). put nat_cmp id z (opened_bookings (entries s.customers))) (entries-empty place_cmp)
     ∙ (ap (λ (z : List (ℕ × List Entry)). put nat_cmp id [] z) (h.customers ∙ sym old)
     ∙ (put_absent nat_cmp id id (shelf m ls) [] 0 b rows (table_rises m n (m 4) rows (h.heap.tables 3 l4))
     (shelf_matches m ls id rows) (table_some m n (m 4) rows (h.heap.tables 3 l4)) none first
@@ -181,7 +181,7 @@ customer_removed m m' n out s id c h at cut =
     outside_links m m' n 4 a k rows cut.relinks blocks ba low less (omega (arith, ba.1.1))))
     (let is : with_at p.tables 3 (cut_row rows id) 3 ≡ cut_row rows id =
     with_here p.tables 3 3 (cut_row rows id) refl in
-    ap opened (entries_remove nat_cmp_total nat_cmp-IsAntisymmetric s.customers id)
+    ap opened_bookings (entries_remove nat_cmp_total nat_cmp-IsAntisymmetric s.customers id)
     ∙ (opened_where (λ x. not (eq_by_cmp nat_cmp id x)) (entries s.customers)
     ∙ (ap (λ (z : List (ℕ × List Entry)). where_key nat_cmp (λ x. not (eq_by_cmp nat_cmp id x)) z) h.customers
     ∙ (cut_present nat_cmp id id (shelf m p.lists) 0 rows (table_rises m n (m 4) rows (h.heap.tables 3 l4))

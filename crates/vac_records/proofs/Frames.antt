@@ -16,7 +16,7 @@ use Rattle.vac_records.specs.Items.{item_in}
 use Rattle.vac_model.specs.Coded.{kind_of_number}
 use Rattle.vac_records.specs.Bookings.{place_in, booking_in}
 use Rattle.vac_records.specs.Heap.{over}
-use Rattle.vac_records.specs.Represents.{items_in, bookings_in, customers_in, opened}
+use Rattle.vac_records.specs.Represents.{items_in, bookings_in, customers_in, opened_bookings}
 use Rattle.vac_records.proofs.Keyed.{map_same, row_times}
 
 abbrev pub Entry : Type 0
@@ -59,32 +59,34 @@ abbrev Opened : Type 0
 Opened = ℕ × List Entry
 
 pub opened_put : (id : ℕ) (v : Bookings) (cs : List (ℕ × Bookings)) →
-    opened (put nat_cmp id v cs) ≡ put nat_cmp id (entries v) (opened cs)
+    opened_bookings (put nat_cmp id v cs) ≡ put nat_cmp id (entries v) (opened_bookings cs)
 opened_put id v [] = refl
 opened_put id v (c ∷ cs) =
-    elim (nat_cmp id c.0) as (λ o. opened (by_order o ((id, v) ∷ c ∷ cs) ((c.0, v) ∷ cs) (c ∷ put nat_cmp id v cs)) ≡
-    by_order o ((id, entries v) ∷ (c.0, entries c.1) ∷ opened cs) ((c.0, entries v) ∷ opened cs)
-    ((c.0, entries c.1) ∷ put nat_cmp id (entries v) (opened cs))) [
+    elim (nat_cmp id c.0) as (λ o. opened_bookings (by_order o ((id, v) ∷ c ∷ cs) ((c.0, v) ∷ cs)
+    (c ∷ put nat_cmp id v cs)) ≡
+    by_order o ((id, entries v) ∷ (c.0, entries c.1) ∷ opened_bookings cs) ((c.0, entries v) ∷ opened_bookings cs)
+    ((c.0, entries c.1) ∷ put nat_cmp id (entries v) (opened_bookings cs))) [
       | Less ↦ refl
       | Equal ↦ refl
       | Greater ↦ ap (λ (z : List Opened). (c.0, entries c.1) ∷ z) (opened_put id v cs)
     ]
 
 pub opened_where : (p : ℕ → Bool) (cs : List (ℕ × Bookings)) →
-    opened (where_key nat_cmp p cs) ≡ where_key nat_cmp p (opened cs)
+    opened_bookings (where_key nat_cmp p cs) ≡ where_key nat_cmp p (opened_bookings cs)
 opened_where p [] = refl
 opened_where p (c ∷ cs) =
-    elim (p c.0) as (λ b. opened (cond b (c ∷ where_key nat_cmp p cs) (where_key nat_cmp p cs)) ≡ cond b
-    ((c.0, entries c.1) ∷ where_key nat_cmp p (opened cs)) (where_key nat_cmp p (opened cs))) [
+    elim (p c.0) as (λ b. opened_bookings (cond b (c ∷ where_key nat_cmp p cs) (where_key nat_cmp p cs)) ≡ cond b
+    ((c.0, entries c.1) ∷ where_key nat_cmp p (opened_bookings cs)) (where_key nat_cmp p (opened_bookings cs))) [
       | true ↦ ap (λ (z : List Opened). (c.0, entries c.1) ∷ z) (opened_where p cs)
       | false ↦ opened_where p cs
     ]
 
-pub opened_find : (id : ℕ) (cs : List (ℕ × Bookings)) → find nat_cmp id (opened cs) ≡ option_map
+pub opened_find : (id : ℕ) (cs : List (ℕ × Bookings)) → find nat_cmp id (opened_bookings cs) ≡ option_map
     (λ (b : Bookings). entries b) (find nat_cmp id cs)
 opened_find id [] = refl
 opened_find id (c ∷ cs) =
-    elim (eq_by_cmp nat_cmp id c.0) as (λ b. cond b (Some (entries c.1)) (find nat_cmp id (opened cs)) ≡ option_map
+    elim (eq_by_cmp nat_cmp id c.0) as (λ b. cond b (Some (entries c.1))
+    (find nat_cmp id (opened_bookings cs)) ≡ option_map
     (λ (b : Bookings). entries b) (cond b (Some c.1) (find nat_cmp id cs))) [
       | true ↦ refl
       | false ↦ opened_find id cs
@@ -99,7 +101,7 @@ pub length_same : {A B : Type 0} (g : A → B) (xs : List A) → length (map g x
 length_same g [] = refl
 length_same g (x ∷ xs) = omega (arith, length_same g xs)
 
-pub lengths_opened : (cs : List (ℕ × Bookings)) → lengths (opened cs) ≡ sum_by (λ (b : Bookings). len b)
+pub lengths_opened : (cs : List (ℕ × Bookings)) → lengths (opened_bookings cs) ≡ sum_by (λ (b : Bookings). len b)
     (map (λ (c : ℕ × Bookings). c.1) cs)
 lengths_opened [] = refl
 lengths_opened (c ∷ cs) = omega (
@@ -130,10 +132,10 @@ rest_of_list [] = []
 rest_of_list (x ∷ xs) = xs
 
 -- opened customers are those of one list
-pub opened_one : (cs ds : List (ℕ × Bookings)) → opened cs ≡ opened ds → cs ≡ ds
+pub opened_one : (cs ds : List (ℕ × Bookings)) → opened_bookings cs ≡ opened_bookings ds → cs ≡ ds
 opened_one [] [] e = refl
-opened_one [] (d ∷ ds) e = absurd (let z : ◌≡◌ {A = List Opened} [] ((d.0, entries d.1) ∷ opened ds) = e in cc)
-opened_one (c ∷ cs) [] e = absurd (let z : ◌≡◌ {A = List Opened} ((c.0, entries c.1) ∷ opened cs) [] = e in cc)
+opened_one [] (d ∷ ds) e = absurd (let z : ◌≡◌ {A = List Opened} [] ((d.0, entries d.1) ∷ opened_bookings ds) = e in cc)
+opened_one (c ∷ cs) [] e = absurd (let z : ◌≡◌ {A = List Opened} ((c.0, entries c.1) ∷ opened_bookings cs) [] = e in cc)
 opened_one (c ∷ cs) (d ∷ ds) e =
     let head : ◌≡◌ {A = Opened} (c.0, entries c.1) (d.0, entries d.1) = ap (first_of_list (c.0, entries c.1)) e in
     let first : c ≡ d = opened_first c d (ap (λ (x : Opened). x.0) head) (ap (λ (x : Opened). x.1) head) in

@@ -10,7 +10,7 @@ use Rattle.tx_alloc.specs.Pool.{IsPool, fresh_lists}
 use Rattle.tx_alloc.specs.Spread.{spread_lists}
 use Rattle.tx_tree.proofs.TableFrame.{table_empty}
 use Rattle.vac_records.specs.Heap.{Parts, used_in, count_in}
-use Rattle.vac_records.specs.Represents.{Represents, opened}
+use Rattle.vac_records.specs.Represents.{Represents, opened_bookings}
 use Rattle.vac_records.specs.Laws.{FreshState, SpreadState}
 use Rattle.vac_records.proofs.Insert.{pool_as}
 
@@ -41,7 +41,7 @@ free_state words blocks free size low pool =
       };
       held = refl;
       items = λ kind. no_entries blocks kind;
-      customers = ap opened (entries-empty nat_cmp);
+      customers = ap opened_bookings (entries-empty nat_cmp);
     }
 
 pub fresh_state : FreshState

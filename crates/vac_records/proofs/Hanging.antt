@@ -8,7 +8,7 @@ use Rattle.vac_model.specs.State.{Place, kind_number}
 use Rattle.tx_alloc.specs.Rows.{Rows, times, block_at, Relinks}
 use Rattle.tx_list.specs.declared.key.Key.{Key}
 use Rattle.tx_list.specs.declared.search.Spot.{Spot}
-use Rattle.tx_list.specs.Lists.{IsListAt, Fresh}
+use Rattle.tx_list.specs.Lists.{IsListAt, FreshBooking}
 use Rattle.tx_list.specs.Search.{Sought, SpotAt, Hung, Unhung}
 use Rattle.tx_list.proofs.Frame.{list_frame, list_block}
 use Rattle.tx_list.proofs.Spots.{Unmoved, sought_spot, spot_stays}
@@ -52,7 +52,7 @@ key kind id = record { kind = kind_number kind; id = id }
 
 fresh_after : (m m1 : ℕ → ℕ) (n customer : ℕ) (kind : Kind) (id num price b : ℕ) (rows : Rows) →
     IsLoose m n customer rows (kind, id) b → IsNewBooking m m1 b (kind, id) num price →
-    Fresh m1 n (head_of customer) rows (key kind id) b
+    FreshBooking m1 n (head_of customer) rows (key kind id) b
 fresh_after m m1 n customer kind id num price b rows loose made =
     let first : m1 (b + 0) ≡ m1 b = rw add-zero refl in
     record {

@@ -8,7 +8,7 @@ use Rattle.std.specs.Cmp.{nat_cmp_total}
 use Rattle.std.specs.FinMap.{entries, insert, remove, find, put, get-entries, entries-insert, nat_cmp-IsAntisymmetric}
 use Rattle.tx_memory.specs.Seen.{same_or}
 use Rattle.vac_model.specs.declared.items.Item.{Item}
-use Rattle.vac_model.specs.State.{Table, kind_number, table_of}
+use Rattle.vac_model.specs.State.{ItemTable, kind_number, table_of}
 use Rattle.tx_alloc.specs.Pool.{IsBlock, with_at}
 use Rattle.tx_alloc.specs.Rows.{Rows, times, put_row, cut_row}
 use Rattle.tx_alloc.proofs.Times.{times_cut}
@@ -53,7 +53,7 @@ item_missing m n out s h kind id none =
     (table_some m n (m (1 + kind_number kind)) rows (h.heap.tables (kind_number kind) (omega (arith, l)))) none
 
 -- an entry is put into a table
-put_item : (m : ℕ → ℕ) (t : Table) (rows : Rows) (id : ℕ) (item : Item) → entries t ≡ items_in m rows →
+put_item : (m : ℕ → ℕ) (t : ItemTable) (rows : Rows) (id : ℕ) (item : Item) → entries t ≡ items_in m rows →
     entries (insert t id item) ≡ put nat_cmp id item (items_in m rows)
 put_item m t rows id item e = entries-insert nat_cmp_total t id item ∙
     ap (λ (z : List (ℕ × Item)). put nat_cmp id item z) e

@@ -5,7 +5,7 @@ use Rattle.std.specs.FinMap.{entries}
 use Rattle.tx_memory.specs.Seen.{same_or}
 use Rattle.vac_model.specs.declared.items.Kind.{Kind}
 use Rattle.vac_model.specs.declared.items.Kind.TheVariants.{Car, Flight, Room}
-use Rattle.vac_model.specs.State.{State, Table, Customers, kind_number, table_of, with_table}
+use Rattle.vac_model.specs.State.{State, ItemTable, Customers, kind_number, table_of, with_table}
 use Rattle.tx_alloc.specs.Pool.{IsBlock, held, with_at}
 use Rattle.tx_alloc.specs.Rows.{Rows, times}
 use Rattle.tx_alloc.proofs.Sums.{with_else, sum_has, sum_two}
@@ -13,7 +13,7 @@ use Rattle.tx_alloc.proofs.Chains.{held_first}
 use Rattle.tx_tree.proofs.TableFrame.{table_block}
 use Rattle.tx_list.proofs.Frame.{list_block}
 use Rattle.vac_records.specs.Heap.{Parts, used_in, count_in, IsHeap}
-use Rattle.vac_records.specs.Represents.{items_in, customers_in, opened, Represents}
+use Rattle.vac_records.specs.Represents.{items_in, customers_in, opened_bookings, Represents}
 use Rattle.vac_records.proofs.Overs.{over_has, over_else}
 use Rattle.vac_records.proofs.Insert.{pool_as}
 use Rattle.vac_records.proofs.Frames.{items_frame, bookings_frame, customers_frame}
@@ -24,12 +24,12 @@ kind_small Flight = omega arith
 kind_small Room = omega arith
 
 -- the tables of a state in which one table is another
-abbrev pub OneTable : State → Kind → Table → Kind → Type 0
+abbrev pub OneTable : State → Kind → ItemTable → Kind → Type 0
 OneTable s kind t k =
     ((kind_number k ≡ kind_number kind) × (table_of (with_table s kind t) k ≡ t))
     ⊎ ((kind_number k ≢ kind_number kind) × (table_of (with_table s kind t) k ≡ table_of s k))
 
-pub one_table : (s : State) (kind : Kind) (t : Table) (k : Kind) → OneTable s kind t k
+pub one_table : (s : State) (kind : Kind) (t : ItemTable) (k : Kind) → OneTable s kind t k
 one_table s Car t Car = inl (refl, refl)
 one_table s Car t Flight = inr (omega arith, refl)
 one_table s Car t Room = inr (omega arith, refl)
@@ -40,12 +40,12 @@ one_table s Room t Car = inr (omega arith, refl)
 one_table s Room t Flight = inr (omega arith, refl)
 one_table s Room t Room = inl (refl, refl)
 
-pub same_customers : (s : State) (kind : Kind) (t : Table) → (with_table s kind t).customers ≡ s.customers
+pub same_customers : (s : State) (kind : Kind) (t : ItemTable) → (with_table s kind t).customers ≡ s.customers
 same_customers s Car t = refl
 same_customers s Flight t = refl
 same_customers s Room t = refl
 
-pub same_capacity : (s : State) (kind : Kind) (t : Table) → (with_table s kind t).capacity ≡ s.capacity
+pub same_capacity : (s : State) (kind : Kind) (t : ItemTable) → (with_table s kind t).capacity ≡ s.capacity
 same_capacity s Car t = refl
 same_capacity s Flight t = refl
 same_capacity s Room t = refl
@@ -145,7 +145,7 @@ keeps m m' n out out' s h p heap is items customers = record {
 
 -- another table of one kind
 unfoldable pub shifts_table : (m m' : ℕ → ℕ) (n : ℕ) (out out' : List ℕ) (s : State) (h : Represents m n out s)
-    (kind : Kind) (t : Table) (p : Parts) → IsHeap m' n p → p.out ≡ out' →
+    (kind : Kind) (t : ItemTable) (p : Parts) → IsHeap m' n p → p.out ≡ out' →
     entries t ≡ items_in m' (p.tables (kind_number kind)) →
     ((j : ℕ) → j < 3 → j ≢ kind_number kind → items_in m' (p.tables j) ≡ items_in m (h.parts.tables j)) →
     customers_in m' p.lists (p.tables 3) ≡ customers_in m h.parts.lists (h.parts.tables 3) →
@@ -156,23 +156,25 @@ shifts_table m m' n out out' s h kind t p heap is new items customers = record {
   heap = heap;
   held = is;
   items = λ k. elim (one_table s kind t k) [
-    | inl e ↦ ap (λ (z : Table). entries z) e.1 ∙ (new ∙ ap (λ (j : ℕ). items_in m' (p.tables j)) (sym e.0))
-    | inr e ↦ ap (λ (z : Table). entries z) e.1 ∙ (h.items k ∙ sym (items (kind_number k) (kind_small k) e.0))
+    | inl e ↦ ap (λ (z : ItemTable). entries z) e.1 ∙ (new ∙ ap (λ (j : ℕ). items_in m' (p.tables j)) (sym e.0))
+    | inr e ↦ ap (λ (z : ItemTable). entries z) e.1 ∙ (h.items k ∙ sym (items (kind_number k) (kind_small k) e.0))
   ];
-  customers = ap (λ (z : Customers). opened (entries z)) (same_customers s kind t) ∙ (h.customers ∙ sym customers);
+  customers = ap (λ (z : Customers). opened_bookings (entries z)) (same_customers s kind t) ∙
+      (h.customers ∙ sym customers);
 }
 
 -- other customers
 unfoldable pub shifts_customers : (m m' : ℕ → ℕ) (n : ℕ) (out out' : List ℕ) (s : State) (h : Represents m n out s)
     (cs : Customers) (p : Parts) → IsHeap m' n p → p.out ≡ out' →
     ((j : ℕ) → j < 3 → items_in m' (p.tables j) ≡ items_in m (h.parts.tables j)) →
-    opened (entries cs) ≡ customers_in m' p.lists (p.tables 3) → Represents m' n out' (record s { customers = cs })
+    opened_bookings (entries cs) ≡ customers_in m' p.lists (p.tables 3) →
+    Represents m' n out' (record s { customers = cs })
 shifts_customers m m' n out out' s h cs p heap is items new = record {
   size = h.size;
   parts = p;
   heap = heap;
   held = is;
-  items = λ k. ap (λ (z : Table). entries z) (same_tables s cs k) ∙
+  items = λ k. ap (λ (z : ItemTable). entries z) (same_tables s cs k) ∙
       (h.items k ∙ sym (items (kind_number k) (kind_small k)));
   customers = new;
 }

@@ -23,7 +23,7 @@ pub record IsNode (s : View) (node : ℕ) : Type 0 where
 
 -- under each image of the memory's size num units can be added to the item's counts and fit a
 -- word
-pub record HasRoom (s : View) (node num : ℕ) : Type 0 where
+pub record HasRoomForUnits (s : View) (node num : ℕ) : Type 0 where
   pub free : (image : List ℕ) → RestsOn s image → mem s image (node + FREE) + num < 2 ^ 64
   pub total : (image : List ℕ) → RestsOn s image → mem s image (node + TOTAL) + num < 2 ^ 64
 

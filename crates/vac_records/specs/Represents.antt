@@ -25,8 +25,8 @@ abbrev pub customers_in : (ℕ → ℕ) → (ℕ → Rows) → Rows → List (�
 customers_in m lists rows = map (λ r. (r.0, bookings_in m (lists r.1))) rows
 
 -- the customers of a state with their bookings' entries
-abbrev pub opened : List (ℕ × Bookings) → List (ℕ × List (Place × Booking))
-opened customers = map (λ c. (c.0, entries c.1)) customers
+abbrev pub opened_bookings : List (ℕ × Bookings) → List (ℕ × List (Place × Booking))
+opened_bookings customers = map (λ c. (c.0, entries c.1)) customers
 
 -- a memory of n words represents a state, while these blocks are in hand: each block is an entry of
 -- one structure, free or in hand, and the structures have the state's entries
@@ -37,7 +37,8 @@ pub record Represents (m : ℕ → ℕ) (n : ℕ) (out : List ℕ) (s : State) :
   pub held : parts.out ≡ out
   pub items : (kind : Kind) →
       entries (table_of s kind) ≡ items_in m (parts.tables (kind_number kind))
-  pub customers : opened (entries s.customers) ≡ customers_in m parts.lists (parts.tables 3)
+  pub customers : opened_bookings (entries s.customers)
+      ≡ customers_in m parts.lists (parts.tables 3)
 
 -- a memory of n words represents a balanced state of at most 262,144 blocks, and no block is in
 -- hand

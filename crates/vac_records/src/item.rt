@@ -4,7 +4,7 @@ ghost use Rattle.std.specs.Prelude.{◌≡◌, ◌+◌, IfOk, IfErr};
 ghost use Rattle.tx_memory.specs.View.{Loaded, Stored};
 ghost use Rattle.vac_model.specs.Step.{deleted, taken, given_back};
 ghost use Rattle.vac_records.specs.declared.place.TheConstants.{USED, FREE, TOTAL, PRICE};
-ghost use Rattle.vac_records.specs.Items.{IsNode, HasRoom, HasFree, CanMake, CanMakeOf, CanCancel, ItemMade, ItemRead, ItemChanged, ItemChangedOf, UnitsAdded};
+ghost use Rattle.vac_records.specs.Items.{IsNode, HasRoomForUnits, HasFree, CanMake, CanMakeOf, CanCancel, ItemMade, ItemRead, ItemChanged, ItemChangedOf, UnitsAdded};
 
 use crate::place;
 use crate::word::{lower, raise};
@@ -104,7 +104,7 @@ pub fn price_at<M: TxRead>(memory: &mut M, node: Block) -> Result<u64, M::Stop>
 /// Adds free units to the item.
 pub fn add_total<M: TxMem>(memory: &mut M, node: Block, num: u32) -> Result<(), M::Stop>
     requires node { IsNode (M.view memory.old) node }
-    requires room { HasRoom (M.view memory.old) node num }
+    requires room { HasRoomForUnits (M.view memory.old) node num }
     ensures origin { M.origin memory.new ≡ M.origin memory.old }
     ensures answer { IfOk result (λ _.
         UnitsAdded (M.view memory.old) (M.view memory.new) node num) }

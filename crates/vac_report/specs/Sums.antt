@@ -7,7 +7,7 @@ use Rattle.tx_alloc.specs.Rows.{Rows}
 use Rattle.tx_list.specs.Lists.{IsListAt}
 use Rattle.tx_list.specs.declared.place.TheConstants.{SUM, UNITS}
 use Rattle.vac_model.specs.declared.items.Kind.{Kind}
-use Rattle.vac_model.specs.State.{State, Table, Customers, table_of, units_booked, bill_of}
+use Rattle.vac_model.specs.State.{State, ItemTable, Customers, table_of, units_booked, bill_of}
 use Rattle.vac_records.specs.Items.{mem}
 use Rattle.vac_records.specs.declared.place.TheConstants.{USED, FREE, TOTAL}
 use Rattle.vac_records.specs.Customers.{head_of}
@@ -47,7 +47,7 @@ pub record CustomersFit (a b : CustomerSums) : Type 0 where
   pub billed : a.billed + b.billed < 2 ^ 64
 
 -- the sums over a table of items
-abbrev pub sums_of_items : Table → ItemSums
+abbrev pub sums_of_items : ItemTable → ItemSums
 sums_of_items t = record {
   count = len t;
   used = sum_by (λ i. i.used) (values t);

@@ -10,18 +10,19 @@ use Rattle.vac_lines.specs.Script.{answer}
 use Rattle.vac_lines.specs.Text.{reply_text, fault_text}
 use Rattle.vac_lines.proofs.Extends.{extends_more}
 use Rattle.vac_manager.specs.Session.{SessionShown}
-use Rattle.vac_script.specs.System.{StandsAt, Answered, AnsweredInPart, GoesOnBy}
+use Rattle.vac_script.specs.System.{StandsInState, AnsweredLine, AnsweredInPart, GoesOnBy}
 
 -- a line was answered, and its output line appended but for its end
 pub record AnsweredText (y y' : SessionShown) (out new : List ℕ) (line : Result Task LineFault) : Type 0 where
-  pub state : (s : State) → StandsAt y s → StandsAt y' (answer s line).0
-  pub text : (s : State) → StandsAt y s → out ++ (answer s line).1 ≡ new ++ 10 ∷ []
+  pub state : (s : State) → StandsInState y s → StandsInState y' (answer s line).0
+  pub text : (s : State) → StandsInState y s → out ++ (answer s line).1 ≡ new ++ 10 ∷ []
   pub goes : GoesOnBy y y' 1
 
 -- the reply of a task was appended
 pub told_task : (y y' : SessionShown) (out new : List ℕ) (line : Result Task LineFault) (task : Task) (reply : Reply) →
-    line ≡ Ok task → ((s : State) → StandsAt y s → reply ≡ (run s task).1)
-    → ((s : State) → StandsAt y s → StandsAt y' (run s task).0) → GoesOnBy y y' 1 → new ≡ out ++ reply_text reply →
+    line ≡ Ok task → ((s : State) → StandsInState y s → reply ≡ (run s task).1)
+    → ((s : State) → StandsInState y s → StandsInState y' (run s task).0) → GoesOnBy y y' 1 →
+    new ≡ out ++ reply_text reply →
     AnsweredText y y' out new line
 told_task y y' out new line task reply e h k g f = subst (AnsweredText y y' out new) (sym e) (record {
   state = k;
@@ -41,7 +42,7 @@ told_fault y out new line fault e f = subst (AnsweredText y y out new) (sym e) (
 
 -- its end was appended too
 pub told_whole : (y y' : SessionShown) (out text new : List ℕ) (line : Result Task LineFault) →
-    AnsweredText y y' out text line → new ≡ text ++ 10 ∷ [] → Answered y y' out new line
+    AnsweredText y y' out text line → new ≡ text ++ 10 ∷ [] → AnsweredLine y y' out new line
 told_whole y y' out text new line t e = record { state = t.state; text = λ s st. e ∙ sym (t.text s st); goes = t.goes }
 
 -- its end was not appended

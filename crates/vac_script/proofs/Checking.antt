@@ -10,7 +10,7 @@ use Rattle.vac_lines.specs.Script.{as_line}
 use Rattle.vac_lines.specs.Memory.{memory_words}
 use Rattle.vac_audit.specs.declared.audit.TheConstants.{MOST_HEAP_WORDS}
 use Rattle.vac_audit.specs.Walk.{audit}
-use Rattle.vac_audit.specs.Ran.{IsHeapSize, Audited, answer}
+use Rattle.vac_audit.specs.Ran.{IsHeapSize, Audited, audit_answer}
 use Rattle.vac_audit.specs.Represented.{Recognised}
 use Rattle.vac_audit.specs.declared.Flaw.{Flaw}
 use Rattle.vac_audit.specs.declared.audit.AuditFault.{AuditFault}
@@ -21,7 +21,7 @@ use Rattle.vac_script.specs.declared.check.Verdict.{Verdict}
 use Rattle.vac_script.specs.declared.check.Verdict.TheVariants.{Sound, Flawed, BadWords}
 use Rattle.vac_lines.specs.Writing.{AppendsPrefix}
 use Rattle.vac_script.specs.Reading.{NoneOrMany, ReadWords, ReadNone}
-use Rattle.vac_script.specs.Check.{verdict_text, IsNone, HasFlaw, IsNoHeap, Judged, NoHeapOf, NoWords, IsVerdict}
+use Rattle.vac_script.specs.Check.{check_text, IsNone, HasFlaw, IsNoHeap, Judged, NoHeapOf, NoWords, IsVerdict}
 use Rattle.vac_script.specs.Check.{is_sound, Checked, CheckStopped}
 
 -- whether so many words are those of a heap
@@ -46,7 +46,7 @@ abbrev err : AuditFault → Result Report AuditFault
 err fault = Err fault
 
 -- the answer of an audit is never that of another size
-not_size : (r : Result Report Flaw) → (err Size ≡ err Memory) ⊎ (err Size ≡ answer r) → ⊥
+not_size : (r : Result Report Flaw) → (err Size ≡ err Memory) ⊎ (err Size ≡ audit_answer r) → ⊥
 not_size r (inl e) = let q : err Size ≡ err Memory = e in cc
 not_size (Ok report) (inr e) = let q : err Size ≡ Ok report = e in cc
 not_size (Err flaw) (inr e) = let q : err Size ≡ err (HasOne flaw) = e in cc
@@ -68,7 +68,8 @@ no_heap words a r = record {
   none = refused_none words Size (λ e. let q : Size ≡ Memory = e in cc) r;
 }
 
-first_is : (r : Result Report Flaw) (flaw : Flaw) → (err (HasOne flaw) ≡ err Memory) ⊎ (err (HasOne flaw) ≡ answer r) →
+first_is : (r : Result Report Flaw) (flaw : Flaw) → (err (HasOne flaw) ≡ err Memory) ⊎
+    (err (HasOne flaw) ≡ audit_answer r) →
     r ≡ Err flaw
 first_is r flaw (inl e) = absurd (let q : err (HasOne flaw) ≡ err Memory = e in cc)
 first_is (Ok report) flaw (inr e) = absurd (let q : err (HasOne flaw) ≡ Ok report = e in cc)
@@ -145,14 +146,14 @@ verdict_of unread left words given (Ok verdict) read e j = words_verdict unread 
 
 -- the line of a verdict was written in part
 pub checked_in_part : (unread left held holds : Option (List ℕ)) (verdict : Verdict) (line : List ℕ) →
-    IsVerdict unread left verdict → line ≡ as_line (verdict_text verdict)
+    IsVerdict unread left verdict → line ≡ as_line (check_text verdict)
     → AppendsPrefix held holds line → CheckStopped unread left held holds
 checked_in_part unread left held holds verdict line is e w =
     inr (record { verdict = verdict; is = is; written = subst (AppendsPrefix held holds) e w })
 
 -- it was written
 pub checked : (sound : Bool) (unread left held holds : Option (List ℕ)) (verdict : Verdict) (line : List ℕ) →
-    IsVerdict unread left verdict → line ≡ as_line (verdict_text verdict)
+    IsVerdict unread left verdict → line ≡ as_line (check_text verdict)
     → Appends held holds line → sound ≡ is_sound verdict → Checked sound unread left held holds
 checked sound unread left held holds verdict line is e w a =
     record { verdict = verdict; is = is; answered = a; written = subst (Appends held holds) e w }

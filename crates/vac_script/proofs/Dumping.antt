@@ -9,7 +9,7 @@ use Rattle.vac_model.specs.State.{State}
 use Rattle.vac_manager.specs.Law.{Shows}
 use Rattle.vac_lines.specs.Writing.{AppendsPrefix}
 use Rattle.vac_manager.specs.Session.{SessionShown}
-use Rattle.vac_script.specs.System.{StandsAt, RanAll}
+use Rattle.vac_script.specs.System.{StandsInState, RanScript}
 use Rattle.vac_script.specs.Dump.{Dumped, DumpStopped}
 use Rattle.vac_streams.specs.Sent.{Sent}
 use Rattle.vac_streams.proofs.Texts.{sent_both, sent_text, sent_end_in_part, prefix_is, prefix_longer, part_second}
@@ -65,8 +65,8 @@ word_sent held holds grown hand new after words word i s e f t =
 
 -- a dump that was written
 pub dumped : (n : ℕ) (y : SessionShown) (unread left said says held holds : Option (List ℕ)) (words given : List ℕ)
-    → RanAll n y unread left said says
-    → ((s : State) → StandsAt y s → Shows words s) → given ≡ words → Appends held holds (dump_text given)
+    → RanScript n y unread left said says
+    → ((s : State) → StandsInState y s → Shows words s) → given ≡ words → Appends held holds (dump_text given)
     → Dumped n unread left held holds
 dumped n y unread left said says held holds words given r shown e w = record {
   bytes = r.bytes;
@@ -79,8 +79,8 @@ dumped n y unread left said says held holds words given r shown e w = record {
 
 -- a dump that stopped while it wrote
 pub dumped_prefix : (n : ℕ) (y : SessionShown) (unread left said says held holds : Option (List ℕ))
-    (words given : List ℕ) → RanAll n y unread left said says
-    → ((s : State) → StandsAt y s → Shows words s) → given ≡ words → AppendsPrefix held holds (dump_text given)
+    (words given : List ℕ) → RanScript n y unread left said says
+    → ((s : State) → StandsInState y s → Shows words s) → given ≡ words → AppendsPrefix held holds (dump_text given)
     → DumpStopped n unread left held holds
 dumped_prefix n y unread left said says held holds words given r shown e w = inr (record {
   bytes = r.bytes;

@@ -27,7 +27,7 @@ use Rattle.vac_streams.specs.Sent.{Sent}
 use Rattle.vac_streams.proofs.Telling.{lines_both, first_of_read, first_of_input}
 use Rattle.vac_streams.proofs.Texts.{sent_nothing, sent_hand, sent_text, sent_both, sent_end}
 use Rattle.vac_script.specs.Script.{WroteAll, WrotePrefix}
-use Rattle.vac_script.specs.System.{StandsAt, RanAll, IsNew}
+use Rattle.vac_script.specs.System.{StandsInState, RanScript, IsNew}
 use Rattle.vac_script.specs.Hearing.{told_task, AnsweredCut, HearsLine, HearsPause, Hears}
 
 -- the tasks of what was told
@@ -121,8 +121,9 @@ module _ {S O : Type 0} (system : S → SessionShown) (out : S → List ℕ) (co
   -- the script ran these lines
   record RanLines (x : S) (o : O) (lines : List Told) (y : S) (p : O) : Type 0 where
     pub same : (system y).manager ≡ (system x).manager
-    pub stands : (s : State) → StandsAt (system x) s → StandsAt (system y) (leaves s lines)
-    pub sent : (s : State) → StandsAt (system x) s → Sent (contents o) (contents p) (out x) (out y) (answers s lines)
+    pub stands : (s : State) → StandsInState (system x) s → StandsInState (system y) (leaves s lines)
+    pub sent : (s : State) → StandsInState (system x) s → Sent (contents o) (contents p) (out x) (out y)
+        (answers s lines)
 
   ran_nothing : (x : S) (o : O) → RanLines x o [] x o
   ran_nothing x o = record { same = refl; stands = λ s h. h; sent = λ s h. sent_nothing (contents o) (out x) }
@@ -150,10 +151,10 @@ module _ {S O : Type 0} (system : S → SessionShown) (out : S → List ℕ) (co
       → RanLines u q lines y p → RanLines x o lines y p
   ran_pause x o lines u q y p h r = record {
     same = r.same ∙ ap (λ z. z.manager) h.1;
-    stands = λ s st. r.stands s (subst (λ z. StandsAt z s) (sym h.1) st);
+    stands = λ s st. r.stands s (subst (λ z. StandsInState z s) (sym h.1) st);
     sent = λ s st. sent_both (contents o) (contents q) (contents p) (out x) (out u) (out y) [] (answers s lines)
         (sent_hand (contents o) (contents q) (out x) (out u) h.3 h.2)
-        (r.sent s (subst (λ z. StandsAt z s) (sym h.1) st));
+        (r.sent s (subst (λ z. StandsInState z s) (sym h.1) st));
   }
 
   -- all that was told
@@ -185,7 +186,7 @@ module _ {S O : Type 0} (system : S → SessionShown) (out : S → List ℕ) (co
   -- a line of which no more than a part was written
   cut_line : (x : S) (o : O) (lines : List Told) (line : Told) (u : S) (q : O) (p : O) (s : State)
       → RanLines x o lines u q → AnsweredCut (system u) (out u) (contents q) (contents p) (told_task line)
-      → StandsAt (system x) s → CutLines x o (lines ++ line ∷ []) p s
+      → StandsInState (system x) s → CutLines x o (lines ++ line ∷ []) p s
   cut_line x o lines line u q p s r h st =
       let sent = r.sent s st in
       let last = (answer (leaves s lines) (told_task line)).1 in
@@ -202,7 +203,7 @@ module _ {S O : Type 0} (system : S → SessionShown) (out : S → List ℕ) (co
 
   -- what was at hand was written in part
   cut_pause : (x : S) (o : O) (lines : List Told) (u : S) (q : O) (p : O) (s : State) → RanLines x o lines u q
-      → AppendsPrefix (contents q) (contents p) (out u) → StandsAt (system x) s → CutLines x o lines p s
+      → AppendsPrefix (contents q) (contents p) (out u) → StandsInState (system x) s → CutLines x o lines p s
   cut_pause x o lines u q p s r h st =
       let sent = r.sent s st in
       record {
@@ -215,7 +216,7 @@ module _ {S O : Type 0} (system : S → SessionShown) (out : S → List ℕ) (co
 
   -- the script ended by a fault at what was told last
   cut_last : (x : S) (o : O) (before : List Told) (last : Told) (fault : StreamFault) (u : S) (q : O) (y : S) (p : O)
-      (s : State) → ToldAll hears x o before u q → hears u q last (Err fault) y p → StandsAt (system x) s
+      (s : State) → ToldAll hears x o before u q → hears u q last (Err fault) y p → StandsInState (system x) s
       → CutLines x o (lines_in (before ++ last ∷ [])) p s
   cut_last x o before (Line text) fault u q y p s h k st =
       subst (λ l. CutLines x o l p s) (sym (lines_both before (Line text ∷ [])))
@@ -228,7 +229,7 @@ module _ {S O : Type 0} (system : S → SessionShown) (out : S → List ℕ) (co
       (cut_pause x o (lines_in before) u q p s (ran_told x o before u q h) k st)
 
   cut_told : (x : S) (o : O) (told : List Told) (fault : StreamFault) (y : S) (p : O) (s : State)
-      → ToldLast hears x o told (Err fault) y p → StandsAt (system x) s → CutLines x o (lines_in told) p s
+      → ToldLast hears x o told (Err fault) y p → StandsInState (system x) s → CutLines x o (lines_in told) p s
   cut_told x o told fault y p s h st =
       subst (λ l. CutLines x o (lines_in l) p s) (sym h.all)
       (cut_last x o h.before h.last fault h.sink h.output y p s h.first h.then st)
@@ -255,12 +256,12 @@ module _ {S O : Type 0} (system : S → SessionShown) (out : S → List ℕ) (co
 
   -- a new script, with nothing at hand
   record IsFirst (n : ℕ) (x : S) : Type 0 where
-    pub stands : StandsAt (system x) (empty_state n)
+    pub stands : StandsInState (system x) (empty_state n)
     pub empty : out x ≡ []
 
   is_first : (y : SessionShown) (x : S) → IsNew y → system x ≡ y → out x ≡ [] → IsFirst (capacity_of y.manager) x
   is_first y x new e f = record {
-    stands = subst (λ z. StandsAt z (empty_state (capacity_of y.manager)))
+    stands = subst (λ z. StandsInState z (empty_state (capacity_of y.manager)))
         (sym e) new.stands;
     empty = f;
   }
@@ -315,7 +316,7 @@ module _ {S O : Type 0} (system : S → SessionShown) (out : S → List ℕ) (co
       (hand : List ℕ) (x : S) (o : O) (y : S) (p : O) → IsNew y0 → system x ≡ y0 → out x ≡ []
       → Heard hears 1024 (Ok next) unread left x o y p → hand ≡ out y → Appends (contents p) holds hand
       → client ≡ (system y).client
-      → RanAll (capacity_of y0.manager) (record { manager = y0.manager; client = client }) unread left (contents o)
+      → RanScript (capacity_of y0.manager) (record { manager = y0.manager; client = client }) unread left (contents o)
       holds
   ran_all y0 next client unread left holds hand x o y p new e f k g w c =
       let h = heard_all next unread left x o y p k in
@@ -324,8 +325,8 @@ module _ {S O : Type 0} (system : S → SessionShown) (out : S → List ℕ) (co
       let r = ran_told x o h.told y p h.heard in
       let sent = subst (λ t. Sent (contents o) (contents p) t (out y) (answers (empty_state n) (lines_in h.told)))
       i.empty (r.sent (empty_state n) i.stands) in
-      let stands : StandsAt (system y) (script_state n h.bytes) =
-      subst (StandsAt (system y)) (ap (leaves (empty_state n)) h.lines ∙ sym (state_told n h.bytes))
+      let stands : StandsInState (system y) (script_state n h.bytes) =
+      subst (StandsInState (system y)) (ap (leaves (empty_state n)) h.lines ∙ sym (state_told n h.bytes))
       (r.stands (empty_state n) i.stands) in
       let session : system y ≡ record { manager = y0.manager; client = client } =
       ap (λ m. record { manager = m; client = (system y).client }) (r.same ∙ ap (λ z. z.manager) e)
@@ -337,18 +338,18 @@ module _ {S O : Type 0} (system : S → SessionShown) (out : S → List ℕ) (co
         written = subst (Appends (contents o) holds) (ap (answers (empty_state n)) h.lines ∙ sym (out_told n h.bytes))
             (sent_end (contents o) (contents p) holds (out y) (answers (empty_state n) (lines_in h.told)) sent
             (subst (Appends (contents p) holds) g w));
-        stands = subst (λ z. StandsAt z (script_state n h.bytes)) session stands;
+        stands = subst (λ z. StandsInState z (script_state n h.bytes)) session stands;
       }
 
 pub ran_on : (n : ℕ) (shown region : RegionShown) (client : CallerShown) (unread left held holds : Option (List ℕ))
     → shown ≡ region → capacity_of region ≡ n
-    → RanAll (capacity_of shown) (record { manager = shown; client = client }) unread left held holds
-    → RanAll n (record { manager = region; client = client }) unread left held holds
+    → RanScript (capacity_of shown) (record { manager = shown; client = client }) unread left held holds
+    → RanScript n (record { manager = region; client = client }) unread left held holds
 ran_on n shown region client unread left held holds e k r =
-    subst (λ i. RanAll i (record { manager = region; client = client }) unread left held holds) k
-    (subst (λ x. RanAll (capacity_of x) (record { manager = x; client = client }) unread left held holds) e r)
+    subst (λ i. RanScript i (record { manager = region; client = client }) unread left held holds) k
+    (subst (λ x. RanScript (capacity_of x) (record { manager = x; client = client }) unread left held holds) e r)
 
 pub wrote_all : (n m : ℕ) (y : SessionShown) (unread left held holds : Option (List ℕ)) → m ≡ n
-    → RanAll m y unread left held holds → WroteAll n unread left held holds
+    → RanScript m y unread left held holds → WroteAll n unread left held holds
 wrote_all n m y unread left held holds e r = subst (λ k. WroteAll k unread left held holds) e
     (record { bytes = r.bytes; consumed = r.consumed; ended = r.ended; written = r.written })

@@ -7,7 +7,7 @@ use Rattle.std.proofs.lemmas.Iterator.Adapters.{option_map_id}
 use Rattle.std.specs.Io.KnownBytes.{IsAtEnd}
 use Rattle.vac_lines.specs.Lines.{lines_of}
 use Rattle.vac_lines.specs.Words.{memory_word_of}
-use Rattle.vac_lines.specs.Memory.{word_before, words_of_lines, memory_words}
+use Rattle.vac_lines.specs.Memory.{word_in_front, words_of_lines, memory_words}
 use Rattle.vac_audit.specs.declared.audit.TheConstants.{MOST_HEAP_WORDS}
 use Rattle.vac_streams.specs.declared.fault.StreamFault.{StreamFault}
 use Rattle.vac_streams.specs.declared.next.Next.{Next}
@@ -15,7 +15,7 @@ use Rattle.vac_streams.specs.declared.next.Next.TheVariants.{GoOn, Stop}
 use Rattle.vac_streams.specs.Told.{Told, Line, LongLine, Pause, told_of, told_lines, lines_in}
 use Rattle.vac_streams.specs.Heard.{ToldAll, ToldLast, AreFirst, AreFirstOf, HeardAll, HeardLast, Heard}
 use Rattle.vac_streams.proofs.Telling.{lines_both}
-use Rattle.vac_script.specs.Reading.{NoneOrMany, TookLine, RefusedLine, HearsWord, ReadWords, ReadNone}
+use Rattle.vac_script.specs.Reading.{NoneOrMany, TookWord, RefusedLine, HearsWord, ReadWords, ReadNone}
 
 -- the word of a line that was told
 abbrev word_told : Told → Option ℕ
@@ -26,7 +26,7 @@ word_told Pause = None
 -- the words of these, where each is one
 all_words : List (Option ℕ) → Option (List ℕ)
 all_words [] = Some []
-all_words (word ∷ more) = word_before word (all_words more)
+all_words (word ∷ more) = word_in_front word (all_words more)
 
 -- a line that is too long is no word
 long_word : (line : List ℕ) → 1024 < length line → memory_word_of line ≡ None
@@ -45,8 +45,8 @@ one_word line =
 words_told : (lines : List (List ℕ)) → words_of_lines lines ≡ all_words (map word_told (map (told_of 1024) lines))
 unfolding all_words
 words_told [] = refl
-words_told (line ∷ more) = ap (λ w. word_before w (words_of_lines more)) (one_word line)
-    ∙ ap (word_before (word_told (told_of 1024 line))) (words_told more)
+words_told (line ∷ more) = ap (λ w. word_in_front w (words_of_lines more)) (one_word line)
+    ∙ ap (word_in_front (word_told (told_of 1024 line))) (words_told more)
 
 -- the words of what was told
 abbrev words_in : List Told → Option (List ℕ)
@@ -61,7 +61,7 @@ some_none word e = cc
 
 -- a word between others
 between : (words words' : List ℕ) (word : ℕ) (more : Option (List ℕ)) → words' ≡ words ++ word ∷ []
-    → option_map (λ m. words ++ m) (word_before (Some word) more) ≡ option_map (λ m. words' ++ m) more
+    → option_map (λ m. words ++ m) (word_in_front (Some word) more) ≡ option_map (λ m. words' ++ m) more
 between words words' word None e = refl
 between words words' word (Some more) e = ap Some (sym (append_assoc words (word ∷ []) more)
     ∙ ap (λ t. t ++ more) (sym e))
@@ -69,17 +69,17 @@ between words words' word (Some more) e = ap Some (sym (append_assoc words (word
 -- a line that is no word, or one too many
 refused : (words : List ℕ) (word : Option ℕ) (more : Option (List ℕ))
     → (word ≡ None) ⊎ (MOST_HEAP_WORDS ≤ length words)
-    → NoneOrMany (option_map (λ m. words ++ m) (word_before word more))
+    → NoneOrMany (option_map (λ m. words ++ m) (word_in_front word more))
 refused words None more h = tt
 refused words (Some word) None h = tt
 refused words (Some word) (Some more) (inl e) = absurd (some_none word e)
 refused words (Some word) (Some more) (inr h) = omega (arith, h, length-append words (word ∷ more))
 
 -- one more word was taken
-behind_line : (words words' : List ℕ) (line : List ℕ) (more : List Told) → TookLine words words' line
+behind_line : (words words' : List ℕ) (line : List ℕ) (more : List Told) → TookWord words words' line
     → behind words (Line line ∷ more) ≡ behind words' more
 unfolding all_words
-behind_line words words' line more t = ap (λ w. option_map (λ m. words ++ m) (word_before w (words_in more))) t.is
+behind_line words words' line more t = ap (λ w. option_map (λ m. words ++ m) (word_in_front w (words_in more))) t.is
     ∙ between words words' t.word (words_in more) t.more
 
 -- a line was refused
@@ -109,7 +109,7 @@ module _ {S : Type 0} (words : S → List ℕ) where
     pub same : (more : List Told) → behind (words x) (lines ++ more) ≡ behind (words y) more
     pub few : length (words x) ≤ MOST_HEAP_WORDS → length (words y) ≤ MOST_HEAP_WORDS
 
-  taken_line : (x : S) (line : List ℕ) (lines : List Told) (u y : S) → TookLine (words x) (words u) line
+  taken_line : (x : S) (line : List ℕ) (lines : List Told) (u y : S) → TookWord (words x) (words u) line
       → Taken u lines y → Taken x (Line line ∷ lines) y
   taken_line x line lines u y t r = record {
     same = λ more. behind_line (words x) (words u) line (lines ++ more) t ∙ r.same more;

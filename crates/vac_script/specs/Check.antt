@@ -31,10 +31,10 @@ abbrev pub flaw_text : Flaw → List ℕ
 flaw_text flaw = flaw_name flaw ++ decimal (word_of flaw)
 
 -- what is written of a verdict
-abbrev pub verdict_text : Verdict → List ℕ
-verdict_text (Sound report) = report_text report
-verdict_text (Flawed flaw) = flaw_text flaw
-verdict_text BadWords = codes "fault bad-words"
+abbrev pub check_text : Verdict → List ℕ
+check_text (Sound report) = report_text report
+check_text (Flawed flaw) = flaw_text flaw
+check_text BadWords = codes "fault bad-words"
 
 -- the words represent no balanced state of one block or more
 abbrev pub IsNone : List ℕ → Type 0
@@ -98,13 +98,13 @@ pub record Checked (sound : Bool) (unread left held holds : Option (List ℕ)) :
   pub verdict : Verdict
   pub is : IsVerdict unread left verdict
   pub answered : sound ≡ is_sound verdict
-  pub written : Appends held holds (as_line (verdict_text verdict))
+  pub written : Appends held holds (as_line (check_text verdict))
 
 -- the verdict of what was read was written in part
 pub record CheckedPrefix (unread left held holds : Option (List ℕ)) : Type 0 where
   pub verdict : Verdict
   pub is : IsVerdict unread left verdict
-  pub written : AppendsPrefix held holds (as_line (verdict_text verdict))
+  pub written : AppendsPrefix held holds (as_line (check_text verdict))
 
 -- a check ended by a fault: before it wrote, or while it wrote
 -- Not said: which fault ended it, but that it is neither Busy nor Spent; that no more words are

@@ -14,7 +14,7 @@ use Rattle.vac_streams.specs.declared.fault.StreamFault.{StreamFault}
 use Rattle.vac_streams.specs.declared.next.Next.{Next}
 use Rattle.vac_streams.specs.declared.next.Next.TheVariants.{GoOn}
 use Rattle.vac_streams.specs.Told.{Told, Line, LongLine, Pause}
-use Rattle.vac_script.specs.System.{StandsAt, Answered}
+use Rattle.vac_script.specs.System.{StandsInState, AnsweredLine}
 
 -- the task of a line that was told, or its fault; a pause has none
 abbrev pub told_task : Told → Result Task LineFault
@@ -27,14 +27,14 @@ pub record AnsweredCut (y : SessionShown) (out : List ℕ) (held holds : Option 
     (line : Result Task LineFault) : Type 0 where
   pub text : List ℕ
   pub written : Appends held holds text
-  pub on : (s : State) → StandsAt y s → Extends text (out ++ (answer s line).1)
+  pub on : (s : State) → StandsInState y s → Extends text (out ++ (answer s line).1)
 
 -- a line was answered and its output line was added to the text at hand; or memory was refused
 -- Not said: that the text at hand is written before the fault is returned.
 abbrev pub HearsLine : SessionShown → List ℕ → Option (List ℕ) → Result Task LineFault
     → Result Next StreamFault → SessionShown → List ℕ → Option (List ℕ) → Type 0
 HearsLine y out held line (Ok next) y' out' holds =
-    (next ≡ GoOn) × Answered y y' out out' line × (holds ≡ held)
+    (next ≡ GoOn) × AnsweredLine y y' out out' line × (holds ≡ held)
 HearsLine y out held line (Err fault) y' out' holds = AnsweredCut y out held holds line
 
 -- the text at hand was written, or a part of it

@@ -32,7 +32,7 @@ pub record ReadNone (unread left : Option (List ℕ)) : Type 0 where
       ⊎ ((x : List ℕ) → NoneOrMany (memory_words (bytes ++ x)))
 
 -- a line was taken as one more word
-pub record TookLine (words words' line : List ℕ) : Type 0 where
+pub record TookWord (words words' line : List ℕ) : Type 0 where
   pub word : ℕ
   pub is : memory_word_of line ≡ Some word
   pub more : words' ≡ words ++ word ∷ []
@@ -44,7 +44,7 @@ RefusedLine words line = (memory_word_of line ≡ None) ⊎ (MOST_HEAP_WORDS ≤
 
 -- what telling a line does to the words: they have one more; or they are no memory's
 abbrev pub HearsWord : List ℕ → Told → Result Next StreamFault → List ℕ → Type 0
-HearsWord words (Line line) (Ok GoOn) words' = TookLine words words' line
+HearsWord words (Line line) (Ok GoOn) words' = TookWord words words' line
 HearsWord words (Line line) (Ok Stop) words' = RefusedLine words line
 HearsWord words (Line line) (Err fault) words' = ⊤
 HearsWord words LongLine (Ok next) words' = next ≡ Stop

@@ -7,19 +7,19 @@ use Rattle.vac_model.specs.declared.tasks.Task.{Task}
 use Rattle.vac_lines.specs.declared.fault.LineFault.{LineFault}
 use Rattle.vac_lines.specs.Script.{answer, script_state, script_out}
 use Rattle.vac_lines.specs.Text.{Extends}
-use Rattle.vac_manager.specs.Legal.{IsHistory, capacity_of}
+use Rattle.vac_manager.specs.Legal.{IsHistoryTo, capacity_of}
 use Rattle.vac_manager.specs.Called.{HasAllGrants}
 use Rattle.vac_manager.specs.Session.{SessionShown, IsOwn}
 use Rattle.vac_script.specs.declared.system.TheConstants.{LAST_VERSION}
 
 -- the client is alone: it has all grants. The clock ends at the last version that there is
-pub record IsAlone (y : SessionShown) : Type 0 where
+pub record IsLoneSession (y : SessionShown) : Type 0 where
   pub all : HasAllGrants y.client.value
   pub last : y.manager.last ≡ LAST_VERSION
 
 -- the records of the client are a whole history of the manager, which leads to this state
-abbrev pub StandsAt : SessionShown → State → Type 0
-StandsAt y s = IsHistory y.manager y.client.value.records s
+abbrev pub StandsInState : SessionShown → State → Type 0
+StandsInState y s = IsHistoryTo y.manager y.client.value.records s
 
 -- the clock, as the client knows it, has n versions left
 abbrev pub Lasts : SessionShown → ℕ → Type 0
@@ -27,13 +27,13 @@ Lasts y n = y.client.value.floor + n ≤ LAST_VERSION
 
 -- the manager has no entry yet, and its client knows no version
 pub record IsNew (y : SessionShown) : Type 0 where
-  pub stands : StandsAt y (empty_state (capacity_of y.manager))
+  pub stands : StandsInState y (empty_state (capacity_of y.manager))
   pub floor : y.client.value.floor ≡ 0
 
 -- a manager of n blocks was opened, with its one client
 pub record OpensAlone (n : ℕ) (y : SessionShown) : Type 0 where
   pub own : IsOwn y
-  pub alone : IsAlone y
+  pub alone : IsLoneSession y
   pub capacity : capacity_of y.manager ≡ n
   pub fresh : IsNew y
 
@@ -43,23 +43,23 @@ pub record GoesOnBy (y y' : SessionShown) (n : ℕ) : Type 0 where
   pub ticks : y'.client.value.floor ≤ y.client.value.floor + n
 
 -- a line was answered, and its output line appended to the output; the clock ticked at most once
-pub record Answered (y y' : SessionShown) (out out' : List ℕ) (line : Result Task LineFault) :
+pub record AnsweredLine (y y' : SessionShown) (out out' : List ℕ) (line : Result Task LineFault) :
     Type 0 where
-  pub state : (s : State) → StandsAt y s → StandsAt y' (answer s line).0
-  pub text : (s : State) → StandsAt y s → out' ≡ out ++ (answer s line).1
+  pub state : (s : State) → StandsInState y s → StandsInState y' (answer s line).0
+  pub text : (s : State) → StandsInState y s → out' ≡ out ++ (answer s line).1
   pub goes : GoesOnBy y y' 1
 
 -- no more than a part of the output line was appended
 pub record AnsweredInPart (y : SessionShown) (out out' : List ℕ) (line : Result Task LineFault) :
     Type 0 where
-  pub text : (s : State) → StandsAt y s → Extends out' (out ++ (answer s line).1)
+  pub text : (s : State) → StandsInState y s → Extends out' (out ++ (answer s line).1)
 
 -- the input was read to its end, its script output was written, and the system is in the state that
 -- the script leaves
-pub record RanAll (n : ℕ) (y : SessionShown) (unread left held holds : Option (List ℕ)) :
+pub record RanScript (n : ℕ) (y : SessionShown) (unread left held holds : Option (List ℕ)) :
     Type 0 where
   pub bytes : List ℕ
   pub consumed : Consumes unread left bytes
   pub ended : IsAtEnd left
   pub written : Appends held holds (script_out n bytes)
-  pub stands : StandsAt y (script_state n bytes)
+  pub stands : StandsInState y (script_state n bytes)

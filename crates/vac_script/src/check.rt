@@ -1,7 +1,7 @@
 //! The audit of words that are read as text.
 
 ghost use Rattle.std.specs.Prelude.{◌≡◌, ◌++◌, OnOk, OnErr, IfOk};
-ghost use Rattle.vac_script.specs.Check.{flaw_name, flaw_text, verdict_text, is_sound};
+ghost use Rattle.vac_script.specs.Check.{flaw_name, flaw_text, check_text, is_sound};
 ghost use Rattle.vac_script.specs.Check.{Judged, IsVerdict, Checked, CheckStopped};
 ghost use Rattle.vac_audit.specs.Laws.{word_of};
 ghost use Rattle.vac_lines.specs.Script.{as_line};
@@ -66,7 +66,7 @@ fn print_flaw(flaw: Flaw, out: &mut Vec<u8>) -> Result<(), AllocError>
 
 /// Appends the text of a verdict.
 fn append_verdict(verdict: Verdict, out: &mut Vec<u8>) -> Result<(), AllocError>
-    ensures { OnOk result (out.new.items ≡ out.old.items ++ verdict_text verdict) }
+    ensures { OnOk result (out.new.items ≡ out.old.items ++ check_text verdict) }
 {
     match verdict {
         Verdict::Sound(report) => print_reply(&Reply::Report(report), out),
@@ -77,7 +77,7 @@ fn append_verdict(verdict: Verdict, out: &mut Vec<u8>) -> Result<(), AllocError>
 
 /// Appends the line of a verdict.
 fn print_verdict(verdict: Verdict, out: &mut Vec<u8>) -> Result<(), AllocError>
-    ensures { OnOk result (out.new.items ≡ out.old.items ++ as_line (verdict_text verdict)) }
+    ensures { OnOk result (out.new.items ≡ out.old.items ++ as_line (check_text verdict)) }
 {
     append_verdict(verdict, out)?;
     out.extend_from_slice(b"\n")

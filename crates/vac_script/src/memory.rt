@@ -1,7 +1,7 @@
 //! Reading the words of a memory, one a line.
 
 ghost use Rattle.std.specs.Prelude.{MatchBool, MatchOption, IfOk};
-ghost use Rattle.vac_script.specs.Reading.{TookLine, RefusedLine, ReadWords, ReadNone};
+ghost use Rattle.vac_script.specs.Reading.{TookWord, RefusedLine, ReadWords, ReadNone};
 
 use std::alloc::{AllocError, Global};
 use std::io::Read;
@@ -19,7 +19,7 @@ struct MemoryText {
 /// Takes a line as one more word. Returns whether it is a word for which a memory has room.
 fn take_line(words: &mut Vec<u64>, line: &[u8]) -> Result<bool, AllocError>
     ensures { IfOk result (λ taken. MatchBool taken
-        (TookLine words.old.items words.new.items line.now)
+        (TookWord words.old.items words.new.items line.now)
         (RefusedLine words.old.items line.now)) }
 {
     let Some(word) = read_memory_word(line) else {

@@ -7,7 +7,7 @@ ghost use Rattle.vac_manager.specs.Legal.{capacity_of};
 ghost use Rattle.vac_lines.specs.LineTable.{line_task};
 ghost use Rattle.vac_lines.specs.Writing.{AppendsPrefix};
 ghost use Rattle.vac_streams.specs.declared.fault.StreamFault.TheVariants.{Memory};
-ghost use Rattle.vac_script.specs.System.{Answered, AnsweredInPart, RanAll, IsNew, Lasts};
+ghost use Rattle.vac_script.specs.System.{AnsweredLine, AnsweredInPart, RanScript, IsNew, Lasts};
 ghost use Rattle.vac_script.specs.Script.{WroteAll, WrotePrefix};
 
 use crate::system::{System, open};
@@ -36,7 +36,7 @@ fn run_read(
     requires in_range { IfOk read.now (λ task. is_task task ≡ true) }
     requires lasts { Lasts system.old 1 }
     ensures ok { OnOk result
-        (Answered system.old system.new out.old.items out.new.items read.now) }
+        (AnsweredLine system.old system.new out.old.items out.new.items read.now) }
     ensures err { OnErr result
         (AnsweredInPart system.old out.old.items out.new.items read.now) }
     ensures memory { IfErr result (λ fault. fault ≡ Memory) }
@@ -61,7 +61,7 @@ fn run_line(
 ) -> Result<(), StreamFault>
     requires lasts { Lasts system.old 1 }
     ensures ok { OnOk result
-        (Answered system.old system.new out.old.items out.new.items (line_task line.now)) }
+        (AnsweredLine system.old system.new out.old.items out.new.items (line_task line.now)) }
     ensures err { OnErr result
         (AnsweredInPart system.old out.old.items out.new.items (line_task line.now)) }
     ensures memory { IfErr result (λ fault. fault ≡ Memory) }
@@ -139,7 +139,7 @@ pub(crate) fn run_input<R: Read, W: Write>(
     requires fresh { IsNew system }
     ensures own { IfOk result (λ client. client.table ≡ system.entry.manager.table) }
     ensures alone { IfOk result (λ client. HasAllGrants client.value) }
-    ensures ok { IfOk result (λ client. RanAll (capacity_of system.entry.manager)
+    ensures ok { IfOk result (λ client. RanScript (capacity_of system.entry.manager)
         (record { manager = system.entry.manager; client = client })
         (R.remaining input.old) (R.remaining input.new)
         (W.contents output.old) (W.contents output.new)) }

@@ -6,9 +6,9 @@ ghost use Rattle.vac_model.specs.Run.{run};
 ghost use Rattle.vac_model.specs.Ranges.{is_block_count, is_task};
 ghost use Rattle.vac_manager.specs.Called.{HasAllGrants};
 ghost use Rattle.vac_manager.specs.Law.{Shows};
-ghost use Rattle.vac_manager.specs.Legal.{IsHistory};
+ghost use Rattle.vac_manager.specs.Legal.{IsHistoryTo};
 ghost use Rattle.vac_streams.specs.declared.fault.StreamFault.TheVariants.{Memory};
-ghost use Rattle.vac_script.specs.System.{IsAlone, OpensAlone, StandsAt, Lasts, GoesOnBy};
+ghost use Rattle.vac_script.specs.System.{IsLoneSession, OpensAlone, StandsInState, Lasts, GoesOnBy};
 
 use std::alloc::Global;
 use std::marker::Model;
@@ -28,20 +28,20 @@ pub(crate) struct System<'a> {
 
 impl<'a> Model for System<'a> {
     ghost use Rattle.vac_manager.specs.Session.{SessionShown};
-    ghost use Rattle.vac_script.specs.System.{IsAlone};
+    ghost use Rattle.vac_script.specs.System.{IsLoneSession};
 
     ghost Value = { SessionShown };
 
     ghost view = { λ y. y.session };
 
-    ghost invariant = { λ y. IsAlone y.session };
+    ghost invariant = { λ y. IsLoneSession y.session };
 }
 
 impl<'a> System<'a> {
     /// The session of a client that is alone.
     pub(crate) fn of(manager: &'a Manager, client: Client) -> System<'a>
         requires own { client.table ≡ manager.now.table }
-        requires alone { IsAlone (record { manager = manager.now; client = client }) }
+        requires alone { IsLoneSession (record { manager = manager.now; client = client }) }
         ensures { result ≡ record { manager = manager.now; client = client } }
     {
         let session = Session::of(manager, client);
@@ -63,10 +63,10 @@ impl<'a> System<'a> {
     pub(crate) fn apply(&mut self, task: &Task) -> Result<Reply, StreamFault>
         requires in_range { is_task task.now ≡ true }
         requires lasts { Lasts self.old 1 }
-        ensures reply { IfOk result (λ reply. (s : State) → StandsAt self.old s
+        ensures reply { IfOk result (λ reply. (s : State) → StandsInState self.old s
             → reply ≡ (run s task.now).1) }
-        ensures state { IfOk result (λ _. (s : State) → StandsAt self.old s
-            → StandsAt self.new (run s task.now).0) }
+        ensures state { IfOk result (λ _. (s : State) → StandsInState self.old s
+            → StandsInState self.new (run s task.now).0) }
         ensures goes { IfOk result (λ _. GoesOnBy self.old self.new 1) }
         ensures memory { IfErr result (λ fault. fault ≡ Memory) }
     {
@@ -100,7 +100,7 @@ pub(crate) fn close(manager: Manager, client: Client) -> Result<Vec<u64>, Stream
     requires own { client.table ≡ manager.table }
     requires alone { HasAllGrants client.value }
     ensures words { IfOk result (λ words. (s : State)
-        → IsHistory manager client.value.records s → Shows words.items s) }
+        → IsHistoryTo manager client.value.records s → Shows words.items s) }
     ensures memory { IfErr result (λ fault. fault ≡ Memory) }
 {
     match manager.close(client) {

@@ -18,7 +18,8 @@ use Rattle.vac_model.proofs.Sums.{len_inserted, len_removed}
 use Rattle.vac_sequential.specs.declared.tries.Kids.{Kids}
 use Rattle.vac_sequential.specs.declared.tries.Parts.{Parts}
 use Rattle.vac_sequential.specs.Tries.{Link, value_in, map_in, spread, first_entry, woven, weave, map_of, TellsEmpty}
-use Rattle.vac_sequential.specs.Tries.{TellsSame, IsCounted, Holds, child_of, with_child, parts_of, depth_of, depth_in}
+use Rattle.vac_sequential.specs.Tries.{TellsSame, IsSummedUp, EntryAdds, child_of, with_child, parts_of, depth_of}
+use Rattle.vac_sequential.specs.Tries.{depth_in}
 
 -- the test of two ids of one digit, and of two digits
 same_ids : (q r d : ℕ) → (4 * q + 1 + d == 4 * r + 1 + d) ≡ (q == r)
@@ -496,11 +497,11 @@ module _ {V : Type 0} where
 
   -- the numbers of a map after a value was put
   pub counted_put : (f : V → ℕ) (m : FinMap nat_cmp V) (k : ℕ) (x : V) (len weight one old : ℕ) →
-      IsCounted f m len weight → Holds f (fin.get m k) one old
-      → (one ≤ len + 1) × (old ≤ weight + f x) × IsCounted f (fin.insert m k x) (len + 1 - one) (weight + f x - old)
+      IsSummedUp f m len weight → EntryAdds f (fin.get m k) one old
+      → (one ≤ len + 1) × (old ≤ weight + f x) × IsSummedUp f (fin.insert m k x) (len + 1 - one) (weight + f x - old)
   counted_put f m k x len weight one old c h =
-      elim (fin.get m k) as (λ o. fin.get m k ≡ o → Holds f o one old →
-      (one ≤ len + 1) × (old ≤ weight + f x) × IsCounted f (fin.insert m k x) (len + 1 - one)
+      elim (fin.get m k) as (λ o. fin.get m k ≡ o → EntryAdds f o one old →
+      (one ≤ len + 1) × (old ≤ weight + f x) × IsSummedUp f (fin.insert m k x) (len + 1 - one)
       (weight + f x - old)) [
         | None ↦ λ e h.
             let longer = len_pushed nat_cmp_total nat_cmp-IsAntisymmetric m k x e in
@@ -518,12 +519,12 @@ module _ {V : Type 0} where
       ] refl h
 
   -- the same after a value was removed
-  pub counted_cut : (f : V → ℕ) (m : FinMap nat_cmp V) (k : ℕ) (len weight one old : ℕ) → IsCounted f m len weight →
-      Holds f (fin.get m k) one old
-      → (one ≤ len) × (old ≤ weight) × IsCounted f (fin.remove m k) (len - one) (weight - old)
+  pub counted_cut : (f : V → ℕ) (m : FinMap nat_cmp V) (k : ℕ) (len weight one old : ℕ) → IsSummedUp f m len weight →
+      EntryAdds f (fin.get m k) one old
+      → (one ≤ len) × (old ≤ weight) × IsSummedUp f (fin.remove m k) (len - one) (weight - old)
   counted_cut f m k len weight one old c h =
-      elim (fin.get m k) as (λ o. fin.get m k ≡ o → Holds f o one old →
-      (one ≤ len) × (old ≤ weight) × IsCounted f (fin.remove m k) (len - one) (weight - old)) [
+      elim (fin.get m k) as (λ o. fin.get m k ≡ o → EntryAdds f o one old →
+      (one ≤ len) × (old ≤ weight) × IsSummedUp f (fin.remove m k) (len - one) (weight - old)) [
         | None ↦ λ e h.
             let same : fin.remove m k ≡ m = remove_missing nat_cmp_total nat_cmp-IsAntisymmetric m k e in
             let as_long : fin.len (fin.remove m k) ≡ fin.len m = ap fin.len same in

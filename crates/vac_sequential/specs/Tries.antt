@@ -111,10 +111,10 @@ TellsEmpty m true = m ≡ fin.empty
 TellsEmpty m false = m ≢ fin.empty
 
 -- these are the number of a map's entries and the sum of their weights
-abbrev pub IsCounted : {V : Type 0} → (V → ℕ) → Ids V → ℕ → ℕ → Type 0
-IsCounted f m len weight = (len ≡ fin.len m) × (weight ≡ sum_by f (fin.values m))
+abbrev pub IsSummedUp : {V : Type 0} → (V → ℕ) → Ids V → ℕ → ℕ → Type 0
+IsSummedUp f m len weight = (len ≡ fin.len m) × (weight ≡ sum_by f (fin.values m))
 
 -- these are what an entry adds to the two
-abbrev pub Holds : {V : Type 0} → (V → ℕ) → Option V → ℕ → ℕ → Type 0
-Holds f None len weight = (len ≡ 0) × (weight ≡ 0)
-Holds f (Some x) len weight = (len ≡ 1) × (weight ≡ f x)
+abbrev pub EntryAdds : {V : Type 0} → (V → ℕ) → Option V → ℕ → ℕ → Type 0
+EntryAdds f None len weight = (len ≡ 0) × (weight ≡ 0)
+EntryAdds f (Some x) len weight = (len ≡ 1) × (weight ≡ f x)

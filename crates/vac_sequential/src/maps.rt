@@ -2,7 +2,7 @@
 
 ghost use Rattle.std.specs.Prelude.{◌≡◌, ◌<◌, ◌^◌, IsSome, IfSome, IfNone, IfOk, OnOk, OnErr, sum_by, [], ◌∷◌};
 ghost use Rattle.vac_model.specs.State.{Bookings, bill_of, units_booked};
-ghost use Rattle.vac_sequential.specs.Tries.{Holds, TellsSame};
+ghost use Rattle.vac_sequential.specs.Tries.{EntryAdds, TellsSame};
 ghost use Rattle.std.specs.Option.{option_copied};
 ghost use Rattle.std.specs.FinMap as map;
 ghost use Rattle.std.specs.BTreeMap as tree;
@@ -28,7 +28,7 @@ impl<V: Entry> Model for IdMap<V> {
     ghost use Rattle.std.specs.Ordering.{nat_cmp};
     ghost use Rattle.std.specs.FinMap as map;
     ghost use Rattle.std.specs.Coded.{coded_ℕ};
-    ghost use Rattle.vac_sequential.specs.Tries.{map_at, IsCounted};
+    ghost use Rattle.vac_sequential.specs.Tries.{map_at, IsSummedUp};
 
     ghost Value = { map.FinMap nat_cmp V };
 
@@ -36,7 +36,7 @@ impl<V: Entry> Model for IdMap<V> {
 
     ghost view = { λ m. map_at m.root };
 
-    ghost invariant = { λ m. IsCounted V.weight (map_at m.root) m.len m.weight };
+    ghost invariant = { λ m. IsSummedUp V.weight (map_at m.root) m.len m.weight };
 }
 
 /// What one id adds to the sums of a map.
@@ -89,7 +89,7 @@ impl<V: Entry> IdMap<V> {
 
     /// What an id adds to the numbers of the map.
     fn held(&self, id: u32) -> Held
-        ensures { Holds V.weight (map.get self.now id) result.len result.weight }
+        ensures { EntryAdds V.weight (map.get self.now id) result.len result.weight }
     {
         match self.get(id) {
             Some(value) => Held {

@@ -13,7 +13,7 @@ use Rattle.vac_spans.specs.declared.span.Misplaced.{Misplaced}
 use Rattle.vac_spans.specs.declared.span.Misplaced.TheVariants.{Client, Time}
 use Rattle.vac_spans.specs.declared.spans.Spans.{Spans}
 use Rattle.vac_spans.specs.Order.{itself, same_client, overlaps, ended_before, breaks_client, breaks_time, misplaced}
-use Rattle.vac_spans.specs.Keeping.{end_of, latest_of, IsBehind, EachSpan, AreInTurn, Keeps}
+use Rattle.vac_spans.specs.Keeping.{end_of, latest_of, IsSpanBehind, EachSpan, SpansAreInTurn, Keeps}
 use Rattle.vac_spans.proofs.Tests.{both_false, false_both, turn_from, turn_test, test}
 
 or_true : (a b : Bool) → b ≡ true → (a || b) ≡ true
@@ -56,7 +56,7 @@ client_meets c (x ∷ xs) end h l =
     ]
 
 -- each call of the client was over when this one began
-fits_behind : (c x : Span) (xs : List Span) → EachSpan (IsBehind x) xs → x.client ≡ c.client → x.begin ≤ c.begin →
+fits_behind : (c x : Span) (xs : List Span) → EachSpan (IsSpanBehind x) xs → x.client ≡ c.client → x.begin ≤ c.begin →
     list_any (overlaps itself c) xs ≡ false
 fits_behind c x [] h e l = refl
 fits_behind c x (y ∷ ys) h e l =
@@ -65,7 +65,8 @@ fits_behind c x (y ∷ ys) h e l =
     (fits_behind c x ys h.1 e l)
 
 -- the newest call of the client was over
-pub client_fits : (c : Span) (earlier : List Span) (end : ℕ) → AreInTurn earlier → end_of earlier c.client ≡ Some end →
+pub client_fits : (c : Span) (earlier : List Span) (end : ℕ) → SpansAreInTurn earlier →
+    end_of earlier c.client ≡ Some end →
     end ≤ c.begin → list_any (overlaps itself c) earlier ≡ false
 client_fits c [] end t h l = refl
 client_fits c (x ∷ xs) end t h l =
@@ -146,7 +147,7 @@ abbrev pub IsOver : Option ℕ → ℕ → Type 0
 IsOver None begin = Unit {0}
 IsOver (Some end) begin = end ≤ begin
 
-client_over : (c : Span) (earlier : List Span) (newest : Option ℕ) → AreInTurn earlier →
+client_over : (c : Span) (earlier : List Span) (newest : Option ℕ) → SpansAreInTurn earlier →
     end_of earlier c.client ≡ newest → IsOver newest c.begin → list_any (overlaps itself c) earlier ≡ false
 client_over c earlier None t h o = client_new c earlier h
 client_over c earlier (Some end) t h o = client_fits c earlier end t h o
@@ -169,7 +170,7 @@ in_time spans c earlier k l = let is = k.latest_is in time_fits c earlier (omega
 
 -- the tests say that each call is in turn
 turns_of : (c : Span) (earlier : List Span) → list_any (overlaps itself c) earlier ≡ false →
-    EachSpan (IsBehind c) earlier
+    EachSpan (IsSpanBehind c) earlier
 turns_of c [] h = tt
 turns_of c (x ∷ xs) h =
     let both = both_false (overlaps itself c x) (list_any (overlaps itself c) xs) h in

@@ -8,7 +8,7 @@ use Rattle.vac_spans.specs.declared.span.Misplaced.{Misplaced}
 use Rattle.vac_spans.specs.declared.span.Misplaced.TheVariants.{Client, Time}
 use Rattle.vac_spans.specs.Order.{itself, same_client, overlaps, ended_before, breaks_client, breaks_time, misplaced}
 use Rattle.vac_spans.specs.Order.{clients_of}
-use Rattle.vac_spans.specs.Laws.{IsAt, KeepPrecedence, TakeTurns, IsCause}
+use Rattle.vac_spans.specs.Laws.{IsAt, KeepPrecedence, TakeTurns, IsMisplaced}
 use Rattle.vac_spans.proofs.Tests.{both_false, false_both, turn_from, turn_test, time_from, time_test, before_of}
 
 false_true : false ≡ true → ⊥
@@ -221,17 +221,17 @@ module _ {C : Type 0} (span : C → Span) where
 
   -- what is found is why the order does not go on
   pub cause_of : (xs : List C) (x : C) (m : Misplaced) → TakeTurns span xs →
-      misplaced span (reverse_aux xs []) x ≡ Some m → IsCause span xs x m
+      misplaced span (reverse_aux xs []) x ≡ Some m → IsMisplaced span xs x m
   cause_of xs x m t h = of m (tests_of (breaks_client span (reverse_aux xs []) x)
       (breaks_time span (reverse_aux xs []) x) m h)
     where
       of : (m : Misplaced) → Tests (breaks_client span (reverse_aux xs []) x) (breaks_time span (reverse_aux xs []) x) m
-          → IsCause span xs x m
+          → IsMisplaced span xs x m
       of Client h = λ more. false_true (sym (of_turns xs x more) ∙ h)
       of Time h = (turns_of xs x t h.0, λ more. false_true (sym (of_precedence xs x more) ∙ h.1))
 
   pub of_cause : (xs : List C) (x : C) (m : Misplaced) → TakeTurns span xs → KeepPrecedence span xs →
-      IsCause span xs x m → misplaced span (reverse_aux xs []) x ≡ Some m
+      IsMisplaced span xs x m → misplaced span (reverse_aux xs []) x ≡ Some m
   of_cause xs x Client t k h = of_tests (breaks_client span (reverse_aux xs []) x)
       (breaks_time span (reverse_aux xs []) x) Client
       (passes (breaks_client span (reverse_aux xs []) x) (λ e. h (turns_of xs x t e)))

@@ -17,8 +17,8 @@ latest_of [] = 0
 latest_of (span ∷ earlier) = max (latest_of earlier) span.begin
 
 -- an earlier span of the same client had ended when a span began
-abbrev pub IsBehind : Span → Span → Type 0
-IsBehind span earlier = earlier.client ≡ span.client → earlier.end ≤ span.begin
+abbrev pub IsSpanBehind : Span → Span → Type 0
+IsSpanBehind span earlier = earlier.client ≡ span.client → earlier.end ≤ span.begin
 
 -- a fact of each span
 abbrev pub EachSpan : (Span → Type 0) → List Span → Type 0
@@ -26,10 +26,10 @@ EachSpan P [] = ⊤
 EachSpan P (span ∷ earlier) = P span × EachSpan P earlier
 
 -- the spans of each client are in their order
-abbrev pub AreInTurn : List Span → Type 0
-AreInTurn [] = ⊤
-AreInTurn (span ∷ earlier) =
-    (span.begin ≤ span.end) × EachSpan (IsBehind span) earlier × AreInTurn earlier
+abbrev pub SpansAreInTurn : List Span → Type 0
+SpansAreInTurn [] = ⊤
+SpansAreInTurn (span ∷ earlier) =
+    (span.begin ≤ span.end) × EachSpan (IsSpanBehind span) earlier × SpansAreInTurn earlier
 
 -- what is kept of earlier spans: the end of each client's newest, the greatest begin, and how many
 -- there are
@@ -38,4 +38,4 @@ pub record Keeps (spans : Spans) (earlier : List Span) : Type 0 where
   pub clients : len spans.ends ≡ clients_of itself earlier
   pub latest_is : spans.latest ≡ latest_of earlier
   pub count_is : spans.count ≡ length earlier
-  pub turns : AreInTurn earlier
+  pub turns : SpansAreInTurn earlier

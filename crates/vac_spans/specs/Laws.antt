@@ -28,7 +28,7 @@ pub record TakeTurns {C : Type 0} (span : C → Span) (xs : List C) : Type 0 whe
   pub clients : AreSequential span xs
 
 -- why no order goes on with x after things in order: clients come first, then times
-abbrev pub IsCause : {C : Type 0} → (C → Span) → List C → C → Misplaced → Type 0
-IsCause span xs x Client = TakeTurns span (xs ++ x ∷ []) → ⊥
-IsCause span xs x Time =
+abbrev pub IsMisplaced : {C : Type 0} → (C → Span) → List C → C → Misplaced → Type 0
+IsMisplaced span xs x Client = TakeTurns span (xs ++ x ∷ []) → ⊥
+IsMisplaced span xs x Time =
     TakeTurns span (xs ++ x ∷ []) × (KeepPrecedence span (xs ++ x ∷ []) → ⊥)

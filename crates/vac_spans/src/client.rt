@@ -1,7 +1,7 @@
 //! The number of a client.
 
 ghost use Rattle.std.specs.Prelude.{◌≡◌};
-ghost use Rattle.vac_spans.specs.Client.{client_of};
+ghost use Rattle.vac_spans.specs.Client.{client_number};
 
 use vac_lines::read_memory_word;
 
@@ -13,7 +13,7 @@ pub const MOST_CLIENT: u32 = u32::MAX;
 
 /// The client that a word names: 0 to 4,294,967,295, of 1 to 10 digits.
 pub fn read_client(word: &[u8]) -> Option<u32>
-    ensures { result ≡ client_of word.now }
+    ensures { result ≡ client_number word.now }
 {
     if word.len() > MOST_CLIENT_DIGITS {
         return None;

@@ -30,15 +30,15 @@ use Rattle.vac_records.proofs.Customers.{customer_found, customer_missing}
 use Rattle.vac_records.proofs.Single.{one_state}
 use Rattle.vac_commands.specs.Entries.{item_block, customer_block, LacksCustomer, HasCustomerAt, ItemsStay}
 use Rattle.vac_commands.specs.CustomerSteps.{RanOn, ItemsStayOn, HasSeat}
-use Rattle.vac_commands.specs.BookingSteps.{Here, AtBlocks, Lands, Serves}
+use Rattle.vac_commands.specs.BookingSteps.{Here, AtBlocks, Lands, ServesCommand}
 use Rattle.vac_commands.specs.Ran.{IsOutcome, Ran, joining}
 use Rattle.vac_tasks.specs.declared.trip.Choice.{Choice}
 use Rattle.vac_tasks.specs.declared.trip.Choices.{Choices}
 use Rattle.vac_tasks.specs.declared.trip.Owner.{Owner}
 use Rattle.vac_tasks.specs.RanTask.{RanTask}
 use Rattle.vac_tasks.specs.Runs.{Runs, RunsWhere, BlocksStay}
-use Rattle.vac_tasks.specs.Trips.{priced, choice_in, any_chosen, IsKnown, AreKnown, ChoiceIsAt, ChoicesAreAt}
-use Rattle.vac_tasks.specs.Trips.{IsChoiceAt, AtChoices, Chosen, IsOwner, IsOwnerAt, AtPick, joined, HasJoined}
+use Rattle.vac_tasks.specs.Trips.{priced, choice_in, any_chosen, IsKnownItem, AreKnownItems, ChoiceIsAt, ChoicesAreAt}
+use Rattle.vac_tasks.specs.Trips.{IsChoiceAt, AtChoices, Chosen, IsOwner, IsOwnerAt, AtPick, asked_to_join, HasJoined}
 use Rattle.vac_commands.proofs.Held.{read_none, state_on, customer_is, customer_none, items_stay_reads}
 use Rattle.vac_commands.proofs.Held.{customers_stay_reads, item_found_at, item_at_stays, customer_at_stays}
 use Rattle.vac_commands.proofs.Serving.{outcome_lands, item_lands, customer_lands}
@@ -64,14 +64,14 @@ exists_step state id b e =
     (with_bookings state id empty)) (λ _. refused state Exists)) e
 
 joined_step : (state : State) (id : ℕ) (r : Reply) → step state (command.NewCustomer id) ≡ (state, r) →
-    joined id state ≡ (state, joined_of r)
+    asked_to_join id state ≡ (state, joined_of r)
 joined_step state id r e = ap (λ (o : Outcome). (o.0, joined_of o.1)) e
 
 -- the customer is there
 pub joined_there : (s s' : View) (id : ℕ) (c : ℕ) → OnlyRead s s' → HasCustomerAt s' id c →
     HasJoined s s' id (record { joined = Refused Exists; block = Some c })
 joined_there s s' id c reads at = record {
-  runs = runs_same s s' (joined id) (Refused Exists) reads (λ image state i h.
+  runs = runs_same s s' (asked_to_join id) (Refused Exists) reads (λ image state i h.
       let b = customer_is s' id c at image state i (state_on s s' image state reads.writes h) in
       joined_step state id (reply.No Exists) (exists_step state id b.bookings b.there));
   room = at.inside;
@@ -82,7 +82,7 @@ joined_there s s' id c reads at = record {
 -- what a command did after reads
 runs_joined : (s s1 s2 : View) (id : ℕ) (added : Option ℕ) → OnlyRead s s1 →
     Ran s1 s2 (command.NewCustomer id) (joining added) →
-    Runs s s2 (joined id) (joined_of (joining added))
+    Runs s s2 (asked_to_join id) (joined_of (joining added))
 runs_joined s s1 s2 id added reads ran = record {
   kept = kept_both s s1 s2 reads.kept ran.kept;
   state = λ image state i h. (ran.outcome image state i (state_on s s1 image state reads.writes h)).state;
@@ -218,7 +218,7 @@ reserve_range id kind item a b = rw (a, b) refl
 
 pub reserved : (s s' : View) (id : ℕ) (kind : Kind) (block : Option ℕ) (o : Option Choice) (b : ℕ) (c : Choice)
     (r : Reply) (why : Option Why) → block ≡ Some b → o ≡ Some c → b ≢ 0 → c.item ≢ 0 → c.id < 2 ^ 32 →
-    is_command (command.Reserve id kind c.id 1) ≡ true → Serves s s' (command.Reserve id kind c.id 1) r
+    is_command (command.Reserve id kind c.id 1) ≡ true → ServesCommand s s' (command.Reserve id kind c.id 1) r
     (AtBlocks id b kind c.id c.item) → why ≡ refusal_of r →
     RunsWhere s s' (picks id kind o) (Some (record { id = c.id; price = c.price; refused = why }))
     (AtPick id block kind o)
@@ -238,7 +238,7 @@ reserved s s' id kind block o b c r why is_b is_c b_some c_some small range v w 
 
 pub reserved_stays : (s s' : View) (id : ℕ) (kind : Kind) (block : Option ℕ) (o : Option Choice) (b : ℕ) (c : Choice)
     (r : Reply) → block ≡ Some b → o ≡ Some c → b ≢ 0 → c.item ≢ 0 → c.id < 2 ^ 32 →
-    Serves s s' (command.Reserve id kind c.id 1) r (AtBlocks id b kind c.id c.item) →
+    ServesCommand s s' (command.Reserve id kind c.id 1) r (AtBlocks id b kind c.id c.item) →
     BlocksStay s s' (AtPick id block kind o)
 reserved_stays s s' id kind block o b c r is_b is_c b_some c_some small v =
     let lands : (image : List ℕ) (state : State) → Sees s' image → (h : IsState (mem s image) (length image) state) →
@@ -326,7 +326,7 @@ owner_seated s s' id (Some c) held kept room seat = record {
 pub ready_joined : (s s' : View) (id : ℕ) (owner : Owner) (cs : Choices) → HoldsState s → ChoicesAreAt s cs →
     HasJoined s s' id owner → Ready s' id owner.block cs
 ready_joined s s' id owner cs held known j = record {
-  state = held_runs s s' (joined id) owner.joined j.runs held;
+  state = held_runs s s' (asked_to_join id) owner.joined j.runs held;
   owner = owner_seated s s' id owner.block held j.runs.kept j.room j.seat;
   known = record {
     known = λ kind. choice_stays s s' kind (choice_in cs kind) held j.runs.kept
@@ -366,12 +366,12 @@ ready_next s s' id block cs kind f a r runs stays = record {
 }
 
 -- what was found can be booked
-choice_found : (s : View) (kind : Kind) (o : Option Choice) → IfSome o (λ c. IsKnown s kind c) →
+choice_found : (s : View) (kind : Kind) (o : Option Choice) → IfSome o (λ c. IsKnownItem s kind c) →
     IfSome o (λ c. ChoiceIsAt s kind c)
 choice_found s kind None k = tt
 choice_found s kind (Some c) k = record { id = k.id; at = item_found_at s kind c.id c.item k.at }
 
-pub choices_found : (s : View) (cs : Choices) → AreKnown s cs → ChoicesAreAt s cs
+pub choices_found : (s : View) (cs : Choices) → AreKnownItems s cs → ChoicesAreAt s cs
 choices_found s cs k = record { known = λ kind. choice_found s kind (choice_in cs kind) (k.known kind) }
 
 -- the customer and the three bookings, one after the other
@@ -464,7 +464,7 @@ none_chosen state id cs e =
     ap (λ (t : Bool). if t then book_choices state id (priced cs.car) (priced cs.flight) (priced cs.room)
     else (state, reply.Trip (record { joined = NotAsked; picks = None ∷ None ∷ None ∷ [] }))) any
 
-known_at : (s : View) (kind : Kind) (o : Option Choice) → IfSome o (λ c. IsKnown s kind c) →
+known_at : (s : View) (kind : Kind) (o : Option Choice) → IfSome o (λ c. IsKnownItem s kind c) →
     (image : List ℕ) (state : State) → Sees s image → (h : IsState (mem s image) (length image) state) →
     IsChoiceAt h kind o
 known_at s kind None k image state i h = tt

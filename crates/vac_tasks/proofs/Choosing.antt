@@ -15,7 +15,7 @@ use Rattle.vac_records.specs.InMemory.{OnlyRead}
 use Rattle.vac_commands.specs.Entries.{LacksItem, HasItemAt}
 use Rattle.vac_tasks.specs.declared.trip.Choice.{Choice}
 use Rattle.vac_tasks.specs.declared.trip.Choices.{Choices}
-use Rattle.vac_tasks.specs.Trips.{priced, choice_in, dearer_of, with_found, IsKnown, LookedUp, Chosen}
+use Rattle.vac_tasks.specs.Trips.{priced, choice_in, dearer_of, with_found, IsKnownItem, LookedUp, Chosen}
 use Rattle.vac_commands.proofs.Held.{read_none, read_both, state_on, item_at_on, item_is, item_none}
 
 -- a missing item
@@ -108,8 +108,8 @@ choice_more : (state : State) (k : Kind) (asks : List Place) (ask : Place) →
     choice_of state k (asks ++ ask ∷ []) ≡ chooses state k (choice_of state k asks) ask
 choice_more state k asks ask = fold_more (chooses state k) None asks ask
 
-known_on : (s s' : View) (kind : Kind) (o : Option Choice) → OnlyRead s s' → IfSome o (λ c. IsKnown s kind c) →
-    IfSome o (λ c. IsKnown s' kind c)
+known_on : (s s' : View) (kind : Kind) (o : Option Choice) → OnlyRead s s' → IfSome o (λ c. IsKnownItem s kind c) →
+    IfSome o (λ c. IsKnownItem s' kind c)
 known_on s s' kind None reads h = tt
 known_on s s' kind (Some c) reads h = record { id = h.id; at = item_at_on s s' kind c.id c.item reads h.at }
 
@@ -141,7 +141,7 @@ chosen_more s s1 s2 asks more ask cs cs' found before looked one new = rw (one, 
       ∙ sym (ap priced (with_choice cs ask.0 k found));
   known = record {
     known = λ k.
-        with_known (λ kind c. IsKnown s2 kind c) cs ask.0 k found
+        with_known (λ kind c. IsKnownItem s2 kind c) cs ask.0 k found
         (known_on s1 s2 k (choice_in cs k) looked.reads (before.known.known k)) looked.known;
   };
 })

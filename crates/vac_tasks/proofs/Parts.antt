@@ -13,7 +13,7 @@ use Rattle.vac_model.specs.declared.replies.Reply.{Reply}
 use Rattle.vac_model.specs.declared.replies.Reply.TheVariants as reply
 use Rattle.vac_model.specs.declared.tasks.Task.TheVariants as task
 use Rattle.vac_model.specs.State.{State, Bookings, bookings_of, bill_of}
-use Rattle.vac_model.specs.Step.{Outcome, step, when_found, answered}
+use Rattle.vac_model.specs.Step.{Outcome, step, when_found, number_answered}
 use Rattle.vac_model.specs.Run.{leave, steps, refusal_of}
 use Rattle.vac_model.specs.Amounts.{is_list_length}
 use Rattle.vac_model.specs.Ranges.{is_change, is_command, is_task}
@@ -25,7 +25,7 @@ use Rattle.vac_records.specs.Steps.{kept_none, kept_both, stood}
 use Rattle.vac_records.specs.Represents.{IsState}
 use Rattle.vac_records.specs.InMemory.{HoldsState, OnlyRead}
 use Rattle.vac_commands.specs.Entries.{LacksCustomer}
-use Rattle.vac_commands.specs.Ran.{IsOutcome, Ran, Asked}
+use Rattle.vac_commands.specs.Ran.{IsOutcome, Ran, RanQuestion}
 use Rattle.vac_report.specs.Reported.{Reported}
 use Rattle.vac_tasks.specs.RanTask.{RanTask}
 use Rattle.vac_tasks.specs.Runs.{Runs, changed}
@@ -55,11 +55,11 @@ held_runs s s' f a runs h = record {
 pub ran_one : (s s' : View) (c : Command) (r : Reply) → Ran s s' c r → RanTask s s' (task.One c) r
 ran_one s s' c r h = record { kept = h.kept; untouched = h.untouched; idle = h.idle; outcome = h.outcome }
 
-pub asked_report : (s s' : View) (r : Report) → Reported s s' r → Asked s s' command.Audit (reply.Report r)
+pub asked_report : (s s' : View) (r : Report) → Reported s s' r → RanQuestion s s' command.Audit (reply.Report r)
 asked_report s s' r h = asked_reads s s' command.Audit (reply.Report r) h.reads
     (λ image state i is. ap (λ (x : Report). (state, reply.Report x)) (h.is image state i is))
 
-pub asked_only : (s s' : View) (c : Command) (r : Reply) → Asked s s' c r → OnlyRead s s'
+pub asked_only : (s s' : View) (c : Command) (r : Reply) → RanQuestion s s' c r → OnlyRead s s'
 asked_only s s' c r h = record { kept = h.ran.kept; writes = h.writes }
 
 -- a leave without a customer
@@ -73,8 +73,8 @@ left_none s s' id reads l = record {
       let h' = state_on s s' image state reads.writes h in
       let none = customer_none s' id l image state i h' in
       outcome_is (mem s' image) (length image) (leave state id) state (reply.Number None)
-      (ap (λ (o : Option Bookings). when_found o (answered state None)
-      (λ bookings. answered (step state (command.DropCustomer id)).0 (Some (bill_of bookings)))) none) h';
+      (ap (λ (o : Option Bookings). when_found o (number_answered state None)
+      (λ bookings. number_answered (step state (command.DropCustomer id)).0 (Some (bill_of bookings)))) none) h';
 }
 
 -- whose bill it is
@@ -98,12 +98,13 @@ number_is a b e = cc
 leave_is : (state : State) (id n : ℕ) → Billed (bookings_of state id) n →
     leave state id ≡ ((step state (command.DropCustomer id)).0, reply.Number (Some n))
 leave_is state id n b =
-    ap (λ (o : Option Bookings). when_found o (answered state None)
-    (λ bookings. answered (step state (command.DropCustomer id)).0 (Some (bill_of bookings)))) b.there
-    ∙ ap (λ (k : ℕ). answered (step state (command.DropCustomer id)).0 (Some k)) b.bill
+    ap (λ (o : Option Bookings). when_found o (number_answered state None)
+    (λ bookings. number_answered (step state (command.DropCustomer id)).0 (Some (bill_of bookings)))) b.there
+    ∙ ap (λ (k : ℕ). number_answered (step state (command.DropCustomer id)).0 (Some k)) b.bill
 
 -- a leave of a customer who is there
-pub left : (s s1 s2 s3 : View) (id n : ℕ) → OnlyRead s s1 → Asked s1 s2 (command.Bill id) (reply.Number (Some n)) →
+pub left : (s s1 s2 s3 : View) (id n : ℕ) → OnlyRead s s1 → RanQuestion s1 s2 (command.Bill id) (reply.Number (Some n))
+    →
     Ran s2 s3 (command.DropCustomer id) reply.Done → RanTask s s3 (task.Leave id) (reply.Number (Some n))
 left s s1 s2 s3 id n reads asked ran = record {
   kept = kept_both s s2 s3 (kept_both s s1 s2 reads.kept asked.ran.kept) ran.kept;

@@ -49,13 +49,13 @@ with_found cs Flight found = record cs { flight = dearer_of cs.flight found }
 with_found cs Room found = record cs { room = dearer_of cs.room found }
 
 -- the item is one of this kind, in the block that is noted
-pub record IsKnown (s : View) (kind : Kind) (c : Choice) : Type 0 where
+pub record IsKnownItem (s : View) (kind : Kind) (c : Choice) : Type 0 where
   pub id : is_id c.id ≡ true
   pub at : HasItemAt s kind c.id c.item
 
 -- each item that is chosen is of its kind, in the block that is noted
-pub record AreKnown (s : View) (cs : Choices) : Type 0 where
-  pub known : (kind : Kind) → IfSome (choice_in cs kind) (λ c. IsKnown s kind c)
+pub record AreKnownItems (s : View) (cs : Choices) : Type 0 where
+  pub known : (kind : Kind) → IfSome (choice_in cs kind) (λ c. IsKnownItem s kind c)
 
 -- under each image of the memory's size the item is one of this kind, in the block that is noted
 -- (which is what a booking asks for)
@@ -85,7 +85,7 @@ pub record LookedUp (s s' : View) (kind : Kind) (id : ℕ) (found : Option Choic
       IsState (mem s image) (length image) state →
       price_of state kind id ≡ option_map (λ c. c.price) found
   pub asked : IfSome found (λ c. c.id ≡ id)
-  pub known : IfSome found (λ c. IsKnown s' kind c)
+  pub known : IfSome found (λ c. IsKnownItem s' kind c)
 
 -- only reads were made, and under each image these are the definition's choices
 pub record Chosen (s s' : View) (asks : List Place) (cs : Choices) : Type 0 where
@@ -93,7 +93,7 @@ pub record Chosen (s s' : View) (asks : List Place) (cs : Choices) : Type 0 wher
   pub are : (image : List ℕ) (state : State) → Sees s' image →
       IsState (mem s image) (length image) state → (kind : Kind) →
       choice_of state kind asks ≡ priced (choice_in cs kind)
-  pub known : AreKnown s' cs
+  pub known : AreKnownItems s' cs
 
 -- the block of the customer; where there is none, the customer is missing
 abbrev pub IsOwner : View → ℕ → Option ℕ → Type 0
@@ -113,13 +113,14 @@ pub record AtPick (id : ℕ) (block : Option ℕ) (kind : Kind) (choice : Option
   pub chosen : IsChoiceAt h kind choice
 
 -- the state after the customer was asked for, and what became of the customer
-abbrev pub joined : ℕ → State → State × Joined
-joined id s = ((step s (command.NewCustomer id)).0, joined_of (step s (command.NewCustomer id)).1)
+abbrev pub asked_to_join : ℕ → State → State × Joined
+asked_to_join id s =
+    ((step s (command.NewCustomer id)).0, joined_of (step s (command.NewCustomer id)).1)
 
 -- under each image the customer was asked for, this is the customer's block now, and the items are
 -- in the same blocks as before
 pub record HasJoined (s s' : View) (id : ℕ) (owner : Owner) : Type 0 where
-  pub runs : Runs s s' (joined id) owner.joined
+  pub runs : Runs s s' (asked_to_join id) owner.joined
   pub room : IsWithin s' owner.block
   pub seat : (image : List ℕ) (state state' : State) → Sees s' image →
       IsState (mem s image) (length image) state →

@@ -4,7 +4,7 @@ ghost use Rattle.std.specs.Prelude.{◌≡◌, IfOk, IfErr, true};
 ghost use Rattle.vac_model.specs.Ranges.{is_command};
 ghost use Rattle.vac_model.specs.Run.{refusal_of};
 ghost use Rattle.vac_records.specs.InMemory.{HoldsState};
-ghost use Rattle.vac_commands.specs.Ran.{Ran, Asked};
+ghost use Rattle.vac_commands.specs.Ran.{Ran, RanQuestion};
 ghost use Rattle.vac_tasks.specs.Reading.{is_question};
 
 use tx_alloc::FreeList;
@@ -40,7 +40,7 @@ pub(crate) fn read_command<M: TxRead>(memory: &mut M, command: Command) -> Resul
     requires state { HoldsState (M.view memory.old) }
     requires asks { is_question command ≡ true }
     ensures origin { M.origin memory.new ≡ M.origin memory.old }
-    ensures answer { IfOk result (λ reply. Asked (M.view memory.old) (M.view memory.new)
+    ensures answer { IfOk result (λ reply. RanQuestion (M.view memory.old) (M.view memory.new)
         command reply) }
     ensures stopped { IfErr result (λ stop. M.stopped_for memory.new stop) }
 {

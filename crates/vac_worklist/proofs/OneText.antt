@@ -3,7 +3,7 @@ use Rattle.std.proofs.Common.{◌≡◌, ◌∙◌, ◌⊎◌, inl, inr, refl, s
 use Rattle.std.proofs.Common.{Option, Some, append-nil, flat_map}
 use Rattle.rand_pcg.specs.Lcg.{Lcg}
 use Rattle.vac_draws.specs.declared.settings.Settings.{Settings}
-use Rattle.vac_draws.specs.Draws.{Reader, Drew, Drawn, Reads, times}
+use Rattle.vac_draws.specs.Draws.{Reader, Drew, Drawn, Reads, times_over}
 use Rattle.vac_draws.specs.Streams.{gives, stream_of}
 use Rattle.vac_draws.specs.Tasks.{task_of, opening}
 use Rattle.vac_worklist.specs.Worklist.{DrawnLines, IsTextOf, opening_line, task_line}
@@ -62,7 +62,7 @@ one_text_of : (s : Settings) (n : ℕ) (x y : List ℕ) → IsTextOf s n x → I
 one_text_of s zero x y p q = one_lines (opening s) opening_line (stream_of s.seed 0) p.0 q.0 x y p.1 q.1
 one_text_of s (suc n) x y p q =
     p.4 ∙ both_are p.0 q.0 p.1 q.1 (one_text_of s n p.0 q.0 p.2 q.2)
-    (one_lines (times (s.rounds * s.tasks) (task_of s)) (task_line (suc n))
+    (one_lines (times_over (s.rounds * s.tasks) (task_of s)) (task_line (suc n))
     (stream_of s.seed (suc n)) p.3.0 q.3.0 p.1 q.1 p.3.1 q.3.1) ∙ sym q.4
 
 -- there is one

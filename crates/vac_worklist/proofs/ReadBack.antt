@@ -14,9 +14,10 @@ use Rattle.vac_model.specs.Amounts.{is_id, is_list_length, is_amount}
 use Rattle.vac_model.specs.Ranges.{is_task, is_command, is_change}
 use Rattle.vac_draws.specs.declared.settings.Settings.{Settings}
 use Rattle.vac_draws.specs.declared.settings.TheConstants.{PERCENT, LEVELS, UNITS, PRICE_STEP, LOWEST_PRICE}
-use Rattle.vac_draws.specs.Draws.{Reader, always, below, going_on, after, joined, one, for_each, times}
+use Rattle.vac_draws.specs.Draws.{Reader, always, below, going_on, followed_by, joined, one, for_each, times_over}
 use Rattle.vac_draws.specs.Setting.{is_settings, is_work, is_system}
-use Rattle.vac_draws.specs.Tasks.{up_to, kind, price, ask, trip, leave, removal, change_of, change, update, task_at}
+use Rattle.vac_draws.specs.Tasks.{up_to, kind, price, ask, drawn_trip, drawn_leave, removal, change_of, change}
+use Rattle.vac_draws.specs.Tasks.{drawn_update, task_at}
 use Rattle.vac_draws.specs.Tasks.{work, question_at, question, mixed_at, task_of, stock, stocks, customers, opening}
 use Rattle.vac_lines.specs.TaskText.{is_short, is_short_change, is_fitting, FITTING_CHANGES, TaskTextsAreRead}
 use Rattle.vac_lines.specs.TaskText.{TaskTextsFit}
@@ -43,12 +44,12 @@ yields_going Q next None each rest y e = absurd (let h : None ≡ Some (y, rest)
 yields_going Q next (Some r) each rest y e = each r.0 r.1 refl r.1 rest y e
 
 yields_after : {X Y : Type 0} (P : X → Type 0) (Q : Y → Type 0) (first : Reader X) (next : X → Reader Y) →
-    Yields P first → ((x : X) → P x → Yields Q (next x)) → Yields Q (after first next)
+    Yields P first → ((x : X) → P x → Yields Q (next x)) → Yields Q (followed_by first next)
 yields_after P Q first next p q words rest y e = yields_going Q next (first words)
     (λ x more f. q x (p words more x f)) rest y e
 
 yields_then : {X Y : Type 0} (P : X → Type 0) (Q : Y → Type 0) (first : Reader X) (f : X → Y) → Yields P first →
-    ((x : X) → P x → Q (f x)) → Yields Q (after first (λ x. always (f x)))
+    ((x : X) → P x → Q (f x)) → Yields Q (followed_by first (λ x. always (f x)))
 yields_then P Q first f p q = yields_after P Q first (λ x. always (f x)) p (λ x h. yields_always Q (f x) (q x h))
 
 yields_if : {X : Type 0} (P : X → Type 0) (b : Bool) (first second : Reader X) → Yields P first → Yields P second →
@@ -65,7 +66,7 @@ yields_one P reader p = yields_then P (Each P) reader (λ x. x ∷ []) p (λ x h
 yields_joined : {X : Type 0} (P : X → Type 0) (first second : Reader (List X)) → Yields (Each P) first →
     Yields (Each P) second → Yields (Each P) (joined first second)
 yields_joined P first second p q =
-    yields_after (Each P) (Each P) first (λ xs. after second (λ ys. always (xs ++ ys))) p
+    yields_after (Each P) (Each P) first (λ xs. followed_by second (λ ys. always (xs ++ ys))) p
     (λ xs h. yields_then (Each P) (Each P) second (λ ys. xs ++ ys) q (λ ys k. each_both P xs ys h k))
 
 yields_for_each : {X : Type 0} (P : X → Type 0) (f : ℕ → Reader (List X)) (most n : ℕ) → n ≤ most →
@@ -76,15 +77,15 @@ yields_for_each P f most (suc n) few p =
     (p (suc n) (omega arith) few)
 
 pub yields_times : {X : Type 0} (P : X → Type 0) (reader : Reader X) (n : ℕ) → Yields P reader →
-    Yields (Each P) (times n reader)
+    Yields (Each P) (times_over n reader)
 yields_times P reader n p = yields_for_each P (λ _. one reader) n n (omega arith) (λ k some few. yields_one P reader p)
 
 -- so many of them are read
-yields_length : {X : Type 0} (reader : Reader X) (n : ℕ) → Yields (λ xs. length xs ≡ n) (times n reader)
+yields_length : {X : Type 0} (reader : Reader X) (n : ℕ) → Yields (λ xs. length xs ≡ n) (times_over n reader)
 yields_length reader zero = yields_always (λ xs. length xs ≡ 0) [] refl
 yields_length reader (suc n) =
-    yields_after (λ xs. length xs ≡ n) (λ xs. length xs ≡ suc n) (times n reader)
-    (λ xs. after (one reader) (λ ys. always (xs ++ ys))) (yields_length reader n)
+    yields_after (λ xs. length xs ≡ n) (λ xs. length xs ≡ suc n) (times_over n reader)
+    (λ xs. followed_by (one reader) (λ ys. always (xs ++ ys))) (yields_length reader n)
     (λ xs h. yields_then (λ ys. length ys ≡ 1) (λ zs. length zs ≡ suc n) (one reader) (λ ys. xs ++ ys)
     (yields_then (λ _. Unit {0}) (λ ys. length ys ≡ 1) reader (λ x. x ∷ []) (yields_any reader) (λ x k. refl))
     (λ ys k. let e = length-append xs ys in omega (arith, e, h, k)))
@@ -160,7 +161,7 @@ yields_price = yields_then (λ level. level < 5) (λ p. p ≤ 65536) (below LEVE
 
 yields_ask : (s : Settings) → IsSmall s → Yields (λ a. is_id a.1 ≡ true) (ask s)
 yields_ask s i =
-    yields_after (λ _. Unit {0}) (λ a. is_id a.1 ≡ true) kind (λ k. after (up_to s.items) (λ id. always (k, id)))
+    yields_after (λ _. Unit {0}) (λ a. is_id a.1 ≡ true) kind (λ k. followed_by (up_to s.items) (λ id. always (k, id)))
     (yields_any kind)
     (λ k _. yields_then IsItem (λ a. is_id a.1 ≡ true) (up_to s.items) (λ id. (k, id)) (yields_item s i) item_id)
 
@@ -177,21 +178,21 @@ trip_good customer asks c some few each = (
   refl,
 )
 
-yields_trip : (s : Settings) → IsSmall s → Yields IsGood (trip s)
+yields_trip : (s : Settings) → IsSmall s → Yields IsGood (drawn_trip s)
 yields_trip s i =
     yields_after (λ n. (1 ≤ n) × (n ≤ s.asks)) IsGood (up_to s.asks)
-    (λ count. after (up_to s.items) (λ customer. after (times count (ask s))
+    (λ count. followed_by (up_to s.items) (λ customer. followed_by (times_over count (ask s))
     (λ asks. always (task.Trip customer asks))))
     (yields_up_to s.asks i.some_asks)
-    (λ count n. yields_after IsItem IsGood (up_to s.items) (λ customer. after (times count (ask s))
+    (λ count n. yields_after IsItem IsGood (up_to s.items) (λ customer. followed_by (times_over count (ask s))
     (λ asks. always (task.Trip customer asks))) (yields_item s i)
     (λ customer c. yields_then (λ asks. (length asks ≡ count) × Each (λ a. is_id a.1 ≡ true) asks) IsGood
-    (times count (ask s)) (λ asks. task.Trip customer asks)
-    (yields_both (λ asks. length asks ≡ count) (Each (λ a. is_id a.1 ≡ true)) (times count (ask s))
+    (times_over count (ask s)) (λ asks. task.Trip customer asks)
+    (yields_both (λ asks. length asks ≡ count) (Each (λ a. is_id a.1 ≡ true)) (times_over count (ask s))
     (yields_length (ask s) count) (yields_times (λ a. is_id a.1 ≡ true) (ask s) count (yields_ask s i)))
     (λ asks h. trip_good customer asks c (omega (arith, h.0, n.0)) (omega (arith, h.0, n.1, i.few_asks)) h.1)))
 
-yields_leave : (s : Settings) → IsSmall s → Yields IsGood (leave s)
+yields_leave : (s : Settings) → IsSmall s → Yields IsGood (drawn_leave s)
 yields_leave s i = yields_then IsItem IsGood (up_to s.items) (λ customer. task.Leave customer) (yields_item s i)
     (λ customer c. (item_id customer c, refl))
 
@@ -213,16 +214,17 @@ removal_drawn Room id h = record { range = rw (item_id id h) refl; short = rw (s
 
 yields_change_of : (k : Kind) (id o : ℕ) → IsItem id → Yields IsDrawn (change_of k id o)
 yields_change_of k id o h =
-    yields_if IsDrawn (o == 1) (after price (λ p. always (command.Add k id UNITS (Some p)))) (always (removal k id))
+    yields_if IsDrawn (o == 1) (followed_by price (λ p. always (command.Add k id UNITS (Some p))))
+    (always (removal k id))
     (yields_then (λ p. p ≤ 65536) IsDrawn price (λ p. command.Add k id UNITS (Some p)) yields_price
     (λ p few. add_drawn k id p h few))
     (yields_always IsDrawn (removal k id) (removal_drawn k id h))
 
 yields_change : (s : Settings) → IsSmall s → Yields IsDrawn (change s)
 yields_change s i =
-    yields_after (λ _. Unit {0}) IsDrawn kind (λ k. after (up_to s.items)
-    (λ id. after (below 2) (λ o. change_of k id o))) (yields_any kind)
-    (λ k _. yields_after IsItem IsDrawn (up_to s.items) (λ id. after (below 2) (λ o. change_of k id o))
+    yields_after (λ _. Unit {0}) IsDrawn kind (λ k. followed_by (up_to s.items)
+    (λ id. followed_by (below 2) (λ o. change_of k id o))) (yields_any kind)
+    (λ k _. yields_after IsItem IsDrawn (up_to s.items) (λ id. followed_by (below 2) (λ o. change_of k id o))
     (yields_item s i)
     (λ id h. yields_after (λ _. Unit {0}) IsDrawn (below 2) (λ o. change_of k id o) (yields_any (below 2))
     (λ o _. yields_change_of k id o h)))
@@ -239,34 +241,37 @@ update_good changes some few each = (
       (λ c h. h.short) each)),
 )
 
-yields_update : (s : Settings) → IsSmall s → Yields IsGood (update s)
+yields_update : (s : Settings) → IsSmall s → Yields IsGood (drawn_update s)
 yields_update s i =
     yields_after (λ n. (1 ≤ n) × (n ≤ s.asks)) IsGood (up_to s.asks)
-    (λ count. after (times count (change s)) (λ changes. always (task.Update changes)))
+    (λ count. followed_by (times_over count (change s)) (λ changes. always (task.Update changes)))
     (yields_up_to s.asks i.some_asks)
-    (λ count n. yields_then (λ changes. (length changes ≡ count) × Each IsDrawn changes) IsGood (times count (change s))
+    (λ count n. yields_then (λ changes. (length changes ≡ count) × Each IsDrawn changes) IsGood
+    (times_over count (change s))
     (λ changes. task.Update changes)
-    (yields_both (λ changes. length changes ≡ count) (Each IsDrawn) (times count (change s))
+    (yields_both (λ changes. length changes ≡ count) (Each IsDrawn) (times_over count (change s))
     (yields_length (change s) count) (yields_times IsDrawn (change s) count (yields_change s i)))
     (λ changes h. update_good changes (omega (arith, h.0, n.0)) (omega (arith, h.0, n.1, i.few_asks)) h.1))
 
 yields_work : (s : Settings) → IsSmall s → Yields IsGood (work s)
 yields_work s i =
     yields_after (λ _. Unit {0}) IsGood (below PERCENT) (λ r. task_at s r) (yields_any (below PERCENT))
-    (λ r _. yields_if IsGood (nat_lt r s.user) (trip s) (if r % 2 == 1 then leave s else update s) (yields_trip s i)
-    (yields_if IsGood (r % 2 == 1) (leave s) (update s) (yields_leave s i) (yields_update s i)))
+    (λ r _. yields_if IsGood (nat_lt r s.user) (drawn_trip s) (if r % 2 ==
+    1 then drawn_leave s else drawn_update s) (yields_trip s i)
+    (yields_if IsGood (r % 2 == 1) (drawn_leave s) (drawn_update s) (yields_leave s i) (yields_update s i)))
 
-yields_bill : (s : Settings) → IsSmall s → Yields IsGood (after (up_to s.items)
+yields_bill : (s : Settings) → IsSmall s → Yields IsGood (followed_by (up_to s.items)
     (λ id. always (task.One (command.Bill id))))
 yields_bill s i = yields_then IsItem IsGood (up_to s.items) (λ id. task.One (command.Bill id)) (yields_item s i)
     (λ id h. (item_id id h, refl))
 
-yields_free : (s : Settings) → IsSmall s → Yields IsGood (after (ask s) (λ a. always (task.One (command.Free a.0 a.1))))
+yields_free : (s : Settings) → IsSmall s → Yields IsGood (followed_by (ask s)
+    (λ a. always (task.One (command.Free a.0 a.1))))
 yields_free s i = yields_then (λ a. is_id a.1 ≡ true) IsGood (ask s) (λ a. task.One (command.Free a.0 a.1))
     (yields_ask s i) (λ a h. (h, refl))
 
 yields_price_of : (s : Settings) → IsSmall s → Yields IsGood
-    (after (ask s) (λ a. always (task.One (command.Price a.0 a.1))))
+    (followed_by (ask s) (λ a. always (task.One (command.Price a.0 a.1))))
 yields_price_of s i = yields_then (λ a. is_id a.1 ≡ true) IsGood (ask s) (λ a. task.One (command.Price a.0 a.1))
     (yields_ask s i) (λ a h. (h, refl))
 
@@ -279,7 +284,7 @@ yields_question s i =
 
 yields_task : (s : Settings) → IsSmall s → Yields IsGood (task_of s)
 yields_task s i =
-    yields_if IsGood (s.reads == 0) (work s) (after (below PERCENT) (λ r. mixed_at s r)) (yields_work s i)
+    yields_if IsGood (s.reads == 0) (work s) (followed_by (below PERCENT) (λ r. mixed_at s r)) (yields_work s i)
     (yields_after (λ _. Unit {0}) IsGood (below PERCENT) (λ r. mixed_at s r) (yields_any (below PERCENT))
     (λ r _. yields_if IsGood (nat_lt r s.reads) (question s) (work s) (yields_question s i) (yields_work s i)))
 
@@ -296,7 +301,7 @@ stock_in id k level p h few low =
 yields_stock : (id : ℕ) (k : Kind) → IsItem id → Yields (Each IsCommand) (stock id k)
 yields_stock id k h =
     yields_after (λ level. level < 5) (Each IsCommand) (below LEVELS)
-    (λ level. after price (λ p. always (command.Add k id ((level + 1) * UNITS) (Some p) ∷ [])))
+    (λ level. followed_by price (λ p. always (command.Add k id ((level + 1) * UNITS) (Some p) ∷ [])))
     (yields_below 5 (omega arith))
     (λ level few. yields_then (λ p. p ≤ 65536) (Each IsCommand) price
     (λ p. command.Add k id ((level + 1) * UNITS) (Some p) ∷ []) yields_price

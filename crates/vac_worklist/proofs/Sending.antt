@@ -7,7 +7,7 @@ use Rattle.vac_model.specs.declared.commands.Command.{Command}
 use Rattle.vac_model.specs.declared.commands.Command.TheVariants as command
 use Rattle.vac_model.specs.declared.tasks.Task.{Task}
 use Rattle.vac_draws.specs.declared.settings.Settings.{Settings}
-use Rattle.vac_draws.specs.Draws.{Reader, joined, one, for_each, times, Drawn}
+use Rattle.vac_draws.specs.Draws.{Reader, joined, one, for_each, times_over, Drawn}
 use Rattle.vac_draws.specs.Streams.{gives, stream_of}
 use Rattle.vac_draws.specs.Tasks.{task_of, stocks, customers, opening, DrawnTask}
 use Rattle.vac_draws.proofs.Drawing.{drawn_always, drawn_then_always, drawn_joined, drawn_one, plus_one}
@@ -253,7 +253,7 @@ part_customers s a b held holds grown hand hand' p q = record {
 -- all clients
 pub sent_client : (s : Settings) (n : ℕ) (a b : Lcg) (held holds grown : Option (List ℕ)) (hand hand' : List ℕ) →
     a ≡ stream_of s.seed (n + 1) → SentTasks s n held holds hand
-    → SentLines (times (s.rounds * s.tasks) (task_of s)) (task_line (n + 1)) a b holds grown hand hand' →
+    → SentLines (times_over (s.rounds * s.tasks) (task_of s)) (task_line (n + 1)) a b holds grown hand hand' →
     SentTasks s (n + 1) held grown hand'
 sent_client s n a b held holds grown hand hand' = rw (plus_one n) (λ e p q. record {
   text = p.text ++ q.text;
@@ -263,7 +263,7 @@ sent_client s n a b held holds grown hand hand' = rw (plus_one n) (λ e p q. rec
     p.is,
     (
       b,
-      subst (λ (c : Lcg). DrawnLines (times (s.rounds * s.tasks) (task_of s))
+      subst (λ (c : Lcg). DrawnLines (times_over (s.rounds * s.tasks) (task_of s))
           (task_line (suc n)) c b q.text) e q.lines,
     ),
     refl,
@@ -306,7 +306,7 @@ part_first_all s a held holds hand e none p =
 
 pub part_client : (s : Settings) (n : ℕ) → n < s.clients → (a : Lcg) (held holds grown : Option (List ℕ))
     (hand : List ℕ) → a ≡ stream_of s.seed (n + 1) → SentTasks s n held holds hand
-    → SentInPart (times (s.rounds * s.tasks) (task_of s)) (task_line (n + 1)) a holds grown hand →
+    → SentInPart (times_over (s.rounds * s.tasks) (task_of s)) (task_line (n + 1)) a holds grown hand →
     WroteTasksPrefix s held grown
 part_client s n less a held holds grown hand = rw (plus_one n) (λ e p q.
     let r = clients_longer s (s.clients - suc n) (suc n) held grown (record {
@@ -317,7 +317,7 @@ part_client s n less a held holds grown hand = rw (plus_one n) (λ e p q.
         p.is,
         (
           q.last,
-          subst (λ (c : Lcg). DrawnLines (times (s.rounds * s.tasks) (task_of s))
+          subst (λ (c : Lcg). DrawnLines (times_over (s.rounds * s.tasks) (task_of s))
               (task_line (suc n)) c q.last q.text) e q.lines,
         ),
         refl,

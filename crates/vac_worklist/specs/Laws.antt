@@ -5,7 +5,7 @@ use Rattle.vac_model.specs.declared.tasks.Task.{Task}
 use Rattle.vac_model.specs.declared.tasks.Task.TheVariants as task
 use Rattle.vac_model.specs.Ranges.{is_task}
 use Rattle.vac_draws.specs.declared.settings.Settings.{Settings}
-use Rattle.vac_draws.specs.Draws.{times}
+use Rattle.vac_draws.specs.Draws.{times_over}
 use Rattle.vac_draws.specs.Setting.{is_settings}
 use Rattle.vac_draws.specs.Tasks.{task_of, opening}
 use Rattle.vac_lines.specs.declared.line.TheConstants.{LINE_BYTES}
@@ -35,7 +35,7 @@ pub record AreReadBack (s : Settings) : Type 0 where
   pub of_opening : (words rest : List ℕ) (commands : List Command)
       → opening s words ≡ Some (commands, rest) → All (λ c. IsReadBack (task.One c)) commands
   pub of_client : (n : ℕ) (words rest : List ℕ) (tasks : List Task)
-      → times n (task_of s) words ≡ Some (tasks, rest) → All IsReadBack tasks
+      → times_over n (task_of s) words ≡ Some (tasks, rest) → All IsReadBack tasks
 
 -- the lines of all drawn tasks are read back, where the settings fit each other
 abbrev pub DrawnLinesAreRead : Type 0

@@ -7,7 +7,7 @@ use Rattle.vac_model.specs.declared.commands.Command.{Command}
 use Rattle.vac_model.specs.declared.tasks.Task.{Task}
 use Rattle.vac_model.specs.declared.tasks.Task.TheVariants as task
 use Rattle.vac_draws.specs.declared.settings.Settings.{Settings}
-use Rattle.vac_draws.specs.Draws.{Reader, times, Drawn}
+use Rattle.vac_draws.specs.Draws.{Reader, times_over, Drawn}
 use Rattle.vac_draws.specs.Streams.{stream_of, gives}
 use Rattle.vac_draws.specs.Tasks.{task_of, opening}
 use Rattle.vac_lines.specs.Writing.{AppendsPrefix}
@@ -37,7 +37,7 @@ IsOpeningText s text =
 
 -- the lines of the tasks of a client in all rounds, which are drawn from the stream of its number
 abbrev pub IsClientText : Settings → ℕ → List ℕ → Type 0
-IsClientText s client text = (last : Lcg) × DrawnLines (times (s.rounds * s.tasks) (task_of s))
+IsClientText s client text = (last : Lcg) × DrawnLines (times_over (s.rounds * s.tasks) (task_of s))
     (task_line client) (stream_of s.seed client) last text
 
 -- the lines of the opening, and after them those of the clients from 1 to n, one client after the

@@ -1,7 +1,7 @@
 //! The lines of the clients' tasks.
 
 ghost use Rattle.std.specs.Prelude.{◌≡◌, ◌≢◌, ◌*◌, true, OnOk, OnErr, IfErr};
-ghost use Rattle.vac_draws.specs.Draws.{one, times};
+ghost use Rattle.vac_draws.specs.Draws.{one, times_over};
 ghost use Rattle.vac_draws.specs.Setting.{is_settings};
 ghost use Rattle.vac_draws.specs.Tasks.{task_of};
 ghost use Rattle.vac_worklist.specs.declared.fault.TasksFault.TheVariants.{Arguments};
@@ -46,11 +46,11 @@ pub(crate) fn send_tasks<W: Write>(
 ) -> Result<(), TasksFault>
     requires { is_settings settings.now ≡ true }
     ensures ok { OnOk result (SentLines
-        (times (settings.now.rounds * settings.now.tasks) (task_of settings.now))
+        (times_over (settings.now.rounds * settings.now.tasks) (task_of settings.now))
         (task_line client) draws.old draws.new (W.contents output.old) (W.contents output.new)
         hand.old.items hand.new.items) }
     ensures err { OnErr result (SentInPart
-        (times (settings.now.rounds * settings.now.tasks) (task_of settings.now))
+        (times_over (settings.now.rounds * settings.now.tasks) (task_of settings.now))
         (task_line client) draws.old (W.contents output.old) (W.contents output.new)
         hand.old.items) }
     ensures in_range { IfErr result (λ fault. fault ≢ Arguments) }

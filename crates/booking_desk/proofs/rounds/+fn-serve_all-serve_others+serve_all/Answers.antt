@@ -9,7 +9,7 @@ use Rattle.booking_desk.specs.declared.rounds.Round.{Round}
 use Rattle.booking_desk.specs.declared.run.DeskFault.{DeskFault}
 use Rattle.booking_desk.specs.declared.run.DeskFault.TheVariants.{Memory}
 use Rattle.booking_desk.specs.Desks.{session_of, HasServed}
-use Rattle.booking_desk.specs.Rounds.{HasRun}
+use Rattle.booking_desk.specs.Rounds.{HasRunRound}
 use Rattle.booking_desk.proofs.Rounding.{may_last, may_rest, has_run_more}
 use Rattle.booking_desk.proofs.rounds.+fn-serve_all-serve_others+serve_all.Goals as goal
 
@@ -48,7 +48,7 @@ gather-requires g t c =
     let split = c.in-Ok.ensures.ok in
     let one = IfOk-at_ok (λ (r : Served). HasServed c.args.settings c.in-Some.desk r.desk (session_of m c.in-Ok.own)
     (session_of m r.client)) c.in_ok-served.was c.join-served.ensures.first.0 in
-    let run = IfOk-at_ok (λ (r : Round). HasRun c.args.settings c.pop.new.self.items r.desks.items
+    let run = IfOk-at_ok (λ (r : Round). HasRunRound c.args.settings c.pop.new.self.items r.desks.items
     (session_of m c.split.new.client) (session_of m r.client)) c.in_ok-round.was c.join-served.ensures.second.0 in (
       run.own ∙ (ap (λ (x : CallerShown). x.table) split.mine ∙ c.requires.own),
       ap (λ (x : SessionShown). x.client.table) one.serves.session ∙
@@ -63,10 +63,10 @@ returns-clause-ran g t c =
     let round = c.in_ok-round.round in
     let one = IfOk-at_ok (λ (r : Served). HasServed c.args.settings c.in-Some.desk r.desk (session_of m c.in-Ok.own)
     (session_of m r.client)) c.in_ok-served.was c.join-served.ensures.first.0 in
-    let run = IfOk-at_ok (λ (r : Round). HasRun c.args.settings c.pop.new.self.items r.desks.items
+    let run = IfOk-at_ok (λ (r : Round). HasRunRound c.args.settings c.pop.new.self.items r.desks.items
     (session_of m c.split.new.client) (session_of m r.client)) c.in_ok-round.was c.join-served.ensures.second.0 in
     let pushed : c.push.new.self.items ≡ round.desks.items ++ (served.desk ∷ []) = search rules in
-    subst (λ (l : List Desk). HasRun c.args.settings c.args.desks.items l (session_of m c.args.client)
+    subst (λ (l : List Desk). HasRunRound c.args.settings c.args.desks.items l (session_of m c.args.client)
     (session_of m c.gather.new.client)) (sym pushed)
     (has_run_more c.args.settings c.args.desks.items c.pop.new.self.items round.desks.items c.in-Some.desk served.desk
     (session_of m c.args.client) (session_of m c.split.new.client) (session_of m round.client)

@@ -9,8 +9,8 @@ use Rattle.stm_region.specs.Shown.{ClientShown}
 use Rattle.stm_attempt.specs.Begun.{addresses}
 use Rattle.stm_attempt.specs.Committing.{HasCommitted, HasStopped, DecidesWith, WasDecided, commit_record}
 use Rattle.stm_attempt.specs.Committing.{ticked_record}
-use Rattle.stm_attempt.specs.Answers.{IsSpent}
-use Rattle.stm_attempt.specs.CommitParts.{IsDecided, CanSettle, CanGiveBack, HasSettled, HasFailedDeciding, returned}
+use Rattle.stm_attempt.specs.Answers.{IsSpentStop}
+use Rattle.stm_attempt.specs.CommitParts.{IsDecided, CanSettle, MayGiveBack, HasSettled, HasFailedDeciding, returned}
 use Rattle.stm_attempt.proofs.Parts.{still_ready, some_pairs, map_ok, map_err, ok_of, err_of, record_on, has_committed}
 use Rattle.stm_attempt.proofs.Parts.{steps_committed, some_locks, stopped_locking, stopped_deciding, err_not_ok}
 use Rattle.stm_attempt.proofs.Parts.{none_answered, none_refused}
@@ -64,8 +64,8 @@ give_back_first-requires-clause-able g c =
           (let failed = err_of w.decide-answer.result (λ stop. HasFailedDeciding c.args.region.now
           c.args.logs.now.writes stop c.lock_all.new.client.value w.decide-answer.new.client.value)
           (ap is_ok (sym w.answer-is) ∙ sym c.if-is_ok.ensures.value) w.decide-answer.ensures.failed in
-          subst (λ (s : ClientShown). CanGiveBack s.value) (sym w.client-is) failed.1.able)
-      | in-Err w ↦ subst (λ (s : ClientShown). CanGiveBack s.value) (sym w.client-is) w.in-Err.ensures.failed.able
+          subst (λ (s : ClientShown). MayGiveBack s.value) (sym w.client-is) failed.1.able)
+      | in-Err w ↦ subst (λ (s : ClientShown). MayGiveBack s.value) (sym w.client-is) w.in-Err.ensures.failed.able
     ]
 
 pub give_back_first-requires-clause-held : goal.give_back_first-requires-clause-held
@@ -150,7 +150,7 @@ returns-else-is_ok-clause-lone g c = λ lone.
       | in-Ok w ↦
           (let still : c.lock_all.new.client.value.attempt.lone ≡ true =
           ap (λ (x : Client). x.attempt.lone) w.in-Ok.ensures.all.same ∙ lone in
-          subst (λ r. IfErr r (λ stop. IsSpent stop)) (sym w.answer-is) (w.decide-answer.ensures.lone still))
+          subst (λ r. IfErr r (λ stop. IsSpentStop stop)) (sym w.answer-is) (w.decide-answer.ensures.lone still))
       | in-Err w ↦ (let taken = c.lock_all.ensures.lone lone in let is = w.in-Err.is in search rules)
     ]
 

@@ -1,6 +1,6 @@
 use Rattle.std.proofs.Common.{◌≡◌, sym, ap, subst, ◌∙◌, ◌+◌, ◌<◌, inl, inr, arith}
 use Rattle.stm_attempt.specs.CommitParts.{IsDecided, HasFailedDeciding}
-use Rattle.stm_attempt.specs.Answers.{IsSpent}
+use Rattle.stm_attempt.specs.Answers.{IsSpentStop}
 use Rattle.stm_attempt.specs.Committing.{DecidesWith, ticked_record}
 use Rattle.stm_region.specs.Shown.{ClientShown}
 use Rattle.stm_logs.specs.Log.{log_pairs}
@@ -68,7 +68,7 @@ returns-in_err-version-clause-decides g c = nothing_answered c.from_residual.res
 
 pub returns-in_err-version-clause-lone : goal.returns-in_err-version-clause-lone
 returns-in_err-version-clause-lone g c = λ lone. handed_on c.from_residual.result c.in_err-version.field-0.0
-    (λ stop. IsSpent stop) c.from_residual.ensures.1 (c.in_err-version.ensures.lone lone)
+    (λ stop. IsSpentStop stop) c.from_residual.ensures.1 (c.in_err-version.ensures.lone lone)
 
 pub returns-in_err-version-clause-next : goal.returns-in_err-version-clause-next
 returns-in_err-version-clause-next g c = λ lone. handed_on_of c.from_residual.result c.in_err-version.field-0.0

@@ -1,7 +1,7 @@
 use Rattle.std.proofs.Common.{◌≡◌, ◌<◌, ◌+◌, List, length, set, length-set, sym, ap, ◌∙◌, arith, subst}
 use Rattle.stm_logs.specs.declared.nodes.Entry.{Entry}
 use Rattle.stm_logs.specs.Nodes.{Node, Block, at, bare, entry_of, with_entry}
-use Rattle.stm_logs.specs.Index.{HasNone, Entered}
+use Rattle.stm_logs.specs.Index.{HasNoNumber, Entered}
 use Rattle.stm_logs.specs.Held.{Copied}
 use Rattle.stm_logs.proofs.IndexLemmas.{free_answer}
 use Rattle.stm_logs.proofs.LogLemmas.{copied_start, copied_more, copy_is_new}
@@ -26,9 +26,9 @@ enter-requires-clause-free g c =
     let old : List Node = c.args.old.now.list in
     let new : List Node = c.loop-e.new.list in
     let less : c.loop-e.e < c.args.old.now.count = omega arith in
-    let number_is_new : HasNone new c.loop-e.new.count c.get-node.result.now.number =
-    subst (λ (x : Entry). HasNone new c.loop-e.new.count x.number) (sym c.get-node.ensures)
-    (subst (λ k. HasNone new k (at old (c.loop-e.e + 1)).number) (sym c.loop-e.invariant.count)
+    let number_is_new : HasNoNumber new c.loop-e.new.count c.get-node.result.now.number =
+    subst (λ (x : Entry). HasNoNumber new c.loop-e.new.count x.number) (sym c.get-node.ensures)
+    (subst (λ k. HasNoNumber new k (at old (c.loop-e.e + 1)).number) (sym c.loop-e.invariant.count)
     (copy_is_new old new c.args.old.now.count c.loop-e.e c.requires.log.ready less c.loop-e.invariant.copied)) in
     free_answer _ _ _ _ c.probe-place.ensures number_is_new
 

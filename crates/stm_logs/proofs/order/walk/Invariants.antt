@@ -1,6 +1,6 @@
 use Rattle.std.proofs.Common.{◌≡◌, ◌-◌}
 use Rattle.stm_logs.specs.Nodes.{at}
-use Rattle.stm_logs.specs.Order.{IsBelow, after}
+use Rattle.stm_logs.specs.Order.{IsBelow, least_after}
 use Rattle.stm_logs.proofs.order.walk.Given as goal
 
 abbrev pub invariant-loop-node : goal.invariant-loop-node
@@ -10,4 +10,4 @@ invariant-loop-node g l = record {
 }
 
 abbrev pub decreases-loop-node : goal.decreases-loop-node
-decreases-loop-node g l = l.rank - after l.nodes.list l.before
+decreases-loop-node g l = l.rank - least_after l.nodes.list l.before

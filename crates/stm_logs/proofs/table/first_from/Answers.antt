@@ -1,21 +1,21 @@
 use Rattle.std.proofs.Common.{◌≡◌, inl, inr, sym, ap, subst, arith}
 use Rattle.stm_logs.specs.declared.nodes.Entry.{Entry}
 use Rattle.stm_logs.specs.Nodes.{Block, at}
-use Rattle.stm_logs.specs.Order.{rank_of, Least}
+use Rattle.stm_logs.specs.Order.{rank_of_number, Least}
 use Rattle.stm_logs.proofs.NodeLemmas.{same_or}
 use Rattle.stm_logs.proofs.ChainLemmas.{least_behind, ends, pairs_are, lock_there, there_lock}
 use Rattle.stm_logs.proofs.table.first_from.Given as given
 use Rattle.stm_logs.proofs.table.first_from.Goals as goal
 
 least : (g : given.Over) (c : goal.After-row_known-1 g) → Least c.args.nodes.now.list c.args.nodes.now.count
-    (rank_of c.args.lock 0) c.get.result.now.next
+    (rank_of_number c.args.lock 0) c.get.result.now.next
 least g c =
     let b : Block = c.args.nodes.now in
     let next : c.get.result.now.next ≡ (at b.list c.seek-before.result).next =
     ap (λ (x : Entry). x.next) c.get.ensures in
-    subst (Least b.list b.count (rank_of c.args.lock 0)) (sym next)
+    subst (Least b.list b.count (rank_of_number c.args.lock 0)) (sym next)
     (least_behind b.list b.count c.requires.ready.chained c.requires.ready.indexed.room
-    (rank_of c.args.lock 0) c.seek-before.result c.seek-before.ensures)
+    (rank_of_number c.args.lock 0) c.seek-before.result c.seek-before.ensures)
 
 pub returns-clause-inside : goal.returns-clause-inside
 returns-clause-inside g c = elim (same_or c.get.result.now.next 0) [

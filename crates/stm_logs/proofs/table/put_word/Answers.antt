@@ -3,7 +3,7 @@ use Rattle.stm_logs.specs.declared.nodes.Entry.{Entry}
 use Rattle.stm_logs.specs.declared.nodes.TheConstants.{TOP}
 use Rattle.stm_logs.specs.Nodes.{Node, Block, at, with_next}
 use Rattle.stm_logs.specs.Index.{Entered}
-use Rattle.stm_logs.specs.Held.{IsReady}
+use Rattle.stm_logs.specs.Held.{IsIndexedAndChained}
 use Rattle.stm_logs.specs.Order.{log_value}
 use Rattle.stm_logs.proofs.LogLemmas.{entering, entered_ready, entered_value, entered_len, log_of}
 use Rattle.stm_logs.proofs.table.put_word.Given as given
@@ -48,7 +48,7 @@ module _ (g : given.Over) (c : goal.After-set_count g) where
   recent = ap (λ (x : Block). x.recent) c.set_count.ensures ∙ ap (λ (x : Block). x.recent) c.set_recent.ensures ∙
       position
 
-  ready : IsReady (set mid b (with_next (at mid b) (n + 1))) (n + 1)
+  ready : IsIndexedAndChained (set mid b (with_next (at mid b) (n + 1))) (n + 1)
   ready = entered_ready ns mid n b c.args.number c.args.lock c.args.value c.requires.log.ready c.seek-before.ensures
       c.requires.new fits entered
 

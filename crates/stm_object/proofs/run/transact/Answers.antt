@@ -1,5 +1,5 @@
 use Rattle.std.proofs.Common.{rules, Err, ap, ◌-◌, ◌∙◌, arith}
-use Rattle.stm_object.specs.History.{WasShown}
+use Rattle.stm_object.specs.History.{ConflictWasShown}
 use Rattle.stm_object.proofs.Stopping.{missed, trying_next, has_run, conflict_shown}
 use Rattle.stm_object.proofs.run.transact.Goals as goal
 
@@ -10,7 +10,7 @@ tries-preserved g c = record {
   some = omega (arith, c.if-left-gt0.true);
   trying = trying_next _ _ c.tries.left (c.tries.left - 1) _ _ _ c.tries.invariant.trying
       (omega (arith, c.tries.invariant.some))
-      (missed (λ conflict v. WasShown g.S.Object.fits g.S.Entry.Tag.numbers g.S.Object.finds g.S.Object.after
+      (missed (λ conflict v. ConflictWasShown g.S.Object.fits g.S.Entry.Tag.numbers g.S.Object.finds g.S.Object.after
       c.args.region.now (λ a. g.B.Body.entry_of c.args.body.now a)
       (λ a. g.B.Body.changes c.args.body.now a) conflict v) c.in-Err-Conflict.field-0-0 _ _
       c.attempt_once.ensures.attempt (search rules)

@@ -1,5 +1,5 @@
 use Rattle.std.proofs.Common.{refl, ◌+◌, map}
-use Rattle.vac_attempts.specs.Lines.{entry_of}
+use Rattle.vac_attempts.specs.Lines.{line_entry}
 use Rattle.vac_attempts.proofs.Gathered.{client_more, told_more}
 use Rattle.vac_attempts.proofs.gathering.add_all.Goals as goal
 
@@ -8,8 +8,8 @@ clients-preserved g c =
     let ledger = c.index-clients-place.result in
     record {
       added = client_more c.args.opening.now c.args.clients.now c.clients.place (c.clients.place + 1) ledger
-          (map entry_of c.clients.lines.items) (map entry_of c.add_client-in-clients.new.lines.items)
-          (map entry_of c.args.lines.now.items) c.clients-test.true c.index-clients-place.is refl
+          (map line_entry c.clients.lines.items) (map line_entry c.add_client-in-clients.new.lines.items)
+          (map line_entry c.args.lines.now.items) c.clients-test.true c.index-clients-place.is refl
           c.clients.invariant.added c.in_ok-add_client-2.ensures.added;
       told = told_more c.args.opening.now c.args.clients.now c.clients.place ledger c.clients-test.true
           c.index-clients-place.is c.clients.invariant.told c.in_ok-add_client-2.ensures.told;

@@ -4,8 +4,8 @@ use Rattle.vac_lines.proofs.Extends.{on_err}
 use Rattle.vac_streams.proofs.Texts.{on_ok_map, on_err_map}
 use Rattle.vac_history.specs.Order.{rank_of}
 use Rattle.vac_attempts.specs.declared.lines.Line.{Line}
-use Rattle.vac_attempts.specs.Lines.{entry_of}
-use Rattle.vac_attempts.specs.Pages.{pages_of, entries_of}
+use Rattle.vac_attempts.specs.Lines.{line_entry}
+use Rattle.vac_attempts.specs.Pages.{pages_of, attempt_entries_of}
 use Rattle.vac_attempts.proofs.Texts.{attempts, wrote_nothing, wrote_all, wrote_part, wrote_rest, write_fault}
 use Rattle.vac_attempts.proofs.Sorted.{in_order}
 use Rattle.vac_attempts.proofs.writing.write_attempts.Goals as goal
@@ -22,7 +22,8 @@ place_of line = (
 pub returns-in_err-send_lines-clause-err : goal.returns-in_err-send_lines-clause-err
 returns-in_err-send_lines-clause-err g c =
     let pages = pages_of c.args.opening.now c.args.clients.now in
-    let own : map entry_of c.add_attempts.new.lines.items ≡ entries_of 0 c.as_slice.result.now = search rules in
+    let own : map line_entry c.add_attempts.new.lines.items ≡ attempt_entries_of 0 c.as_slice.result.now =
+    search rules in
     let order = in_order c.sort_by_key.new.self.items (c.in_ok-sort_by_key.ensures.sorted place_of
     (answers_always _ _ _ (λ f a r g h. search rules))) in
     let are = attempts c.args.blocks pages c.in_ok-laid.laid.items c.as_slice.result.now c.add_attempts.new.lines.items
@@ -35,7 +36,8 @@ returns-in_err-send_lines-clause-err g c =
 pub returns-clause-ok : goal.returns-clause-ok
 returns-clause-ok g c =
     let pages = pages_of c.args.opening.now c.args.clients.now in
-    let own : map entry_of c.add_attempts.new.lines.items ≡ entries_of 0 c.as_slice.result.now = search rules in
+    let own : map line_entry c.add_attempts.new.lines.items ≡ attempt_entries_of 0 c.as_slice.result.now =
+    search rules in
     let order = in_order c.sort_by_key.new.self.items (c.in_ok-sort_by_key.ensures.sorted place_of
     (answers_always _ _ _ (λ f a r g h. search rules))) in
     let are = attempts c.args.blocks pages c.in_ok-laid.laid.items c.as_slice.result.now c.add_attempts.new.lines.items
@@ -49,7 +51,8 @@ returns-clause-ok g c =
 pub returns-clause-err : goal.returns-clause-err
 returns-clause-err g c =
     let pages = pages_of c.args.opening.now c.args.clients.now in
-    let own : map entry_of c.add_attempts.new.lines.items ≡ entries_of 0 c.as_slice.result.now = search rules in
+    let own : map line_entry c.add_attempts.new.lines.items ≡ attempt_entries_of 0 c.as_slice.result.now =
+    search rules in
     let order = in_order c.sort_by_key.new.self.items (c.in_ok-sort_by_key.ensures.sorted place_of
     (answers_always _ _ _ (λ f a r g h. search rules))) in
     let are = attempts c.args.blocks pages c.in_ok-laid.laid.items c.as_slice.result.now c.add_attempts.new.lines.items

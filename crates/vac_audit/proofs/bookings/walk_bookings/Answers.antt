@@ -1,7 +1,7 @@
 use Rattle.std.specs.Prelude.{Ok, Err, slice_index}
 use Rattle.std.proofs.Common.{refl, arith, ap, ◌∙◌, sym, subst, List, length, get_or, ◌<◌, ◌^◌}
 use Rattle.tx_list.specs.Bookings.{code_of}
-use Rattle.vac_audit.specs.Noted.{InOrder, codes_in, after}
+use Rattle.vac_audit.specs.Noted.{InOrder, codes_in, least_next}
 use Rattle.vac_audit.specs.Marks.{BookingsRan}
 use Rattle.vac_audit.specs.declared.notes.NotedItem.{NotedItem}
 use Rattle.vac_audit.proofs.Noted.{code_at, units_at, short_at}
@@ -18,12 +18,12 @@ returns-in_err-follow-clause-ran c = handed (λ r. BookingsRan c.args.words.now 
     c.follow.new.reached.items c.args.notes.now c.loop-level.notes c.args.head r) c.from_residual.result _
     c.from_residual.ensures.1
     (book_flaw _ _ _ c.loop-level.reached.items c.follow.new.reached.items _ c.loop-level.notes c.loop-level._level
-    c.loop-level.at (after c.loop-level.last) _ c.loop-level.invariant.0
+    c.loop-level.at (least_next c.loop-level.last) _ c.loop-level.invariant.0
     (omega arith) c.in_err-follow.ensures.followed)
 
 pub returns-in-None-clause-ran : goal.returns-in-None-clause-ran
 returns-in-None-clause-ran c = book_end _ _ _ c.loop-level.reached.items c.follow.new.reached.items _ c.loop-level.notes
-    c.loop-level._level c.loop-level.at (after c.loop-level.last) c.loop-level.invariant.0 (omega arith)
+    c.loop-level._level c.loop-level.at (least_next c.loop-level.last) c.loop-level.invariant.0 (omega arith)
     (found_as c.args.words.now c.loop-level.reached.items c.follow.new.reached.items c.loop-level.at _ _ c.in-None.is
     c.in_ok-follow.ensures.followed)
 
@@ -36,11 +36,11 @@ returns-in_err-index-in-Some-clause-ran c = handed (λ r. BookingsRan c.args.wor
     c.follow.new.reached.items c.args.notes.now c.loop-level.notes c.args.head r)
     c.from_residual-in_err-index-in-Some.result _ c.from_residual-in_err-index-in-Some.ensures.1
     (book_bad _ _ _ c.loop-level.reached.items c.follow.new.reached.items _ c.loop-level.notes c.loop-level._level
-    c.loop-level.at (after c.loop-level.last) _ _ c.loop-level.invariant.0 (omega arith)
+    c.loop-level.at (least_next c.loop-level.last) _ _ c.loop-level.invariant.0 (omega arith)
     (found_as c.args.words.now c.loop-level.reached.items c.follow.new.reached.items c.loop-level.at _ _ c.in-Some.is
     c.in_ok-follow.ensures.followed)
     (lands_as c.args.words.now _ _ c.in-Some.is c.in_ok-follow.ensures.lands)
-    (looked_as c.args.words.now _ _ c.in-Some.booking (after c.loop-level.last)
+    (looked_as c.args.words.now _ _ c.in-Some.booking (least_next c.loop-level.last)
     (Err c.in_err-index-in-Some.field-0.0) c.as_slice.ensures.value c.in_err-index-in-Some.ensures.looked))
 
 pub overflow_add-item-in-Some : goal.overflow_add-item-in-Some
@@ -75,12 +75,12 @@ loop-level-preserved c =
     c.in_ok-index-in-Some.ensures.item.1 in
     let item = c.index_mut-item.ensures.value in (
       book_step _ _ _ c.loop-level.reached.items c.follow.new.reached.items _ c.loop-level.notes _ c.loop-level._level
-          c.loop-level.at (after c.loop-level.last) _ index _ c.loop-level.invariant.0 (omega arith)
+          c.loop-level.at (least_next c.loop-level.last) _ index _ c.loop-level.invariant.0 (omega arith)
           c.follow.ensures.size (fewer_as _ _ _ _ c.in-Some.is c.in_ok-follow.ensures.fewer)
           (found_as c.args.words.now c.loop-level.reached.items c.follow.new.reached.items c.loop-level.at _ _
           c.in-Some.is c.in_ok-follow.ensures.followed)
           (lands_as c.args.words.now _ _ c.in-Some.is c.in_ok-follow.ensures.lands)
-          (looked_as c.args.words.now _ _ c.in-Some.booking (after c.loop-level.last)
+          (looked_as c.args.words.now _ _ c.in-Some.booking (least_next c.loop-level.last)
           (Ok index) c.as_slice.ensures.value c.in_ok-index-in-Some.ensures.looked) inside is
           (omega (
             arith,
@@ -96,4 +96,4 @@ loop-level-preserved c =
 
 pub returns-clause-ran : goal.returns-clause-ran
 returns-clause-ran c = book_out _ _ _ c.loop-level.reached.items _ c.loop-level.notes c.loop-level._level
-    c.loop-level.at (after c.loop-level.last) c.loop-level.invariant.0 (omega arith)
+    c.loop-level.at (least_next c.loop-level.last) c.loop-level.invariant.0 (omega arith)

@@ -1,7 +1,7 @@
 use Rattle.std.proofs.Common.{◌+◌, ◌*◌, [], ◌∷◌, Some}
 use Rattle.vac_model.specs.declared.commands.Command.TheVariants.{Add}
 use Rattle.vac_draws.specs.declared.settings.TheConstants.{UNITS, LEVELS}
-use Rattle.vac_draws.specs.Draws.{always, below, after}
+use Rattle.vac_draws.specs.Draws.{always, below, followed_by}
 use Rattle.vac_draws.specs.Tasks.{price}
 use Rattle.vac_draws.proofs.Drawing.{drawn_after, drawn_then_always}
 use Rattle.vac_draws.proofs.opening.draw_stock.Goals as goal
@@ -12,7 +12,7 @@ returns-clause-drawn g c =
     let kind = c.args.kind in
     let id = c.args.id in
     let level = c.draw_below.result in
-    drawn_after leads (below LEVELS) (λ level. after price (λ p. always
+    drawn_after leads (below LEVELS) (λ level. followed_by price (λ p. always
     (Add kind id ((level + 1) * UNITS) (Some p) ∷ []))) _ _ _ _ _ c.draw_below.ensures.drawn
     (drawn_then_always leads price (λ p. Add kind id ((level + 1) * UNITS) (Some p) ∷ []) _ _ _
     c.draw_price-price.ensures.drawn)

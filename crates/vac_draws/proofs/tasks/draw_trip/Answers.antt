@@ -1,6 +1,6 @@
 use Rattle.std.proofs.Common.{rules, arith}
 use Rattle.vac_model.specs.declared.tasks.Task.TheVariants.{Trip}
-use Rattle.vac_draws.specs.Draws.{always, after, times}
+use Rattle.vac_draws.specs.Draws.{always, followed_by, times_over}
 use Rattle.vac_draws.specs.Tasks.{up_to, ask}
 use Rattle.vac_draws.proofs.Drawing.{drawn_after, drawn_then_always}
 use Rattle.vac_draws.proofs.Ranges.{most_asks, trip_in}
@@ -16,12 +16,13 @@ returns-clause-drawn g c =
     record {
       task = Trip customer c.draw_asks-asks.result.items;
       drawn =
-          drawn_after leads (up_to s.asks) (λ count. after ids
-          (λ customer. after (times count (ask s)) (λ asks. always (Trip customer asks)))) _ _ _ _ _
+          drawn_after leads (up_to s.asks) (λ count. followed_by ids
+          (λ customer. followed_by (times_over count (ask s)) (λ asks. always (Trip customer asks)))) _ _ _ _ _
           c.draw_up_to-count.ensures.drawn
-          (drawn_after leads ids (λ customer. after (times count (ask s)) (λ asks. always (Trip customer asks))) _ _ _ _
+          (drawn_after leads ids (λ customer. followed_by (times_over count (ask s))
+          (λ asks. always (Trip customer asks))) _ _ _ _
           _ c.draw_up_to-customer.ensures.drawn
-          (drawn_then_always leads (times count (ask s)) (λ asks. Trip customer asks) _ _ _
+          (drawn_then_always leads (times_over count (ask s)) (λ asks. Trip customer asks) _ _ _
           c.draw_asks-asks.ensures.drawn));
       built = search rules;
     }

@@ -1,6 +1,6 @@
 use Rattle.std.proofs.Common.{rules, arith}
 use Rattle.vac_model.specs.declared.tasks.Task.TheVariants.{Update}
-use Rattle.vac_draws.specs.Draws.{always, after, times}
+use Rattle.vac_draws.specs.Draws.{always, followed_by, times_over}
 use Rattle.vac_draws.specs.Tasks.{up_to, change}
 use Rattle.vac_draws.proofs.Drawing.{drawn_after, drawn_then_always}
 use Rattle.vac_draws.proofs.Ranges.{most_asks, update_in}
@@ -14,9 +14,9 @@ returns-clause-drawn g c =
     record {
       task = Update c.draw_changes-changes.result.items;
       drawn =
-          drawn_after leads (up_to s.asks) (λ count. after (times count (change s))
+          drawn_after leads (up_to s.asks) (λ count. followed_by (times_over count (change s))
           (λ changes. always (Update changes))) _ _ _ _ _ c.draw_up_to-count.ensures.drawn
-          (drawn_then_always leads (times count (change s)) (λ changes. Update changes) _ _ _
+          (drawn_then_always leads (times_over count (change s)) (λ changes. Update changes) _ _ _
           c.draw_changes-changes.ensures.drawn);
       built = search rules;
     }

@@ -1,5 +1,5 @@
 use Rattle.std.proofs.Common.{◌≤◌, ◌<◌, ◌^◌, refl, rules, inl}
-use Rattle.vac_judge.specs.CallText.{answered}
+use Rattle.vac_judge.specs.CallText.{answered_call}
 use Rattle.vac_judge.proofs.laws.an_answered_call_is_read.Goals as goal
 
 pub returns : goal.returns
@@ -8,7 +8,7 @@ returns c =
     let client : a.client ≤ 4294967295 = search rules in
     let begin : a.begin < 2 ^ 64 = search rules in
     let end : a.end < 2 ^ 64 = search rules in
-    c.call_texts_are_read.ensures (answered a.client a.begin a.end a.task.now a.reply.now) (inl (
+    c.call_texts_are_read.ensures (answered_call a.client a.begin a.end a.task.now a.reply.now) (inl (
       a.reply.now,
       record {
         client = client;

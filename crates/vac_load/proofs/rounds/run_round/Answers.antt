@@ -1,7 +1,7 @@
 use Rattle.std.proofs.Common.{◌≡◌, ◌∙◌, length, sym, ap, subst, arith}
 use Rattle.stm_region.specs.Shown.{RegionShown}
 use Rattle.vac_manager.specs.Session.{SessionShown}
-use Rattle.vac_load.specs.Alone.{IsInRenewal, IsReady}
+use Rattle.vac_load.specs.Alone.{IsInRenewal, IsReadyForRound}
 use Rattle.vac_load.specs.Keeping.{shown}
 use Rattle.vac_load.specs.Load.{RanAll}
 use Rattle.vac_load.proofs.Joining.{few, few_tries}
@@ -28,7 +28,7 @@ gather_all-client-requires g c =
 pub of-alone-requires : goal.of-alone-requires
 of-alone-requires g c =
     let same = c.of-session.ensures in
-    let ready = subst (λ (y : SessionShown). IsReady c.args.settings.now y)
+    let ready = subst (λ (y : SessionShown). IsReadyForRound c.args.settings.now y)
     (sym (same ∙ sym c.apart-manager.ensures.same)) c.requires.ready in
     let first = ap (λ (y : SessionShown). y.manager) c.in_ok-crew-2.ensures.worked.first.session ∙
     (c.in_ok-crew.ensures.crew.opening.manager_is ∙ ap (λ (y : SessionShown). y.manager) same) in
@@ -55,7 +55,7 @@ returns-clause-round g c =
 pub returns-clause-ran : goal.returns-clause-ran
 returns-clause-ran g c =
     let same = c.of-session.ensures ∙ sym c.apart-manager.ensures.same in
-    let ready = subst (λ (y : SessionShown). IsReady c.args.settings.now y) (sym same) c.requires.ready in
+    let ready = subst (λ (y : SessionShown). IsReadyForRound c.args.settings.now y) (sym same) c.requires.ready in
     rw c.of-alone.ensures (subst (λ (y : SessionShown). RanAll g.D.Draws.leads c.args.settings.now
     (shown g.K.Keep.notes) c.args.settings.now.tasks y.client.value.records c.args.seats.items
     c.gather_all-client.result.0.value.records c.gather_all-client.result.1.items c.gather_all-client.result.2.tally)

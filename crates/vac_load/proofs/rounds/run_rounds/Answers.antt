@@ -1,7 +1,7 @@
 use Rattle.std.proofs.Common.{◌≡◌, ◌∙◌, ◌*◌, ◌≤◌, length, ℕ, sym, ap, subst, arith}
 use Rattle.stm_region.specs.Shown.{RegionShown}
 use Rattle.vac_load.specs.Attempted.{CountsShown}
-use Rattle.vac_load.specs.Load.{HasRun}
+use Rattle.vac_load.specs.Load.{RoundHasRun}
 use Rattle.vac_load.proofs.Joining.{ran_more, ran_total, few, few_all, few_each}
 use Rattle.vac_load.proofs.rounds.run_rounds.Goals as goal
 
@@ -15,7 +15,7 @@ rounds-init g c =
       renewals = omega (arith, first, c.requires.renewals);
       size = ap (λ (m : RegionShown). m.size) same;
       round = c.in_ok-round.ensures.round;
-      ran = subst (λ (n : ℕ). HasRun g.D.Draws.leads g.K.Keep.notes c.args.settings.now n c.args.alone
+      ran = subst (λ (n : ℕ). RoundHasRun g.D.Draws.leads g.K.Keep.notes c.args.settings.now n c.args.alone
           c.args.seats.items c.in_ok-round.round) one c.in_ok-round.ensures.ran;
     }
 
@@ -70,5 +70,5 @@ pub returns-clause-ran : goal.returns-clause-ran
 returns-clause-ran g c =
     let most = few c.args.settings.now c.requires.settings in
     let all : c.rounds.done ≡ c.args.settings.now.rounds = omega (arith, most.some) in
-    subst (λ (n : ℕ). HasRun g.D.Draws.leads g.K.Keep.notes c.args.settings.now (n * c.args.settings.now.tasks)
+    subst (λ (n : ℕ). RoundHasRun g.D.Draws.leads g.K.Keep.notes c.args.settings.now (n * c.args.settings.now.tasks)
     c.args.alone c.args.seats.items c.rounds.round) all c.rounds.invariant.ran

@@ -3,9 +3,9 @@ use Rattle.std.specs.Prelude.{IfSome}
 use Rattle.vac_model.specs.State.{empty_state}
 use Rattle.vac_order.specs.Calls.{calls_of}
 use Rattle.vac_order.specs.Walk.{IsWhole}
-use Rattle.vac_order.specs.Walking.{Finds}
+use Rattle.vac_order.specs.Walking.{FindsFrom}
 use Rattle.vac_order.specs.Point.{point_at, point_views}
-use Rattle.vac_order.specs.Judging.{IsLinearizedBy, Judges}
+use Rattle.vac_order.specs.Judging.{IsLinearizedBy, IsFoundOfCalls}
 use Rattle.vac_order.proofs.Judged.{all_left, judges}
 use Rattle.vac_order.proofs.order.judge_order.Goals as goal
 
@@ -27,9 +27,9 @@ pub returns : goal.returns
 returns g c =
     let state = g.M.Machine.state in
     let calls = c.args.calls.now in
-    if_ok (λ found. Finds (point_views state calls) (point_at state calls c.new.result) c.args.steps found)
+    if_ok (λ found. FindsFrom (point_views state calls) (point_at state calls c.new.result) c.args.steps found)
     (λ found. (n : ℕ) → state c.args.machine ≡ empty_state n →
-    Judges (point_at state calls) n (calls_of calls.lines.items) c.args.steps found)
+    IsFoundOfCalls (point_at state calls) n (calls_of calls.lines.items) c.args.steps found)
     (λ found h n e.
     judges state calls c.new.result n c.args.steps c.requires c.new.ensures.low c.new.ensures.beyond
     (ap state c.new.ensures.machine ∙ e) found h)

@@ -1,6 +1,6 @@
 use Rattle.std.proofs.Common.{◌++◌, ap, ◌∙◌, subst}
 use Rattle.vac_judge.specs.Verdict.{verdict_text}
-use Rattle.vac_order.specs.Reading.{WasRead}
+use Rattle.vac_order.specs.Reading.{WasReadAs}
 use Rattle.vac_order.proofs.Founds.{text_wrong}
 use Rattle.vac_order.proofs.ordering.find_text.Goals as goal
 
@@ -8,6 +8,6 @@ pub returns-in_ok-print_verdict-in-Wrong-clause-found : goal.returns-in_ok-print
 returns-in_ok-print_verdict-in-Wrong-clause-found g c =
     text_wrong c.args.blocks c.args.steps (g.R.Read.remaining c.args.input.now)
     (g.R.Read.remaining c.read_history.new.input) c.in-Wrong.verdict c.print_verdict.new.out.items
-    (subst (WasRead (g.R.Read.remaining c.args.input.now) (g.R.Read.remaining c.read_history.new.input)) c.in-Wrong.is
+    (subst (WasReadAs (g.R.Read.remaining c.args.input.now) (g.R.Read.remaining c.read_history.new.input)) c.in-Wrong.is
     c.in_ok-history.ensures.read)
     (c.in_ok-print_verdict-in-Wrong.ensures ∙ ap (λ t. t ++ verdict_text c.in-Wrong.verdict) c.new-text.ensures.items)

@@ -5,7 +5,7 @@ use Rattle.vac_order.specs.declared.line.Line.{Line}
 use Rattle.vac_order.specs.declared.stuck.Stuck.{Stuck}
 use Rattle.vac_order.specs.Calls.{call_of, calls_of}
 use Rattle.vac_order.specs.Point.{made_of, point_at}
-use Rattle.vac_order.specs.Judging.{Judges}
+use Rattle.vac_order.specs.Judging.{IsFoundOfCalls}
 use Rattle.vac_order.specs.Reading.{texts_of, numbers_of}
 use Rattle.vac_order.specs.Found.{placed_text, told_by, none_text, open_text}
 use Rattle.vac_order.proofs.Founds.{finds_order, finds_none, finds_nothing}
@@ -16,7 +16,7 @@ returns-in_ok-print_order-in-Order g c = λ lines n steps bytes k j texts listed
     let calls = c.args.ordered.now.calls in
     let kept = calls.lines.items in
     let places = c.in-Order.places.items in
-    let found = subst (Judges (point_at g.M.Machine.state calls) n (calls_of kept) steps) c.in-Order.is j in
+    let found = subst (IsFoundOfCalls (point_at g.M.Machine.state calls) n (calls_of kept) steps) c.in-Order.is j in
     let within : All (λ p. p < length c.as_slice-lines.result.now) c.as_slice.result.now =
     subst (λ (s : List Line). All (λ p. p < length s) c.as_slice.result.now) (sym c.as_slice-lines.ensures)
     (subst (λ l. All (λ p. p < length kept) l) (sym c.as_slice.ensures.value)
@@ -35,7 +35,7 @@ returns-in_ok-print_no_order-in-NoOrder g c = λ lines n steps bytes k j texts l
     let point = c.in-NoOrder.point in
     let stuck = c.in_ok-stuck-in-NoOrder.stuck.items in
     let are = c.in_ok-stuck-in-NoOrder.ensures in
-    let found = subst (Judges (point_at g.M.Machine.state calls) n (calls_of kept) steps) c.in-NoOrder.is j in
+    let found = subst (IsFoundOfCalls (point_at g.M.Machine.state calls) n (calls_of kept) steps) c.in-NoOrder.is j in
     let within : All (λ (one : Stuck). one.place < length c.as_slice-lines.result.now) c.as_slice-in-NoOrder.result.now
     =
     subst (λ (s : List Line). All (λ (one : Stuck). one.place < length s) c.as_slice-in-NoOrder.result.now)
@@ -55,6 +55,6 @@ pub returns-in_ok-print_undecided-in-Unknown : goal.returns-in_ok-print_undecide
 returns-in_ok-print_undecided-in-Unknown g c = λ lines n steps bytes k j texts listed right none.
     let calls = c.args.ordered.now.calls in
     let kept = calls.lines.items in
-    let found = subst (Judges (point_at g.M.Machine.state calls) n (calls_of kept) steps) c.in-Unknown.is j in
+    let found = subst (IsFoundOfCalls (point_at g.M.Machine.state calls) n (calls_of kept) steps) c.in-Unknown.is j in
     finds_nothing lines kept k bytes texts listed right n steps c.in-Unknown.most c.print_undecided.new.out.items found
     (c.in_ok-print_undecided-in-Unknown.ensures ∙ ap (λ t. t ++ open_text c.in-Unknown.most) none)

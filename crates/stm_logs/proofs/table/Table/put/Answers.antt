@@ -2,7 +2,7 @@ use Rattle.std.proofs.Common.{◌≡◌, List, length-set, set, sym, ap, ◌∙�
 use Rattle.std.specs.FinMap.{get}
 use Rattle.stm_logs.specs.declared.nodes.Entry.{Entry}
 use Rattle.stm_logs.specs.Nodes.{Node, Block, at, with_entry}
-use Rattle.stm_logs.specs.Index.{IsFound}
+use Rattle.stm_logs.specs.Index.{IsFoundNode}
 use Rattle.stm_logs.specs.Log.{LogValue}
 use Rattle.stm_logs.specs.Held.{with_word}
 use Rattle.stm_logs.specs.Order.{log_value}
@@ -24,7 +24,7 @@ module _ (g : given.Over) (c : goal.After-put g) where
   abbrev new : List Node
   new = set old.list c.slot-word.result (with_value (at old.list c.slot-word.result) c.args.value)
 
-  found : IsFound old.list old.count c.args.number c.slot-word.result
+  found : IsFoundNode old.list old.count c.args.number c.slot-word.result
   found = found_at _ _ _ _ _ c.probe-place.ensures c.slot-word.ensures (omega arith)
 
   list_is : c.put.new.self.list ≡ new

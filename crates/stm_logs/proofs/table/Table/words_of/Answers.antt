@@ -1,10 +1,10 @@
 use Rattle.std.proofs.Common.{sym, ap, ◌∙◌, subst}
-use Rattle.stm_logs.specs.Chain.{Ends, words_from}
+use Rattle.stm_logs.specs.Chain.{EndsWithin, words_from}
 use Rattle.stm_logs.specs.Log.{LogValue, pairs_of}
 use Rattle.stm_logs.proofs.table.Table.words_of.Goals as goal
 
 pub invariant_of-result : goal.invariant_of-result
-invariant_of-result g c = subst (λ n. Ends c.self.inside.nodes.list n c.first_from.result)
+invariant_of-result g c = subst (λ n. EndsWithin c.self.inside.nodes.list n c.first_from.result)
     (sym c.count.ensures) c.first_from.ensures.ends
 
 pub returns : goal.returns

@@ -1,6 +1,6 @@
 use Rattle.std.proofs.Common.{Option, subst, arith}
 use Rattle.stm_logs.specs.Log.{LogValue}
-use Rattle.stm_logs.specs.Held.{held_value, IsMarked}
+use Rattle.stm_logs.specs.Held.{held_value, MarksCover}
 use Rattle.stm_logs.proofs.LogLemmas.{none_there}
 use Rattle.stm_logs.proofs.MarkLemmas.{more_marked, put_marked}
 use Rattle.stm_logs.proofs.write.WriteLog.put.Goals as goal
@@ -18,5 +18,5 @@ pub invariant_of-self : goal.invariant_of-self
 invariant_of-self g c =
     put_marked c.put.result c.self.inside.marks c.mark_of.result c.args.addr.0 c.args.lock c.args.value c.in-Some.table
     c.put.new.self c.mark_of.ensures.mark (omega (arith, c.self.told, c.mark_of.ensures.inside))
-    (subst (λ (o : Option LogValue). IsMarked c.self.inside.marks (held_value o).words) c.in-Some.is c.self.invariant)
+    (subst (λ (o : Option LogValue). MarksCover c.self.inside.marks (held_value o).words) c.in-Some.is c.self.invariant)
     c.put.ensures.answer

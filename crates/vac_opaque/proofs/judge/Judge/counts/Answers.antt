@@ -2,7 +2,7 @@ use Rattle.std.proofs.Common.{◌∙◌, ◌≡◌, ℕ}
 use Rattle.std.proofs.lemmas.List.{length-map}
 use Rattle.vac_spans.proofs.Order.{clients_mapped}
 use Rattle.vac_opaque.specs.declared.finding.Counts.{Counts}
-use Rattle.vac_opaque.specs.Attempt.{span_of}
+use Rattle.vac_opaque.specs.Attempt.{span_of_attempt}
 use Rattle.vac_opaque.proofs.judge.Judge.counts.Goals as goal
 
 -- counts of these numbers
@@ -14,5 +14,5 @@ counts_same a b c x y z e f g = cc
 
 pub returns : goal.returns
 returns c = λ words earlier f.
-    counts_same _ _ _ _ _ _ (c.count.ensures ∙ f.spans.count_is ∙ length-map earlier span_of) f.committed
-    (c.clients.ensures _ f.spans ∙ clients_mapped span_of earlier)
+    counts_same _ _ _ _ _ _ (c.count.ensures ∙ f.spans.count_is ∙ length-map earlier span_of_attempt) f.committed
+    (c.clients.ensures _ f.spans ∙ clients_mapped span_of_attempt earlier)

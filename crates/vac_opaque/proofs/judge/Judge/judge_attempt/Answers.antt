@@ -1,5 +1,5 @@
 use Rattle.std.proofs.Common.{◌≡◌, cond, sym, ap, ◌∙◌, length}
-use Rattle.vac_opaque.specs.Words.{after, wrong_read}
+use Rattle.vac_opaque.specs.Words.{words_after, wrong_read}
 use Rattle.vac_opaque.specs.Covered.{image_of, uncovered}
 use Rattle.vac_opaque.proofs.Judged.{judges_place, judges_read, judges_taken}
 use Rattle.vac_opaque.proofs.judge.Judge.judge_attempt.Goals as goal
@@ -28,7 +28,8 @@ returns-then-not-head-clause-judged c = λ words earlier f.
     c.undo.ensures ∙ c.in_ok-breach.ensures.covered ∙ ap (λ t. uncovered t c.keep.new.self.words.items)
     c.keep.ensures.covered ∙ c.keep.ensures.words in
     judges_taken words c.args.self.now _ earlier _ f place reads (ap length restored)
-    (ap image_of restored ∙ sym (ap (λ b. cond b (after (image_of old) accesses) (image_of old)) c.if-not-head.true))
+    (ap image_of restored ∙ sym (ap (λ b. cond b (words_after (image_of old) accesses) (image_of old))
+    c.if-not-head.true))
     (c.in_ok-push.ensures.kept _ f.spans place) c.in_ok-committed.ensures.count
 
 pub returns-else-not-head-clause-judged : goal.returns-else-not-head-clause-judged
@@ -39,10 +40,10 @@ returns-else-not-head-clause-judged c = λ words earlier f.
     let reads = ap (λ w. wrong_read (image_of w) accesses) (sym c.keep.ensures.words)
     ∙ ap (wrong_read (image_of c.keep.new.self.words.items)) (sym c.as_slice.ensures.value) ∙
     c.in_ok-breach.ensures.found ∙ c.in_default-2.is in
-    let left : image_of c.run.new.self.words.items ≡ after (image_of old) accesses =
-    c.in_ok-breach.ensures.words c.in_default-2.is ∙ ap (λ w. after (image_of w) c.as_slice.result.now)
-    c.keep.ensures.words ∙ ap (after (image_of old)) c.as_slice.ensures.value in
+    let left : image_of c.run.new.self.words.items ≡ words_after (image_of old) accesses =
+    c.in_ok-breach.ensures.words c.in_default-2.is ∙ ap (λ w. words_after (image_of w) c.as_slice.result.now)
+    c.keep.ensures.words ∙ ap (words_after (image_of old)) c.as_slice.ensures.value in
     judges_taken words c.args.self.now _ earlier _ f place reads
     (c.in_ok-breach.ensures.size ∙ ap length c.keep.ensures.words)
-    (left ∙ sym (ap (λ b. cond b (after (image_of old) accesses) (image_of old)) c.if-not-head.false))
+    (left ∙ sym (ap (λ b. cond b (words_after (image_of old) accesses) (image_of old)) c.if-not-head.false))
     (c.in_ok-push.ensures.kept _ f.spans place) c.in_ok-committed.ensures.count

@@ -1,7 +1,7 @@
 use Rattle.std.proofs.Common.{◌≡◌, ◌+◌, length, sym, ap, ◌∙◌, arith}
 use Rattle.std.specs.FinMap.{insert}
 use Rattle.vac_judge.specs.Parts.{shown_call}
-use Rattle.vac_judge.specs.Order.{breaks_client}
+use Rattle.vac_judge.specs.Order.{call_breaks_client}
 use Rattle.vac_order.specs.declared.history.History.{History}
 use Rattle.vac_order.specs.Calls.{calls_of}
 use Rattle.vac_order.proofs.Turns.{took, timed_of, not_true}
@@ -16,6 +16,6 @@ returns c = λ held.
     took before after c.args.text.now (shown_call call) c.in_ok-line.line (c.len.result + 1) held
     (c.in_ok-insert.ensures ∙ ap (λ e. insert before.ends call.client e) c.end_of-end.ensures)
     (omega arith) c.in_ok-line.ensures.line c.in_ok-push.ensures.items
-    (not_true (breaks_client (calls_of before.lines.items) (shown_call call))
+    (not_true (call_breaks_client (calls_of before.lines.items) (shown_call call))
     (sym (c.is_in_turn.ensures held) ∙ c.if-not-is_in_turn.false))
     (timed_of call c.in_ok-line.ensures.begun)

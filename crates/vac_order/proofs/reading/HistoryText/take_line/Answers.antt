@@ -4,7 +4,7 @@ use Rattle.std.specs.Bool.{MatchBool}
 use Rattle.vac_judge.specs.declared.verdict.Verdict.TheVariants.{Illegal}
 use Rattle.vac_judge.specs.declared.verdict.Wrong.TheVariants.{Client}
 use Rattle.vac_judge.specs.Parts.{shown_call}
-use Rattle.vac_judge.specs.Order.{breaks_client}
+use Rattle.vac_judge.specs.Order.{call_breaks_client}
 use Rattle.vac_order.specs.Calls.{call_of, calls_of}
 use Rattle.vac_order.specs.Reading.{Took, wrong_behind}
 use Rattle.vac_order.proofs.reading.HistoryText.take_line.Goals as goal
@@ -14,8 +14,8 @@ returns c = λ held.
     let before = c.args.self.now.history in
     let calls = calls_of before.lines.items in
     let call = shown_call c.in-Ok.call in
-    let breaks : breaks_client calls call ≡ true =
-    subst (λ b. MatchBool b (Took before c.take.new.self c.args.line.now call) (breaks_client calls call ≡ true))
+    let breaks : call_breaks_client calls call ≡ true =
+    subst (λ b. MatchBool b (Took before c.take.new.self c.args.line.now call) (call_breaks_client calls call ≡ true))
     c.if-branch.false (c.in_ok-take.ensures held) in
     record {
       verdict = Illegal c.number-number.result Client;

@@ -1,6 +1,6 @@
 use Rattle.std.proofs.Common.{◌≡◌, ◌+◌, ◌-◌, ◌≤◌, sum_by, sym, ap, subst, ◌∙◌}
 use Rattle.std.specs.FinMap as fin
-use Rattle.vac_sequential.specs.Tries.{map_at, Holds}
+use Rattle.vac_sequential.specs.Tries.{map_at, EntryAdds}
 use Rattle.vac_sequential.proofs.Woven.{counted_put}
 use Rattle.vac_sequential.proofs.maps.IdMap.insert.Goals as goal
 
@@ -8,7 +8,7 @@ pub overflow_sub-self : goal.overflow_sub-self
 overflow_sub-self g c =
     let m = map_at c.self.inside.root in
     let held = c.held-held.result in
-    let h = subst (λ n. Holds g.V.Entry.weight (fin.get n c.args.id) held.len held.weight)
+    let h = subst (λ n. EntryAdds g.V.Entry.weight (fin.get n c.args.id) held.len held.weight)
     (sym c.self.view_is) c.held-held.ensures in
     let r = counted_put g.V.Entry.weight m c.args.id c.args.value c.self.inside.len c.self.inside.weight held.len
     held.weight c.self.invariant h in
@@ -18,7 +18,7 @@ pub overflow_sub-self-2 : goal.overflow_sub-self-2
 overflow_sub-self-2 g c =
     let m = map_at c.self.inside.root in
     let held = c.held-held.result in
-    let h = subst (λ n. Holds g.V.Entry.weight (fin.get n c.args.id) held.len held.weight)
+    let h = subst (λ n. EntryAdds g.V.Entry.weight (fin.get n c.args.id) held.len held.weight)
     (sym c.self.view_is) c.held-held.ensures in
     let r = counted_put g.V.Entry.weight m c.args.id c.args.value c.self.inside.len c.self.inside.weight held.len
     held.weight c.self.invariant h in
@@ -29,7 +29,7 @@ pub invariant_of-self : goal.invariant_of-self
 invariant_of-self g c =
     let m = map_at c.self.inside.root in
     let held = c.held-held.result in
-    let h = subst (λ n. Holds g.V.Entry.weight (fin.get n c.args.id) held.len held.weight)
+    let h = subst (λ n. EntryAdds g.V.Entry.weight (fin.get n c.args.id) held.len held.weight)
     (sym c.self.view_is) c.held-held.ensures in
     let r = counted_put g.V.Entry.weight m c.args.id c.args.value c.self.inside.len c.self.inside.weight held.len
     held.weight c.self.invariant h in
