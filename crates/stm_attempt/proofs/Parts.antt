@@ -24,9 +24,9 @@ use Rattle.stm_attempt.specs.Conflicts.{IsLockConflict, IsValidateConflict, IsTi
 use Rattle.stm_attempt.specs.Conflicts.{IsCommitConflict}
 use Rattle.stm_attempt.specs.Committing.{IsSameAttempt, settling, ticked_record, commit_record, IsCommitVersion}
 use Rattle.stm_attempt.specs.Committing.{IsCommitStop, IsCounted, GaveBack, HasCommitted, HasStopped, DecidesWith}
-use Rattle.stm_attempt.specs.Committing.{WasDecided}
+use Rattle.stm_attempt.specs.Committing.{IsCommitResult, WasDecided}
 use Rattle.stm_attempt.specs.CommitParts.{IsReady, CanValidate, returned, is_at_once, HasFailed, HasTaken, IsClimbing}
-use Rattle.stm_attempt.specs.CommitParts.{HasFailedLocking, HasFailedDeciding, HasFailedValidating, HasTicked}
+use Rattle.stm_attempt.specs.CommitParts.{HasFailedLocking, HasFailedDeciding, HasFailedTicking, HasFailedValidating, HasTicked}
 use Rattle.stm_attempt.specs.CommitParts.{HasValidated, IsDecided, HasSettled}
 use Rattle.stm_attempt.proofs.Named.{apart, same_attempt, same_on}
 use Rattle.stm_attempt.specs.declared.conflict.Conflict.{Conflict}
@@ -215,17 +215,17 @@ not_decided region tag writes v t version ticked later is =
     in cc
 
 -- the tick was not won
-pub failed_ticking : (region : RegionShown) (log : LogValue) (stop : Stop) (v t : Client) → HasFailed v t →
-    IsCommitStop region log stop t → IsCounted stop v.attempt.steps t → t.attempt.steps ≤ v.attempt.steps + 16 →
+pub failed_ticking : (region : RegionShown) (log : LogValue) (stop : Stop) (v t : Client) →
+    HasFailedTicking region log stop v t → t.attempt.steps ≤ v.attempt.steps + 16 →
     HasFailedDeciding region log stop v t
-failed_ticking region log stop v t failed shown counted few = record {
-  same = failed.same;
-  records = failed.records;
-  held = failed.held;
-  floor = let same = failed.floor in omega (arith, same);
-  able = failed.able;
-  shown = shown;
-  counted = counted;
+failed_ticking region log stop v t lost few = record {
+  same = lost.failed.same;
+  records = lost.failed.records;
+  held = lost.failed.held;
+  floor = let same = lost.failed.floor in omega (arith, same);
+  able = lost.failed.able;
+  shown = lost.shown;
+  counted = lost.counted;
   steps = omega (arith, few);
 }
 
@@ -323,10 +323,35 @@ pub nothing_answered : {X E : Type 0} (r : Result X E) (e : E) (P : X → Type 0
 nothing_answered (Ok x) e P is = absurd is
 nothing_answered (Err f) e P is = tt
 
-pub handed_on_of : {X E : Type 0} (r : Result X E) (e : E) (P : X → Type 0) (Q : E → Type 0) → IsErrAnd r (λ f. f ≡ e) →
-    Q e → MatchResult r P Q
-handed_on_of (Ok x) e P Q is holds = absurd is
-handed_on_of (Err f) e P Q is holds = subst Q (sym is) holds
+pub result_handed_on : (region : RegionShown) (v : Client) (r : Result ℕ Stop) (stop : Stop) → IsErrAnd r
+    (λ s. s ≡ stop) → IsCommitResult region v (Err stop) → IsCommitResult region v r
+result_handed_on region v (Ok x) stop is holds = absurd is
+result_handed_on region v (Err s) stop is holds =
+    subst (λ (s : Stop). IsCommitResult region v (Err s)) (sym is) holds
+
+-- it may return to an attempt what it may return to one that has taken its locks
+pub result_on : (region : RegionShown) (v l : Client) (r : Result ℕ Stop) → settling l ≡ settling v →
+    IsCommitResult region l r → IsCommitResult region v r
+result_on region v l r e result = record {
+  range = result.range;
+  next = λ lone. subst (λ (rv : ℕ). MatchResult r (λ version. version ≤ rv + 1) (λ _. rv ≡ region.last))
+      (ap (λ (x : Client). x.attempt.rv) e) (result.next (ap (λ (x : Client). x.attempt.lone) e ∙ lone));
+  lone = λ lone. result.lone (ap (λ (x : Client). x.attempt.lone) e ∙ lone);
+}
+
+-- no conflict was met
+pub met_none : {A : Type 0} (s : Option Conflict) (conflict : Conflict) → s ≡ Some conflict → s ≡ None → A
+met_none (Some d) conflict is e = cc
+met_none None conflict is e = cc
+
+-- what may be returned where the client is not alone
+pub not_lone : (region : RegionShown) (v : Client) (r : Result ℕ Stop) → IfOk r (λ version. version ≤ region.last) →
+    (v.attempt.lone ≡ true → ⊥) → IsCommitResult region v r
+not_lone region v r low other = record {
+  range = low;
+  next = λ lone. absurd (other lone);
+  lone = λ lone. absurd (other lone);
+}
 
 -- a refusal answers nothing, and an answer refuses nothing
 pub none_answered : {X E : Type 0} (r : Result X E) (P : X → Type 0) → is_ok r ≡ false → IfOk r P

@@ -2,7 +2,7 @@
 use Rattle.std.proofs.Common.{◌≡◌, ◌≢◌, ◌⊎◌, inl, inr, zero, suc, refl, sym, ap, ◌∙◌, ℕ, ◌+◌, ◌<◌, Bool, true, false}
 use Rattle.std.proofs.Common.{cond, List, eq-eqb, arith}
 use Rattle.std.proofs.lemmas.Bool.{ne_eqb}
-use Rattle.stm_core.specs.Client.{Client, running, committed, is_committed, ticked, inserted}
+use Rattle.stm_core.specs.Client.{Client, running, committed, is_committed, decided, ticked, inserted}
 use Rattle.stm_core.specs.Event.{tick, after, won, versioned, committed_by, stepping, with_ticks, forgetting}
 use Rattle.stm_region.specs.Shown.{RegionShown, unplaced}
 use Rattle.stm_core.specs.Guards.{stripe_of}
@@ -16,6 +16,10 @@ use Rattle.stm_core.proofs.Conditions.{IsReading}
 abbrev pub unticked : Client → Client
 unticked v = record v { attempt = record (forgetting v.attempt) { ticks = 0; next_from = 0; steps = 0 } }
 
+-- where it has a write version, that lies above its read version
+abbrev pub IsLater : Client → Type 0
+IsLater v = 0 < v.attempt.wv → v.attempt.rv < v.attempt.wv
+
 -- so many ticks were made, and all were lost, the last one to this version
 pub record IsTicking (v v' : Client) (count from : ℕ) : Type 0 where
   pub same : unticked v' ≡ unticked v
@@ -24,6 +28,10 @@ pub record IsTicking (v v' : Client) (count from : ℕ) : Type 0 where
   pub steps : v'.attempt.steps ≡ v.attempt.steps + count
   pub lost : 0 < count → (before : ℕ) × (v'.attempt.last ≡ ticked before from) × (before ≢ from)
   pub unlost : count ≡ 0 → v'.attempt.last ≡ v.attempt.last
+
+-- a write version lies above the read version
+above : (v' : Client) (rv from : ℕ) → v'.attempt.wv ≡ from + 1 → v'.attempt.rv ≡ rv → IsLater v' → rv < from + 1
+above v' rv from wv same later = let less = later (omega (arith, wv)) in omega (arith, wv, same, less)
 
 -- the tick was won
 module _ (region : RegionShown) (tag : List ℕ) (writes : List (ℕ × ℕ)) (v w : Client) (count from : ℕ)
@@ -34,8 +42,9 @@ module _ (region : RegionShown) (tag : List ℕ) (writes : List (ℕ × ℕ)) (v
   -- the same by whether it decides
   won_by : (d : Bool) (v' : Client) → v' ≡ with_ticks (w.attempt.ticks + 1) from
       (stepping (ticked from from) (cond d (committed_by (unplaced region.renewal) with_version) with_version)) →
-      d ≡ is_at_once v (from + 1) → HasTicked region tag writes v v' (from + 1)
-  won_by true v' stepped at_once = record {
+      d ≡ is_at_once v (from + 1) → IsLater v' → (v.attempt.lone ≡ true → decided v' ≡ true) →
+      HasTicked region tag writes v v' (from + 1)
+  won_by true v' stepped at_once later lone = record {
     same = same_attempt v v' (ap apart stepped ∙ ap apart ticking.same);
     held = ap (λ (x : Client). x.attempt.held) stepped ∙ ap (λ (x : Client). x.attempt.held) ticking.same;
     versioned = ap (λ (x : Client). x.attempt.wv) stepped;
@@ -49,8 +58,11 @@ module _ (region : RegionShown) (tag : List ℕ) (writes : List (ℕ × ℕ)) (v
     records = ap (λ (x : Client). x.records) stepped ∙ ap (λ (x : Client). inserted
         (ticked_record region tag x writes (from + 1)) x.records) ticking.same ∙
         ap (λ (t : Bool). cond t (inserted (ticked_record region tag v writes (from + 1)) v.records) v.records) at_once;
+    later = above v' v.attempt.rv from (ap (λ (x : Client). x.attempt.wv) stepped) (ap
+        (λ (x : Client). x.attempt.rv) stepped ∙ ap (λ (x : Client). x.attempt.rv) ticking.same) later;
+    lone = lone;
   }
-  won_by false v' stepped at_once = record {
+  won_by false v' stepped at_once later lone = record {
     same = same_attempt v v' (ap apart stepped ∙ ap apart ticking.same);
     held = ap (λ (x : Client). x.attempt.held) stepped ∙ ap (λ (x : Client). x.attempt.held) ticking.same;
     versioned = ap (λ (x : Client). x.attempt.wv) stepped;
@@ -64,14 +76,18 @@ module _ (region : RegionShown) (tag : List ℕ) (writes : List (ℕ × ℕ)) (v
         reading.0 ∙ ap (λ (t : Bool). cond t committed running) at_once;
     records = ap (λ (x : Client). x.records) stepped ∙ ap (λ (x : Client). x.records) ticking.same ∙
         ap (λ (t : Bool). cond t (inserted (ticked_record region tag v writes (from + 1)) v.records) v.records) at_once;
+    later = above v' v.attempt.rv from (ap (λ (x : Client). x.attempt.wv) stepped) (ap
+        (λ (x : Client). x.attempt.rv) stepped ∙ ap (λ (x : Client). x.attempt.rv) ticking.same) later;
+    lone = lone;
   }
 
   pub has_won : (v' : Client) → v' ≡ after (unplaced region.renewal) (stripe_of region.stripes)
-      (tick from tag writes) from w → HasTicked region tag writes v v' (from + 1)
-  has_won v' stepped = won_by (is_at_once w (from + 1)) v' (stepped ∙
+      (tick from tag writes) from w → IsLater v' → (v.attempt.lone ≡ true → decided v' ≡ true) →
+      HasTicked region tag writes v v' (from + 1)
+  has_won v' stepped later lone = won_by (is_at_once w (from + 1)) v' (stepped ∙
       ap (λ (t : Bool). with_ticks (w.attempt.ticks + 1) from
       (stepping (ticked from from) (cond t (won (unplaced region.renewal) (from + 1) tag writes w) w)))
-      (eq-eqb from from refl)) (ap (λ (x : Client). is_at_once x (from + 1)) ticking.same)
+      (eq-eqb from from refl)) (ap (λ (x : Client). is_at_once x (from + 1)) ticking.same) later lone
 
 -- no tick was made yet
 pub ticking_none : (v : Client) (from : ℕ) → v.attempt.ticks ≡ 0 → v.attempt.next_from ≡ from → IsTicking v v 0 from

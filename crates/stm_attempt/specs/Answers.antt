@@ -1,5 +1,5 @@
 -- What a read and a write of a running attempt return.
-use Rattle.std.specs.Prelude.{◌≡◌, ℕ, ◌+◌, ◌≤◌, Option, Some, None, Result, Ok, Err}
+use Rattle.std.specs.Prelude.{◌≡◌, ℕ, Option, Some, None, Result, Ok, Err}
 use Rattle.std.specs.FinMap.{insert}
 use Rattle.stm_core.specs.Client.{Client}
 use Rattle.stm_logs.specs.Log.{LogValue}
@@ -10,7 +10,7 @@ use Rattle.stm_attempt.specs.declared.conflict.Stop.{Stop}
 use Rattle.stm_attempt.specs.declared.conflict.Stopped as reading
 use Rattle.stm_attempt.specs.declared.conflict.Stop.TheVariants.{Memory, Spent, Conflict as Conflicting}
 use Rattle.stm_attempt.specs.Begun.{HasReadWord}
-use Rattle.stm_attempt.specs.Conflicts.{IsReadConflict}
+use Rattle.stm_attempt.specs.Conflicts.{HasMetConflict}
 
 -- the clock is at the last version, as far as the answer tells
 abbrev pub IsSpentStop : Stop → Type 0
@@ -21,8 +21,7 @@ IsSpentStop (Spent version) = Unit {0}
 -- a read showed a conflict, which the attempt keeps, and read nothing
 abbrev pub HasMetOne : (ℕ → ℕ) → ℕ → Client → Client → Option Conflict → Type 0
 HasMetOne lk address v v' stopped =
-    (conflict : Conflict) × (stopped ≡ Some conflict) × IsReadConflict lk address conflict v' ×
-    (v'.attempt.reads ≡ v.attempt.reads) × (v'.attempt.steps ≤ v.attempt.steps + 3)
+    (conflict : Conflict) × (stopped ≡ Some conflict) × HasMetConflict lk address conflict v v'
 
 -- a read of the region returned a value that entered the reads; or nothing but the log's growth was
 -- refused; or a conflict was shown

@@ -1,5 +1,5 @@
 -- What an attempt means to its contracts.
-use Rattle.std.specs.Prelude.{◌≡◌, ℕ, ◌+◌, Bool, true, List, [], length, Option, Result}
+use Rattle.std.specs.Prelude.{◌≡◌, ℕ, ◌+◌, Bool, true, List, [], length, Option, None, Result}
 use Rattle.std.specs.Borrow.{MutBor}
 use Rattle.std.specs.FinMap.{get, len}
 use Rattle.tx_memory.specs.View.{View}
@@ -47,9 +47,10 @@ module _ {L R A : Type 0} {l : Law.Ghosts L} where
   origin s =
       origin_of (runs s) s.region.now s.client.ghost_name s.logs.ghost_name s.client.now
 
-  -- it runs, and has nothing read or written in its logs
+  -- it runs, has nothing read or written in its logs, and has met no conflict
   abbrev pub IsFresh : Attempt L R A l → Type 0
-  IsFresh s = (s.logs.now.reads ≡ []) × (log_of s ≡ empty_log) × (runs s ≡ true)
+  IsFresh s =
+      (s.logs.now.reads ≡ []) × (log_of s ≡ empty_log) × (runs s ≡ true) × (s.stopped ≡ None)
 
   -- its client is as before, and so is the conflict that it met, if any
   abbrev pub IsAsBefore : Attempt L R A l → Attempt L R A l → Type 0

@@ -1,7 +1,8 @@
 -- What an attempt that has begun is, in terms of its client's value.
-use Rattle.std.specs.Prelude.{◌≡◌, ◌==◌, ℕ, ◌+◌, ◌*◌, ◌<◌, ◌≤◌, Bool, List, [], ◌∷◌, ◌++◌, length, map, true, false, Option, None, Some}
+use Rattle.std.specs.Prelude.{◌≡◌, ◌==◌, ℕ, ◌+◌, ◌*◌, ◌^◌, ◌<◌, ◌≤◌, Bool, List, [], ◌∷◌, ◌++◌, length, map, true, false, Option, None, Some}
 use Rattle.std.specs.FinMap.{get}
 use Rattle.tx_memory.specs.Image.{In}
+use Rattle.stm_words.specs.LockWord.{free_word}
 use Rattle.stm_core.specs.Client.{Client, Phase, idle, running, ending, committed, finished, Step, nothing, began, probed, fetched, checked, locked, ticked, validated, ended}
 use Rattle.stm_core.specs.Event.{forgetting}
 use Rattle.stm_logs.specs.Log.{LogValue}
@@ -25,6 +26,14 @@ pub record IsBegun (v : Client) (rv : ℕ) : Type 0 where
   pub unversioned : v.attempt.wv ≡ 0
   pub unticked : v.attempt.ticks ≡ 0
   pub from : v.attempt.next_from ≡ rv
+
+-- a word may be read: the attempt has begun and reads on, and this is the word of a free lock at its
+-- read version
+pub record CanRead (v : Client) (newest : ℕ) : Type 0 where
+  pub begun : IsBegun v v.attempt.rv
+  pub runs : v.attempt.phase ≡ running
+  pub compared : newest ≡ free_word v.attempt.rv
+  pub small : newest < 2 ^ 63
 
 -- a step that shows no conflict: the begin of an attempt, or the second look at a lock, where both
 -- looks found one word

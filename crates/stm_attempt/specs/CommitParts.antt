@@ -1,15 +1,27 @@
 -- What the parts of a commit ask for, and what they make of a client's value.
-use Rattle.std.specs.Prelude.{◌≡◌, ◌≢◌, ◌⊎◌, ℕ, ◌+◌, ◌*◌, ◌<◌, ◌≤◌, Bool, true, false, ◌||◌, cond, eqb, List, [], ◌∷◌, ◌++◌, length, take}
+use Rattle.std.specs.Prelude.{◌≡◌, ◌≢◌, ◌⊎◌, ℕ, ◌+◌, ◌*◌, ◌<◌, ◌≤◌, Bool, true, false, ◌||◌, cond, eqb, List, [], ◌∷◌, ◌++◌, length, take, Option, None}
 use Rattle.std.specs.FinMap.{len}
 use Rattle.tx_memory.specs.Image.{In}
 use Rattle.stm_core.specs.declared.limits.TheConstants.{MOST_TICKS}
-use Rattle.stm_core.specs.Client.{Client, running, ending, committed, inserted, writes_to}
+use Rattle.stm_core.specs.Client.{Client, RecordLaw, running, ending, committed, decided, inserted, writes_to}
 use Rattle.stm_core.specs.Event.{is_empty}
 use Rattle.stm_logs.specs.Log.{LogValue, log_pairs, log_locks}
 use Rattle.stm_region.specs.Shown.{RegionShown}
-use Rattle.stm_attempt.specs.Begun.{AreInside, IsPlaced, addresses}
+use Rattle.stm_attempt.specs.Begun.{AreInside, IsPlaced, IsRunning, addresses}
 use Rattle.stm_attempt.specs.Committing.{IsSameAttempt, settling, ticked_record, HasWonLock, IsCommitStop, IsCounted}
+use Rattle.stm_attempt.specs.declared.conflict.Conflict.{Conflict}
 use Rattle.stm_attempt.specs.declared.conflict.Stop.{Stop}
+
+-- the attempt may end: it has begun at rv and read inside the region; and unless a read met a
+-- conflict, its logs have the addresses of its reads, and what they are to write is lawful
+pub record CanEnd (lawful : RecordLaw) (region : RegionShown) (tag : List ℕ) (v : Client) (rv : ℕ)
+    (stopped : Option Conflict) (logged : List ℕ) (log : LogValue) : Type 0 where
+  pub running : IsRunning region v rv stopped
+  pub known : rv ≤ region.last
+  pub inside : AreInside region.size v.attempt.reads
+  pub reads : stopped ≡ None → logged ≡ addresses v.attempt.reads
+  pub placed : IsPlaced region log
+  pub allowed : stopped ≡ None → lawful tag v.attempt.reads (log_pairs log)
 
 -- the attempt may commit what it wrote: it has begun at rv and only read, inside the region
 pub record IsReady (region : RegionShown) (v : Client) (rv : ℕ) : Type 0 where
@@ -138,7 +150,8 @@ pub record IsReturning (v v' : Client) (count left : ℕ) (rest all : List ℕ) 
 abbrev pub is_at_once : Client → ℕ → Bool
 is_at_once v version = is_empty v.attempt.reads || eqb version (v.attempt.rv + 1)
 
--- the clock was ticked to the write version, for a record of this tag and these writes
+-- the clock was ticked to a write version above the read version, for a record of this tag and these
+-- writes; where the client is alone that decided the attempt
 pub record HasTicked (region : RegionShown) (tag : List ℕ) (writes : List (ℕ × ℕ))
     (v v' : Client) (version : ℕ) : Type 0 where
   pub same : IsSameAttempt v v'
@@ -153,6 +166,15 @@ pub record HasTicked (region : RegionShown) (tag : List ℕ) (writes : List (ℕ
   pub phase : v'.attempt.phase ≡ cond (is_at_once v version) committed running
   pub records : v'.records ≡ cond (is_at_once v version)
       (inserted (ticked_record region tag v writes version) v.records) v.records
+  pub later : v.attempt.rv < version
+  pub lone : v.attempt.lone ≡ true → decided v' ≡ true
+
+-- no tick was won: the locks are held as before, and it is shown why
+pub record HasFailedTicking (region : RegionShown) (log : LogValue) (stop : Stop)
+    (v v' : Client) : Type 0 where
+  pub failed : HasFailed v v'
+  pub shown : IsCommitStop region log stop v'
+  pub counted : IsCounted stop v.attempt.steps v'
 
 -- the locks of all reads were validated, and the last one decided the attempt
 pub record HasValidated (region : RegionShown) (v v' : Client) : Type 0 where

@@ -1,5 +1,5 @@
 -- What a commit leaves.
-use Rattle.std.specs.Prelude.{◌≡◌, ◌≢◌, ◌⊎◌, ℕ, ◌+◌, ◌*◌, ◌<◌, ◌≤◌, true, List, [], ◌∷◌, length}
+use Rattle.std.specs.Prelude.{◌≡◌, ◌≢◌, ◌⊎◌, ℕ, ◌+◌, ◌*◌, ◌<◌, ◌≤◌, true, List, [], ◌∷◌, length, Result, IfOk, IfErr, MatchResult}
 use Rattle.stm_core.specs.declared.limits.TheConstants.{MOST_TICKS}
 use Rattle.stm_core.specs.Client.{Client, Record, locked, ticked, inserted, RecordLaw}
 use Rattle.stm_core.specs.Event.{forgetting, versioned, writer_record, reader_record}
@@ -8,6 +8,7 @@ use Rattle.stm_region.specs.Shown.{RegionShown, unplaced}
 use Rattle.stm_core.specs.Guards.{stripe_of}
 use Rattle.stm_region.specs.Findings.{Decides}
 use Rattle.stm_attempt.specs.Conflicts.{IsCommitConflict}
+use Rattle.stm_attempt.specs.Answers.{IsSpentStop}
 use Rattle.stm_attempt.specs.declared.conflict.Stop.{Stop}
 use Rattle.stm_attempt.specs.declared.conflict.Stop.TheVariants.{Memory, Spent, Conflict as Conflicting}
 
@@ -74,6 +75,17 @@ abbrev pub GaveBack : Stop → Client → Type 0
 GaveBack Memory v = Unit {0}
 GaveBack (Conflicting conflict) v = Unit {0}
 GaveBack (Spent version) v = v.attempt.gave_back ≡ true
+
+-- what a commit may return: a version of at most the last; and where its client is alone, at most the
+-- next after the read version, or that the clock was spent as its attempt began
+pub record IsCommitResult (region : RegionShown) (v : Client)
+    (result : Result ℕ Stop) : Type 0 where
+  pub range : IfOk result (λ version. version ≤ region.last)
+  -- at most the next, or there is none
+  pub next : v.attempt.lone ≡ true → MatchResult result
+      (λ version. version ≤ v.attempt.rv + 1) (λ _. v.attempt.rv ≡ region.last)
+  -- nothing but a spent clock stops it
+  pub lone : v.attempt.lone ≡ true → IfErr result (λ stop. IsSpentStop stop)
 
 -- the commit added exactly one record, and no lock is held
 -- Not said: that the values are in the shared words: a lock is released only once all its words are

@@ -1,6 +1,6 @@
 -- When a conflict is shown: the word that it carries is what the client's last step found, a give
 -- back apart.
-use Rattle.std.specs.Prelude.{◌≡◌, ◌≢◌, ℕ, ◌+◌, ◌*◌, ◌<◌, ◌⊎◌, List, true, false, ◌||◌, Option, Some, None}
+use Rattle.std.specs.Prelude.{◌≡◌, ◌≢◌, ℕ, ◌+◌, ◌*◌, ◌<◌, ◌≤◌, ◌⊎◌, List, true, false, ◌||◌, Option, Some, None}
 use Rattle.std.specs.FinMap.{get}
 use Rattle.tx_memory.specs.Image.{In}
 use Rattle.stm_words.specs.LockWord.{free_word, held_word}
@@ -29,6 +29,13 @@ IsReadConflict lk address (Moved lock first second) v =
     (lock ≡ lk address) × (v.attempt.last ≡ checked address first second) × (first ≢ second)
 IsReadConflict lk address (LostLock lock found) v = ⊥
 IsReadConflict lk address (LostTick found) v = ⊥
+
+-- a read at an address showed this conflict, and read nothing
+pub record HasMetConflict (lk : ℕ → ℕ) (address : ℕ) (conflict : Conflict)
+    (v v' : Client) : Type 0 where
+  pub shown : IsReadConflict lk address conflict v'
+  pub reads : v'.attempt.reads ≡ v.attempt.reads
+  pub steps : v'.attempt.steps ≤ v.attempt.steps + 3
 
 -- a conflict over a lock that is to be taken: the load before its exchange found it held, and not
 -- by the client itself, or the exchange lost

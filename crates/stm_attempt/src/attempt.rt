@@ -69,7 +69,6 @@ impl<'a, L: Law, R: Allocator, A: Allocator + Copy> Attempt<'a, L, R, A> {
         ensures alone { client.old.value.grants ≡ MOST_GRANTS → result.rv ≡ client.old.value.floor }
         ensures earlier { AreEarlier region.now.renewal result.rv client.old.value.records }
         ensures empty { IsFresh result }
-        ensures running { result.stopped ≡ None }
         ensures lone { ((client_of result).attempt.lone ≡ true)
             ↔ (client.old.value.grants ≡ MOST_GRANTS) }
     {

@@ -1,16 +1,15 @@
 //! The commit of an attempt: its locks in ascending order, one tick of the clock, the validation of
 //! each read word's lock, the write back, and the releases.
-ghost use Rattle.std.specs.Prelude.{◌≡◌, ◌≢◌, ℕ, ◌+◌, ◌*◌, ◌<◌, ◌≤◌, ◌||◌, eqb, true, false, [], length, Ok, Err, Some, None, IfOk, IfErr, MatchResult};
+ghost use Rattle.std.specs.Prelude.{◌≡◌, ◌≢◌, ℕ, ◌+◌, ◌*◌, ◌<◌, ◌≤◌, ◌||◌, eqb, true, false, [], length, Ok, Err, Some, None, IfOk, IfErr};
 ghost use Rattle.std.specs.FinMap.{len};
 ghost use Rattle.stm_core.specs.Core.{IsFreeHanded};
 ghost use Rattle.stm_logs.specs.Log.{SameAddresses, log_pairs, log_locks};
-ghost use Rattle.stm_attempt.specs.Begun.{AreInside, IsPlaced, IsRunning, addresses};
+ghost use Rattle.stm_attempt.specs.Begun.{IsPlaced, addresses};
 ghost use Rattle.stm_attempt.specs.Conflicts.{HasMet};
-ghost use Rattle.stm_attempt.specs.Answers.{IsSpentStop};
-ghost use Rattle.stm_attempt.specs.Committing.{HasWonLock, HasCommitted, HasStopped, DecidesWith, WasDecided};
+ghost use Rattle.stm_attempt.specs.Committing.{HasWonLock, IsCommitResult, HasCommitted, HasStopped, DecidesWith, WasDecided};
 ghost use Rattle.stm_attempt.specs.Committing.{commit_record, ticked_record};
 ghost use Rattle.stm_attempt.specs.Attempt.{AreEmpty};
-ghost use Rattle.stm_attempt.specs.CommitParts.{IsReady, IsLogged, IsDecided, HasFailedDeciding, CanSettle, HasSettled, commit_bound};
+ghost use Rattle.stm_attempt.specs.CommitParts.{CanEnd, IsReady, IsLogged, IsDecided, HasFailedDeciding, CanSettle, HasSettled, commit_bound};
 ghost use Rattle.stm_attempt.specs.declared.conflict.Conflict.{Conflict};
 ghost use Rattle.stm_attempt.specs.declared.conflict.Stop.TheVariants.{Conflict as conflicting};
 
@@ -55,13 +54,10 @@ fn decide<L: Law, R: Allocator, A: Allocator + Copy, T: Tag, G: Gate>(
     ensures own { client.new.table ≡ client.old.table }
     ensures ok { IfOk result (λ version. IsDecided region.now (T.numbers tag.now)
         (log_pairs logs.now.writes) client.old.value client.new.value version) }
-    ensures version { IfOk result (λ version. version ≤ region.now.last) }
+    ensures version { IsCommitResult region.now client.old.value result }
     ensures decides { IfOk result (λ version. DecidesWith L.fits L.lawful region.now
         (ticked_record region.now (T.numbers tag.now) client.old.value
         (log_pairs logs.now.writes) version) client.new.value) }
-    ensures lone { client.old.value.attempt.lone ≡ true → IfErr result (λ stop. IsSpentStop stop) }
-    ensures next { client.old.value.attempt.lone ≡ true →
-        MatchResult result (λ version. version ≡ rv + 1) (λ _. rv ≡ region.now.last) }
     ensures failed { IfErr result (λ stop. HasFailedDeciding region.now logs.now.writes stop
         client.old.value client.new.value) }
 {
@@ -113,13 +109,10 @@ fn commit_writes<L: Law, R: Allocator, A: Allocator + Copy, T: Tag, G: Gate>(
     ensures own { client.new.table ≡ client.old.table }
     ensures ok { IfOk result (λ version. HasCommitted region.now (T.numbers tag.now)
         (log_pairs logs.now.writes) client.old.value client.new.value version) }
-    ensures version { IfOk result (λ version. version ≤ region.now.last) }
+    ensures version { IsCommitResult region.now client.old.value result }
     ensures decides { IfOk result (λ version. WasDecided L.fits L.lawful region.now
         (commit_record region.now (T.numbers tag.now) client.old.value
         (log_pairs logs.now.writes) version) client.new.value) }
-    ensures lone { client.old.value.attempt.lone ≡ true → IfErr result (λ stop. IsSpentStop stop) }
-    ensures next { client.old.value.attempt.lone ≡ true →
-        MatchResult result (λ version. version ≡ rv + 1) (λ _. rv ≡ region.now.last) }
     ensures stopped { IfErr result (λ stop. HasStopped region.now logs.now.writes stop
         client.old.value client.new.value) }
     ensures steps { client.new.value.attempt.steps
@@ -150,13 +143,8 @@ fn end<L: Law, R: Allocator, A: Allocator + Copy, T: Tag, G: Gate>(
     gate: &mut G,
 ) -> Result<Version, Stop>
     requires own { client.old.table ≡ region.now.table }
-    requires running { IsRunning region.now client.old.value rv stopped }
-    requires known { rv ≤ region.now.last }
-    requires inside { AreInside region.now.size client.old.value.attempt.reads }
-    requires logged { stopped ≡ None → logs.old.reads ≡ addresses client.old.value.attempt.reads }
-    requires placed { IsPlaced region.now logs.old.writes }
-    requires lawful { stopped ≡ None →
-        L.lawful (T.numbers tag.now) client.old.value.attempt.reads (log_pairs logs.old.writes) }
+    requires ready { CanEnd L.lawful region.now (T.numbers tag.now) client.old.value rv stopped
+        logs.old.reads logs.old.writes }
     ensures own { client.new.table ≡ client.old.table }
     ensures free_handed { IsFreeHanded client.new.value }
     ensures over { logs.new.in_use ≡ false }
@@ -164,15 +152,12 @@ fn end<L: Law, R: Allocator, A: Allocator + Copy, T: Tag, G: Gate>(
         (result ≡ Err (conflicting conflict)) × (client.new ≡ client.old) }
     ensures ok { IfOk result (λ version. HasCommitted region.now (T.numbers tag.now)
         (log_pairs logs.old.writes) client.old.value client.new.value version) }
-    ensures version { IfOk result (λ version. version ≤ region.now.last) }
+    ensures version { IsCommitResult region.now client.old.value result }
     ensures decides { IfOk result (λ version. WasDecided L.fits L.lawful region.now
         (commit_record region.now (T.numbers tag.now) client.old.value
         (log_pairs logs.old.writes) version) client.new.value) }
     ensures refused { stopped ≡ None → IfErr result (λ stop.
         HasStopped region.now logs.old.writes stop client.old.value client.new.value) }
-    ensures lone { client.old.value.attempt.lone ≡ true → IfErr result (λ stop. IsSpentStop stop) }
-    ensures next { client.old.value.attempt.lone ≡ true →
-        MatchResult result (λ version. version ≤ rv + 1) (λ _. rv ≡ region.now.last) }
     ensures logs { IfErr result (λ _. AreEmpty logs.new) }
     ensures steps { client.new.value.attempt.steps
         ≤ commit_bound client.old.value logs.old.writes }
@@ -215,14 +200,9 @@ impl<'a, L: Law, R: Allocator, A: Allocator + Copy> Attempt<'a, L, R, A> {
             (result ≡ Err (conflicting conflict)) ×
             (client_left self.exit ≡ self.entry.client.now) }
         ensures met { HasMet (lock_of self.entry) self.entry.stopped (value_left self.exit) }
-        ensures lone { (client_of self.entry).attempt.lone ≡ true
-            → IfErr result (λ stop. IsSpentStop stop) }
-        ensures next { (client_of self.entry).attempt.lone ≡ true → MatchResult result
-            (λ version. version ≤ (client_of self.entry).attempt.rv + 1)
-            (λ _. (client_of self.entry).attempt.rv ≡ self.entry.region.now.last) }
         ensures ok { IfOk result (λ version.
             Commits self.entry (T.numbers tag.now) (value_left self.exit) version) }
-        ensures version { IfOk result (λ version. version ≤ self.entry.region.now.last) }
+        ensures version { IsCommitResult self.entry.region.now (client_of self.entry) result }
         ensures decides { IfOk result (λ version.
             WasDecided L.fits L.lawful self.entry.region.now
             (record_made self.entry (T.numbers tag.now) version) (value_left self.exit)) }

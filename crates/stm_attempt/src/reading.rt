@@ -1,11 +1,10 @@
 //! One read of a word of the region.
 ghost use Rattle.std.specs.Prelude.{◌≡◌, ℕ, ◌+◌, ◌<◌, ◌≤◌, ◌^◌, IfOk, IfErr, IfSome, IfNone, IsOk, true};
 ghost use Rattle.stm_words.specs.LockWord.{free_word};
-ghost use Rattle.stm_core.specs.Client.{running};
 ghost use Rattle.stm_core.specs.Guards.{stripe_of};
 ghost use Rattle.stm_region.specs.Findings.{StandsOn};
-ghost use Rattle.stm_attempt.specs.Begun.{still, IsBegun, HasReadWord, is_unfinished};
-ghost use Rattle.stm_attempt.specs.Conflicts.{SaysHeld, IsReadConflict};
+ghost use Rattle.stm_attempt.specs.Begun.{still, CanRead, HasReadWord, is_unfinished};
+ghost use Rattle.stm_attempt.specs.Conflicts.{SaysHeld, HasMetConflict};
 ghost use Rattle.stm_attempt.specs.declared.conflict.Conflict.TheVariants.{Newer};
 
 use crate::conflict::Conflict;
@@ -47,10 +46,7 @@ pub(crate) fn read_word<L: Law, R: Allocator>(
     addr: Addr,
 ) -> Result<u64, Conflict>
     requires own { client.old.table ≡ region.now.table }
-    requires begun { IsBegun client.old.value client.old.value.attempt.rv }
-    requires newest { newest ≡ free_word client.old.value.attempt.rv }
-    requires small { newest < 2 ^ 63 }
-    requires runs { client.old.value.attempt.phase ≡ running }
+    requires ready { CanRead client.old.value newest }
     requires range { addr.0 < region.now.size }
     ensures own { client.new.table ≡ client.old.table }
     ensures same { still client.new.value ≡ still client.old.value }
@@ -58,13 +54,9 @@ pub(crate) fn read_word<L: Law, R: Allocator>(
     ensures ok { IfOk result (λ x. HasReadWord client.old.value client.new.value addr.0 x) }
     ensures stands { IfOk result (λ _.
         StandsOn L.fits region.now.size client.new.value.attempt.reads) }
-    ensures conflict { IfErr result (λ conflict.
-        IsReadConflict (stripe_of region.now.stripes) addr.0 conflict client.new.value) }
-    ensures reads { IfErr result (λ _.
-        client.new.value.attempt.reads ≡ client.old.value.attempt.reads) }
+    ensures conflict { IfErr result (λ conflict. HasMetConflict
+        (stripe_of region.now.stripes) addr.0 conflict client.old.value client.new.value) }
     ensures lone { client.old.value.attempt.lone ≡ true → IsOk result }
-    ensures steps { IfErr result (λ _.
-        client.new.value.attempt.steps ≤ client.old.value.attempt.steps + 3) }
 {
     let lock = region.lock_of(addr);
     let first = region.probe(client, lock);

@@ -1,13 +1,12 @@
 //! The tick of a commit.
-ghost use Rattle.std.specs.Prelude.{◌≡◌, ◌+◌, ◌<◌, ◌≤◌, ◌^◌, true, IfOk, IfErr, MatchResult};
+ghost use Rattle.std.specs.Prelude.{◌≡◌, ◌+◌, ◌≤◌, true, IfOk, IfErr};
 ghost use Rattle.stm_core.specs.Client.{decided};
 ghost use Rattle.stm_core.specs.declared.limits.TheConstants.{MOST_TICKS};
 ghost use Rattle.stm_core.specs.Guards.{may_write, stripe_of};
 ghost use Rattle.stm_logs.specs.Log.{log_pairs};
 ghost use Rattle.stm_region.specs.Findings.{Decides};
-ghost use Rattle.stm_attempt.specs.Answers.{IsSpentStop};
-ghost use Rattle.stm_attempt.specs.Committing.{HasWonLock, IsCommitStop, IsCounted};
-ghost use Rattle.stm_attempt.specs.CommitParts.{IsReady, HasTicked, HasFailed};
+ghost use Rattle.stm_attempt.specs.Committing.{HasWonLock, IsCommitResult};
+ghost use Rattle.stm_attempt.specs.CommitParts.{IsReady, HasTicked, HasFailedTicking};
 
 use crate::conflict::{Conflict, Stop};
 use std::alloc::Allocator;
@@ -34,18 +33,11 @@ pub(crate) fn tick<L: Law, R: Allocator, A: Allocator + Copy, T: Tag>(
     ensures own { client.new.table ≡ client.old.table }
     ensures won { IfOk result (λ version. HasTicked region.now (T.numbers tag.now)
         (log_pairs writes.now) client.old.value client.new.value version) }
-    ensures version { IfOk result (λ version. (rv < version) × (version ≤ region.now.last)) }
+    ensures version { IsCommitResult region.now client.old.value result }
     ensures decides { IfOk result (λ _. decided client.new.value ≡ true →
         Decides L.fits L.lawful region.now client.new.value) }
-    ensures failed { IfErr result (λ _. HasFailed client.old.value client.new.value) }
-    ensures shown { IfErr result (λ stop.
-        IsCommitStop region.now writes.now stop client.new.value) }
-    ensures counted { IfErr result (λ stop.
-        IsCounted stop client.old.value.attempt.steps client.new.value) }
-    ensures lone { client.old.value.attempt.lone ≡ true →
-        MatchResult result (λ _. decided client.new.value ≡ true) (λ stop. IsSpentStop stop) }
-    ensures next { client.old.value.attempt.lone ≡ true →
-        MatchResult result (λ version. version ≡ rv + 1) (λ _. rv ≡ region.now.last) }
+    ensures failed { IfErr result (λ stop. HasFailedTicking region.now writes.now stop
+        client.old.value client.new.value) }
     ensures steps { client.new.value.attempt.steps ≤ client.old.value.attempt.steps + MOST_TICKS }
 {
     let last = region.last();

@@ -1,5 +1,6 @@
 -- What a step tells its client of the region's state, beside the word that it found.
 use Rattle.std.specs.Prelude.{◌≡◌, ℕ, suc, ◌*◌, ◌/◌, ◌<◌, ◌≤◌, ◌⊎◌, true, false, List, [], ◌∷◌, ◌++◌, length}
+use Rattle.atomic_table.specs.Seated.{TableId}
 use Rattle.atomic_table.specs.Table.{Me, Step}
 use mathlib.Core.Option.{some}
 use lib.ListN.{get_elem?}
@@ -215,3 +216,13 @@ module _ (fits : List ℕ → Type 0) (lawful : RecordLaw) (r : RegionShown) whe
   acting e s m n w =
       (w ≡ (value_after r e n m.0, m.1)) × Tells e n m.0 (value_after r e n m.0)
       × Happens e n m.0 (value_after r e n m.0)
+
+-- a step that found this word changed its seat's client as its event does, told what it can, and was
+-- one event
+pub record HasActed {S : Type 0} (fits : List ℕ → Type 0) (lawful : RecordLaw) (r : RegionShown)
+    (e : Action) (n : ℕ) (t : TableId) (m : Me S Client) (t' : TableId) (w : Me S Client)
+    : Type 0 where
+  pub table : t' ≡ t
+  pub me : w ≡ (value_after r e n m.0, m.1)
+  pub told : Tells fits lawful r e n m.0 w.0
+  pub event : Happens fits lawful r e n m.0 w.0

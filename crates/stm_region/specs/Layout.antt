@@ -1,10 +1,10 @@
 -- Where a region's words are in its table: the clock alone on its cache lines, the lock words, and
 -- the data words.
 use Rattle.std.specs.Prelude.{◌≡◌, ℕ, ◌+◌, ◌-◌, ◌%◌, ◌<◌, ◌≤◌, length, cond, eqb}
-use Rattle.stm_core.specs.Client.{Client}
+use Rattle.stm_core.specs.Client.{Client, RecordLaw}
 use Rattle.stm_core.specs.Core.{left}
 use Rattle.stm_core.specs.Event.{Action, begin, probe, fetch, check, lock, tick, validate, put, release, give_back, finish}
-use Rattle.stm_region.specs.Shown.{Opened}
+use Rattle.stm_region.specs.Shown.{Opened, RegionShown, MayStep}
 use Rattle.stm_core.specs.Guards.{stripe_of}
 use Rattle.stm_region.specs.declared.layout.TheConstants.{CLOCK, FIRST_LOCK, LINE_WORDS}
 use Rattle.stm_words.specs.declared.version.TheConstants.{VERSION_LIMIT}
@@ -45,6 +45,14 @@ InRange stripes size (put a x) = a < size
 InRange stripes size (release k) = k < stripes
 InRange stripes size (give_back k) = k < stripes
 InRange stripes size (finish tag) = Unit {0}
+
+-- this client's value allows the step on this word, which is that of its lock, its address or the
+-- clock, in the region
+pub record MayStepAt (lawful : RecordLaw) (r : RegionShown) (step : Action) (word : ℕ)
+    (v : Client) : Type 0 where
+  pub range : InRange r.stripes r.size step
+  pub word_is : word ≡ place r.stripes step
+  pub allowed : MayStep lawful r step v
 
 -- the numbers of a running region fit its table and what it was opened with
 pub record IsLaid (words slots : ℕ) (o : Opened)

@@ -6,8 +6,8 @@ ghost use Rattle.stm_core.specs.Client.{word_before};
 ghost use Rattle.stm_core.specs.Event.{Action, lock as locks, tick as ticks, give_back as gives_back, finish as finishes};
 ghost use Rattle.stm_logs.specs.Log.{log_pairs};
 ghost use Rattle.stm_region.specs.Shown.{MayStep, value_after};
-ghost use Rattle.stm_region.specs.Layout.{place, InRange, Exchanges, Stores};
-ghost use Rattle.stm_region.specs.Findings.{IsOneEvent, Tells, Happens};
+ghost use Rattle.stm_region.specs.Layout.{MayStepAt, Exchanges, Stores};
+ghost use Rattle.stm_region.specs.Findings.{IsOneEvent, HasActed};
 
 use crate::layout::{CLOCK, FIRST_LOCK};
 use crate::moving::{Acting, Acts};
@@ -29,16 +29,10 @@ impl<L: Law, A: Allocator> Region<L, A> {
     ) -> u64
         requires told { T.region ≡ self.now }
         requires own { seat.old.table_id ≡ self.now.table }
-        requires range { InRange self.now.stripes self.now.size T.action }
-        requires place { word ≡ place self.now.stripes T.action }
-        requires allowed { MayStep L.lawful self.now T.action seat.old.me.0 }
+        requires ready { MayStepAt L.lawful self.now T.action word seat.old.me.0 }
         requires loads { (n : ℕ) → left T.action n seat.old.me.0 ≡ n }
-        ensures table { seat.new.table_id ≡ seat.old.table_id }
-        ensures me { seat.new.me
-            ≡ (value_after self.now T.action result seat.old.me.0, seat.old.me.1) }
-        ensures told { Tells L.fits L.lawful self.now T.action result seat.old.me.0 seat.new.me.0 }
-        ensures event { Happens L.fits L.lawful self.now T.action result
-            seat.old.me.0 seat.new.me.0 }
+        ensures acted { HasActed L.fits L.lawful self.now T.action result
+            seat.old.table_id seat.old.me seat.new.table_id seat.new.me }
     {
         let _ = number;
         self.table.shared.load::<Acts<L, T>>(seat, word)
@@ -56,16 +50,10 @@ impl<L: Law, A: Allocator> Region<L, A> {
         requires told { T.region ≡ self.now }
         requires own { seat.old.table_id ≡ self.now.table }
         requires room { from + 1 < 2 ^ 64 }
-        requires range { InRange self.now.stripes self.now.size T.action }
-        requires place { word ≡ place self.now.stripes T.action }
-        requires allowed { MayStep L.lawful self.now T.action seat.old.me.0 }
+        requires ready { MayStepAt L.lawful self.now T.action word seat.old.me.0 }
         requires exchanges { Exchanges T.action from seat.old.me.0 }
-        ensures table { seat.new.table_id ≡ seat.old.table_id }
-        ensures me { seat.new.me
-            ≡ (value_after self.now T.action result seat.old.me.0, seat.old.me.1) }
-        ensures told { Tells L.fits L.lawful self.now T.action result seat.old.me.0 seat.new.me.0 }
-        ensures event { Happens L.fits L.lawful self.now T.action result
-            seat.old.me.0 seat.new.me.0 }
+        ensures acted { HasActed L.fits L.lawful self.now T.action result
+            seat.old.table_id seat.old.me seat.new.table_id seat.new.me }
     {
         let _ = number;
         self.table
@@ -84,15 +72,10 @@ impl<L: Law, A: Allocator> Region<L, A> {
     )
         requires told { T.region ≡ self.now }
         requires own { seat.old.table_id ≡ self.now.table }
-        requires range { InRange self.now.stripes self.now.size T.action }
-        requires place { word ≡ place self.now.stripes T.action }
-        requires allowed { MayStep L.lawful self.now T.action seat.old.me.0 }
+        requires ready { MayStepAt L.lawful self.now T.action word seat.old.me.0 }
         requires stores { Stores T.action new seat.old.me.0 }
-        ensures table { seat.new.table_id ≡ seat.old.table_id }
-        ensures me { seat.new.me
-            ≡ (value_after self.now T.action new seat.old.me.0, seat.old.me.1) }
-        ensures event { Happens L.fits L.lawful self.now T.action new
-            seat.old.me.0 seat.new.me.0 }
+        ensures acted { HasActed L.fits L.lawful self.now T.action new
+            seat.old.table_id seat.old.me seat.new.table_id seat.new.me }
     {
         let _ = number;
         self.table.shared.store::<Acts<L, T>>(seat, word, new)
@@ -135,12 +118,8 @@ impl<L: Law, A: Allocator> Region<L, A> {
         requires ticks { S.action ≡ ticks from (T.numbers tag.now) (log_pairs writes.now) }
         requires own { seat.old.table_id ≡ self.now.table }
         requires allowed { MayStep L.lawful self.now S.action seat.old.me.0 }
-        ensures table { seat.new.table_id ≡ seat.old.table_id }
-        ensures me { seat.new.me
-            ≡ (value_after self.now S.action result seat.old.me.0, seat.old.me.1) }
-        ensures told { Tells L.fits L.lawful self.now S.action result seat.old.me.0 seat.new.me.0 }
-        ensures event { Happens L.fits L.lawful self.now S.action result
-            seat.old.me.0 seat.new.me.0 }
+        ensures acted { HasActed L.fits L.lawful self.now S.action result
+            seat.old.table_id seat.old.me seat.new.table_id seat.new.me }
     {
         let _ = tag;
         let _ = writes;
@@ -154,12 +133,8 @@ impl<L: Law, A: Allocator> Region<L, A> {
         requires finishes { S.action ≡ finishes (T.numbers tag.now) }
         requires own { seat.old.table_id ≡ self.now.table }
         requires allowed { MayStep L.lawful self.now S.action seat.old.me.0 }
-        ensures table { seat.new.table_id ≡ seat.old.table_id }
-        ensures me { seat.new.me
-            ≡ (value_after self.now S.action result seat.old.me.0, seat.old.me.1) }
-        ensures told { Tells L.fits L.lawful self.now S.action result seat.old.me.0 seat.new.me.0 }
-        ensures event { Happens L.fits L.lawful self.now S.action result
-            seat.old.me.0 seat.new.me.0 }
+        ensures acted { HasActed L.fits L.lawful self.now S.action result
+            seat.old.table_id seat.old.me seat.new.table_id seat.new.me }
     {
         let _ = tag;
         self.load_as::<S>(seat, CLOCK, 0)

@@ -75,15 +75,7 @@ impl<L: Law, A: Allocator> Region<L, A> {
 
 impl<L: Law, A: Allocator> Drop for Region<L, A> {
     fn drop(self) {
-        let Self {
-            table,
-            size: _,
-            last: _,
-            stripes: _,
-            cells: _,
-            renewal: _,
-        } = self;
-        drop(table);
+        drop(self.into_table());
     }
 }
 

@@ -1,5 +1,5 @@
 use Rattle.std.proofs.Common.{rules, ◌≡◌, ◌≤◌, refl, sym, ap, subst, ◌∙◌, ◌+◌, ◌*◌, arith, length, take, true, IfOk}
-use Rattle.std.proofs.Common.{IfErr, MatchResult}
+use Rattle.std.proofs.Common.{IfErr}
 use Rattle.std.proofs.lemmas.List.{take_all}
 use Rattle.std.specs.Result.{is_ok}
 use Rattle.stm_core.specs.Client.{Client}
@@ -8,12 +8,11 @@ use Rattle.stm_logs.proofs.LockLemmas.{locks_few}
 use Rattle.stm_region.specs.Shown.{ClientShown}
 use Rattle.stm_attempt.specs.Begun.{addresses}
 use Rattle.stm_attempt.specs.Committing.{HasCommitted, HasStopped, DecidesWith, WasDecided, commit_record}
-use Rattle.stm_attempt.specs.Committing.{ticked_record}
-use Rattle.stm_attempt.specs.Answers.{IsSpentStop}
+use Rattle.stm_attempt.specs.Committing.{IsCommitResult, ticked_record}
 use Rattle.stm_attempt.specs.CommitParts.{IsDecided, CanSettle, MayGiveBack, HasSettled, HasFailedDeciding, returned}
 use Rattle.stm_attempt.proofs.Parts.{still_ready, some_pairs, map_ok, map_err, ok_of, err_of, record_on, has_committed}
 use Rattle.stm_attempt.proofs.Parts.{steps_committed, some_locks, stopped_locking, stopped_deciding, err_not_ok}
-use Rattle.stm_attempt.proofs.Parts.{none_answered, none_refused}
+use Rattle.stm_attempt.proofs.Parts.{none_answered, none_refused, not_lone, result_on}
 use Rattle.stm_attempt.proofs.commit.commit_writes.Goals as goal
 use Rattle.stm_attempt.proofs.commit.commit_writes.Goals.{in-Ok, in-Err}
 
@@ -98,9 +97,21 @@ returns-then-is_ok-clause-own g c =
 pub returns-then-is_ok-clause-version : goal.returns-then-is_ok-clause-version
 returns-then-is_ok-clause-version g c =
     elim c.match-lock_all.branch [
-      | in-Ok w ↦ subst (λ r. IfOk r (λ version. version ≤ c.args.region.now.last))
-          (sym w.answer-is) w.decide-answer.ensures.version
-      | in-Err w ↦ subst (λ r. IfOk r (λ version. version ≤ c.args.region.now.last)) (sym w.answer-is) tt
+      | in-Ok w ↦ subst (λ r. IsCommitResult c.args.region.now c.args.client.now.value r) (sym w.answer-is)
+          (result_on c.args.region.now c.args.client.now.value c.lock_all.new.client.value _ w.in-Ok.ensures.all.same
+          w.decide-answer.ensures.version)
+      | in-Err w ↦ err_not_ok c.match-lock_all.answer _ w.answer-is (sym c.if-is_ok.ensures.value)
+    ]
+
+pub returns-else-is_ok-clause-version : goal.returns-else-is_ok-clause-version
+returns-else-is_ok-clause-version g c =
+    elim c.match-lock_all.branch [
+      | in-Ok w ↦ subst (λ r. IsCommitResult c.args.region.now c.args.client.now.value r) (sym w.answer-is)
+          (result_on c.args.region.now c.args.client.now.value c.lock_all.new.client.value _ w.in-Ok.ensures.all.same
+          w.decide-answer.ensures.version)
+      | in-Err w ↦ subst (λ r. IsCommitResult c.args.region.now c.args.client.now.value r) (sym w.answer-is)
+          (not_lone c.args.region.now c.args.client.now.value _ tt (λ lone.
+          (let taken = c.lock_all.ensures.lone lone in let is = w.in-Err.is in search rules)))
     ]
 
 pub returns-then-is_ok-clause-decides : goal.returns-then-is_ok-clause-decides
@@ -131,38 +142,6 @@ returns-then-is_ok-clause-decides g c =
           w.decide-answer.ensures.decides))
       | in-Err w ↦ subst (λ r. IfOk r (λ version. WasDecided g.L.Law.fits g.L.Law.lawful region
           (commit_record region tag v pairs version) e)) (sym w.answer-is) tt
-    ]
-
-pub returns-then-is_ok-clause-next : goal.returns-then-is_ok-clause-next
-returns-then-is_ok-clause-next g c = λ lone.
-    elim c.match-lock_all.branch [
-      | in-Ok w ↦
-          (let still : c.lock_all.new.client.value.attempt.lone ≡ true =
-          ap (λ (x : Client). x.attempt.lone) w.in-Ok.ensures.all.same ∙ lone in
-          subst (λ r. MatchResult r (λ version. version ≡ c.args.rv + 1) (λ _. c.args.rv ≡ c.args.region.now.last))
-          (sym w.answer-is) (w.decide-answer.ensures.next still))
-      | in-Err w ↦ err_not_ok c.match-lock_all.answer _ w.answer-is (sym c.if-is_ok.ensures.value)
-    ]
-
-pub returns-else-is_ok-clause-lone : goal.returns-else-is_ok-clause-lone
-returns-else-is_ok-clause-lone g c = λ lone.
-    elim c.match-lock_all.branch [
-      | in-Ok w ↦
-          (let still : c.lock_all.new.client.value.attempt.lone ≡ true =
-          ap (λ (x : Client). x.attempt.lone) w.in-Ok.ensures.all.same ∙ lone in
-          subst (λ r. IfErr r (λ stop. IsSpentStop stop)) (sym w.answer-is) (w.decide-answer.ensures.lone still))
-      | in-Err w ↦ (let taken = c.lock_all.ensures.lone lone in let is = w.in-Err.is in search rules)
-    ]
-
-pub returns-else-is_ok-clause-next : goal.returns-else-is_ok-clause-next
-returns-else-is_ok-clause-next g c = λ lone.
-    elim c.match-lock_all.branch [
-      | in-Ok w ↦
-          (let still : c.lock_all.new.client.value.attempt.lone ≡ true =
-          ap (λ (x : Client). x.attempt.lone) w.in-Ok.ensures.all.same ∙ lone in
-          subst (λ r. MatchResult r (λ version. version ≡ c.args.rv + 1) (λ _. c.args.rv ≡ c.args.region.now.last))
-          (sym w.answer-is) (w.decide-answer.ensures.next still))
-      | in-Err w ↦ (let taken = c.lock_all.ensures.lone lone in let is = w.in-Err.is in search rules)
     ]
 
 pub returns-then-is_ok-clause-ok : goal.returns-then-is_ok-clause-ok
@@ -291,14 +270,8 @@ returns-else-is_ok-clause-own g c =
 pub returns-else-is_ok-clause-ok : goal.returns-else-is_ok-clause-ok
 returns-else-is_ok-clause-ok g c = none_answered c.match-lock_all.answer _ (sym c.if-is_ok.ensures.value)
 
-pub returns-else-is_ok-clause-version : goal.returns-else-is_ok-clause-version
-returns-else-is_ok-clause-version g c = none_answered c.match-lock_all.answer _ (sym c.if-is_ok.ensures.value)
-
 pub returns-else-is_ok-clause-decides : goal.returns-else-is_ok-clause-decides
 returns-else-is_ok-clause-decides g c = none_answered c.match-lock_all.answer _ (sym c.if-is_ok.ensures.value)
-
-pub returns-then-is_ok-clause-lone : goal.returns-then-is_ok-clause-lone
-returns-then-is_ok-clause-lone g c = λ lone. none_refused c.match-lock_all.answer _ (sym c.if-is_ok.ensures.value)
 
 pub returns-then-is_ok-clause-stopped : goal.returns-then-is_ok-clause-stopped
 returns-then-is_ok-clause-stopped g c = none_refused c.match-lock_all.answer _ (sym c.if-is_ok.ensures.value)

@@ -1,12 +1,11 @@
 use Rattle.std.proofs.Common.{◌≡◌, sym, ap, subst, ◌∙◌, ◌+◌, ◌<◌, inl, inr, arith}
 use Rattle.stm_attempt.specs.CommitParts.{IsDecided, HasFailedDeciding}
-use Rattle.stm_attempt.specs.Answers.{IsSpentStop}
 use Rattle.stm_attempt.specs.Committing.{DecidesWith, ticked_record}
 use Rattle.stm_region.specs.Shown.{ClientShown}
 use Rattle.stm_logs.specs.Log.{log_pairs}
 use Rattle.stm_attempt.proofs.Parts.{may_validate, once_is, decided_at_once, decided_after_validation, decided_so}
-use Rattle.stm_attempt.proofs.Parts.{made_by_tick, made_by_validation, not_decided, handed_on, handed_on_of}
-use Rattle.stm_attempt.proofs.Parts.{nothing_answered, failed_ticking, failed_validating}
+use Rattle.stm_attempt.proofs.Parts.{made_by_tick, made_by_validation, not_decided, not_lone, handed_on}
+use Rattle.stm_attempt.proofs.Parts.{nothing_answered, result_handed_on, failed_ticking, failed_validating}
 use Rattle.stm_attempt.proofs.Writing.{log_may_write}
 use Rattle.stm_attempt.proofs.commit.decide.Goals as goal
 use Rattle.stm_attempt.proofs.commit.decide.Goals.{then-not-decides_at_once+in_default, else-not-decides_at_once}
@@ -23,15 +22,14 @@ validate_reads-requires-clause-ready g c =
     may_validate c.args.region.now (g.T.Tag.numbers c.args.tag.now)
     (log_pairs c.args.logs.now.writes) c.args.client.now.value c.tick.new.client.value c.args.rv
     c.in_ok-version.version c.in_ok-version.ensures.won c.requires.ready
-    (omega (arith, c.in_ok-version.ensures.version.0)) (sym once ∙ sym c.decides_at_once.ensures ∙
+    (omega (arith, c.in_ok-version.ensures.won.later)) (sym once ∙ sym c.decides_at_once.ensures ∙
     c.if-not-decides_at_once.true)
 
 pub returns-clause-ok : goal.returns-clause-ok
 returns-clause-ok g c =
     let once = once_is c.args.client.now.value c.args.logs.now.reads _ _ c.in_ok-version.version c.len.ensures
     c.requires.logged.reads c.requires.ready.begun_at in
-    let later : c.args.client.now.value.attempt.rv < c.in_ok-version.version =
-    omega (arith, c.in_ok-version.ensures.version.0, c.requires.ready.begun_at) in
+    let later : c.args.client.now.value.attempt.rv < c.in_ok-version.version = c.in_ok-version.ensures.won.later in
     elim c.if-not-decides_at_once.branch [
       | then-not-decides_at_once+in_default w ↦
           subst (λ (s : ClientShown). IsDecided c.args.region.now (g.T.Tag.numbers c.args.tag.now)
@@ -59,21 +57,12 @@ returns-in_err-version-clause-ok g c = nothing_answered c.from_residual.result c
     c.from_residual.ensures.1
 
 pub returns-in_err-version-clause-version : goal.returns-in_err-version-clause-version
-returns-in_err-version-clause-version g c = nothing_answered c.from_residual.result c.in_err-version.field-0.0 _
-    c.from_residual.ensures.1
+returns-in_err-version-clause-version g c = result_handed_on c.args.region.now c.args.client.now.value
+    c.from_residual.result c.in_err-version.field-0.0 c.from_residual.ensures.1 c.in_err-version.ensures.version
 
 pub returns-in_err-version-clause-decides : goal.returns-in_err-version-clause-decides
 returns-in_err-version-clause-decides g c = nothing_answered c.from_residual.result c.in_err-version.field-0.0 _
     c.from_residual.ensures.1
-
-pub returns-in_err-version-clause-lone : goal.returns-in_err-version-clause-lone
-returns-in_err-version-clause-lone g c = λ lone. handed_on c.from_residual.result c.in_err-version.field-0.0
-    (λ stop. IsSpentStop stop) c.from_residual.ensures.1 (c.in_err-version.ensures.lone lone)
-
-pub returns-in_err-version-clause-next : goal.returns-in_err-version-clause-next
-returns-in_err-version-clause-next g c = λ lone. handed_on_of c.from_residual.result c.in_err-version.field-0.0
-    (λ version. version ≡ c.args.rv + 1) (λ _. c.args.rv ≡ c.args.region.now.last) c.from_residual.ensures.1
-    (c.in_err-version.ensures.next lone)
 
 pub returns-in_err-version-clause-failed : goal.returns-in_err-version-clause-failed
 returns-in_err-version-clause-failed g c =
@@ -81,29 +70,19 @@ returns-in_err-version-clause-failed g c =
     (λ stop. HasFailedDeciding c.args.region.now c.args.logs.now.writes stop c.args.client.now.value
     c.tick.new.client.value) c.from_residual.ensures.1
     (failed_ticking c.args.region.now c.args.logs.now.writes c.in_err-version.field-0.0 c.args.client.now.value
-    c.tick.new.client.value c.in_err-version.ensures.failed c.in_err-version.ensures.shown
-    c.in_err-version.ensures.counted c.tick.ensures.steps)
+    c.tick.new.client.value c.in_err-version.ensures.failed c.tick.ensures.steps)
 
 pub returns-in-Err-clause-own : goal.returns-in-Err-clause-own
 returns-in-Err-clause-own g c = c.validate_reads.ensures.own ∙ c.tick.ensures.own
 
-pub returns-in-Err-clause-lone : goal.returns-in-Err-clause-lone
-returns-in-Err-clause-lone g c = λ lone. (
+pub returns-in-Err-clause-version : goal.returns-in-Err-clause-version
+returns-in-Err-clause-version g c = not_lone c.args.region.now c.args.client.now.value _ tt (λ lone. (
     let once = once_is c.args.client.now.value c.args.logs.now.reads _ _ c.in_ok-version.version c.len.ensures
     c.requires.logged.reads c.requires.ready.begun_at in
     not_decided c.args.region.now (g.T.Tag.numbers c.args.tag.now)
     (log_pairs c.args.logs.now.writes) c.args.client.now.value c.tick.new.client.value c.in_ok-version.version
     c.in_ok-version.ensures.won (sym once ∙ sym c.decides_at_once.ensures ∙ c.if-not-decides_at_once.true)
-    (c.in_ok-version.ensures.lone lone))
-
-pub returns-in-Err-clause-next : goal.returns-in-Err-clause-next
-returns-in-Err-clause-next g c = λ lone. (
-    let once = once_is c.args.client.now.value c.args.logs.now.reads _ _ c.in_ok-version.version c.len.ensures
-    c.requires.logged.reads c.requires.ready.begun_at in
-    not_decided c.args.region.now (g.T.Tag.numbers c.args.tag.now)
-    (log_pairs c.args.logs.now.writes) c.args.client.now.value c.tick.new.client.value c.in_ok-version.version
-    c.in_ok-version.ensures.won (sym once ∙ sym c.decides_at_once.ensures ∙ c.if-not-decides_at_once.true)
-    (c.in_ok-version.ensures.lone lone))
+    (c.in_ok-version.ensures.won.lone lone)))
 
 pub returns-in-Err-clause-failed : goal.returns-in-Err-clause-failed
 returns-in-Err-clause-failed g c =
@@ -113,7 +92,7 @@ returns-in-Err-clause-failed g c =
     (log_pairs c.args.logs.now.writes) c.args.logs.now.writes c.in-Err.conflict c.args.client.now.value
     c.tick.new.client.value c.validate_reads.new.client.value c.args.rv c.in_ok-version.version
     c.in_ok-version.ensures.won
-    c.requires.ready.known c.in_ok-version.ensures.version.0 (sym once ∙ sym c.decides_at_once.ensures ∙
+    c.requires.ready.known (omega (arith, c.in_ok-version.ensures.won.later, c.requires.ready.begun_at)) (sym once ∙ sym c.decides_at_once.ensures ∙
     c.if-not-decides_at_once.true) c.tick.ensures.steps c.in-Err.ensures.failed (inr (inl c.in-Err.ensures.shown))
 
 pub returns-clause-own : goal.returns-clause-own
@@ -125,10 +104,7 @@ returns-clause-own g c =
     ]
 
 pub returns-clause-version : goal.returns-clause-version
-returns-clause-version g c = c.in_ok-version.ensures.version.1
-
-pub returns-clause-next : goal.returns-clause-next
-returns-clause-next g c = λ lone. c.in_ok-version.ensures.next lone
+returns-clause-version g c = c.in_ok-version.ensures.version
 
 pub returns-clause-decides : goal.returns-clause-decides
 returns-clause-decides g c =

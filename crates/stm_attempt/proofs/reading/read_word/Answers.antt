@@ -4,5 +4,9 @@ use Rattle.stm_attempt.proofs.reading.read_word.Goals as goal
 pub returns-then-first-newest-clause-conflict : goal.returns-then-first-newest-clause-conflict
 returns-then-first-newest-clause-conflict g c =
     let less : c.args.client.now.value.attempt.rv < c.in-Some.version =
-    omega (arith, c.requires.newest, c.in-Some.ensures.free, c.if-first-newest.true) in
-    rw (c.newer.ensures c.args.client.now.value.attempt.rv c.requires.newest) (search rules)
+    omega (arith, c.requires.ready.compared, c.in-Some.ensures.free, c.if-first-newest.true) in
+    record {
+      shown = rw (c.newer.ensures c.args.client.now.value.attempt.rv c.requires.ready.compared) (search rules);
+      reads = search rules;
+      steps = search rules;
+    }

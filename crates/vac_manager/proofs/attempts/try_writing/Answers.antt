@@ -66,7 +66,7 @@ returns-in-Ok-commit-clause-near g c = λ all.
     near_committed c.args.region.now _ c.args.client.now c.begin-attempt.result.client.now
     c.run_task-answer.new.memory.client.now.value c.begin-attempt.ensures.value
     (ap (λ (o : Origin). o.client.value) c.run_task-answer.ensures.origin) c.begin-attempt.ensures.alone all
-    c.run_task-answer.new.memory.region.now _ _ _ _ _ c.in-Ok-commit.ensures.next c.in-Ok-commit.ensures.ok
+    c.run_task-answer.new.memory.region.now _ _ _ _ _ c.in-Ok-commit.ensures.version.next c.in-Ok-commit.ensures.ok
     (search rules)
 
 pub returns-in-Err-clause-near : goal.returns-in-Err-clause-near
@@ -76,7 +76,7 @@ returns-in-Err-clause-near g c = λ all.
     (ap (λ (o : Origin). o.client.value) c.run_task-answer.ensures.origin) c.begin-attempt.ensures.alone all
     c.run_task-answer.new.memory.region.now _ _ _ _
     (ap (λ (o : Origin). o.region) c.run_task-answer.ensures.origin ∙ c.begin-attempt.ensures.region)
-    c.in-Err.ensures.next c.in-Err.ensures.lone (c.in-Err.ensures.refused (search rules))
+    c.in-Err.ensures.version.next c.in-Err.ensures.version.lone (c.in-Err.ensures.refused (search rules))
 
 pub returns-in-Ok-commit-clause-leaves : goal.returns-in-Ok-commit-clause-leaves
 returns-in-Ok-commit-clause-leaves g c =

@@ -4,8 +4,15 @@ use Rattle.stm_core.specs.Guards.{stripe_of}
 use Rattle.stm_attempt.specs.Conflicts.{IsReadConflict}
 use Rattle.stm_attempt.proofs.attempt.Attempt.commit.Goals as goal
 
-pub end-requires-clause-inside : goal.end-requires-clause-inside
-end-requires-clause-inside g c = c.args.self.inside c.requires.running
+pub end-requires-clause-ready : goal.end-requires-clause-ready
+end-requires-clause-ready g c = record {
+  running = c.args.self.running c.requires.running;
+  known = c.args.self.known;
+  inside = c.args.self.inside c.requires.running;
+  reads = c.args.self.logged c.requires.running;
+  placed = c.args.self.placed c.requires.running;
+  allowed = c.requires.lawful;
+}
 
 pub returns-clause-met : goal.returns-clause-met
 returns-clause-met g c = λ conflict e.
@@ -22,9 +29,6 @@ returns-clause-free_handed g c = c.end.ensures.free_handed
 
 pub returns-clause-again : goal.returns-clause-again
 returns-clause-again g c = c.end.ensures.again
-
-pub returns-clause-lone : goal.returns-clause-lone
-returns-clause-lone g c = c.end.ensures.lone
 
 pub returns-clause-ok : goal.returns-clause-ok
 returns-clause-ok g c = c.end.ensures.ok

@@ -26,7 +26,7 @@ returns-in-Err-clause-answer g c =
     same_reads (is_unfinished c.args.self.now.client.now.value.attempt.phase)
     (is_unfinished c.read_word.new.client.value.attempt.phase) c.args.self.now.region.now g.L.Law.fits
     c.args.self.now.client.now.value c.read_word.new.client.value empty_log
-    (runs_inside _ _ _ _ _ _ c.requires) c.in-Err.ensures.unfinished c.in-Err.ensures.reads
+    (runs_inside _ _ _ _ _ _ c.requires) c.in-Err.ensures.unfinished c.in-Err.ensures.conflict.reads
 
 pub returns-in-Ok-clause-again : goal.returns-in-Ok-clause-again
 returns-in-Ok-clause-again g c = λ conflict e. not_stopped c.args.self.now.stopped conflict

@@ -8,4 +8,4 @@ pub returns-clause-earlier : goal.returns-clause-earlier
 returns-clause-earlier g c x m =
     let records = ap (λ w. w.value.records) c.client.view_is in
     subst (λ n. IsEarlier c.args.self.now.renewal n x) (sym c.in-Some.ensures.some)
-    (c.load_as-found.ensures.told.3 x (subst (λ (rs : List Record). In x rs) (sym records) m))
+    (c.load_as-found.ensures.acted.told.3 x (subst (λ (rs : List Record). In x rs) (sym records) m))

@@ -16,7 +16,7 @@ invariant_of-client g c =
       search rules,
       search rules,
       search rules,
-      subst Sorted (sym (ap (λ m. m.0.records) c.finish_as.ensures.me))
+      subst Sorted (sym (ap (λ m. m.0.records) c.finish_as.ensures.acted.me))
           (after_sorted (unplaced r.renewal) (stripe_of r.stripes)
           (finish (g.T.Tag.numbers c.args.tag.now)) c.finish_as.result v c.client.invariant.5),
     )
@@ -27,5 +27,5 @@ returns-clause-after g c = (
   search rules,
   subst (λ v. DecidesAt g.L.Law.fits g.L.Law.lawful c.args.self.now
       (finish (g.T.Tag.numbers c.args.tag.now)) c.finish_as.result v c.finish_as.new.seat.me.0)
-      (ap (λ w. w.value) c.client.view_is) c.finish_as.ensures.told,
+      (ap (λ w. w.value) c.client.view_is) c.finish_as.ensures.acted.told,
 )

@@ -8,5 +8,5 @@ store-requires g c =
     let it = stores_here g.L.Law.fits g.L.Law.lawful g.L.Law.keeps c.args.self.now _ key
     (runs _ _ key _ _ _ _ c.self.invariant _ c.args.self.now c.self.view_is) g.T.Acting.region c.requires.told _ _
     c.args.seat.now.me g.T.Acting.action c.args.word c.args.new
-    c.requires.place c.requires.range c.requires.allowed c.requires.stores.0 c.requires.stores.1 in
+    c.requires.ready.word_is c.requires.ready.range c.requires.ready.allowed c.requires.stores.0 c.requires.stores.1 in
     (c.requires.own ∙ sym (ap (λ w. w.table) c.self.view_is), it.0, it.1)

@@ -17,7 +17,7 @@ invariant_of-client g c =
       search rules,
       search rules,
       search rules,
-      subst Sorted (sym (ap (λ m. m.0.records) c.tick_as-found.ensures.me))
+      subst Sorted (sym (ap (λ m. m.0.records) c.tick_as-found.ensures.acted.me))
           (after_sorted (unplaced r.renewal) (stripe_of r.stripes)
           (tick c.args.from (g.T.Tag.numbers c.args.tag.now) (log_pairs c.args.writes.now)) c.tick_as-found.result v
           c.client.invariant.5),
@@ -29,4 +29,4 @@ returns-then-found-get-clause-after g c d =
     subst (λ n. DecidesAt g.L.Law.fits g.L.Law.lawful c.args.self.now e n c.args.client.now.value
     c.tick_as-found.new.seat.me.0) (c.if-found-get.true ∙ c.get.ensures.number)
     (subst (λ v. DecidesAt g.L.Law.fits g.L.Law.lawful c.args.self.now e c.tick_as-found.result v
-    c.tick_as-found.new.seat.me.0) (ap (λ w. w.value) c.client.view_is) (c.tick_as-found.ensures.told.2 d))
+    c.tick_as-found.new.seat.me.0) (ap (λ w. w.value) c.client.view_is) (c.tick_as-found.ensures.acted.told.2 d))

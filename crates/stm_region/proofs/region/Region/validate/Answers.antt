@@ -27,7 +27,7 @@ invariant_of-client g c =
       search rules,
       search rules,
       search rules,
-      subst Sorted (sym (ap (λ m. m.0.records) c.load_as.ensures.me))
+      subst Sorted (sym (ap (λ m. m.0.records) c.load_as.ensures.acted.me))
           (after_sorted (unplaced r.renewal) (stripe_of r.stripes) (validate c.args.lock) _ v c.client.invariant.5),
     )
 
@@ -35,4 +35,4 @@ pub returns-clause-after : goal.returns-clause-after
 returns-clause-after g c d =
     subst (λ v. DecidesAt g.L.Law.fits g.L.Law.lawful c.args.self.now
     (validate c.args.lock) c.load_as.result v c.load_as.new.seat.me.0) (ap (λ w. w.value) c.client.view_is)
-    (c.load_as.ensures.told.1 d)
+    (c.load_as.ensures.acted.told.1 d)
