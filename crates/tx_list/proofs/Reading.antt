@@ -1,16 +1,16 @@
 -- Pointers of a list, read over every memory that there may be.
-use Rattle.std.proofs.Common.{◌≡◌, ◌≢◌, inl, inr, ℕ, ◌+◌, ◌<◌, ◌≤◌, ◌^◌, List, [], ◌∷◌, length, Some, sym, ap, ◌∙◌}
-use Rattle.std.proofs.Common.{subst, arith}
+use Rattle.std.proofs.Common.{◌≡◌, ◌≢◌, inl, inr, ℕ, ◌+◌, ◌<◌, ◌≤◌, ◌^◌, List, [], ◌∷◌, length, Option, Some, None, sym, ap, ◌∙◌}
+use Rattle.std.proofs.Common.{subst, arith, refl, Bool, true, false, cond, nat_eq}
 use Rattle.std.proofs.lemmas.Bool.Decides.{nat_tests}
 use Rattle.tx_memory.specs.Seen.{some_le, same_or}
-use Rattle.tx_memory.specs.View.{View, RestsOn, Loaded}
+use Rattle.tx_memory.specs.View.{View, Sees, RestsOn, Kept, Loaded}
 use Rattle.tx_alloc.specs.Pool.{IsBlock}
 use Rattle.tx_alloc.specs.Rows.{Rows, times}
 use Rattle.tx_alloc.specs.Steps.{mem, stood}
 use Rattle.tx_list.specs.Bookings.{Linked, first_block, block_behind}
 use Rattle.tx_list.specs.Lists.{HasList, HasBooking, First, Next}
-use Rattle.tx_alloc.specs.Pointer.{LeadsToBlock}
-use Rattle.tx_list.specs.Search.{FollowedLink}
+use Rattle.tx_alloc.specs.Pointer.{LeadsToBlock, IsWithin, pointer}
+use Rattle.tx_list.specs.Search.{led_to}
 use Rattle.tx_list.proofs.Frame.{list_block}
 use Rattle.tx_list.proofs.Open.{open_list}
 
@@ -33,14 +33,38 @@ followed_in s s' link p has l ne ws =
       small = omega (arith, room, l.kept.size, has.small);
     }
 
-pub followed_some : (s s' : View) (link p : ℕ) → LeadsToBlock s link → Loaded s s' link p → p ≢ 0 →
-    ∥ ((image : List ℕ) × RestsOn s' image) ∥₁ → FollowedLink s s' link (Some p)
-followed_some s s' link p has l ne ws = let i = followed_in s s' link p has l ne ws in record {
+-- what was read at a link fits the address of a block
+pub followed_small : (s s' : View) (link p : ℕ) → LeadsToBlock s link → Loaded s s' link p →
+    ∥ ((image : List ℕ) × RestsOn s' image) ∥₁ → p < 2 ^ 32
+followed_small s s' link p has l ws = elim (same_or p 0) [
+  | inl e ↦ omega (arith, e)
+  | inr ne ↦ (let i = followed_in s s' link p has l ne ws in omega (arith, i.small))
+]
+
+-- only reads were made, and the word at the link leads to the result
+pub record FollowedLink (s s' : View) (link : ℕ) (found : Option ℕ) : Type 0 where
+  pub kept : Kept s s'
+  pub writes : s'.writes ≡ s.writes
+  pub within : IsWithin s' found
+  pub is : (image : List ℕ) → Sees s' image → mem s image link ≡ pointer found
+
+followed_by : (s s' : View) (link p : ℕ) (b : Bool) → nat_eq p 0 ≡ b → LeadsToBlock s link → Loaded s s' link p →
+    ∥ ((image : List ℕ) × RestsOn s' image) ∥₁ → FollowedLink s s' link (cond b None (Some p))
+followed_by s s' link p true e has l ws = record {
   kept = l.kept;
   writes = l.writes;
-  within = (i.low, i.room);
-  is = l.answer;
+  within = tt;
+  is = λ image seen. l.answer image seen ∙ grind (arith, nat_tests);
 }
+followed_by s s' link p false e has l ws =
+    let ne : p ≢ 0 = grind (arith, nat_tests) in
+    let i = followed_in s s' link p has l ne ws in
+    record { kept = l.kept; writes = l.writes; within = (i.low, i.room); is = l.answer }
+
+-- the block that a pointer leads to, where the pointer was read at a link
+pub followed : (s s' : View) (link p : ℕ) → LeadsToBlock s link → Loaded s s' link p →
+    ∥ ((image : List ℕ) × RestsOn s' image) ∥₁ → FollowedLink s s' link (led_to p)
+followed s s' link p has l ws = followed_by s s' link p (nat_eq p 0) refl has l ws
 
 -- the head of a list leads to its first block
 pub head_leads : (s : View) (head : ℕ) → HasList s head → LeadsToBlock s head

@@ -1,5 +1,5 @@
 -- What the steps of a search say.
-use Rattle.std.specs.Prelude.{◌≡◌, ℕ, ◌+◌, ◌<◌, List, length, Option, None}
+use Rattle.std.specs.Prelude.{◌≡◌, ℕ, ◌+◌, ◌<◌, List, length, Option, Some, None, cond, nat_eq}
 use Rattle.std.specs.declared.cmp.Ordering.{Ordering}
 use Rattle.std.specs.Ordering.{nat_cmp, ordering_then}
 use Rattle.tx_memory.specs.View.{View, Sees, Kept}
@@ -23,12 +23,9 @@ pub record Compared (s s' : View) (b : ℕ) (key : Key) (order : Ordering) : Typ
   pub is : (image : List ℕ) → Sees s' image →
       order ≡ key_cmp (mem s image (b + KIND)) (mem s image (b + ID)) key.kind key.id
 
--- only reads were made, and the word at the link leads to the result
-pub record FollowedLink (s s' : View) (link : ℕ) (found : Option ℕ) : Type 0 where
-  pub kept : Kept s s'
-  pub writes : s'.writes ≡ s.writes
-  pub within : IsWithin s' found
-  pub is : (image : List ℕ) → Sees s' image → mem s image link ≡ pointer found
+-- the block that a pointer leads to, if it leads to one
+abbrev pub led_to : ℕ → Option ℕ
+led_to p = cond (nat_eq p 0) None (Some p)
 
 -- only reads were made, and the search for the key came to this spot
 pub record Sought (s s' : View) (head key : ℕ) (spot : Spot) : Type 0 where

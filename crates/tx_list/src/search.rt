@@ -1,10 +1,9 @@
 //! Finding bookings.
 
-ghost use Rattle.std.specs.Prelude.{◌≡◌, IfOk, IfErr};
+ghost use Rattle.std.specs.Prelude.{◌≡◌, ◌<◌, ◌^◌, IfOk, IfErr};
 ghost use Rattle.tx_list.specs.Bookings.{IsKey, code_of};
 ghost use Rattle.tx_list.specs.Lists.{HasList, HasBooking, Found, First, Next};
-ghost use Rattle.tx_alloc.specs.Pointer.{LeadsToBlock};
-ghost use Rattle.tx_list.specs.Search.{FollowedLink, Sought};
+ghost use Rattle.tx_list.specs.Search.{Sought, led_to};
 
 use crate::key::{Key, compare_key};
 use crate::place::NEXT;
@@ -44,8 +43,8 @@ pub fn first<M: TxRead>(memory: &mut M, head: Addr) -> Result<Option<Block>, M::
         First (M.view memory.old) (M.view memory.new) head.0 found) }
     ensures stopped { IfErr result (λ stop. M.stopped_for memory.new stop) }
 {
-    let found = follow(memory, head)?;
-    Ok(found)
+    let pointer = load(memory, head)?;
+    Ok(block_led_to(pointer))
 }
 
 /// The booking after the one in this block.
@@ -56,23 +55,20 @@ pub fn next<M: TxRead>(memory: &mut M, block: Block) -> Result<Option<Block>, M:
         Next (M.view memory.old) (M.view memory.new) block found) }
     ensures stopped { IfErr result (λ stop. M.stopped_for memory.new stop) }
 {
-    let found = follow(memory, block.word(NEXT))?;
-    Ok(found)
+    let pointer = load(memory, block.word(NEXT))?;
+    Ok(block_led_to(pointer))
 }
 
-/// What the pointer at a word leads to.
-fn follow<M: TxRead>(memory: &mut M, link: Addr) -> Result<Option<Block>, M::Stop>
-    requires leads { LeadsToBlock (M.view memory.old) link.0 }
-    ensures origin { M.origin memory.new ≡ M.origin memory.old }
-    ensures answer { IfOk result (λ found.
-        FollowedLink (M.view memory.old) (M.view memory.new) link.0 found) }
-    ensures stopped { IfErr result (λ stop. M.stopped_for memory.new stop) }
+/// The block that a pointer leads to. 0 leads to none.
+#[inline]
+fn block_led_to(pointer: u64) -> Option<Block>
+    requires { pointer < 2 ^ 32 }
+    ensures { result ≡ led_to pointer }
 {
-    let word = load(memory, link)?;
-    if word == 0 {
-        return Ok(None);
+    match pointer {
+        0 => None,
+        _ => Some(Block(Addr(pointer as u32))),
     }
-    Ok(Some(Block(Addr(word as u32))))
 }
 
 /// Where a key is in the list at `head`, or would be.

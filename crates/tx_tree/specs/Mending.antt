@@ -106,6 +106,12 @@ pub record NeedsTurn (s : View) (xs : List ℕ) (d : ℕ) : Type 0 where
   pub under : (image : List ℕ) → Sees s image →
       IsToTurn (mem s image) (slice_index xs d) (slice_index xs (d - 1))
 
+-- the red node b at the end of the path is below a red one, beside which is none
+pub record HasTwoReds (s : View) (xs : List ℕ) (d b : ℕ) : Type 0 where
+  pub raised : HasRaised s xs d b
+  pub turn : NeedsTurn s xs d
+  pub deep : 2 ≤ d
+
 -- at the end of the path is a tree that lacks a black node, and has no red root
 pub record ShortAt (m : ℕ → ℕ) (n root : ℕ) (total : ℕ → ℕ) (xs : List ℕ) (d : ℕ) (w : Way)
     (t : Tree) (h : ℕ) : Type 0 where

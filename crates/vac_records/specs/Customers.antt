@@ -14,7 +14,7 @@ use Rattle.tx_alloc.specs.Rows.{Rows, times, put_row, cut_row, block_at, Relinks
 use Rattle.tx_list.specs.Lists.{IsListAt, IsOutside}
 use Rattle.tx_list.specs.Search.{SpotAt}
 use Rattle.tx_list.specs.declared.search.Spot.{Spot}
-use Rattle.vac_records.specs.Items.{mem, RoomAt}
+use Rattle.vac_records.specs.Items.{mem, IsNode, RoomAt}
 use Rattle.vac_records.specs.Bookings.{booking_in, place_key}
 
 -- the word that leads to the bookings of the customer in a block
@@ -34,6 +34,11 @@ pub record CustomerMade (s s' : View) (node key : ℕ) : Type 0 where
   pub kept : Kept s s'
   pub made : (image : List ℕ) → Sees s' image →
       IsNewCustomer (mem s image) (mem s' image) node key
+
+-- the block's words are words of the memory, and the sum fits one
+pub record CanMakeBooking (s : View) (b total : ℕ) : Type 0 where
+  pub node : IsNode s b
+  pub sum : total < 2 ^ 64
 
 -- the block became a booking of num units at this price; its link and all words outside are as
 -- before

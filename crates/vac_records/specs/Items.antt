@@ -69,6 +69,16 @@ pub record RoomAt (s : View) (a by : ℕ) : Type 0 where
 pub record EnoughAt (s : View) (a by : ℕ) : Type 0 where
   pub enough : (image : List ℕ) → RestsOn s image → by ≤ mem s image a
 
+-- the word is one of the memory, and has room for this much more
+pub record CanRaise (s : View) (a by : ℕ) : Type 0 where
+  pub inside : a < s.size
+  pub room : RoomAt s a by
+
+-- the word is one of the memory, and is this much or more
+pub record CanLower (s : View) (a by : ℕ) : Type 0 where
+  pub inside : a < s.size
+  pub enough : EnoughAt s a by
+
 -- under each image the word was changed by f, and no other word was
 pub record Shifted (s s' : View) (a : ℕ) (f : ℕ → ℕ) : Type 0 where
   pub kept : Kept s s'

@@ -6,7 +6,7 @@ ghost use Rattle.tx_list.specs.declared.place.TheConstants.{SUM, UNITS};
 ghost use Rattle.vac_model.specs.State.{kind_number};
 ghost use Rattle.vac_model.specs.Step.{extended};
 ghost use Rattle.vac_records.specs.Items.{IsNode};
-ghost use Rattle.vac_records.specs.Customers.{BookingMade, BookingRead, BookingChanged, CanExtend};
+ghost use Rattle.vac_records.specs.Customers.{CanMakeBooking, BookingMade, BookingRead, BookingChanged, CanExtend};
 
 use crate::word::{clear_spare, raise};
 use tx_alloc::Block;
@@ -41,8 +41,7 @@ pub(crate) fn init_booking<M: TxMem>(
     num: u32,
     price: u64,
 ) -> Result<(), M::Stop>
-    requires node { IsNode (M.view memory.old) node }
-    requires sum { num * price < 2 ^ 64 }
+    requires { CanMakeBooking (M.view memory.old) node (num * price) }
     ensures origin { M.origin memory.new ≡ M.origin memory.old }
     ensures answer { IfOk result (λ _. BookingMade (M.view memory.old) (M.view memory.new) node
         (kind, id) num price) }

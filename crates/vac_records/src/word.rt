@@ -1,7 +1,7 @@
 //! Words of a block.
 
 ghost use Rattle.std.specs.Prelude.{◌≡◌, ◌+◌, ◌-◌, ◌<◌, IfOk};
-ghost use Rattle.vac_records.specs.Items.{IsNode, RoomAt, EnoughAt, Shifted};
+ghost use Rattle.vac_records.specs.Items.{IsNode, CanRaise, CanLower, Shifted};
 ghost use Rattle.vac_records.specs.Spare.{WordCleared, SpareCleared};
 
 use tx_alloc::Block;
@@ -13,8 +13,7 @@ const FIRST_SPARE: u32 = 5;
 /// Adds a number to a word.
 #[inline]
 pub(crate) fn raise<M: TxMem>(memory: &mut M, word: Addr, by: u64) -> Result<(), M::Stop>
-    requires inside { word.0 < (M.view memory.old).size }
-    requires room { RoomAt (M.view memory.old) word.0 by }
+    requires { CanRaise (M.view memory.old) word.0 by }
     ensures origin { M.origin memory.new ≡ M.origin memory.old }
     ensures answer { IfOk result (λ _.
         Shifted (M.view memory.old) (M.view memory.new) word.0 (λ v. v + by)) }
@@ -27,8 +26,7 @@ pub(crate) fn raise<M: TxMem>(memory: &mut M, word: Addr, by: u64) -> Result<(),
 /// Takes a number away from a word.
 #[inline]
 pub(crate) fn lower<M: TxMem>(memory: &mut M, word: Addr, by: u64) -> Result<(), M::Stop>
-    requires inside { word.0 < (M.view memory.old).size }
-    requires enough { EnoughAt (M.view memory.old) word.0 by }
+    requires { CanLower (M.view memory.old) word.0 by }
     ensures origin { M.origin memory.new ≡ M.origin memory.old }
     ensures answer { IfOk result (λ _.
         Shifted (M.view memory.old) (M.view memory.new) word.0 (λ v. v - by)) }

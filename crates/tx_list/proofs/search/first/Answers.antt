@@ -1,8 +1,11 @@
-use Rattle.tx_list.proofs.Reading.{head_leads, first_followed}
+use Rattle.tx_list.proofs.Reading.{head_leads, followed, followed_small, first_followed}
 use Rattle.tx_list.proofs.search.first.Goals as goal
 
-pub follow-requires : goal.follow-requires
-follow-requires g c = record { leads = head_leads _ _ c.requires.list }
+pub block_led_to-requires : goal.block_led_to-requires
+block_led_to-requires g c = followed_small _ _ _ _ (head_leads _ _ c.requires.list) c.in_ok-pointer.ensures.answer
+    (g.met.M.TxRead.seen c.load.new.memory)
 
 pub returns-clause-answer : goal.returns-clause-answer
-returns-clause-answer g c = first_followed _ _ _ _ c.in_ok-found.ensures.answer
+returns-clause-answer g c = rw c.block_led_to.ensures (first_followed _ _ _ _
+    (followed _ _ _ _ (head_leads _ _ c.requires.list) c.in_ok-pointer.ensures.answer
+    (g.met.M.TxRead.seen c.load.new.memory)))

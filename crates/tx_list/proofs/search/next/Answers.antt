@@ -1,5 +1,5 @@
 use Rattle.std.proofs.Common.{arith}
-use Rattle.tx_list.proofs.Reading.{booking_in, next_leads, next_followed}
+use Rattle.tx_list.proofs.Reading.{booking_in, next_leads, followed, followed_small, next_followed}
 use Rattle.tx_list.proofs.search.next.Goals as goal
 
 pub word-requires : goal.word-requires
@@ -7,11 +7,17 @@ word-requires g c =
     let i = booking_in _ _ c.requires.booking (g.met.M.TxRead.seen c.args.memory.now) in
     omega (arith, i.small)
 
-pub follow-requires : goal.follow-requires
-follow-requires g c = record {
-  leads = rw c.word.ensures (next_leads _ _ c.requires.booking
-      (g.met.M.TxRead.seen c.args.memory.now));
-}
+pub load-requires : goal.load-requires
+load-requires g c =
+    let i = booking_in _ _ c.requires.booking (g.met.M.TxRead.seen c.args.memory.now) in
+    omega (arith, i.room, c.word.ensures)
+
+pub block_led_to-requires : goal.block_led_to-requires
+block_led_to-requires g c = followed_small _ _ _ _
+    (next_leads _ _ c.requires.booking (g.met.M.TxRead.seen c.args.memory.now))
+    (rw c.word.ensures at c.in_ok-pointer.ensures.answer) (g.met.M.TxRead.seen c.load.new.memory)
 
 pub returns-clause-answer : goal.returns-clause-answer
-returns-clause-answer g c = next_followed _ _ _ _ (rw c.word.ensures at c.in_ok-found.ensures.answer)
+returns-clause-answer g c = rw c.block_led_to.ensures (next_followed _ _ _ _
+    (followed _ _ _ _ (next_leads _ _ c.requires.booking (g.met.M.TxRead.seen c.args.memory.now))
+    (rw c.word.ensures at c.in_ok-pointer.ensures.answer) (g.met.M.TxRead.seen c.load.new.memory)))

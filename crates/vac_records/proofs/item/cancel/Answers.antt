@@ -2,13 +2,18 @@ use Rattle.std.proofs.Common.{arith}
 use Rattle.vac_records.proofs.Counting.{enough_at, room_later, units_cancelled}
 use Rattle.vac_records.proofs.item.cancel.Goals as goal
 
-pub lower-requires-clause-enough : goal.lower-requires-clause-enough
-lower-requires-clause-enough g c = enough_at _ _ _ _ c.word.ensures c.requires.units.used
+pub lower-requires : goal.lower-requires
+lower-requires g c = record {
+  inside = omega (arith, c.word.ensures, c.requires.node.inside);
+  enough = enough_at _ _ _ _ c.word.ensures c.requires.units.used;
+}
 
-pub raise-requires-clause-room : goal.raise-requires-clause-room
-raise-requires-clause-room g c =
-    room_later _ _ _ _ _ _ _ _ c.in_ok-lower.ensures.answer c.word.ensures c.word-2.ensures
-    (omega arith) c.requires.units.free
+pub raise-requires : goal.raise-requires
+raise-requires g c = record {
+  inside = omega (arith, c.word-2.ensures, c.requires.node.inside, c.in_ok-lower.ensures.answer.kept.size);
+  room = room_later _ _ _ _ _ _ _ _ c.in_ok-lower.ensures.answer c.word.ensures c.word-2.ensures
+      (omega arith) c.requires.units.free;
+}
 
 pub returns-clause-answer : goal.returns-clause-answer
 returns-clause-answer g c = units_cancelled _ _ _ _ _ _ _ c.word.ensures c.word-2.ensures c.in_ok-lower.ensures.answer

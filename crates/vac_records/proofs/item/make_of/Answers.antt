@@ -1,8 +1,12 @@
+use Rattle.std.proofs.Common.{arith}
 use Rattle.vac_records.proofs.Counting.{room_at, units_made}
 use Rattle.vac_records.proofs.item.make_of.Goals as goal
 
-pub raise-requires-clause-room : goal.raise-requires-clause-room
-raise-requires-clause-room g c = room_at _ _ _ _ c.word.ensures c.requires.units.used
+pub raise-requires : goal.raise-requires
+raise-requires g c = record {
+  inside = omega (arith, c.word.ensures, c.requires.node.inside);
+  room = room_at _ _ _ _ c.word.ensures c.requires.units.used;
+}
 
 pub overflow_sub-free : goal.overflow_sub-free
 overflow_sub-free g c = c.requires.units.enough
