@@ -1,15 +1,18 @@
 -- The lines of calls that are picked and sent.
-use Rattle.std.proofs.Common.{◌≡◌, ◌∙◌, refl, sym, ap, subst, ℕ, List, [], ◌∷◌, ◌++◌, Option, map, append-nil}
+use Rattle.std.proofs.Common.{◌≡◌, ◌∙◌, ◌⊎◌, inr, Result, Ok, Err, refl, sym, ap, subst, ℕ, List, [], ◌∷◌, ◌++◌, Option, map, append-nil}
 use Rattle.std.proofs.lemmas.Grind.{flat_map-append}
 use Rattle.std.proofs.lemmas.List.{map-append}
+use Rattle.std.specs.Prelude.{IfErr}
 use Rattle.std.specs.Io.KnownBytes.{Appends}
 use Rattle.std.proofs.KnownBytes.{Appends-nil}
 use Rattle.vac_lines.specs.Script.{as_line}
 use Rattle.vac_judge.specs.CallText.{call_text, history_text, IsTheirHistory}
 use Rattle.vac_lines.specs.Writing.{AppendsPrefix}
+use Rattle.vac_streams.specs.declared.fault.StreamFault.{StreamFault}
+use Rattle.vac_streams.specs.declared.fault.StreamFault.TheVariants.{Memory, Write}
 use Rattle.vac_streams.specs.Sent.{Sent}
-use Rattle.vac_worklist.proofs.Texts.{sent_both, part_second, prefix_longer, prefix_is, none_written, sent_end}
-use Rattle.vac_worklist.proofs.Texts.{sent_end_in_part}
+use Rattle.vac_streams.proofs.Texts.{sent_both, part_second, prefix_longer, prefix_is, none_written, sent_end}
+use Rattle.vac_streams.proofs.Texts.{sent_end_in_part}
 use Rattle.vac_manager.specs.declared.note.Note.{Note}
 use Rattle.vac_history.specs.Order.{Entry, entries_from, IsMerged}
 use Rattle.vac_history.specs.Numbers.{EachHasLines}
@@ -17,6 +20,12 @@ use Rattle.vac_history.specs.Picking.{Picks, IsEmpty, Merges}
 use Rattle.vac_history.specs.History.{call_of_entry, calls_text, WroteHistory, WroteHistoryPrefix}
 use Rattle.vac_history.specs.Sending.{SentPicked, SentMerged, MergedPrefix}
 use Rattle.vac_history.proofs.Merges.{picks_both, picks_one, merging, is_merged}
+
+-- a fault of a write is one of the two that can come
+pub write_fault : {T : Type 0} (r : Result T StreamFault) → IfErr r (λ fault. fault ≡ Write) →
+    IfErr r (λ fault. (fault ≡ Memory) ⊎ (fault ≡ Write))
+write_fault (Ok t) h = tt
+write_fault (Err e) h = inr h
 
 -- the line of a call
 abbrev line_of : Entry → List ℕ

@@ -50,19 +50,20 @@ among words (Some word) = if nat_lt word words then Some word else None
 abbrev pub at_word : ℕ → List ℕ → Result ℕ LineFault
 at_word words text = ok_or (among words (memory_word_of text)) fault.BadNumber
 
+-- whether a word is the first of two names, where it is one of them
+abbrev pub first_of_two : List ℕ → List ℕ → List ℕ → Option Bool
+first_of_two first second word =
+    if bytes_eq word first then Some true
+    else if bytes_eq word second then Some false
+    else None
+
 -- whether the attempt committed
 abbrev pub at_outcome : List ℕ → Result Bool LineFault
-at_outcome word =
-    if bytes_eq word (codes "commit") then Ok true
-    else if bytes_eq word (codes "abort") then Ok false
-    else Err fault.BadCommand
+at_outcome word = ok_or (first_of_two (codes "commit") (codes "abort") word) fault.BadCommand
 
 -- whether an access is a read
 abbrev pub at_access_kind : List ℕ → Result Bool LineFault
-at_access_kind word =
-    if bytes_eq word (codes "r") then Ok true
-    else if bytes_eq word (codes "w") then Ok false
-    else Err fault.BadKind
+at_access_kind word = ok_or (first_of_two (codes "r") (codes "w") word) fault.BadKind
 
 -- a read or a write of a value at a word
 abbrev pub access_of : Bool → ℕ → ℕ → Access

@@ -1,22 +1,10 @@
 //! What the words of a line stand for.
 
 ghost use Rattle.std.specs.Prelude.{◌≡◌, ◌<◌, IfOk};
-ghost use Rattle.vac_opaque.specs.Attempt.{at_attempt_client, at_memory_word, at_word, at_outcome, at_access_kind};
+ghost use Rattle.vac_opaque.specs.Attempt.{at_attempt_client, at_memory_word, at_word, first_of_two, at_outcome, at_access_kind};
 
 use vac_lines::{LineFault, read_memory_word};
 use vac_spans::read_client;
-
-/// The word of an attempt that committed.
-const COMMIT: &[u8] = b"commit";
-
-/// The word of an attempt that aborted.
-const ABORT: &[u8] = b"abort";
-
-/// The word of a read.
-const READ: &[u8] = b"r";
-
-/// The word of a write.
-const WRITE: &[u8] = b"w";
 
 /// The client that a word names.
 pub(crate) fn client_at(word: &[u8]) -> Result<u32, LineFault>
@@ -43,28 +31,29 @@ pub(crate) fn word_at(words: u32, text: &[u8]) -> Result<u32, LineFault>
     }
 }
 
+/// Whether a word is the first of two names, where it is one of them.
+fn is_first_of(first: &[u8], second: &[u8], word: &[u8]) -> Option<bool>
+    ensures { result ≡ first_of_two first.now second.now word.now }
+{
+    if word == first {
+        Some(true)
+    } else if word == second {
+        Some(false)
+    } else {
+        None
+    }
+}
+
 /// Whether an attempt committed.
 pub(crate) fn outcome_at(word: &[u8]) -> Result<bool, LineFault>
     ensures { result ≡ at_outcome word.now }
 {
-    if word == COMMIT {
-        Ok(true)
-    } else if word == ABORT {
-        Ok(false)
-    } else {
-        Err(LineFault::BadCommand)
-    }
+    is_first_of(b"commit", b"abort", word).ok_or(LineFault::BadCommand)
 }
 
 /// Whether an access is a read.
 pub(crate) fn kind_at(word: &[u8]) -> Result<bool, LineFault>
     ensures { result ≡ at_access_kind word.now }
 {
-    if word == READ {
-        Ok(true)
-    } else if word == WRITE {
-        Ok(false)
-    } else {
-        Err(LineFault::BadKind)
-    }
+    is_first_of(b"r", b"w", word).ok_or(LineFault::BadKind)
 }

@@ -1,4 +1,3 @@
-pub mod Texts
 pub mod Totals
 pub mod Sending
 pub mod OneText

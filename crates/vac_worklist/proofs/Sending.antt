@@ -15,8 +15,8 @@ use Rattle.vac_lines.specs.Writing.{AppendsPrefix}
 use Rattle.vac_worklist.specs.Worklist.{task_line, opening_line, DrawnLines, IsTextOf, WroteTasksPrefix}
 use Rattle.vac_streams.specs.Sent.{Sent}
 use Rattle.vac_worklist.specs.Sending.{SentLines, SentInPart, SentTasks}
-use Rattle.vac_worklist.proofs.Texts.{sent_nothing, sent_both, part_second, part_first, prefix_is, prefix_longer}
-use Rattle.vac_worklist.proofs.Texts.{none_written, sent_end_in_part}
+use Rattle.vac_streams.proofs.Texts.{sent_nothing, sent_both, part_second, part_first, prefix_is, prefix_longer}
+use Rattle.vac_streams.proofs.Texts.{none_written, sent_end_in_part}
 use Rattle.vac_worklist.proofs.Totals.{IsTotal, task_total, times_total, opening_total}
 
 module _ {X : Type 0} (line : X → List ℕ) where

@@ -1,7 +1,7 @@
 //! The lines of the clients' tasks.
 
 ghost use Rattle.std.specs.Prelude.{◌≡◌, ◌≢◌, ◌*◌, true, OnOk, OnErr, IfErr};
-ghost use Rattle.vac_draws.specs.Draws.{one, times_over};
+ghost use Rattle.vac_draws.specs.Draws.{times_over};
 ghost use Rattle.vac_draws.specs.Setting.{is_settings};
 ghost use Rattle.vac_draws.specs.Tasks.{task_of};
 ghost use Rattle.vac_worklist.specs.declared.fault.TasksFault.TheVariants.{Arguments};
@@ -13,27 +13,6 @@ use crate::lines::send_line;
 use std::alloc::Global;
 use std::io::Write;
 use vac_draws::{PcgDraws, Settings, draw_task};
-
-/// Draws a task of a client and sends its line.
-fn send_task<W: Write>(
-    alloc: Global,
-    output: &mut W,
-    hand: &mut Vec<u8>,
-    draws: &mut PcgDraws,
-    settings: &Settings,
-    client: u32,
-) -> Result<(), TasksFault>
-    requires { is_settings settings.now ≡ true }
-    ensures ok { OnOk result (SentLines (one (task_of settings.now)) (task_line client)
-        draws.old draws.new (W.contents output.old) (W.contents output.new)
-        hand.old.items hand.new.items) }
-    ensures err { OnErr result (SentInPart (one (task_of settings.now)) (task_line client)
-        draws.old (W.contents output.old) (W.contents output.new) hand.old.items) }
-    ensures in_range { IfErr result (λ fault. fault ≢ Arguments) }
-{
-    let task = draw_task(alloc, draws, settings)?;
-    send_line(output, hand, client, &task)
-}
 
 /// Draws the tasks of a client in all rounds, one after the other, and sends their lines.
 pub(crate) fn send_tasks<W: Write>(
@@ -56,7 +35,8 @@ pub(crate) fn send_tasks<W: Write>(
     ensures in_range { IfErr result (λ fault. fault ≢ Arguments) }
 {
     'tasks: for _ in 0..settings.rounds * settings.tasks {
-        send_task(alloc, output, hand, draws, settings, client)?;
+        let task = draw_task(alloc, draws, settings)?;
+        send_line(output, hand, client, &task)?;
     }
     Ok(())
 }

@@ -39,26 +39,7 @@ fn send_stock<W: Write>(
     send_line(output, hand, OPENING, &Task::One(command))
 }
 
-/// Sends the commands that add an item of each kind.
-fn send_stocks<W: Write>(
-    output: &mut W,
-    hand: &mut Vec<u8>,
-    draws: &mut PcgDraws,
-    id: u32,
-) -> Result<(), TasksFault>
-    requires { is_id id ≡ true }
-    ensures ok { OnOk result (SentLines (stocks id) opening_line draws.old draws.new
-        (W.contents output.old) (W.contents output.new) hand.old.items hand.new.items) }
-    ensures err { OnErr result (SentInPart (stocks id) opening_line draws.old
-        (W.contents output.old) (W.contents output.new) hand.old.items) }
-    ensures in_range { IfErr result (λ fault. fault ≢ Arguments) }
-{
-    send_stock(output, hand, draws, id, Kind::Car)?;
-    send_stock(output, hand, draws, id, Kind::Flight)?;
-    send_stock(output, hand, draws, id, Kind::Room)
-}
-
-/// Sends the commands that add the items of each id from 1 on.
+/// Sends the commands that add an item of each kind, for each id from 1 on.
 fn send_items<W: Write>(
     output: &mut W,
     hand: &mut Vec<u8>,
@@ -74,7 +55,10 @@ fn send_items<W: Write>(
     ensures in_range { IfErr result (λ fault. fault ≢ Arguments) }
 {
     'items: for place in 0..items {
-        send_stocks(output, hand, draws, place + 1)?;
+        let id = place + 1;
+        send_stock(output, hand, draws, id, Kind::Car)?;
+        send_stock(output, hand, draws, id, Kind::Flight)?;
+        send_stock(output, hand, draws, id, Kind::Room)?;
     }
     Ok(())
 }

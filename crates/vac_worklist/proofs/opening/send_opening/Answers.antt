@@ -1,5 +1,5 @@
 use Rattle.vac_lines.proofs.Extends.{on_err}
-use Rattle.vac_worklist.proofs.Texts.{on_ok_map, on_err_map}
+use Rattle.vac_streams.proofs.Texts.{on_ok_map, on_err_map}
 use Rattle.vac_worklist.proofs.Sending.{sent_opening, part_items, part_customers}
 use Rattle.vac_worklist.proofs.opening.send_opening.Goals as goal
 
