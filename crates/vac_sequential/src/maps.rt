@@ -1,7 +1,7 @@
 //! Maps of the plain manager, which contracts see as finite maps.
 
-ghost use Rattle.std.specs.Prelude.{◌≡◌, ◌<◌, ◌^◌, IsSome, IfSome, IfNone, IfOk, OnOk, OnErr, sum_by, [], ◌∷◌};
-ghost use Rattle.vac_model.specs.State.{Bookings, bill_of, units_booked};
+ghost use Rattle.std.specs.Prelude.{◌≡◌, ◌<◌, ◌^◌, IfSome, IfNone, IfOk, OnOk, OnErr, sum_by, [], ◌∷◌};
+ghost use Rattle.vac_model.specs.State.{bill_of, units_booked};
 ghost use Rattle.vac_sequential.specs.Tries.{EntryAdds, TellsSame};
 ghost use Rattle.std.specs.Option.{option_copied};
 ghost use Rattle.std.specs.FinMap as map;
@@ -404,47 +404,6 @@ impl IdMap<BookingMap> {
         ensures { result ≡ sum_by bill_of (map.values self.now) }
     {
         total::<BookingMap, Bill>(&self.root)
-    }
-
-    /// Puts a booking of a customer, unless memory is refused.
-    pub(crate) fn put_booking(
-        &mut self,
-        customer: u32,
-        kind: Kind,
-        id: u32,
-        booking: Booking,
-    ) -> Result<(), AllocError>
-        requires { IsSome (map.get self.old customer) }
-        ensures ok { OnOk result ((bookings : Bookings) → map.get self.old customer ≡ Some bookings
-            → self.new ≡ map.insert self.old customer (map.insert bookings (kind, id) booking)) }
-        ensures err { OnErr result (self.new ≡ self.old) }
-    {
-        let mut bookings = match self.get(customer) {
-            Some(bookings) => bookings.clone()?,
-            None => unreachable!(),
-        };
-        bookings.insert(kind, id, booking)?;
-        self.insert(customer, bookings)
-    }
-
-    /// Removes a booking of a customer, unless memory is refused.
-    pub(crate) fn remove_booking(
-        &mut self,
-        customer: u32,
-        kind: Kind,
-        id: u32,
-    ) -> Result<(), AllocError>
-        requires { IsSome (map.get self.old customer) }
-        ensures ok { OnOk result ((bookings : Bookings) → map.get self.old customer ≡ Some bookings
-            → self.new ≡ map.insert self.old customer (map.remove bookings (kind, id))) }
-        ensures err { OnErr result (self.new ≡ self.old) }
-    {
-        let mut bookings = match self.get(customer) {
-            Some(bookings) => bookings.clone()?,
-            None => unreachable!(),
-        };
-        bookings.remove(kind, id);
-        self.insert(customer, bookings)
     }
 }
 

@@ -1,11 +1,11 @@
 //! What each command does to the tables, and when it is refused.
 
-ghost use Rattle.std.specs.Prelude.{◌≡◌, ◌≤◌, IsSome, IfOk, OnOk, OnErr, true};
+ghost use Rattle.std.specs.Prelude.{◌≡◌, ◌≤◌, IfOk, OnOk, OnErr, true};
 ghost use Rattle.std.specs.Option.{option_copied, option_map};
 ghost use Rattle.std.specs.FinMap as map;
 ghost use Rattle.vac_model.specs.declared.limits.TheConstants.{MOST_UNITS_AT_ONCE};
 ghost use Rattle.vac_model.specs.Step as rules;
-ghost use Rattle.vac_model.specs.Fits.{IsSmall, IsItemInRange, IsBookingInRange, CanGiveBack};
+ghost use Rattle.vac_model.specs.Fits.{IsSmall, IsItemInRange, CanGiveBack};
 ghost use Rattle.vac_model.specs.Ranges.{is_command};
 
 use crate::items::{added, deleted, extended, given_back, new_booking, new_item, taken};
@@ -13,11 +13,10 @@ use crate::maps::BookingMap;
 use crate::tables::Tables;
 use std::alloc::AllocError;
 use vac_model::limits::{MOST_TOTAL, MOST_UNITS};
-use vac_model::{Booking, Command, Item, Kind, Reply, Why};
+use vac_model::{Command, Item, Kind, Reply, Why};
 
 impl Tables {
-    ghost use Rattle.std.specs.Prelude.{Some};
-    ghost use Rattle.vac_model.specs.State.{Bookings, item_of, bookings_of, bill_of};
+    ghost use Rattle.vac_model.specs.State.{item_of, bookings_of, bill_of};
 
     pub(crate) fn add(
         &mut self,
@@ -153,61 +152,23 @@ impl Tables {
         if item.free < num as u64 {
             return Ok(Reply::No(Why::SoldOut));
         }
-        match booked {
-            None => self.book_new(customer, kind, id, num, item),
-            Some(booking) => self.book_more(customer, kind, id, num, item, booking),
-        }
-    }
-
-    fn book_new(
-        &mut self,
-        customer: u32,
-        kind: Kind,
-        id: u32,
-        num: u32,
-        item: Item,
-    ) -> Result<Reply, AllocError>
-        requires small { IsSmall self.old }
-        requires count { num ≤ MOST_UNITS_AT_ONCE }
-        requires customer { IsSome (bookings_of self.old customer) }
-        requires item { item_of self.old kind id ≡ Some item }
-        requires free { num ≤ item.free }
-        ensures ok { IfOk result (λ reply. (bookings : Bookings)
-            → bookings_of self.old customer ≡ Some bookings
-            → rules.book_new self.old customer kind id num bookings item ≡ (self.new, reply)) }
-    {
-        if self.is_full() {
-            return Ok(Reply::No(Why::Full));
-        }
-        self.put_booking(customer, kind, id, new_booking(num, item.price))?;
-        self.insert_item(kind, id, taken(item, num))?;
-        Ok(Reply::Done)
-    }
-
-    fn book_more(
-        &mut self,
-        customer: u32,
-        kind: Kind,
-        id: u32,
-        num: u32,
-        item: Item,
-        booking: Booking,
-    ) -> Result<Reply, AllocError>
-        requires small { IsSmall self.old }
-        requires count { num ≤ MOST_UNITS_AT_ONCE }
-        requires customer { IsSome (bookings_of self.old customer) }
-        requires item { item_of self.old kind id ≡ Some item }
-        requires free { num ≤ item.free }
-        requires booking { IsBookingInRange booking }
-        ensures ok { IfOk result (λ reply. (bookings : Bookings)
-            → bookings_of self.old customer ≡ Some bookings
-            → rules.book_more self.old customer kind id num bookings item booking
-            ≡ (self.new, reply)) }
-    {
-        if booking.units + num as u64 > MOST_UNITS {
-            return Ok(Reply::No(Why::UnitLimit));
-        }
-        self.put_booking(customer, kind, id, extended(booking, num, item.price))?;
+        let booking = match booked {
+            None => {
+                if self.is_full() {
+                    return Ok(Reply::No(Why::Full));
+                }
+                new_booking(num, item.price)
+            }
+            Some(booking) => {
+                if booking.units + num as u64 > MOST_UNITS {
+                    return Ok(Reply::No(Why::UnitLimit));
+                }
+                extended(booking, num, item.price)
+            }
+        };
+        let mut bookings = bookings.clone()?;
+        bookings.insert(kind, id, booking)?;
+        self.insert_bookings(customer, bookings)?;
         self.insert_item(kind, id, taken(item, num))?;
         Ok(Reply::Done)
     }
@@ -227,7 +188,9 @@ impl Tables {
         let Some(booking) = booked else {
             return Ok(Reply::No(Why::NotBooked));
         };
-        self.remove_booking(customer, kind, id)?;
+        let mut bookings = bookings.clone()?;
+        bookings.remove(kind, id);
+        self.insert_bookings(customer, bookings)?;
         self.insert_item(kind, id, given_back(item, booking.units))?;
         Ok(Reply::Done)
     }

@@ -1,6 +1,6 @@
 //! The four tables, which contracts see as a state.
 
-ghost use Rattle.std.specs.Prelude.{◌≡◌, ◌<◌, ◌≤◌, ◌^◌, IsSome, IfOk, OnOk, OnErr, Some, ℕ};
+ghost use Rattle.std.specs.Prelude.{◌≡◌, ◌<◌, ◌^◌, IfOk, OnOk, OnErr};
 ghost use Rattle.std.specs.Option.{option_copied};
 ghost use Rattle.std.specs.FinMap as map;
 ghost use Rattle.vac_sequential.specs.Tries.{TellsSame};
@@ -9,7 +9,7 @@ use crate::maps::{BookingMap, IdMap};
 use crate::tries::mixed;
 use std::alloc::{AllocError, Global};
 use std::marker::Model;
-use vac_model::{Booking, Item, Kind, Report};
+use vac_model::{Item, Kind, Report};
 
 #[derive(Drop)]
 pub(crate) struct Tables {
@@ -39,9 +39,8 @@ impl Model for Tables {
 }
 
 impl Tables {
-    ghost use Rattle.vac_model.specs.State.{Bookings, empty_state, table_of, item_of, with_item, without_item, bookings_of, with_bookings, without_customer, size, is_full, report};
+    ghost use Rattle.vac_model.specs.State.{empty_state, table_of, item_of, with_item, without_item, bookings_of, with_bookings, without_customer, size, is_full, report};
     ghost use Rattle.vac_model.specs.Fits.{IsSmall};
-    ghost use Rattle.vac_model.specs.declared.items.Kind.{Kind};
 
     pub(crate) fn new(alloc: Global, capacity: u64) -> Self
         ensures { result ≡ empty_state capacity }
@@ -174,9 +173,19 @@ impl Tables {
         ensures ok { OnOk result (self.new ≡ with_bookings self.old customer map.empty) }
         ensures err { OnErr result (self.new ≡ self.old) }
     {
-        self.customers
-            .insert(customer, BookingMap::new(self.alloc))?;
-        Ok(())
+        self.insert_bookings(customer, BookingMap::new(self.alloc))
+    }
+
+    /// Puts the bookings of a customer, unless memory is refused.
+    pub(crate) fn insert_bookings(
+        &mut self,
+        customer: u32,
+        bookings: BookingMap,
+    ) -> Result<(), AllocError>
+        ensures ok { OnOk result (self.new ≡ with_bookings self.old customer bookings) }
+        ensures err { OnErr result (self.new ≡ self.old) }
+    {
+        self.customers.insert(customer, bookings)
     }
 
     /// Removes a customer, unless memory is refused.
@@ -185,40 +194,5 @@ impl Tables {
         ensures err { OnErr result (self.new ≡ self.old) }
     {
         self.customers.remove(customer)
-    }
-
-    /// Puts a booking of a customer, unless memory is refused.
-    pub(crate) fn put_booking(
-        &mut self,
-        customer: u32,
-        kind: Kind,
-        id: u32,
-        booking: Booking,
-    ) -> Result<(), AllocError>
-        requires { IsSome (bookings_of self.old customer) }
-        ensures ok { OnOk result ((bookings : Bookings)
-            → bookings_of self.old customer ≡ Some bookings
-            → self.new ≡ with_bookings self.old customer (map.insert bookings (kind, id) booking)) }
-        ensures err { OnErr result (self.new ≡ self.old) }
-        ensures items { (k : Kind) (i : ℕ) → item_of self.new k i ≡ item_of self.old k i }
-    {
-        self.customers.put_booking(customer, kind, id, booking)
-    }
-
-    /// Removes a booking of a customer, unless memory is refused.
-    pub(crate) fn remove_booking(
-        &mut self,
-        customer: u32,
-        kind: Kind,
-        id: u32,
-    ) -> Result<(), AllocError>
-        requires { IsSome (bookings_of self.old customer) }
-        ensures ok { OnOk result ((bookings : Bookings)
-            → bookings_of self.old customer ≡ Some bookings
-            → self.new ≡ with_bookings self.old customer (map.remove bookings (kind, id))) }
-        ensures err { OnErr result (self.new ≡ self.old) }
-        ensures items { (k : Kind) (i : ℕ) → item_of self.new k i ≡ item_of self.old k i }
-    {
-        self.customers.remove_booking(customer, kind, id)
     }
 }
