@@ -46,7 +46,7 @@ pub record AddsEntry {E : Type 0} (code : E → List ℕ) (region : RegionShown)
   pub records : v'.records ≡ inserted made v.records
 
 -- the client is of the region, which was opened on a fitting image, and holds no lock
-pub record MayRun (fits : List ℕ → Type 0) (size : ℕ) (region : RegionShown) (client : ClientShown)
+pub record MayAttempt (fits : List ℕ → Type 0) (size : ℕ) (region : RegionShown) (client : ClientShown)
     : Type 0 where
   pub own : client.table ≡ region.table
   pub free_handed : IsFreeHanded client.value
@@ -85,9 +85,9 @@ pub record WasInOrder {E : Type 0} (fits : List ℕ → Type 0) (code : E → Li
   pub own : In adds.made (all_records decided.decides.core.clients)
   pub among : Sub v'.records (all_records decided.decides.core.clients)
 
--- one attempt was made: at an answer it added the record of its entry, which was then in order, at a
--- refusal none, and it left no lock held
-pub record HasTried {E A X : Type 0} (fits : List ℕ → Type 0) (code : E → List ℕ)
+-- one attempt was made: at an answer it added the record of its entry, which was then in order, and
+-- at a refusal none; it left no lock held
+pub record AttemptedOnce {E A X : Type 0} (fits : List ℕ → Type 0) (code : E → List ℕ)
     (finds : E → List ℕ → Type 0) (after : E → List ℕ → List ℕ)
     (region : RegionShown) (entry : A → E) (result : Result A X) (v v' : Client) : Type 0 where
   pub grants : v'.grants ≡ v.grants

@@ -3,7 +3,7 @@
 ghost use Rattle.std.specs.Prelude.{◌≡◌, ◌+◌, ◌≤◌, Bool, false, IfOk, IfErr, IsOk};
 ghost use Rattle.stm_core.specs.Core.{IsFreeHanded};
 ghost use Rattle.stm_object.specs.Bodies.{HasFitting, Did};
-ghost use Rattle.stm_object.specs.History.{MayRun, HasTried, IsAlone, IsNoConflict};
+ghost use Rattle.stm_object.specs.History.{MayAttempt, AttemptedOnce, IsAlone, IsNoConflict};
 ghost use Rattle.stm_object.specs.History.{IsConflict, IsStopOfEntry, HasRun, HasAsked, SparesWrites};
 
 use crate::object::{Object, ObjectLaw};
@@ -45,9 +45,9 @@ pub fn attempt_once<S: Object, B: Body<S>>(
     logs: &mut Logs,
     body: &B,
 ) -> Result<B::Answer, Stop>
-    requires ready { MayRun S.fits S.size region.now client.old }
+    requires ready { MayAttempt S.fits S.size region.now client.old }
     ensures own { client.new.table ≡ client.old.table }
-    ensures tried { HasTried S.fits S.Entry.numbers S.finds S.after region.now
+    ensures tried { AttemptedOnce S.fits S.Entry.numbers S.finds S.after region.now
         (λ a. B.entry_of body.now a) result client.old.value client.new.value }
     ensures spares { SparesWrites (λ a. B.changes body.now a) result client.old.value
         client.new.value }
@@ -82,7 +82,7 @@ pub fn transact<S: Object, B: Body<S>>(
     body: &B,
     tries: u32,
 ) -> Result<B::Answer, Stop>
-    requires ready { MayRun S.fits S.size region.now client.old }
+    requires ready { MayAttempt S.fits S.size region.now client.old }
     requires tries { 1 ≤ tries }
     ensures own { client.new.table ≡ client.old.table }
     ensures free_handed { IsFreeHanded client.new.value }
@@ -127,9 +127,9 @@ pub fn ask_once<S: Object, B: Query<S>>(
     client: &mut Client<ObjectLaw<S>>,
     body: &B,
 ) -> Result<B::Answer, Conflict>
-    requires ready { MayRun S.fits S.size region.now client.old }
+    requires ready { MayAttempt S.fits S.size region.now client.old }
     ensures own { client.new.table ≡ client.old.table }
-    ensures tried { HasTried S.fits S.Entry.numbers S.finds S.after region.now
+    ensures tried { AttemptedOnce S.fits S.Entry.numbers S.finds S.after region.now
         (λ a. B.entry_of body.now a) result client.old.value client.new.value }
     ensures alone { IsAlone client.old.value → IsOk result }
     ensures stopped { IfErr result (λ conflict. IsConflict region.now 1
@@ -156,7 +156,7 @@ pub fn ask<S: Object, B: Query<S>>(
     body: &B,
     tries: u32,
 ) -> Result<B::Answer, Conflict>
-    requires ready { MayRun S.fits S.size region.now client.old }
+    requires ready { MayAttempt S.fits S.size region.now client.old }
     requires tries { 1 ≤ tries }
     ensures own { client.new.table ≡ client.old.table }
     ensures free_handed { IsFreeHanded client.new.value }
