@@ -1,6 +1,6 @@
 //! The transactions of an object, and their attempts.
 
-ghost use Rattle.std.specs.Prelude.{◌≡◌, ◌+◌, ◌≤◌, Bool, false, IfOk, IfErr, IsOk};
+ghost use Rattle.std.specs.Prelude.{◌≡◌, ◌≤◌, Bool, false, IfOk, IfErr, IsOk};
 ghost use Rattle.stm_core.specs.Core.{IsFreeHanded};
 ghost use Rattle.stm_object.specs.Bodies.{HasFitting, Did};
 ghost use Rattle.stm_object.specs.History.{MayAttempt, AttemptedOnce, IsAlone, IsNoConflict};
