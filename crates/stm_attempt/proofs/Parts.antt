@@ -26,7 +26,8 @@ use Rattle.stm_attempt.specs.Committing.{IsSameAttempt, settling, ticked_record,
 use Rattle.stm_attempt.specs.Committing.{IsCommitStop, IsCounted, GaveBack, HasCommitted, HasStopped, DecidesWith}
 use Rattle.stm_attempt.specs.Committing.{IsCommitResult, WasDecided}
 use Rattle.stm_attempt.specs.CommitParts.{IsReady, CanValidate, returned, is_at_once, HasFailed, HasTaken, IsClimbing}
-use Rattle.stm_attempt.specs.CommitParts.{HasFailedLocking, HasFailedDeciding, HasFailedTicking, HasFailedValidating, HasTicked}
+use Rattle.stm_attempt.specs.CommitParts.{HasFailedLocking, HasFailedDeciding, HasFailedTicking, HasTicked}
+use Rattle.stm_attempt.specs.CommitParts.{HasFailedValidating}
 use Rattle.stm_attempt.specs.CommitParts.{HasValidated, IsDecided, HasSettled}
 use Rattle.stm_attempt.proofs.Named.{apart, same_attempt, same_on}
 use Rattle.stm_attempt.specs.declared.conflict.Conflict.{Conflict}

@@ -27,8 +27,8 @@ pub record IsBegun (v : Client) (rv : ℕ) : Type 0 where
   pub unticked : v.attempt.ticks ≡ 0
   pub from : v.attempt.next_from ≡ rv
 
--- a word may be read: the attempt has begun and reads on, and this is the word of a free lock at its
--- read version
+-- a word may be read: the attempt has begun and reads on, and this is the word of a free lock at
+-- its read version
 pub record CanRead (v : Client) (newest : ℕ) : Type 0 where
   pub begun : IsBegun v v.attempt.rv
   pub runs : v.attempt.phase ≡ running

@@ -150,8 +150,8 @@ pub record IsReturning (v v' : Client) (count left : ℕ) (rest all : List ℕ) 
 abbrev pub is_at_once : Client → ℕ → Bool
 is_at_once v version = is_empty v.attempt.reads || eqb version (v.attempt.rv + 1)
 
--- the clock was ticked to a write version above the read version, for a record of this tag and these
--- writes; where the client is alone that decided the attempt
+-- the clock was ticked to a write version above the read version, for a record of this tag and
+-- these writes; where the client is alone that decided the attempt
 pub record HasTicked (region : RegionShown) (tag : List ℕ) (writes : List (ℕ × ℕ))
     (v v' : Client) (version : ℕ) : Type 0 where
   pub same : IsSameAttempt v v'

@@ -76,8 +76,8 @@ GaveBack Memory v = Unit {0}
 GaveBack (Conflicting conflict) v = Unit {0}
 GaveBack (Spent version) v = v.attempt.gave_back ≡ true
 
--- what a commit may return: a version of at most the last; and where its client is alone, at most the
--- next after the read version, or that the clock was spent as its attempt began
+-- what a commit may return: a version of at most the last; and where its client is alone, at most
+-- the next after the read version, or that the clock was spent as its attempt began
 pub record IsCommitResult (region : RegionShown) (v : Client)
     (result : Result ℕ Stop) : Type 0 where
   pub range : IfOk result (λ version. version ≤ region.last)

@@ -3,10 +3,11 @@
 use Rattle.std.specs.Prelude.{◌≡◌, ◌≢◌, ◌⊎◌, ℕ, zero, suc, ◌+◌, Bool, true, false, List, [], ◌∷◌, Result, Ok, Err, IfOk, IfErr, IsOk}
 use Rattle.tx_memory.specs.Image.{In}
 use Rattle.stm_core.specs.Client.{Client, Record, inserted}
+use Rattle.stm_core.specs.Core.{IsFreeHanded}
 use Rattle.stm_core.specs.History.{Sub, all_records}
 use Rattle.stm_core.specs.Guards.{stripe_of}
 use Rattle.stm_logs.specs.Log.{LogValue, log_pairs}
-use Rattle.stm_region.specs.Shown.{RegionShown}
+use Rattle.stm_region.specs.Shown.{RegionShown, ClientShown}
 use Rattle.stm_region.specs.Closed.{Ends}
 use Rattle.stm_region.specs.declared.limits.TheConstants.{MOST_GRANTS}
 use Rattle.stm_attempt.specs.Begun.{IsPlaced, IsQuiet}
@@ -44,6 +45,13 @@ pub record AddsEntry {E : Type 0} (code : E → List ℕ) (region : RegionShown)
   pub renewal_is : made.renewal ≡ region.renewal
   pub records : v'.records ≡ inserted made v.records
 
+-- the client is of the region, which was opened on a fitting image, and holds no lock
+pub record MayAttempt (fits : List ℕ → Type 0) (size : ℕ) (region : RegionShown) (client : ClientShown)
+    : Type 0 where
+  pub own : client.table ≡ region.table
+  pub free_handed : IsFreeHanded client.value
+  pub opened : IsOpenedOnFitting fits size region
+
 -- exactly one record was added, which writes nothing
 pub record AddsWithoutWrites (v v' : Client) : Type 0 where
   pub made : Record
@@ -76,6 +84,17 @@ pub record WasInOrder {E : Type 0} (fits : List ℕ → Type 0) (code : E → Li
       entries last
   pub own : In adds.made (all_records decided.decides.core.clients)
   pub among : Sub v'.records (all_records decided.decides.core.clients)
+
+-- one attempt was made: at an answer it added the record of its entry, which was then in order, and
+-- at a refusal none; it left no lock held
+pub record AttemptedOnce {E A X : Type 0} (fits : List ℕ → Type 0) (code : E → List ℕ)
+    (finds : E → List ℕ → Type 0) (after : E → List ℕ → List ℕ)
+    (region : RegionShown) (entry : A → E) (result : Result A X) (v v' : Client) : Type 0 where
+  pub grants : v'.grants ≡ v.grants
+  pub free_handed : IsFreeHanded v'
+  pub attempt : v'.attempt.number ≡ v.attempt.number + 1
+  pub records : RecordsEntry code region entry result v v'
+  pub order : IfOk result (λ a. WasInOrder fits code finds after region (entry a) v v')
 
 -- the words and the version are the last ones of the region, and the closing client's records are a
 -- history that leads from the opening to the words

@@ -1,9 +1,9 @@
 //! The transactions of an object, and their attempts.
 
-ghost use Rattle.std.specs.Prelude.{◌≡◌, ◌+◌, ◌≤◌, Bool, false, IfOk, IfErr, IsOk};
+ghost use Rattle.std.specs.Prelude.{◌≡◌, ◌≤◌, Bool, false, IfOk, IfErr, IsOk};
 ghost use Rattle.stm_core.specs.Core.{IsFreeHanded};
 ghost use Rattle.stm_object.specs.Bodies.{HasFitting, Did};
-ghost use Rattle.stm_object.specs.History.{IsOpenedOnFitting, RecordsEntry, WasInOrder, IsAlone, IsNoConflict};
+ghost use Rattle.stm_object.specs.History.{MayAttempt, AttemptedOnce, IsAlone, IsNoConflict};
 ghost use Rattle.stm_object.specs.History.{IsConflict, IsStopOfEntry, HasRun, HasAsked, SparesWrites};
 
 use crate::object::{Object, ObjectLaw};
@@ -45,20 +45,13 @@ pub fn attempt_once<S: Object, B: Body<S>>(
     logs: &mut Logs,
     body: &B,
 ) -> Result<B::Answer, Stop>
-    requires own { client.old.table ≡ region.now.table }
-    requires free_handed { IsFreeHanded client.old.value }
-    requires opened { IsOpenedOnFitting S.fits S.size region.now }
+    requires ready { MayAttempt S.fits S.size region.now client.old }
     ensures own { client.new.table ≡ client.old.table }
-    ensures grants { client.new.value.grants ≡ client.old.value.grants }
-    ensures free_handed { IsFreeHanded client.new.value }
-    ensures records { RecordsEntry S.Entry.numbers region.now (λ a. B.entry_of body.now a) result
-        client.old.value client.new.value }
-    ensures order { IfOk result (λ a. WasInOrder S.fits S.Entry.numbers S.finds S.after region.now
-        (B.entry_of body.now a) client.old.value client.new.value) }
+    ensures tried { AttemptedOnce S.fits S.Entry.numbers S.finds S.after region.now
+        (λ a. B.entry_of body.now a) result client.old.value client.new.value }
     ensures spares { SparesWrites (λ a. B.changes body.now a) result client.old.value
         client.new.value }
     ensures alone { IsAlone client.old.value → IfErr result (λ stop. IsNoConflict stop) }
-    ensures attempt { client.new.value.attempt.number ≡ client.old.value.attempt.number + 1 }
     ensures stopped { IfErr result
         (λ stop. IsStopOfEntry S.fits S.Entry.numbers S.finds S.after region.now
         (λ a. B.entry_of body.now a) (λ a. B.changes body.now a) 1 stop client.old.value
@@ -89,9 +82,7 @@ pub fn transact<S: Object, B: Body<S>>(
     body: &B,
     tries: u32,
 ) -> Result<B::Answer, Stop>
-    requires own { client.old.table ≡ region.now.table }
-    requires free_handed { IsFreeHanded client.old.value }
-    requires opened { IsOpenedOnFitting S.fits S.size region.now }
+    requires ready { MayAttempt S.fits S.size region.now client.old }
     requires tries { 1 ≤ tries }
     ensures own { client.new.table ≡ client.old.table }
     ensures free_handed { IsFreeHanded client.new.value }
@@ -136,18 +127,11 @@ pub fn ask_once<S: Object, B: Query<S>>(
     client: &mut Client<ObjectLaw<S>>,
     body: &B,
 ) -> Result<B::Answer, Conflict>
-    requires own { client.old.table ≡ region.now.table }
-    requires free_handed { IsFreeHanded client.old.value }
-    requires opened { IsOpenedOnFitting S.fits S.size region.now }
+    requires ready { MayAttempt S.fits S.size region.now client.old }
     ensures own { client.new.table ≡ client.old.table }
-    ensures grants { client.new.value.grants ≡ client.old.value.grants }
-    ensures free_handed { IsFreeHanded client.new.value }
-    ensures records { RecordsEntry S.Entry.numbers region.now (λ a. B.entry_of body.now a) result
-        client.old.value client.new.value }
-    ensures order { IfOk result (λ a. WasInOrder S.fits S.Entry.numbers S.finds S.after region.now
-        (B.entry_of body.now a) client.old.value client.new.value) }
+    ensures tried { AttemptedOnce S.fits S.Entry.numbers S.finds S.after region.now
+        (λ a. B.entry_of body.now a) result client.old.value client.new.value }
     ensures alone { IsAlone client.old.value → IsOk result }
-    ensures attempt { client.new.value.attempt.number ≡ client.old.value.attempt.number + 1 }
     ensures stopped { IfErr result (λ conflict. IsConflict region.now 1
         conflict client.old.value client.new.value) }
 {
@@ -172,9 +156,7 @@ pub fn ask<S: Object, B: Query<S>>(
     body: &B,
     tries: u32,
 ) -> Result<B::Answer, Conflict>
-    requires own { client.old.table ≡ region.now.table }
-    requires free_handed { IsFreeHanded client.old.value }
-    requires opened { IsOpenedOnFitting S.fits S.size region.now }
+    requires ready { MayAttempt S.fits S.size region.now client.old }
     requires tries { 1 ≤ tries }
     ensures own { client.new.table ≡ client.old.table }
     ensures free_handed { IsFreeHanded client.new.value }

@@ -217,8 +217,8 @@ module _ (fits : List ℕ → Type 0) (lawful : RecordLaw) (r : RegionShown) whe
       (w ≡ (value_after r e n m.0, m.1)) × Tells e n m.0 (value_after r e n m.0)
       × Happens e n m.0 (value_after r e n m.0)
 
--- a step that found this word changed its seat's client as its event does, told what it can, and was
--- one event
+-- a step that found this word changed its seat's client as its event does, told what it can, and
+-- was one event
 pub record HasActed {S : Type 0} (fits : List ℕ → Type 0) (lawful : RecordLaw) (r : RegionShown)
     (e : Action) (n : ℕ) (t : TableId) (m : Me S Client) (t' : TableId) (w : Me S Client)
     : Type 0 where

@@ -1,4 +1,4 @@
-use Rattle.std.proofs.Common.{◌≡◌, sym, ap, subst, ◌∙◌, ◌+◌, ◌<◌, inl, inr, arith}
+use Rattle.std.proofs.Common.{sym, ap, subst, ◌∙◌, ◌+◌, ◌<◌, inl, inr, arith}
 use Rattle.stm_attempt.specs.CommitParts.{IsDecided, HasFailedDeciding}
 use Rattle.stm_attempt.specs.Committing.{DecidesWith, ticked_record}
 use Rattle.stm_region.specs.Shown.{ClientShown}
@@ -92,8 +92,9 @@ returns-in-Err-clause-failed g c =
     (log_pairs c.args.logs.now.writes) c.args.logs.now.writes c.in-Err.conflict c.args.client.now.value
     c.tick.new.client.value c.validate_reads.new.client.value c.args.rv c.in_ok-version.version
     c.in_ok-version.ensures.won
-    c.requires.ready.known (omega (arith, c.in_ok-version.ensures.won.later, c.requires.ready.begun_at)) (sym once ∙ sym c.decides_at_once.ensures ∙
-    c.if-not-decides_at_once.true) c.tick.ensures.steps c.in-Err.ensures.failed (inr (inl c.in-Err.ensures.shown))
+    c.requires.ready.known (omega (arith, c.in_ok-version.ensures.won.later, c.requires.ready.begun_at))
+    (sym once ∙ sym c.decides_at_once.ensures ∙ c.if-not-decides_at_once.true) c.tick.ensures.steps
+    c.in-Err.ensures.failed (inr (inl c.in-Err.ensures.shown))
 
 pub returns-clause-own : goal.returns-clause-own
 returns-clause-own g c =

@@ -9,7 +9,7 @@ use Rattle.stm_object.proofs.run.attempt_once.Goals as goal
 pub run-answer-requires : goal.run-answer-requires
 run-answer-requires g c =
     has_fitting g.S.Object.fits g.S.Object.size _ _ _ _ _ c.begin-attempt.ensures.empty.2
-    c.begin-attempt.ensures.region c.requires.opened.size_is c.begin-attempt.ensures.empty.1
+    c.begin-attempt.ensures.region c.requires.ready.opened.size_is c.begin-attempt.ensures.empty.1
 
 pub commit-requires-clause-lawful : goal.commit-requires-clause-lawful
 commit-requires-clause-lawful g c = λ _. rw c.entry-entry.ensures
@@ -17,23 +17,26 @@ commit-requires-clause-lawful g c = λ _. rw c.entry-entry.ensures
     (g.B.Body.entry_of c.args.body.now c.in-Ok.found) c.begin-attempt.ensures.empty.2
     c.begin-attempt.ensures.empty.1 c.in-Ok.ensures.origin c.in-Ok.ensures.answer)
 
-pub returns-in-Ok-commit-clause-order : goal.returns-in-Ok-commit-clause-order
-returns-in-Ok-commit-clause-order g c =
-    in_order g.S.Object.fits g.S.Entry.Tag.numbers g.S.Object.finds g.S.Object.after g.S.Object.keeps g.S.Object.size
-    _ _ (g.B.Body.entry_of c.args.body.now c.in-Ok.found) _ _ c.args.client.now.value _ _ _
-    (ap (λ (o : Origin). o.region) c.run-answer.ensures.origin ∙ c.begin-attempt.ensures.region)
-    c.requires.opened (rw c.entry-entry.ensures at c.in-Ok-commit.ensures.ok)
-    (rw c.entry-entry.ensures at c.in-Ok-commit.ensures.decides)
-    (ap (λ (o : Origin). o.client.value.records) c.run-answer.ensures.origin
-    ∙ ap (λ (x : ClientShown). x.value.records) c.begin-attempt.ensures.value) (search rules)
-
-pub returns-in-Ok-commit-clause-records : goal.returns-in-Ok-commit-clause-records
-returns-in-Ok-commit-clause-records g c =
-    added g.S.Entry.Tag.numbers (g.B.Body.entry_of c.args.body.now c.in-Ok.found) _ _ _ _ c.args.client.now.value _ _
-    _ (ap (λ (o : Origin). o.region) c.run-answer.ensures.origin ∙ c.begin-attempt.ensures.region)
-    (rw c.entry-entry.ensures at c.in-Ok-commit.ensures.ok)
-    (ap (λ (o : Origin). o.client.value.records) c.run-answer.ensures.origin
-    ∙ ap (λ (x : ClientShown). x.value.records) c.begin-attempt.ensures.value) (search rules)
+pub returns-in-Ok-commit-clause-tried : goal.returns-in-Ok-commit-clause-tried
+returns-in-Ok-commit-clause-tried g c = record {
+  grants = search rules;
+  free_handed = search rules;
+  attempt = search rules;
+  records =
+      added g.S.Entry.Tag.numbers (g.B.Body.entry_of c.args.body.now c.in-Ok.found) _ _ _ _ c.args.client.now.value _ _
+      _ (ap (λ (o : Origin). o.region) c.run-answer.ensures.origin ∙ c.begin-attempt.ensures.region)
+      (rw c.entry-entry.ensures at c.in-Ok-commit.ensures.ok)
+      (ap (λ (o : Origin). o.client.value.records) c.run-answer.ensures.origin
+      ∙ ap (λ (x : ClientShown). x.value.records) c.begin-attempt.ensures.value) (search rules);
+  order =
+      in_order g.S.Object.fits g.S.Entry.Tag.numbers g.S.Object.finds g.S.Object.after g.S.Object.keeps g.S.Object.size
+      _ _ (g.B.Body.entry_of c.args.body.now c.in-Ok.found) _ _ c.args.client.now.value _ _ _
+      (ap (λ (o : Origin). o.region) c.run-answer.ensures.origin ∙ c.begin-attempt.ensures.region)
+      c.requires.ready.opened (rw c.entry-entry.ensures at c.in-Ok-commit.ensures.ok)
+      (rw c.entry-entry.ensures at c.in-Ok-commit.ensures.decides)
+      (ap (λ (o : Origin). o.client.value.records) c.run-answer.ensures.origin
+      ∙ ap (λ (x : ClientShown). x.value.records) c.begin-attempt.ensures.value) (search rules);
+}
 
 pub returns-in-Ok-commit-clause-spares : goal.returns-in-Ok-commit-clause-spares
 returns-in-Ok-commit-clause-spares g c = λ no.

@@ -13,7 +13,7 @@ tries-preserved g c = record {
       (missed (λ conflict v. ConflictWasShown g.S.Object.fits g.S.Entry.Tag.numbers g.S.Object.finds g.S.Object.after
       c.args.region.now (λ a. g.B.Body.entry_of c.args.body.now a)
       (λ a. g.B.Body.changes c.args.body.now a) conflict v) c.in-Err-Conflict.field-0-0 _ _
-      c.attempt_once.ensures.attempt (search rules)
+      c.attempt_once.ensures.tried.attempt (search rules)
       (conflict_shown g.S.Object.fits g.S.Entry.Tag.numbers g.S.Object.finds g.S.Object.after
       (λ a. g.B.Body.entry_of c.args.body.now a) (λ a. g.B.Body.changes c.args.body.now a) c.args.region.now
       c.in-Err-Conflict.field-0-0
@@ -32,8 +32,9 @@ returns-in_default-2 g c = record {
       (c.tries.left - 1) c.args.client.now.value
       c.tries.client.value c.attempt_once.new.client.value (Err _) c.attempt_once.result (search rules)
       c.tries.invariant.trying (omega (arith, c.tries.invariant.some))
-      c.tries.invariant.grants c.tries.invariant.records c.attempt_once.ensures.grants c.attempt_once.ensures.attempt
-      c.attempt_once.ensures.records c.attempt_once.ensures.order c.attempt_once.ensures.spares
+      c.tries.invariant.grants c.tries.invariant.records c.attempt_once.ensures.tried.grants
+      c.attempt_once.ensures.tried.attempt
+      c.attempt_once.ensures.tried.records c.attempt_once.ensures.tried.order c.attempt_once.ensures.spares
       c.attempt_once.ensures.alone
       c.attempt_once.ensures.stopped (λ conflict is. search rules);
 }
@@ -44,8 +45,9 @@ returns-in_default-clause-call g c = has_run g.S.Object.fits g.S.Entry.Tag.numbe
     (λ a. g.B.Body.changes c.args.body.now a) c.args.tries c.tries.left (c.tries.left - 1)
     c.args.client.now.value c.tries.client.value c.attempt_once.new.client.value _ c.attempt_once.result
     (search rules) c.tries.invariant.trying (omega (arith, c.tries.invariant.some))
-    c.tries.invariant.grants c.tries.invariant.records c.attempt_once.ensures.grants c.attempt_once.ensures.attempt
-    c.attempt_once.ensures.records c.attempt_once.ensures.order c.attempt_once.ensures.spares
+    c.tries.invariant.grants c.tries.invariant.records c.attempt_once.ensures.tried.grants
+    c.attempt_once.ensures.tried.attempt
+    c.attempt_once.ensures.tried.records c.attempt_once.ensures.tried.order c.attempt_once.ensures.spares
     c.attempt_once.ensures.alone
     c.attempt_once.ensures.stopped (λ conflict is. search rules)
 
@@ -55,7 +57,8 @@ returns-in_default-3-clause-call g c = has_run g.S.Object.fits g.S.Entry.Tag.num
     (λ a. g.B.Body.changes c.args.body.now a) c.args.tries c.tries.left
     (c.tries.left - 1) c.args.client.now.value c.tries.client.value c.attempt_once.new.client.value _
     c.attempt_once.result (search rules) c.tries.invariant.trying (omega (arith, c.tries.invariant.some))
-    c.tries.invariant.grants c.tries.invariant.records c.attempt_once.ensures.grants c.attempt_once.ensures.attempt
-    c.attempt_once.ensures.records c.attempt_once.ensures.order c.attempt_once.ensures.spares
+    c.tries.invariant.grants c.tries.invariant.records c.attempt_once.ensures.tried.grants
+    c.attempt_once.ensures.tried.attempt
+    c.attempt_once.ensures.tried.records c.attempt_once.ensures.tried.order c.attempt_once.ensures.spares
     c.attempt_once.ensures.alone
     c.attempt_once.ensures.stopped (λ conflict is. search rules)

@@ -20,7 +20,8 @@ invariant_of-self-in-Ok-clause-inside g c = λ _. inside_of g.L.Law.fits c.args.
 
 pub invariant_of-self-in-Err-clause-inside : goal.invariant_of-self-in-Err-clause-inside
 invariant_of-self-in-Err-clause-inside g c = λ in_use. inside_same c.args.self.now.region.now.size
-    c.args.self.now.client.now.value.attempt.reads c.read_word.new.client.value.attempt.reads c.in-Err.ensures.conflict.reads
+    c.args.self.now.client.now.value.attempt.reads c.read_word.new.client.value.attempt.reads
+    c.in-Err.ensures.conflict.reads
     (c.args.self.now.inside in_use)
 
 pub invariant_of-self-in-Ok-clause-logged : goal.invariant_of-self-in-Ok-clause-logged
