@@ -31,6 +31,8 @@ fn try_reading<G: Gate, T: Tracer>(
     requires may { MayTry region.now client.old task.now }
     requires reads { reading.only_reads task.now ≡ true }
     requires fresh { HasNoAccess (T.accesses tracer.old) }
+    ensures still { HasAllGrants client.old.value
+        → client.new.value.floor ≡ client.old.value.floor }
     ensures tried { HasTried region.now task.now client.old client.new result place.new }
     ensures ran { HasRun result place.new (T.accesses tracer.new)
         (T.ended tracer.old) (T.ended tracer.new) client.old.value client.new.value }

@@ -1,6 +1,6 @@
 //! The pauses between the tries of a call.
 
-ghost use Rattle.std.specs.Prelude.{◌≤◌};
+ghost use Rattle.std.specs.Prelude.{◌≡◌, ◌-◌, min};
 
 use rand_core::utils::NextWord;
 use rand_pcg::Lcg64Xsh32;
@@ -34,7 +34,7 @@ struct Growth {
 impl Growth {
     /// How many bits more the pause after this try has.
     fn bits(&self, tried: u32) -> u32
-        ensures { result ≤ self.now.most }
+        ensures { result ≡ min (tried - self.now.after) self.now.most }
     {
         tried.saturating_sub(self.after).min(self.most)
     }

@@ -8,7 +8,7 @@ use Rattle.vac_manager.proofs.Adding.{finished, finished_last, finish_commits, u
 use Rattle.vac_manager.proofs.Lawful.{holds_begun, lawful_read, no_pairs}
 use Rattle.vac_manager.proofs.Leaving.{left_decided}
 use Rattle.vac_manager.proofs.Legality.{finished_legal}
-use Rattle.vac_manager.proofs.Trying.{shown_by_read, tried_as, near_finished}
+use Rattle.vac_manager.proofs.Trying.{shown_by_read, tried_as, near_begun, near_finished, near_read}
 use Rattle.vac_manager.proofs.Tracing.{tracked_begun, made}
 use Rattle.vac_manager.proofs.attempts.try_reading.Goals as goal
 
@@ -58,7 +58,7 @@ returns-clause-tried g c = record {
   stopped = search rules;
   lone = search rules;
   near = λ all.
-      near_finished c.args.region.now c.read_task-answer.new.memory.region.now _ _ _ c.args.client.now
+      near_read c.args.region.now c.read_task-answer.new.memory.region.now _ _ _ c.args.client.now
       c.begin-attempt.result.client.now c.read_task-answer.new.memory.client.now _ _ c.begin-attempt.ensures.value
       (ap (λ (o : Origin). o.client.value) c.in-Ok.ensures.origin) c.begin-attempt.ensures.alone all
       c.finish-version.ensures.client.1 (search rules);
@@ -106,3 +106,17 @@ returns-clause-ran g c = record {
       (search rules) (ap (λ (o : Origin). o.region.renewal) c.in-Ok.ensures.origin ∙
       ap (λ (r : RegionShown). r.renewal) c.begin-attempt.ensures.region) (search rules) (search rules) refl;
 }
+
+pub returns-clause-still : goal.returns-clause-still
+returns-clause-still g c = λ all.
+    near_finished c.args.region.now c.read_task-answer.new.memory.region.now _ _ _ c.args.client.now
+    c.begin-attempt.result.client.now c.read_task-answer.new.memory.client.now _ _ c.begin-attempt.ensures.value
+    (ap (λ (o : Origin). o.client.value) c.in-Ok.ensures.origin) c.begin-attempt.ensures.alone all
+    c.finish-version.ensures.client.1 (search rules)
+
+pub returns-in-Some-clause-still : goal.returns-in-Some-clause-still
+returns-in-Some-clause-still g c = λ all.
+    near_begun c.args.region.now _ c.args.client.now c.begin-attempt.result.client.now
+    c.read_task-answer.new.memory.client.now.value c.begin-attempt.ensures.value
+    (ap (λ (o : Origin). o.client.value) c.read_task-answer.ensures.origin) c.begin-attempt.ensures.alone all _
+    (search rules)
