@@ -54,7 +54,10 @@ public:
     {
         if (tried < FIRST_DRAWN)
             return;
-        const unsigned bits = FEWEST_BITS + std::min(tried - FIRST_DRAWN, MOST_BITS - FEWEST_BITS);
+        const unsigned more = std::min(tried - FIRST_DRAWN, MORE_BITS);
+        const unsigned stopped =
+            std::min(std::max(tried, TRIES_OF_RUNNING) - TRIES_OF_RUNNING, STOPPED_BITS);
+        const unsigned bits = FEWEST_BITS + more + stopped;
         relax(draws_.next() >> (32 - bits));
         if (tried >= FIRST_YIELD)
             std::this_thread::yield();
@@ -62,10 +65,13 @@ public:
 
 private:
     static constexpr unsigned FIRST_DRAWN = 3;
-    // So many bits of a number are the turns of the first pause that is drawn; each later one has
-    // one more.
-    static constexpr unsigned FEWEST_BITS = 4, MOST_BITS = 13;
+    // So many bits of a number are the turns of the first pause that is drawn; later ones have up
+    // to so many more, one for each try.
+    static constexpr unsigned FEWEST_BITS = 4, MORE_BITS = 9;
     static constexpr unsigned FIRST_YIELD = 14;
+    // After so many tries the client that was met has likely been stopped; then up to so many bits
+    // more are the turns.
+    static constexpr unsigned TRIES_OF_RUNNING = 19, STOPPED_BITS = 3;
     Draws draws_;
 };
 

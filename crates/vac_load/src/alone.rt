@@ -1,7 +1,6 @@
 //! A manager with the one client that it has between two rounds.
 
-ghost use Rattle.std.specs.Prelude.{◌≡◌, ◌<◌, ◌+◌, true, IfOk, IfErr};
-ghost use Rattle.stm_core.specs.Event.{renewing};
+ghost use Rattle.std.specs.Prelude.{◌≡◌, ◌<◌, true, IfOk, IfErr};
 ghost use Rattle.vac_manager.specs.Called.{HasAllGrants};
 ghost use Rattle.vac_manager.specs.Legal.{AreVersioned};
 ghost use Rattle.vac_manager.specs.Renewed.{ClosesSomewhere};
@@ -64,9 +63,13 @@ impl Alone {
         ensures refused { IfErr result (λ fault. fault ≡ LoadFault.Memory) }
     {
         let (manager, client) = self.apart();
-        match renew(manager, client, settings) {
+        match manager.renew(client, settings.last) {
             Ok((manager, client)) => Ok(Alone::of(manager, client)),
-            Err(fault) => Err(fault),
+            Err(RenewFault::Kept(_, _, fault)) => {
+                prove!(fault == RegionFault::Memory);
+                Err(LoadFault::Memory)
+            }
+            Err(RenewFault::Closed(..)) => Err(LoadFault::Memory),
         }
     }
 
@@ -86,37 +89,5 @@ impl Alone {
                 Err(LoadFault::Memory)
             }
         }
-    }
-}
-
-/// Renews the clock of a manager that has this one client.
-fn renew(
-    manager: Manager,
-    client: Client,
-    settings: &Settings,
-) -> Result<(Manager, Client), LoadFault>
-    requires own { client.table ≡ manager.table }
-    requires alone { HasAllGrants client.value }
-    requires renewals { manager.renewal < MOST_ROUNDS }
-    requires settings { is_settings settings.now ≡ true }
-    ensures manager { IfOk result (λ r. r.0 ≡ record manager {
-      table = r.0.table;
-      last = settings.now.last;
-      opening = r.0.opening;
-      renewal = manager.renewal + 1;
-      start = renewing client.value;
-    }) }
-    ensures client { IfOk result (λ r. r.1
-        ≡ record client { table = r.0.table; value = renewing client.value }) }
-    ensures words { IfOk result (λ r. ClosesSomewhere manager client.value r.0.opening) }
-    ensures refused { IfErr result (λ fault. fault ≡ LoadFault.Memory) }
-{
-    match manager.renew(client, settings.last) {
-        Ok(renewed) => Ok(renewed),
-        Err(RenewFault::Kept(_, _, fault)) => {
-            prove!(fault == RegionFault::Memory);
-            Err(LoadFault::Memory)
-        }
-        Err(RenewFault::Closed(..)) => Err(LoadFault::Memory),
     }
 }

@@ -8,7 +8,7 @@ use vac_manager::Effort;
 
 /// How many attempts the calls of a load took, how many of these aborted on a conflict of each
 /// kind, and how many of the conflicts were over the lock of which word.
-#[derive(Clone, Copy, Debug, PartialEq, Eq)]
+#[derive(Clone, Copy, Debug, PartialEq, Eq, Default)]
 pub struct Efforts {
     /// How many attempts were begun.
     pub attempts: u64,
@@ -39,19 +39,7 @@ impl Efforts {
     pub(crate) fn new() -> Efforts
         ensures { result ≡ no_effort }
     {
-        Efforts {
-            attempts: 0,
-            held: 0,
-            newer: 0,
-            moved: 0,
-            lost_lock: 0,
-            lost_tick: 0,
-            roots: 0,
-            heads: 0,
-            nodes: 0,
-            uses: 0,
-            stocks: 0,
-        }
+        Efforts::default()
     }
 
     /// Adds what a call took.

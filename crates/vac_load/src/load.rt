@@ -11,9 +11,9 @@ ghost use Rattle.vac_load.specs.Attempted.{IsEffort};
 use crate::alone::Alone;
 use crate::efforts::Efforts;
 use crate::opening::open_kept;
-use crate::phases::{NoPhases, Phases};
+use crate::phases::{NoPhases, Phases, Stages};
 use crate::rounds::{Round, run_rounds};
-use crate::seats::{Keepers, Seat, keepers_of, no_keepers, seats_by_seed, seats_unkept};
+use crate::seats::{Keepers, Seat, Sent, keepers_of, no_keepers, seats_by_seed, seats_unkept};
 use crate::tally::Tally;
 use std::alloc::Global;
 use std::sync::Wait;
@@ -76,13 +76,7 @@ fn open_load<D: Draws, K: Keep>(
 
 /// Runs a load whose arguments are in their ranges, with this keeper of the opening, and hands the
 /// seats back.
-fn run_in_range<
-    R: Threads + Wait,
-    D: Draws + Send + Drop,
-    G: Gate + Send + Drop,
-    K: Keep + Send + Drop,
-    S: Phases + Copy + Send + Drop,
->(
+fn run_in_range<R: Threads + Wait, D: Draws + Sent, G: Gate + Sent, K: Keep + Sent, S: Stages>(
     rt: &R,
     alloc: Global,
     settings: &Settings,

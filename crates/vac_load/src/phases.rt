@@ -11,6 +11,11 @@ pub trait Phases {
     fn done(&self);
 }
 
+/// Phases of which each thread of a load gets a copy.
+pub(crate) trait Stages: Phases + Copy + Send + Drop {}
+
+impl<S: Phases + Copy + Send + Drop> Stages for S {}
+
 /// Does nothing, for loads whose phases nobody asks for.
 #[derive(Clone, Copy, Drop)]
 pub(crate) struct NoPhases;

@@ -9,8 +9,8 @@ use crate::alone::Alone;
 use crate::counts::Counts;
 use crate::gathering::{gather_all, split_crew};
 use crate::load::LoadFault;
-use crate::phases::Phases;
-use crate::seats::Seat;
+use crate::phases::Stages;
+use crate::seats::{Seat, Sent};
 use crate::workers::run_all;
 use std::alloc::Global;
 use std::sync::Wait;
@@ -30,13 +30,7 @@ pub(crate) struct Round<D, G, K> {
 
 /// One round: splits off a session for each seat, has them all run their tasks in threads of their
 /// own, and gathers their clients into the first.
-fn run_round<
-    R: Threads + Wait,
-    D: Draws + Send + Drop,
-    G: Gate + Send + Drop,
-    K: Keep + Send + Drop,
-    S: Phases + Copy + Send + Drop,
->(
+fn run_round<R: Threads + Wait, D: Draws + Sent, G: Gate + Sent, K: Keep + Sent, S: Stages>(
     rt: &R,
     alloc: Global,
     settings: &Settings,
@@ -72,10 +66,10 @@ fn run_round<
 /// Runs all rounds of a load, in which the seats go on. Between two of them the manager is renewed.
 pub(crate) fn run_rounds<
     R: Threads + Wait,
-    D: Draws + Send + Drop,
-    G: Gate + Send + Drop,
-    K: Keep + Send + Drop,
-    S: Phases + Copy + Send + Drop,
+    D: Draws + Sent,
+    G: Gate + Sent,
+    K: Keep + Sent,
+    S: Stages,
 >(
     rt: &R,
     alloc: Global,

@@ -7,6 +7,11 @@ use std::alloc::{AllocError, Global};
 use vac_draws::PcgDraws;
 use vac_manager::Unkept;
 
+/// What a seat holds, and so goes from thread to thread.
+pub(crate) trait Sent: Send + Drop {}
+
+impl<T: Send + Drop> Sent for T {}
+
 /// What keeps the answered calls of a load: those of its opening, and those of each client, in the
 /// order of the clients.
 #[derive(Drop)]

@@ -24,12 +24,7 @@ impl Tally {
     pub(crate) fn new() -> Tally
         ensures { result ≡ nothing }
     {
-        Tally {
-            answered: 0,
-            busy: 0,
-            memory: 0,
-            spent: 0,
-        }
+        Tally::default()
     }
 
     /// Counts a task by how it ended. None is asked for whose numbers are out of their ranges.

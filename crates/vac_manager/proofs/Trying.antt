@@ -175,3 +175,10 @@ pub near_finished : (region region' : RegionShown) (tag : List ℕ) (rv found : 
 near_finished region region' tag rv found c c0 c1 c2 n begun same alone all ended end =
     end ∙ (ap (λ (x : ClientShown). x.value.floor) ended ∙ near_begun region rv c c0 c1.value begun same alone all
     c1.value.floor refl)
+
+pub near_read : (region region' : RegionShown) (tag : List ℕ) (rv found : ℕ) (c c0 c1 c2 : ClientShown) (n : ℕ) →
+    c0 ≡ acted region begin rv c → still c1.value ≡ still c0.value → (c.value.grants ≡ 63 → rv ≡ c.value.floor) →
+    HasAllGrants c.value →
+    c2 ≡ acted region' (finish tag) found c1 → n ≡ c2.value.floor → n ≤ c.value.floor + 1
+near_read region region' tag rv found c c0 c1 c2 n begun same alone all ended end =
+    omega (arith, near_finished region region' tag rv found c c0 c1 c2 n begun same alone all ended end)

@@ -29,6 +29,7 @@ use Rattle.vac_model.specs.State.{State, empty_state}
 use Rattle.vac_model.specs.Run.{run, refusal_of}
 use Rattle.vac_model.specs.Ranges.{is_task}
 use Rattle.vac_model.specs.Code.{code}
+use Rattle.vac_manager.specs.declared.client.Belongings.{Belongings}
 use Rattle.vac_manager.specs.declared.fault.Fault.{Fault}
 use Rattle.vac_manager.specs.declared.fault.Fault.TheVariants as fault
 use Rattle.vac_tasks.specs.Reading.{only_reads}
@@ -43,6 +44,10 @@ pub record CallerShown : Type 0 where
   pub value : Client
   pub start : ℕ
   pub next : ℕ
+
+-- the new entries of this client, and of the next one that it splits off, go on with their lists
+abbrev pub KeepsLists : Belongings → Belongings → Type 0
+KeepsLists own own' = (own'.start ≡ own.start) × (own'.next ≡ own.next)
 
 -- the region was first opened on words that represent the empty state
 pub record IsOpened (region : RegionShown) : Type 0 where

@@ -18,7 +18,8 @@ use Rattle.vac_manager.specs.declared.placed.Effort.{Effort}
 use Rattle.vac_manager.specs.declared.sites.Site.{Site}
 use Rattle.vac_manager.specs.declared.sites.Site.TheVariants.{Root, Head, Node, Use, Stock}
 use Rattle.vac_manager.specs.Sites.{site_of}
-use Rattle.vac_manager.specs.Called.{Adds, IsUnplaced, Spares, WasShown}
+use Rattle.vac_manager.specs.Called.{Adds, CallerShown, HasAllGrants, HasCalled, IsNear, IsStop, IsStopWithoutConflict}
+use Rattle.vac_manager.specs.Called.{IsUnplaced, Spares, Tried, WasShown}
 use Rattle.vac_manager.specs.Legal.{WasLegal}
 
 -- the place of a record
@@ -62,6 +63,16 @@ pub record Leaves {E : Type 0} (region : RegionShown) (t : Task) (client client'
   pub placed : WasPlaced region t result place client.value client'.value
   pub spares : Spares t result client.value client'.value
   pub legal : IfOk result (λ _. WasLegal region client'.value)
+
+-- one attempt of a task, and why it stopped; that of a client that is alone meets no conflict
+pub record HasTried (region : RegionShown) (t : Task) (client client' : ClientShown)
+    (result : Result Reply Stop) (place : Option Place) : Type 0 where
+  pub leaves : Leaves region t client client' result place
+  pub tried : Tried region t client.value client'.value result
+  pub stopped : IfErr result (λ stop. IsStop region t stop client'.value)
+  pub lone : HasAllGrants client.value → IfErr result (λ stop. IsStopWithoutConflict stop)
+  pub near : HasAllGrants client.value
+      → IsNear region.last client.value.floor client'.value.floor result
 
 -- no attempt
 abbrev pub nothing_done : Effort
@@ -195,3 +206,10 @@ pub record TookEffort {R : Type 0} (region : RegionShown) (v v' : Client) (resul
   pub closes : IfErr result (λ fault. ClosesWith fault conflicts)
   pub effort : e ≡ closed_by result (effort_of conflicts)
   pub begun : v.attempt.number + e.attempts ≡ v'.attempt.number
+
+-- what a call does that also returns the place of its record and what it took
+pub record HasCalledPlaced (region : RegionShown) (t : Task) (tries : ℕ)
+    (result : Result Placed Fault) (e : Effort) (c c' : CallerShown) : Type 0 where
+  pub call : HasCalled region t tries (replied result) c c'
+  pub place : IsAddedAtPlace region t result c.value c'.value
+  pub effort : TookEffort region c.value c'.value result e

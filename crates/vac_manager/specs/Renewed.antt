@@ -1,6 +1,7 @@
 -- What a renewal of a manager leaves.
-use Rattle.std.specs.Prelude.{◌≡◌, ℕ, List}
+use Rattle.std.specs.Prelude.{◌≡◌, ◌+◌, ℕ, List}
 use Rattle.stm_core.specs.Client.{Client}
+use Rattle.stm_core.specs.Event.{renewing}
 use Rattle.stm_region.specs.Shown.{RegionShown}
 use Rattle.stm_region.specs.Refused.{MayRenew, RenewsNot}
 use Rattle.vac_manager.specs.Called.{CallerShown}
@@ -11,6 +12,22 @@ use Rattle.vac_manager.specs.declared.renew.RenewFault.TheVariants.{Kept, Closed
 -- the manager ended with these words, at some version
 abbrev pub ClosesSomewhere : RegionShown → Client → List ℕ → Type 0
 ClosesSomewhere region v words = (version : ℕ) × ClosesInState region v words version
+
+-- a manager was renewed, on a clock that ends at this last version: it is the same one with one
+-- renewal more, and so is its client, whose value is as a renewal leaves it; the words that it goes
+-- on with are those with which it ended
+pub record Renews (last : ℕ) (region : RegionShown) (c : CallerShown) (region' : RegionShown)
+    (c' : CallerShown) : Type 0 where
+  pub manager : region' ≡ record region {
+    table = region'.table;
+    last = last;
+    opening = region'.opening;
+    renewal = region.renewal + 1;
+    start = renewing c.value;
+  }
+  pub client : c' ≡ record c { table = region'.table; value = renewing c.value }
+  pub words : ClosesSomewhere region c.value region'.opening
+  pub ranges : MayRenew region.renewal last c.value.grants
 
 -- when a manager is not renewed: it and its client are as they were, with the reason; or it ended
 -- with these words at this version

@@ -74,6 +74,14 @@ HasMadeRecord (Ok reply) (Some place) accesses v v' = (all : List Access) → ac
 HasMadeRecord (Ok reply) None accesses v v' = ⊥
 HasMadeRecord (Err e) place accesses v v' = Unit {0}
 
+-- an attempt has run that is not traced yet: those that are traced stay, and, at an answer, it made
+-- the one record that was added
+pub record HasRun {E : Type 0} (result : Result Reply E) (place : Option Place)
+    (accesses : Option (List Access)) (before after : Option (List Trace)) (v v' : Client)
+    : Type 0 where
+  pub untold : after ≡ before
+  pub made : HasMadeRecord result place accesses v v'
+
 -- the end of an attempt that has read and written this is traced: at an answer it committed, and
 -- its record stands at this place, else it was given up
 abbrev pub HasEnded : {E : Type 0} → Result Reply E → Option Place → Option (List Access)

@@ -3,19 +3,18 @@
 ghost use Rattle.std.specs.Prelude.{◌≡◌, ◌≤◌, IfErr, IsOk, false, true};
 ghost use Rattle.vac_model.specs.declared.limits.TheConstants.{MOST_TRIES};
 ghost use Rattle.vac_tasks.specs.Reading as reading;
-ghost use Rattle.vac_manager.specs.Called.{HasAllGrants, MayTry, Tried, Repeated};
-ghost use Rattle.vac_manager.specs.Called.{WasShown, IsStop, IsStopWithoutConflict, IsNear, IsCount};
-ghost use Rattle.vac_manager.specs.Placed.{Leaves, Tallies, nothing_done};
-ghost use Rattle.vac_manager.specs.Tracing.{HasNoAccess, HasMadeRecord, HasEnded, OneMore, IsOfEnd, HasTraced};
+ghost use Rattle.vac_manager.specs.Called.{HasAllGrants, MayTry, Repeated};
+ghost use Rattle.vac_manager.specs.Called.{IsStop, IsStopWithoutConflict, IsNear, IsCount, KeepsLists};
+ghost use Rattle.vac_manager.specs.Placed.{HasTried, Leaves, Tallies, nothing_done};
+ghost use Rattle.vac_manager.specs.Tracing.{HasNoAccess, HasRun, HasEnded, OneMore, IsOfEnd, HasTraced};
 
+use crate::client::Belongings;
 use crate::law::ManagerLaw;
-use crate::pauses::Pauses;
 use crate::placed::{Place, Traced};
 use crate::told::Told;
-use crate::tracer::{Tracer, read_task, run_task};
-use stm_attempt::{Attempt, Conflict, Gate, Logs, Point, ReadAttempt, Stop};
+use crate::tracer::Tracer;
+use stm_attempt::{Attempt, Gate, Point, ReadAttempt, Stop};
 use stm_region::{Client, Region};
-use tx_alloc::FreeList;
 use vac_model::{Reply, Task};
 use vac_tasks::only_reads;
 
@@ -28,26 +27,23 @@ fn try_reading<G: Gate, T: Tracer>(
     gate: &mut G,
     place: &mut Option<Place>,
     tracer: &mut T,
-) -> Result<Reply, Conflict>
+) -> Result<Reply, Stop>
     requires may { MayTry region.now client.old task.now }
     requires reads { reading.only_reads task.now ≡ true }
     requires fresh { HasNoAccess (T.accesses tracer.old) }
-    ensures leaves { Leaves region.now task.now client.old client.new result place.new }
-    ensures tried { Tried region.now task.now client.old.value client.new.value result }
-    ensures stopped { IfErr result (λ conflict. WasShown region.now conflict client.new.value) }
-    ensures lone { HasAllGrants client.old.value → IsOk result }
-    ensures near { HasAllGrants client.old.value
+    ensures still { HasAllGrants client.old.value
         → client.new.value.floor ≡ client.old.value.floor }
-    ensures ended { T.ended tracer.new ≡ T.ended tracer.old }
-    ensures made { HasMadeRecord result place.new (T.accesses tracer.new)
-        client.old.value client.new.value }
+    ensures tried { HasTried region.now task.now client.old client.new result place.new }
+    ensures ran { HasRun result place.new (T.accesses tracer.new)
+        (T.ended tracer.old) (T.ended tracer.new) client.old.value client.new.value }
 {
     let mut attempt = ReadAttempt::begin(region, client);
     let began = attempt.read_version();
-    let answer = read_task(&mut attempt, task, renewal, began, tracer);
-    if let Some(conflict) = attempt.stopped() {
+    tracer.begun(renewal, began);
+    let answer = tracer.read_task(&mut attempt, task);
+    if let Some(met) = attempt.stopped() {
         attempt.drop_it();
-        return Err(conflict);
+        return Err(Stop::Conflict(met));
     }
     let Ok(reply) = answer else {
         unreachable!();
@@ -70,9 +66,8 @@ fn try_reading<G: Gate, T: Tracer>(
 fn try_writing<G: Gate, T: Tracer>(
     region: &Region<ManagerLaw>,
     client: &mut Client<ManagerLaw>,
-    logs: &mut Logs,
+    own: &mut Belongings,
     task: &Task,
-    start: FreeList,
     renewal: u32,
     gate: &mut G,
     place: &mut Option<Place>,
@@ -81,21 +76,15 @@ fn try_writing<G: Gate, T: Tracer>(
     requires may { MayTry region.now client.old task.now }
     requires writes { reading.only_reads task.now ≡ false }
     requires fresh { HasNoAccess (T.accesses tracer.old) }
-    ensures leaves { Leaves region.now task.now client.old client.new result place.new }
-    ensures tried { Tried region.now task.now client.old.value client.new.value result }
-    ensures stopped { IfErr result (λ stop. IsStop region.now task.now stop client.new.value) }
-    ensures lone { HasAllGrants client.old.value
-        → IfErr result (λ stop. IsStopWithoutConflict stop) }
-    ensures near { HasAllGrants client.old.value
-        → IsNear region.now.last
-        client.old.value.floor client.new.value.floor result }
-    ensures ended { T.ended tracer.new ≡ T.ended tracer.old }
-    ensures made { HasMadeRecord result place.new (T.accesses tracer.new)
-        client.old.value client.new.value }
+    ensures lists { KeepsLists own.old own.new }
+    ensures tried { HasTried region.now task.now client.old client.new result place.new }
+    ensures ran { HasRun result place.new (T.accesses tracer.new)
+        (T.ended tracer.old) (T.ended tracer.new) client.old.value client.new.value }
 {
-    let mut attempt = Attempt::begin(region, client, logs);
+    let mut attempt = Attempt::begin(region, client, &mut own.logs);
     let began = attempt.read_version();
-    let answer = run_task(&mut attempt, task, start, renewal, began, tracer);
+    tracer.begun(renewal, began);
+    let answer = tracer.run_task(&mut attempt, task, own.start);
     if let Some(conflict) = attempt.stopped() {
         attempt.drop_it();
         return Err(Stop::Conflict(conflict));
@@ -122,44 +111,6 @@ fn try_writing<G: Gate, T: Tracer>(
     }
 }
 
-/// One attempt of a task, whose end the tracer is not told.
-fn try_untold<G: Gate, T: Tracer>(
-    region: &Region<ManagerLaw>,
-    client: &mut Client<ManagerLaw>,
-    logs: &mut Logs,
-    task: &Task,
-    start: FreeList,
-    gate: &mut G,
-    place: &mut Option<Place>,
-    tracer: &mut T,
-) -> Result<Reply, Stop>
-    requires may { MayTry region.now client.old task.now }
-    requires fresh { HasNoAccess (T.accesses tracer.old) }
-    ensures leaves { Leaves region.now task.now client.old client.new result place.new }
-    ensures tried { Tried region.now task.now client.old.value client.new.value result }
-    ensures stopped { IfErr result (λ stop. IsStop region.now task.now stop client.new.value) }
-    ensures lone { HasAllGrants client.old.value
-        → IfErr result (λ stop. IsStopWithoutConflict stop) }
-    ensures near { HasAllGrants client.old.value
-        → IsNear region.now.last
-        client.old.value.floor client.new.value.floor result }
-    ensures ended { T.ended tracer.new ≡ T.ended tracer.old }
-    ensures made { HasMadeRecord result place.new (T.accesses tracer.new)
-        client.old.value client.new.value }
-{
-    let renewal = region.renewal();
-    if only_reads(task) {
-        match try_reading(region, client, task, renewal, gate, place, tracer) {
-            Ok(reply) => Ok(reply),
-            Err(conflict) => Err(Stop::Conflict(conflict)),
-        }
-    } else {
-        try_writing(
-            region, client, logs, task, start, renewal, gate, place, tracer,
-        )
-    }
-}
-
 /// Tells the tracer how an attempt ended.
 #[inline]
 fn tell_end<T: Tracer>(answer: &Result<Reply, Stop>, place: Option<Place>, tracer: &mut T)
@@ -176,27 +127,25 @@ fn tell_end<T: Tracer>(answer: &Result<Reply, Stop>, place: Option<Place>, trace
 fn try_once<G: Gate, T: Tracer>(
     region: &Region<ManagerLaw>,
     client: &mut Client<ManagerLaw>,
-    logs: &mut Logs,
+    own: &mut Belongings,
     task: &Task,
-    start: FreeList,
     gate: &mut G,
     place: &mut Option<Place>,
     tracer: &mut T,
 ) -> Result<Reply, Stop>
     requires { MayTry region.now client.old task.now }
-    ensures leaves { Leaves region.now task.now client.old client.new result place.new }
-    ensures tried { Tried region.now task.now client.old.value client.new.value result }
-    ensures stopped { IfErr result (λ stop. IsStop region.now task.now stop client.new.value) }
-    ensures lone { HasAllGrants client.old.value
-        → IfErr result (λ stop. IsStopWithoutConflict stop) }
-    ensures near { HasAllGrants client.old.value
-        → IsNear region.now.last
-        client.old.value.floor client.new.value.floor result }
+    ensures lists { KeepsLists own.old own.new }
+    ensures tried { HasTried region.now task.now client.old client.new result place.new }
     ensures traced { OneMore (IsOfEnd result client.old.value client.new.value)
         (T.ended tracer.old) (T.ended tracer.new) }
 {
     tracer.prepare();
-    let answer = try_untold(region, client, logs, task, start, gate, place, tracer);
+    let renewal = region.renewal();
+    let answer = if only_reads(task) {
+        try_reading(region, client, task, renewal, gate, place, tracer)
+    } else {
+        try_writing(region, client, own, task, renewal, gate, place, tracer)
+    };
     tell_end(&answer, *place, tracer);
     answer
 }
@@ -205,10 +154,8 @@ fn try_once<G: Gate, T: Tracer>(
 pub(crate) fn run_in_attempts<G: Gate, T: Tracer>(
     region: &Region<ManagerLaw>,
     client: &mut Client<ManagerLaw>,
-    logs: &mut Logs,
-    pauses: &mut Pauses,
+    own: &mut Belongings,
     task: &Task,
-    start: FreeList,
     tries: u32,
     gate: &mut G,
     traced: &mut Traced,
@@ -218,6 +165,7 @@ pub(crate) fn run_in_attempts<G: Gate, T: Tracer>(
     requires some { 1 ≤ tries }
     requires few { tries ≤ MOST_TRIES }
     requires none { traced.old.effort ≡ nothing_done }
+    ensures lists { KeepsLists own.old own.new }
     ensures leaves { Leaves region.now task.now client.old client.new
         result traced.new.place }
     ensures once { HasAllGrants client.old.value → IsCount 1
@@ -239,10 +187,10 @@ pub(crate) fn run_in_attempts<G: Gate, T: Tracer>(
     'tries: loop {
         left -= 1;
         let place = &mut traced.place;
-        let answer = try_once(region, client, logs, task, start, gate, place, tracer);
+        let answer = try_once(region, client, own, task, gate, place, tracer);
         traced.effort.count(&answer);
         match answer {
-            Err(Stop::Conflict(_)) if left > 0 => pauses.wait(tries - left),
+            Err(Stop::Conflict(_)) if left > 0 => own.pauses.wait(tries - left),
             answer => return answer,
         }
     }

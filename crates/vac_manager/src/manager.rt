@@ -7,12 +7,12 @@ ghost use Rattle.stm_region.specs.Shown.{joined};
 ghost use Rattle.stm_region.specs.Refused.{ClosesNot};
 ghost use Rattle.tx_alloc.specs.Pool.{heap_words};
 ghost use Rattle.vac_manager.specs.Called.{HasAllGrants, HasCalled, Splits, SplitsNot, OnlyOf};
-ghost use Rattle.vac_manager.specs.Placed.{IsAddedAtPlace, TookEffort, WasPlaced, nothing_done, replied};
+ghost use Rattle.vac_manager.specs.Placed.{HasCalledPlaced, TookEffort, WasPlaced, nothing_done, replied};
 ghost use Rattle.vac_manager.specs.Tracing.{HasTraced};
 ghost use Rattle.vac_manager.specs.Opening.{is_opening, Opens, ClosesInState};
 
 use crate::attempts::run_in_attempts;
-use crate::client::Client;
+use crate::client::{Belongings, Client};
 use crate::fault::Fault;
 use crate::law::ManagerLaw;
 use crate::pauses::Pauses;
@@ -92,14 +92,13 @@ impl Manager {
         let Ok((region, client)) = Region::new(alloc, words.as_slice(), last, stripes) else {
             return Err(Fault::Memory);
         };
-        let client = Client {
-            client,
+        let own = Belongings {
             logs: Logs::new(alloc),
             pauses: Pauses::new(0),
             start: FreeList::new(0),
             next: FreeList::new(1),
         };
-        Ok((Manager { alloc, region }, client))
+        Ok((Manager { alloc, region }, Client { client, own }))
     }
 
     /// Runs a task as a transaction, by at most this many attempts, 1 to 1,048,576, and returns its
@@ -141,11 +140,8 @@ impl Manager {
         gate: &mut G,
     ) -> (Result<Placed, Fault>, Effort)
         requires own { client.old.table ≡ self.now.table }
-        ensures called { HasCalled self.now task.now tries (replied result.0)
+        ensures called { HasCalledPlaced self.now task.now tries result.0 result.1
             client.old client.new }
-        ensures placed { IsAddedAtPlace self.now task.now result.0
-            client.old.value client.new.value }
-        ensures took { TookEffort self.now client.old.value client.new.value result.0 result.1 }
     {
         self.trace_call(client, task, tries, gate, &mut Untraced)
     }
@@ -160,11 +156,8 @@ impl Manager {
         tracer: &mut T,
     ) -> (Result<Placed, Fault>, Effort)
         requires own { client.old.table ≡ self.now.table }
-        ensures called { HasCalled self.now task.now tries (replied result.0)
+        ensures called { HasCalledPlaced self.now task.now tries result.0 result.1
             client.old client.new }
-        ensures placed { IsAddedAtPlace self.now task.now result.0
-            client.old.value client.new.value }
-        ensures took { TookEffort self.now client.old.value client.new.value result.0 result.1 }
         ensures traced { HasTraced (replied result.0) client.old.value client.new.value
             (T.ended tracer.old) (T.ended tracer.new) }
     {
@@ -199,7 +192,7 @@ impl Manager {
         ensures traced { HasTraced result client.old.value client.new.value
             (T.ended tracer.old) (T.ended tracer.new) }
     {
-        let start = client.start;
+        let own = &mut client.own;
         let tries_fit = 1 <= tries && tries <= MOST_TRIES;
         if !(task.is_in_range() && tries_fit) {
             return Err(Fault::Arguments);
@@ -207,10 +200,8 @@ impl Manager {
         let answer = run_in_attempts(
             &self.region,
             &mut client.client,
-            &mut client.logs,
-            &mut client.pauses,
+            own,
             task,
-            start,
             tries,
             gate,
             traced,
@@ -230,15 +221,15 @@ impl Manager {
         ensures refused { IfErr result (λ fault. SplitsNot fault client.old client.new) }
     {
         let other = self.region.split(&mut client.client)?;
-        let start = client.next;
-        client.next = start.next();
-        Ok(Client {
-            client: other,
+        let start = client.own.next;
+        client.own.next = start.next();
+        let own = Belongings {
             logs: Logs::new(self.alloc),
-            pauses: client.pauses.split(),
+            pauses: client.own.pauses.split(),
             start,
-            next: client.next,
-        })
+            next: client.own.next,
+        };
+        Ok(Client { client: other, own })
     }
 
     /// Takes in another client: its records, its grants and one more grant.
@@ -252,10 +243,7 @@ impl Manager {
     {
         let Client {
             client: other,
-            logs: _,
-            pauses: _,
-            start: _,
-            next: _,
+            own: _,
         } = other;
         self.region.gather(&mut client.client, other);
     }
@@ -270,24 +258,11 @@ impl Manager {
             (λ r. (r.0 ≡ self) × (r.1 ≡ client) × ClosesNot client.value.grants r.2) }
     {
         let Manager { alloc, region } = self;
-        let Client {
-            client,
-            logs,
-            pauses,
-            start,
-            next,
-        } = client;
+        let Client { client, own } = client;
         match region.close(alloc, client) {
             Ok(closed) => Ok(closed),
             Err((region, client, fault)) => {
-                let client = Client {
-                    client,
-                    logs,
-                    pauses,
-                    start,
-                    next,
-                };
-                Err((Manager { alloc, region }, client, fault))
+                Err((Manager { alloc, region }, Client { client, own }, fault))
             }
         }
     }

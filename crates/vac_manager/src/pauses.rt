@@ -1,5 +1,7 @@
 //! The pauses between the tries of a call.
 
+ghost use Rattle.std.specs.Prelude.{◌≡◌, ◌-◌, min};
+
 use rand_core::utils::NextWord;
 use rand_pcg::Lcg64Xsh32;
 use std::{hint, thread};
@@ -8,14 +10,35 @@ use std::{hint, thread};
 const FIRST_DRAWN: u32 = 3;
 
 /// How many bits of a drawn word are the number of idle turns of the first pause that is drawn.
-/// Each later pause has one bit more.
 const FEWEST_BITS: u32 = 4;
 
-/// The most bits of a drawn word that are a number of idle turns.
-const MOST_BITS: u32 = 13;
+/// How pauses grow while the client that was met may well be running.
+const MET_RUNNING: Growth = Growth {
+    after: FIRST_DRAWN,
+    most: 9,
+};
+
+/// How they grow besides, once it has likely been stopped.
+const MET_STOPPED: Growth = Growth { after: 19, most: 3 };
 
 /// From this try on a pause also yields the processor.
 const FIRST_YIELD: u32 = 14;
+
+/// How pauses grow: by one bit for each try after this one, by so many at most.
+#[derive(Clone, Copy, Drop)]
+struct Growth {
+    after: u32,
+    most: u32,
+}
+
+impl Growth {
+    /// How many bits more the pause after this try has.
+    fn bits(&self, tried: u32) -> u32
+        ensures { result ≡ min (tried - self.now.after) self.now.most }
+    {
+        tried.saturating_sub(self.after).min(self.most)
+    }
+}
 
 /// The pauses of a client. Each is drawn afresh, so that clients that met do not stay in step; the
 /// generator is the client's own, so that its pauses can be repeated.
@@ -42,7 +65,7 @@ impl Pauses {
         if tried < FIRST_DRAWN {
             return;
         }
-        let bits = FEWEST_BITS + (tried - FIRST_DRAWN).min(MOST_BITS - FEWEST_BITS);
+        let bits = FEWEST_BITS + MET_RUNNING.bits(tried) + MET_STOPPED.bits(tried);
         let turns = self.generator.next_word() >> (u32::BITS - bits);
         for _ in 0..turns {
             hint::spin_loop();

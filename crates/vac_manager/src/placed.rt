@@ -32,7 +32,7 @@ pub struct Placed {
 
 /// What a call took: how many attempts, how many of them aborted on a conflict of each kind, and
 /// how many of the conflicts were over the lock of which word.
-#[derive(Clone, Copy, Debug, PartialEq, Eq)]
+#[derive(Clone, Copy, Debug, PartialEq, Eq, Default)]
 pub struct Effort {
     /// How many attempts were begun.
     pub attempts: u32,
@@ -83,19 +83,7 @@ impl Effort {
     pub fn new() -> Effort
         ensures { result ≡ nothing_done }
     {
-        Effort {
-            attempts: 0,
-            held: 0,
-            newer: 0,
-            moved: 0,
-            lost_lock: 0,
-            lost_tick: 0,
-            roots: 0,
-            heads: 0,
-            nodes: 0,
-            uses: 0,
-            stocks: 0,
-        }
+        Effort::default()
     }
 
     /// Counts a conflict by the word of its lock.
@@ -121,23 +109,18 @@ impl Effort {
     {
         self.attempts += 1;
         match conflict {
-            Conflict::Held { lock, .. } => {
-                self.held += 1;
-                self.count_over(lock)
-            }
-            Conflict::Newer { lock, .. } => {
-                self.newer += 1;
-                self.count_over(lock)
-            }
-            Conflict::Moved { lock, .. } => {
-                self.moved += 1;
-                self.count_over(lock)
-            }
-            Conflict::LostLock { lock, .. } => {
-                self.lost_lock += 1;
-                self.count_over(lock)
-            }
+            Conflict::Held { .. } => self.held += 1,
+            Conflict::Newer { .. } => self.newer += 1,
+            Conflict::Moved { .. } => self.moved += 1,
+            Conflict::LostLock { .. } => self.lost_lock += 1,
             Conflict::LostTick { .. } => self.lost_tick += 1,
+        }
+        match conflict {
+            Conflict::Held { lock, .. }
+            | Conflict::Newer { lock, .. }
+            | Conflict::Moved { lock, .. }
+            | Conflict::LostLock { lock, .. } => self.count_over(lock),
+            Conflict::LostTick { .. } => (),
         }
     }
 

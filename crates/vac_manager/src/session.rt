@@ -4,7 +4,7 @@ ghost use Rattle.std.specs.Prelude.{◌≡◌, IfOk, IfErr};
 ghost use Rattle.stm_core.specs.History.{Sub};
 ghost use Rattle.stm_region.specs.Shown.{joined};
 ghost use Rattle.vac_manager.specs.Called.{HasCalled, Splits, SplitsNot, OnlyOf};
-ghost use Rattle.vac_manager.specs.Placed.{IsAddedAtPlace, TookEffort, replied};
+ghost use Rattle.vac_manager.specs.Placed.{HasCalledPlaced, replied};
 ghost use Rattle.vac_manager.specs.Tracing.{HasTraced};
 ghost use Rattle.vac_manager.specs.Session.{GoesOn};
 
@@ -85,12 +85,8 @@ impl<'a> Session<'a> {
         gate: &mut G,
     ) -> (Result<Placed, Fault>, Effort)
         ensures session { GoesOn self.old self.new }
-        ensures called { HasCalled self.old.manager task.now tries (replied result.0)
+        ensures called { HasCalledPlaced self.old.manager task.now tries result.0 result.1
             self.old.client self.new.client }
-        ensures placed { IsAddedAtPlace self.old.manager task.now result.0
-            self.old.client.value self.new.client.value }
-        ensures took { TookEffort self.old.manager self.old.client.value self.new.client.value
-            result.0 result.1 }
     {
         self.manager
             .call_placed(&mut self.client, task, tries, gate)
@@ -105,12 +101,8 @@ impl<'a> Session<'a> {
         tracer: &mut T,
     ) -> (Result<Placed, Fault>, Effort)
         ensures session { GoesOn self.old self.new }
-        ensures called { HasCalled self.old.manager task.now tries (replied result.0)
+        ensures called { HasCalledPlaced self.old.manager task.now tries result.0 result.1
             self.old.client self.new.client }
-        ensures placed { IsAddedAtPlace self.old.manager task.now result.0
-            self.old.client.value self.new.client.value }
-        ensures took { TookEffort self.old.manager self.old.client.value self.new.client.value
-            result.0 result.1 }
         ensures traced { HasTraced (replied result.0) self.old.client.value self.new.client.value
             (T.ended tracer.old) (T.ended tracer.new) }
     {

@@ -80,60 +80,6 @@ pub trait Tracer {
         ensures { HasGivenUp (accesses self.old) (ended self.old) (ended self.new) };
 }
 
-/// Runs the task of an attempt that has begun in this renewal and with this read version, and
-/// traces it.
-#[inline]
-pub(crate) fn run_task<M: TxMem, T: Tracer>(
-    memory: &mut M,
-    task: &Task,
-    start: FreeList,
-    renewal: u32,
-    version: Version,
-    tracer: &mut T,
-) -> Result<Reply, M::Stop>
-    requires state { HoldsState (M.view memory.old) }
-    requires range { is_task task.now ≡ true }
-    requires tracked { IsTracked (T.accesses tracer.old)
-        (M.view memory.old).reads (M.view memory.old).writes }
-    ensures origin { M.origin memory.new ≡ M.origin memory.old }
-    ensures answer { IfOk result (λ reply. RanTask (M.view memory.old) (M.view memory.new)
-        task.now reply) }
-    ensures ended { T.ended tracer.new ≡ T.ended tracer.old }
-    ensures tracked { IsTracked (T.accesses tracer.new)
-        (M.view memory.new).reads (M.view memory.new).writes }
-{
-    tracer.begun(renewal, version);
-    tracer.run_task(memory, task, start)
-}
-
-/// Runs the task of an attempt that only reads, and has begun in this renewal and with this read
-/// version, and traces it.
-#[inline]
-pub(crate) fn read_task<M: TxRead, T: Tracer>(
-    memory: &mut M,
-    task: &Task,
-    renewal: u32,
-    version: Version,
-    tracer: &mut T,
-) -> Result<Reply, M::Stop>
-    requires state { HoldsState (M.view memory.old) }
-    requires reads { reading.only_reads task.now ≡ true }
-    requires tracked { IsTracked (T.accesses tracer.old)
-        (M.view memory.old).reads (M.view memory.old).writes }
-    ensures origin { M.origin memory.new ≡ M.origin memory.old }
-    ensures answer { IfOk result (λ reply. RanTask (M.view memory.old) (M.view memory.new)
-        task.now reply) }
-    ensures writes { IfOk result (λ _.
-        (M.view memory.new).writes ≡ (M.view memory.old).writes) }
-    ensures stopped { IfErr result (λ stop. M.stopped_for memory.new stop) }
-    ensures ended { T.ended tracer.new ≡ T.ended tracer.old }
-    ensures tracked { IsTracked (T.accesses tracer.new)
-        (M.view memory.new).reads (M.view memory.new).writes }
-{
-    tracer.begun(renewal, version);
-    tracer.read_task(memory, task)
-}
-
 /// Traces nothing.
 #[derive(Clone, Copy, Drop)]
 pub struct Untraced;

@@ -12,29 +12,30 @@ returns-then-is_err-clause-kept g c = kept_none _ _ _ _ refl c.begin.ensures.sam
 
 pub returns-in-Ok-end-clause-took : goal.returns-in-Ok-end-clause-took
 returns-in-Ok-end-clause-took g c =
-    let took = c.trace_call-end.ensures.took in
+    let took = c.trace_call-end.ensures.called.effort in
     took_answered c.args.tries c.args.session.now.client.value.attempt.number
     c.trace_call-end.new.self.client.value.attempt.number c.trace_call-end.result.0 c.in-Ok-end.placed
     took.conflicts c.trace_call-end.result.1
-    (search (rules, arith)) c.in-Ok-end.is c.trace_call-end.ensures.called.attempts took.effort took.begun
+    (search (rules, arith)) c.in-Ok-end.is c.trace_call-end.ensures.called.call.attempts took.effort took.begun
 
 pub returns-in-Ok-end-clause-kept : goal.returns-in-Ok-end-clause-kept
 returns-in-Ok-end-clause-kept g c = kept_answered c.args.session.now.manager c.in-Ok.task c.trace_call-end.result.0
-    c.in-Ok-end.placed _ _ _ _ _ _ _ _ c.in-Ok-end.is c.trace_call-end.ensures.placed c.trace_call-end.ensures.traced
+    c.in-Ok-end.placed _ _ _ _ _ _ _ _ c.in-Ok-end.is c.trace_call-end.ensures.called.place
+    c.trace_call-end.ensures.traced
     (c.take_back.ensures.same ∙ c.lend-tracer.ensures.same ∙ c.begin.ensures.same) c.take_back.ensures.traced
     c.keep.ensures.kept
 
 pub returns-in-Err-clause-took : goal.returns-in-Err-clause-took
 returns-in-Err-clause-took g c =
-    let took = c.trace_call-end.ensures.took in
+    let took = c.trace_call-end.ensures.called.effort in
     took_refused c.args.tries c.args.session.now.client.value.attempt.number
     c.trace_call-end.new.self.client.value.attempt.number c.trace_call-end.result.0 c.in-Err.fault took.conflicts
     c.trace_call-end.result.1
-    (search (rules, arith)) c.in-Err.is c.trace_call-end.ensures.called.attempts took.effort took.begun
+    (search (rules, arith)) c.in-Err.is c.trace_call-end.ensures.called.call.attempts took.effort took.begun
 
 pub returns-in-Err-clause-kept : goal.returns-in-Err-clause-kept
 returns-in-Err-clause-kept g c = kept_refused c.args.session.now.manager c.in-Ok.task c.trace_call-end.result.0
-    c.in-Err.fault _ _ _ _ c.in-Err.is c.trace_call-end.ensures.placed
+    c.in-Err.fault _ _ _ _ c.in-Err.is c.trace_call-end.ensures.called.place
     (c.take_back.ensures.same ∙ c.lend-tracer.ensures.same ∙ c.begin.ensures.same)
 
 pub returns-in_default-clause-took : goal.returns-in_default-clause-took
@@ -53,10 +54,10 @@ pub returns-in-Ok-end-clause-clock : goal.returns-in-Ok-end-clause-clock
 returns-in-Ok-end-clause-clock g c = λ alone.
     clocked_answered c.args.session.now.manager.last c.trace_call-end.result.0 c.in-Ok-end.placed
     c.args.session.now.client.value c.trace_call-end.new.self.client.value
-    c.in-Ok-end.is (c.trace_call-end.ensures.called.next alone)
+    c.in-Ok-end.is (c.trace_call-end.ensures.called.call.next alone)
 
 pub returns-in-Err-clause-clock : goal.returns-in-Err-clause-clock
 returns-in-Err-clause-clock g c = λ alone.
     clocked_refused c.args.session.now.manager.last c.trace_call-end.result.0 c.in-Err.fault
     c.args.session.now.client.value c.trace_call-end.new.self.client.value
-    c.in-Err.is (c.trace_call-end.ensures.called.next alone)
+    c.in-Err.is (c.trace_call-end.ensures.called.call.next alone)

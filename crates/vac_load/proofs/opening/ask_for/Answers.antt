@@ -9,9 +9,9 @@ returns-in-Ok-clause-answered g c = record {
   answered = search rules;
   near = search rules;
   ready = is_answered c.args.session.now.manager c.trace_call-end.result.0 c.in-Ok.placed _ c.in-Ok.is
-      c.trace_call-end.ensures.called.legal (c.trace_call-end.ensures.called.whole c.requires.alone);
+      c.trace_call-end.ensures.called.call.legal (c.trace_call-end.ensures.called.call.whole c.requires.alone);
   kept = kept_answered c.args.session.now.manager (One c.args.command) c.trace_call-end.result.0 c.in-Ok.placed
-      _ _ _ _ _ _ _ _ c.in-Ok.is c.trace_call-end.ensures.placed c.trace_call-end.ensures.traced
+      _ _ _ _ _ _ _ _ c.in-Ok.is c.trace_call-end.ensures.called.place c.trace_call-end.ensures.traced
       (c.take_back.ensures.same ∙ c.lend-tracer.ensures.same ∙ c.begin.ensures.same) c.take_back.ensures.traced
       c.keep.ensures.kept;
 }

@@ -2,7 +2,7 @@ use Rattle.std.proofs.Common.{◌≡◌, ◌≤◌, Err}
 use Rattle.stm_attempt.specs.declared.conflict.Stop.{Stop}
 use Rattle.stm_attempt.specs.declared.conflict.Stop.TheVariants as stop
 use Rattle.vac_manager.specs.Tracing.{HasTraced}
-use Rattle.vac_manager.specs.Called.{HasAllGrants, MayTry}
+use Rattle.vac_manager.specs.Called.{HasAllGrants, KeepsLists, MayTry}
 use Rattle.vac_manager.proofs.Trying.{Trying}
 use Rattle.vac_manager.proofs.Placing.{Met}
 use Rattle.vac_manager.proofs.attempts.run_in_attempts.Given as goal
@@ -10,6 +10,7 @@ use Rattle.vac_manager.proofs.attempts.run_in_attempts.Given as goal
 abbrev pub invariant-tries : goal.invariant-tries
 invariant-tries g l = record {
   may : MayTry l.region l.client l.task;
+  lists : KeepsLists l.initial.own l.own;
   some : 1 ≤ l.left;
   few : l.left ≤ l.tries;
   alone : HasAllGrants l.initial.client.value → (l.left ≡ l.tries) × (l.client.value ≡ l.initial.client.value);

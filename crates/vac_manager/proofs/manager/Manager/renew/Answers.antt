@@ -6,12 +6,20 @@ use Rattle.vac_manager.proofs.Adding.{unplaced_still}
 use Rattle.vac_manager.proofs.Openings.{closes}
 use Rattle.vac_manager.proofs.manager.Manager.renew.Goals as goal
 
-pub returns-in-Ok-clause-words : goal.returns-in-Ok-clause-words
-returns-in-Ok-clause-words c =
-    (c.in-Ok.ensures.words.0, closes _ _ _ _ _ _ c.self.invariant c.in-Ok.ensures.words.1 (search rules) (search rules))
+pub returns-in-Ok-clause-renewed : goal.returns-in-Ok-clause-renewed
+returns-in-Ok-clause-renewed c = record {
+  manager = search rules;
+  client = search rules;
+  words = (
+    c.in-Ok.ensures.words.0,
+    closes _ _ _ _ _ _ c.self.invariant c.in-Ok.ensures.words.1 (search rules)
+        (search rules),
+  );
+  ranges = search rules;
+}
 
-pub invariant_of-client : goal.invariant_of-client
-invariant_of-client c =
+pub invariant_of-result-in-Ok : goal.invariant_of-result-in-Ok
+invariant_of-result-in-Ok c =
     let free : IsFreeHanded c.in-Ok.client.value = search rules in
     let unplaced = unplaced_still c.client.inside.client.value c.in-Ok.client.value (search rules) (search rules) in
     (free, unplaced)
