@@ -1,10 +1,11 @@
-//! Each command by its body.
+//! Each command by its body, and changes one after the other.
 
 ghost use Rattle.std.specs.Prelude.{◌≡◌, IfOk, IfErr, true};
-ghost use Rattle.vac_model.specs.Ranges.{is_command};
+ghost use Rattle.vac_model.specs.Ranges.{is_task};
 ghost use Rattle.vac_model.specs.Run.{refusal_of};
 ghost use Rattle.vac_records.specs.InMemory.{HoldsState};
-ghost use Rattle.vac_commands.specs.Ran.{Ran, RanQuestion};
+ghost use Rattle.vac_commands.specs.Ran.{CanRun, Ran, RanQuestion};
+ghost use Rattle.vac_tasks.specs.RanTask.{RanTask};
 ghost use Rattle.vac_tasks.specs.Reading.{is_question};
 
 use tx_alloc::FreeList;
@@ -12,7 +13,8 @@ use tx_memory::{TxMem, TxRead};
 use vac_commands::{
     add, bill, cancel, delete, drop_customer, drop_flight, free, new_customer, price, reserve,
 };
-use vac_model::{Command, Reply, Why};
+use vac_model::limits::MOST_PARTS;
+use vac_model::{Command, Reply, Task, UpdateReply, Why};
 use vac_report::report;
 
 /// Whether the command only asks.
@@ -71,8 +73,7 @@ pub(crate) fn run_command<M: TxMem>(
     command: Command,
     start: FreeList,
 ) -> Result<Reply, M::Stop>
-    requires state { HoldsState (M.view memory.old) }
-    requires range { is_command command ≡ true }
+    requires { CanRun (M.view memory.old) command }
     ensures origin { M.origin memory.new ≡ M.origin memory.old }
     ensures answer { IfOk result (λ reply. Ran (M.view memory.old) (M.view memory.new)
         command reply) }
@@ -93,8 +94,31 @@ pub(crate) fn run_command<M: TxMem>(
             kind,
             id,
             num,
-        } => reserve(memory, customer, kind, id, num, start),
-        Command::Cancel { customer, kind, id } => cancel(memory, customer, kind, id, start),
+        } => reserve(memory, customer, (kind, id), num, start),
+        Command::Cancel { customer, kind, id } => cancel(memory, customer, (kind, id), start),
         _ => read_command(memory, command),
     }
+}
+
+/// Makes the changes in their order. A refusal is noted, and the next change follows.
+pub(crate) fn update<M: TxMem>(
+    memory: &mut M,
+    changes: &[Command],
+    start: FreeList,
+) -> Result<Reply, M::Stop>
+    requires state { HoldsState (M.view memory.old) }
+    requires range { is_task (Task.Update changes.now) ≡ true }
+    ensures origin { M.origin memory.new ≡ M.origin memory.old }
+    ensures answer { IfOk result (λ reply. RanTask (M.view memory.old) (M.view memory.new)
+        (Task.Update changes.now) reply) }
+{
+    let mut refused = [None; MOST_PARTS];
+    for i in 0..changes.len() {
+        let reply = run_command(memory, changes[i], start)?;
+        refused[i] = refusal(&reply);
+    }
+    Ok(Reply::Update(UpdateReply {
+        len: changes.len() as u8,
+        refused,
+    }))
 }
