@@ -1,11 +1,9 @@
-//! Each command by its body, and changes one after the other.
+//! Each command by its body.
 
 ghost use Rattle.std.specs.Prelude.{◌≡◌, IfOk, IfErr, true};
-ghost use Rattle.vac_model.specs.Ranges.{is_task};
 ghost use Rattle.vac_model.specs.Run.{refusal_of};
 ghost use Rattle.vac_records.specs.InMemory.{HoldsState};
 ghost use Rattle.vac_commands.specs.Ran.{CanRun, Ran, RanQuestion};
-ghost use Rattle.vac_tasks.specs.RanTask.{RanTask};
 ghost use Rattle.vac_tasks.specs.Reading.{is_question};
 
 use tx_alloc::FreeList;
@@ -13,8 +11,7 @@ use tx_memory::{TxMem, TxRead};
 use vac_commands::{
     add, bill, cancel, delete, drop_customer, drop_flight, free, new_customer, price, reserve,
 };
-use vac_model::limits::MOST_PARTS;
-use vac_model::{Command, Reply, Task, UpdateReply, Why};
+use vac_model::{Command, Reply, Why};
 use vac_report::report;
 
 /// Whether the command only asks.
@@ -98,27 +95,4 @@ pub(crate) fn run_command<M: TxMem>(
         Command::Cancel { customer, kind, id } => cancel(memory, customer, (kind, id), start),
         _ => read_command(memory, command),
     }
-}
-
-/// Makes the changes in their order. A refusal is noted, and the next change follows.
-pub(crate) fn update<M: TxMem>(
-    memory: &mut M,
-    changes: &[Command],
-    start: FreeList,
-) -> Result<Reply, M::Stop>
-    requires state { HoldsState (M.view memory.old) }
-    requires range { is_task (Task.Update changes.now) ≡ true }
-    ensures origin { M.origin memory.new ≡ M.origin memory.old }
-    ensures answer { IfOk result (λ reply. RanTask (M.view memory.old) (M.view memory.new)
-        (Task.Update changes.now) reply) }
-{
-    let mut refused = [None; MOST_PARTS];
-    for i in 0..changes.len() {
-        let reply = run_command(memory, changes[i], start)?;
-        refused[i] = refusal(&reply);
-    }
-    Ok(Reply::Update(UpdateReply {
-        len: changes.len() as u8,
-        refused,
-    }))
 }

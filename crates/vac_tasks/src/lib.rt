@@ -11,5 +11,6 @@ mod commands;
 mod leave;
 mod tasks;
 mod trip;
+mod update;
 
 pub use tasks::{only_reads, read_task, run_task};

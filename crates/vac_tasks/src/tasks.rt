@@ -6,9 +6,10 @@ ghost use Rattle.vac_records.specs.InMemory.{HoldsState};
 ghost use Rattle.vac_tasks.specs.Reading as reading;
 ghost use Rattle.vac_tasks.specs.RanTask.{RanTask};
 
-use crate::commands::{asks_only, read_command, run_command, update};
+use crate::commands::{asks_only, read_command, run_command};
 use crate::leave::leave;
 use crate::trip::trip;
+use crate::update::update;
 use tx_alloc::FreeList;
 use tx_memory::{TxMem, TxRead};
 use vac_model::{Reply, Task};

@@ -1,7 +1,7 @@
 use Rattle.std.proofs.Common.{◌≡◌, take}
 use Rattle.vac_records.specs.InMemory.{HoldsState}
 use Rattle.vac_tasks.specs.Runs.{Runs, changed}
-use Rattle.vac_tasks.proofs.commands.update.Given as goal
+use Rattle.vac_tasks.proofs.update.update.Given as goal
 
 abbrev pub invariant-loop-i : goal.invariant-loop-i
 invariant-loop-i g l = record {
