@@ -1,10 +1,8 @@
 //! The whole audit.
 
 ghost use Rattle.std.specs.Prelude.{◌≡◌, ◌+◌, ◌*◌, ◌≤◌, IfOk, Err, length, slice_index};
-ghost use Rattle.vac_audit.specs.Marks.{IsMarked, unmarked};
-ghost use Rattle.vac_audit.specs.Noted.{InOrder};
-ghost use Rattle.vac_audit.specs.Ran.{Blank, ItemsRan, Uncounted, CustomersRan};
-ghost use Rattle.vac_audit.specs.Ran.{Inside, UsedRan, HeapRan, IsHeapSize, Audited, fault_answer};
+ghost use Rattle.vac_audit.specs.Marks.{IsMarked};
+ghost use Rattle.vac_audit.specs.Ran.{Blank, ItemsRan, Inside, UsedRan, HeapRan, IsHeapSize, Audited, fault_answer};
 ghost use Rattle.vac_audit.specs.Represented.{StateOf, Recognised};
 ghost use Rattle.vac_audit.specs.TreeRan.{Summed};
 ghost use Rattle.tx_alloc.specs.declared.place.TheConstants.{MOST_BLOCKS};
@@ -81,25 +79,6 @@ fn walk_items(
     })
 }
 
-/// Walks the customers with their bookings, and returns how many customers there are.
-fn walk_customers(
-    alloc: Global,
-    words: &[u64],
-    reached: &mut Vec<bool>,
-    notes: &mut Notes,
-) -> Result<u64, Fault>
-    requires marked { IsMarked words.now reached.old.items }
-    requires some { 1 ≤ length reached.old.items }
-    requires order { InOrder notes.old.items.items }
-    requires uncounted { Uncounted notes.old }
-    ensures size { length reached.new.items ≡ length reached.old.items }
-    ensures ran { CustomersRan words.now reached.old.items reached.new.items
-        notes.old notes.new result }
-{
-    let table = Table::Customers;
-    walk_table(alloc, words, reached, notes, table, CUSTOMERS.0 as usize)
-}
-
 /// Looks for an item whose used units are not as many as are booked of it.
 fn check_used(words: &[u64], notes: &Notes) -> Result<(), Flaw>
     requires few { length words.now ≤ MOST_HEAP_WORDS }
@@ -134,7 +113,14 @@ fn audit_heap(alloc: Global, words: &[u64], blocks: usize) -> Result<Report, Fau
         },
     };
     let kinds = walk_items(alloc, words, &mut reached, &mut notes)?;
-    let customers = walk_customers(alloc, words, &mut reached, &mut notes)?;
+    let customers = walk_table(
+        alloc,
+        words,
+        &mut reached,
+        &mut notes,
+        Table::Customers,
+        CUSTOMERS.0 as usize,
+    )?;
     check_used(words, &notes)?;
     walk_lists(words, &mut reached)?;
     check_reached(&reached)?;

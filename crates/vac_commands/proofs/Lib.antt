@@ -19,3 +19,4 @@ pub mod Dropping
 pub mod Joining
 pub mod Parting
 pub mod Leaving
+pub mod Small

@@ -110,7 +110,8 @@ cancelled_found s s1 s' customer owner kind id item spot r range at f small k v 
 
 -- free units and a price that were read are there after further reads
 pub offered : (s s1 s2 s3 : View) (item num v price : ℕ) → Loaded s s1 (item + 5) v → num ≤ v →
-    Loaded s1 s2 (item + 7) price → OnlyRead s2 s3 → IsOffered s3 item num (record { free = v; price = price })
+    Loaded s1 s2 (item + 7) price → OnlyRead s2 s3 → IsOffered s3 item num
+    (record { num = num; free = v; price = price })
 offered s s1 s2 s3 item num v price l le k r = record {
   enough = le;
   free_is = λ image i. rw (r.writes, k.writes, l.writes) (l.answer image (k.kept.seen image (r.kept.seen image i)));

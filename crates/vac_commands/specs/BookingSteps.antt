@@ -1,11 +1,13 @@
 -- What a command on bookings needs and does, when its customer and its item have been found.
-use Rattle.std.specs.Prelude.{◌≡◌, ◌≢◌, ℕ, ◌+◌, ◌<◌, ◌≤◌, ◌^◌, List, [], length}
+use Rattle.std.specs.Prelude.{◌≡◌, ◌≢◌, ℕ, ◌+◌, ◌<◌, ◌≤◌, ◌^◌, List, [], length, true}
 use Rattle.tx_memory.specs.View.{View, Sees, RestsOn, Kept}
 use Rattle.vac_model.specs.declared.commands.Command.{Command}
+use Rattle.vac_model.specs.declared.commands.Command.TheVariants.{Reserve, Cancel}
 use Rattle.vac_model.specs.declared.items.Kind.{Kind}
 use Rattle.vac_model.specs.declared.replies.Reply.{Reply}
 use Rattle.vac_model.specs.State.{State, Place}
 use Rattle.vac_model.specs.Step.{step}
+use Rattle.vac_model.specs.Ranges.{is_command}
 use Rattle.tx_alloc.specs.Pointer.{IsWithin}
 use Rattle.tx_alloc.specs.Rows.{block_at}
 use Rattle.tx_list.specs.Search.{SpotAt}
@@ -15,10 +17,13 @@ use Rattle.vac_records.specs.Items.{mem}
 use Rattle.vac_records.specs.Bookings.{place_key}
 use Rattle.vac_records.specs.Customers.{head_of}
 use Rattle.vac_records.specs.Represents.{IsState}
+use Rattle.vac_records.specs.InMemory.{HoldsState}
 use Rattle.vac_records.specs.Laws.{Stays}
+use Rattle.vac_commands.specs.declared.bookings.CustomerAt.{CustomerAt}
+use Rattle.vac_commands.specs.declared.bookings.ItemAt.{ItemAt}
 use Rattle.vac_commands.specs.declared.bookings.Offer.{Offer}
 use Rattle.vac_commands.specs.Ran.{Untouched, Idle}
-use Rattle.vac_commands.specs.Entries.{item_block, customer_block}
+use Rattle.vac_commands.specs.Entries.{item_block, customer_block, ItemIsAt, CustomerIsAt}
 
 -- the block of the place's booking among those of the customer in block owner, or 0
 abbrev pub booking_block : {m : ℕ → ℕ} {n : ℕ} {s : State} → IsState m n s → ℕ → Place → ℕ
@@ -70,6 +75,32 @@ pub record IsOffered (s : View) (item num : ℕ) (offer : Offer) : Type 0 where
   pub enough : num ≤ offer.free
   pub free_is : (image : List ℕ) → Sees s image → mem s image (item + 5) ≡ offer.free
   pub price_is : (image : List ℕ) → Sees s image → mem s image (item + 7) ≡ offer.price
+
+-- the command that books units of the item for the customer
+abbrev pub reserve_of : CustomerAt → ItemAt → ℕ → Command
+reserve_of who what num = Reserve who.customer what.kind what.id num
+
+-- the command that cancels the customer's booking of the item
+abbrev pub cancel_of : CustomerAt → ItemAt → Command
+cancel_of who what = Cancel who.customer what.kind what.id
+
+-- the memory holds a state, customer and item are in their blocks, and the command can be asked for
+pub record CanServe (s : View) (who : CustomerAt) (what : ItemAt) (c : Command) : Type 0 where
+  pub state : HoldsState s
+  pub customer : CustomerIsAt s who.customer who.owner
+  pub item : ItemIsAt s what.kind what.id what.item
+  pub range : is_command c ≡ true
+
+-- the units that are asked for can be booked, but for the limits of a booking and of the heap
+pub record CanReserve (s : View) (who : CustomerAt) (what : ItemAt) (offer : Offer) : Type 0 where
+  pub serve : CanServe s who what (reserve_of who what offer.num)
+  pub offered : IsOffered s what.item offer.num offer
+
+-- and the customer's booking of the item is in block b
+pub record CanReserveMore (s : View) (who : CustomerAt) (what : ItemAt) (offer : Offer)
+    (b : ℕ) : Type 0 where
+  pub ready : CanReserve s who what offer
+  pub booking : HasBookingAt s who.owner (what.kind, what.id) b
 
 -- the memory represents the state after the command, in the same tables, and this is the reply
 pub record Lands {m : ℕ → ℕ} {n : ℕ} {s : State} (h : IsState m n s) (m' : ℕ → ℕ) (c : Command)

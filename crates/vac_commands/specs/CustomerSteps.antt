@@ -1,20 +1,24 @@
 -- What the steps of commands on customers need and do.
-use Rattle.std.specs.Prelude.{◌≡◌, ◌≢◌, ℕ, ◌-◌, ◌≤◌, List, ◌∷◌, length, Some}
+use Rattle.std.specs.Prelude.{◌≡◌, ◌≢◌, ℕ, ◌-◌, ◌≤◌, List, ◌∷◌, length, Some, true}
 use Rattle.std.specs.FinMap.{empty, entries, len}
 use Rattle.tx_memory.specs.View.{View, Sees, RestsOn, Kept}
 use Rattle.vac_model.specs.declared.commands.Command.{Command}
+use Rattle.vac_model.specs.declared.commands.Command.TheVariants.{DropCustomer}
 use Rattle.vac_model.specs.declared.items.Booking.{Booking}
 use Rattle.vac_model.specs.declared.items.Kind.{Kind}
 use Rattle.vac_model.specs.declared.replies.Reply.{Reply}
 use Rattle.vac_model.specs.State.{State, Bookings, Place, bookings_of}
 use Rattle.vac_model.specs.Step.{step, drop_customer}
+use Rattle.vac_model.specs.Ranges.{is_command}
 use Rattle.tx_list.specs.Lists.{SomeBooking}
 use Rattle.tx_tree.specs.Table.{IsInside}
 use Rattle.vac_records.specs.Items.{mem}
 use Rattle.vac_records.specs.Bookings.{place_in, booking_in}
 use Rattle.vac_records.specs.Customers.{head_of}
 use Rattle.vac_records.specs.Represents.{IsState}
-use Rattle.vac_commands.specs.Entries.{item_block, customer_block}
+use Rattle.vac_records.specs.InMemory.{HoldsState}
+use Rattle.vac_commands.specs.declared.bookings.CustomerAt.{CustomerAt}
+use Rattle.vac_commands.specs.Entries.{item_block, customer_block, CustomerIsAt}
 use Rattle.vac_commands.specs.Ran.{Untouched, Idle, IsOutcome}
 
 -- the command ran under each image on which the customer's block is c, or the customer is missing
@@ -65,6 +69,19 @@ pub record StartsAt (s : View) (id c b : ℕ) : Type 0 where
   pub under : (image : List ℕ) (state : State) → RestsOn s image →
       IsState (mem s image) (length image) state →
       HasFirst (mem s image) (length image) state id b
+
+-- the memory holds a state, with the customer, who may be dropped, in this block
+pub record CanDrop (s : View) (who : CustomerAt) : Type 0 where
+  pub state : HoldsState s
+  pub customer : CustomerIsAt s who.customer who.owner
+  pub range : is_command (DropCustomer who.customer) ≡ true
+
+-- the memory holds a state, and the first booking of the customer, who may be dropped, is in b
+pub record CanCancelFirst (s : View) (id c b : ℕ) : Type 0 where
+  pub state : HoldsState s
+  pub customer : CustomerIsAt s id c
+  pub first : StartsAt s id c b
+  pub range : is_command (DropCustomer id) ≡ true
 
 -- only reads were made, and under each image the booking in block b is of this item
 pub record PlaceRead (s s' : View) (b : ℕ) (place : Place) : Type 0 where

@@ -7,6 +7,7 @@ use Rattle.tx_alloc.specs.Rows.{block_at}
 use Rattle.tx_tree.specs.Table.{IsInside}
 use Rattle.vac_records.specs.Items.{mem}
 use Rattle.vac_records.specs.Represents.{IsState}
+use Rattle.vac_records.specs.InMemory.{HoldsState}
 
 -- the block of an item, or 0
 abbrev pub item_block : {m : ℕ → ℕ} {n : ℕ} {s : State} → IsState m n s → Kind → ℕ → ℕ
@@ -32,6 +33,11 @@ pub record HasItemAt (s : View) (kind : Kind) (id b : ℕ) : Type 0 where
 pub record HasItem (s : View) (kind : Kind) (id : ℕ) : Type 0 where
   pub there : (image : List ℕ) (state : State) → Sees s image →
       (h : IsState (mem s image) (length image) state) → item_block h kind id ≢ 0
+
+-- the memory holds a state, and the item is there
+pub record HoldsItem (s : View) (kind : Kind) (id : ℕ) : Type 0 where
+  pub state : HoldsState s
+  pub item : HasItem s kind id
 
 -- under each image the customer is missing
 pub record LacksCustomer (s : View) (id : ℕ) : Type 0 where

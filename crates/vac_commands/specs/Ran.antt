@@ -1,5 +1,5 @@
 -- What a command does to a memory that holds a state, under every image.
-use Rattle.std.specs.Prelude.{◌≡◌, ℕ, List, [], length, Option, Some, None}
+use Rattle.std.specs.Prelude.{◌≡◌, ℕ, List, [], length, Option, Some, None, true}
 use Rattle.std.specs.FinMap.{empty}
 use Rattle.vac_model.specs.declared.items.Kind.{Kind}
 use Rattle.tx_memory.specs.View.{View, Sees, Kept}
@@ -10,8 +10,10 @@ use Rattle.vac_model.specs.declared.replies.Reply.{Reply}
 use Rattle.vac_model.specs.declared.replies.Reply.TheVariants as reply
 use Rattle.vac_model.specs.State.{State, bookings_of, without_item, without_customer}
 use Rattle.vac_model.specs.Step.{Outcome, step}
+use Rattle.vac_model.specs.Ranges.{is_command}
 use Rattle.vac_records.specs.Items.{mem}
 use Rattle.vac_records.specs.Represents.{Represents, IsState}
+use Rattle.vac_records.specs.InMemory.{HoldsState}
 
 -- a memory of n words represents the state of an outcome, and this is its reply
 pub record IsOutcome (m : ℕ → ℕ) (n : ℕ) (o : Outcome) (r : Reply) : Type 0 where
@@ -60,6 +62,11 @@ pub record Ran (s s' : View) (c : Command) (r : Reply) : Type 0 where
 pub record RanQuestion (s s' : View) (c : Command) (r : Reply) : Type 0 where
   pub ran : Ran s s' c r
   pub writes : s'.writes ≡ s.writes
+
+-- the memory holds a state, and the command is one that can be asked for
+pub record CanRun (s : View) (c : Command) : Type 0 where
+  pub state : HoldsState s
+  pub range : is_command c ≡ true
 
 -- the reply to a NewCustomer that was not refused because the customer is there
 abbrev pub joining : Option ℕ → Reply

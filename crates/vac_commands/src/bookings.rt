@@ -4,8 +4,9 @@ ghost use Rattle.std.specs.Prelude.{◌≡◌, IfOk, None, true};
 ghost use Rattle.vac_model.specs.Ranges.{is_command};
 ghost use Rattle.vac_records.specs.InMemory.{HoldsState};
 ghost use Rattle.vac_commands.specs.Entries.{ItemIsAt, CustomerIsAt};
-ghost use Rattle.vac_commands.specs.Ran.{Ran};
-ghost use Rattle.vac_commands.specs.BookingSteps.{AtBlocks, AtBooking, AtSpot, HasBookingAt, HasSpot, IsOffered, ServesCommand};
+ghost use Rattle.vac_commands.specs.Ran.{CanRun, Ran};
+ghost use Rattle.vac_commands.specs.BookingSteps.{AtBlocks, AtBooking, AtSpot, HasSpot, ServesCommand};
+ghost use Rattle.vac_commands.specs.BookingSteps.{CanServe, CanReserve, CanReserveMore, reserve_of, cancel_of};
 
 use crate::find::{find_customer, find_item};
 use tx_alloc::{Block, FreeList, give, take_refilling};
@@ -18,9 +19,26 @@ use vac_records::{
     units_at,
 };
 
-/// What was read of an item.
+/// A customer, and the block.
+#[derive(Clone, Copy)]
+pub(crate) struct CustomerAt {
+    pub customer: u32,
+    pub owner: Block,
+}
+
+/// An item, and its block.
+#[derive(Clone, Copy)]
+pub(crate) struct ItemAt {
+    pub kind: Kind,
+    pub id: u32,
+    pub item: Block,
+}
+
+/// What is asked for of an item, and what was read of it.
 #[derive(Clone, Copy)]
 struct Offer {
+    /// How many units are to be booked.
+    num: u32,
     /// How many units can be booked.
     free: u64,
     /// The price of one.
@@ -33,17 +51,16 @@ struct Offer {
 pub fn reserve<M: TxMem>(
     memory: &mut M,
     customer: u32,
-    kind: Kind,
-    id: u32,
+    place: (Kind, u32),
     num: u32,
     start: FreeList,
 ) -> Result<Reply, M::Stop>
-    requires state { HoldsState (M.view memory.old) }
-    requires range { is_command (Command.Reserve customer kind id num) ≡ true }
+    requires { CanRun (M.view memory.old) (Command.Reserve customer place.0 place.1 num) }
     ensures origin { M.origin memory.new ≡ M.origin memory.old }
     ensures answer { IfOk result (λ reply. Ran (M.view memory.old) (M.view memory.new)
-        (Command.Reserve customer kind id num) reply) }
+        (Command.Reserve customer place.0 place.1 num) reply) }
 {
+    let (kind, id) = place;
     let Some(owner) = find_customer(memory, customer)? else {
         return Ok(Reply::No(Why::NoCustomer));
     };
@@ -78,15 +95,13 @@ pub fn reserve_at<M: TxMem>(
         return Ok(Reply::No(Why::SoldOut));
     }
     let price = price_at(memory, item)?;
-    let offer = Offer { free, price };
+    let offer = Offer { num, free, price };
     let spot = spot_of(memory, owner, kind, id)?;
+    let who = CustomerAt { customer, owner };
+    let what = ItemAt { kind, id, item };
     match spot.entry {
-        Some(booking) => {
-            extend_booking(memory, customer, owner, kind, id, item, num, offer, booking)
-        }
-        None => add_booking(
-            memory, customer, owner, kind, id, item, num, offer, spot, start,
-        ),
+        Some(booking) => extend_booking(memory, who, what, offer, booking),
+        None => add_booking(memory, who, what, offer, spot, start),
     }
 }
 
@@ -94,31 +109,22 @@ pub fn reserve_at<M: TxMem>(
 /// it.
 fn extend_booking<M: TxMem>(
     memory: &mut M,
-    customer: u32,
-    owner: Block,
-    kind: Kind,
-    id: u32,
-    item: Block,
-    num: u32,
+    who: CustomerAt,
+    what: ItemAt,
     offer: Offer,
     booking: Block,
 ) -> Result<Reply, M::Stop>
-    requires state { HoldsState (M.view memory.old) }
-    requires customer { CustomerIsAt (M.view memory.old) customer owner }
-    requires item { ItemIsAt (M.view memory.old) kind id item }
-    requires offered { IsOffered (M.view memory.old) item num offer }
-    requires booking { HasBookingAt (M.view memory.old) owner (kind, id) booking }
-    requires range { is_command (Command.Reserve customer kind id num) ≡ true }
+    requires { CanReserveMore (M.view memory.old) who what offer booking }
     ensures origin { M.origin memory.new ≡ M.origin memory.old }
     ensures answer { IfOk result (λ reply. ServesCommand (M.view memory.old) (M.view memory.new)
-        (Command.Reserve customer kind id num) reply
-        (AtBooking customer owner kind id item booking)) }
+        (reserve_of who what offer.num) reply
+        (AtBooking who.customer who.owner what.kind what.id what.item booking)) }
 {
-    if units_at(memory, booking)? + num as u64 > MOST_UNITS {
+    if units_at(memory, booking)? + offer.num as u64 > MOST_UNITS {
         return Ok(Reply::No(Why::UnitLimit));
     }
-    book_more(memory, booking, num, offer.price)?;
-    make_of(memory, item, num, offer.free)?;
+    book_more(memory, booking, offer.num, offer.price)?;
+    make_of(memory, what.item, offer.num, offer.free)?;
     Ok(Reply::Done)
 }
 
@@ -126,33 +132,33 @@ fn extend_booking<M: TxMem>(
 /// at the booking's spot in the customer's list.
 fn add_booking<M: TxMem>(
     memory: &mut M,
-    customer: u32,
-    owner: Block,
-    kind: Kind,
-    id: u32,
-    item: Block,
-    num: u32,
+    who: CustomerAt,
+    what: ItemAt,
     offer: Offer,
     spot: Spot,
     start: FreeList,
 ) -> Result<Reply, M::Stop>
-    requires state { HoldsState (M.view memory.old) }
-    requires customer { CustomerIsAt (M.view memory.old) customer owner }
-    requires item { ItemIsAt (M.view memory.old) kind id item }
-    requires offered { IsOffered (M.view memory.old) item num offer }
+    requires ready { CanReserve (M.view memory.old) who what offer }
     requires missing { spot.entry ≡ None }
-    requires spot { HasSpot (M.view memory.old) owner (kind, id) spot }
-    requires range { is_command (Command.Reserve customer kind id num) ≡ true }
+    requires spot { HasSpot (M.view memory.old) who.owner (what.kind, what.id) spot }
     ensures origin { M.origin memory.new ≡ M.origin memory.old }
     ensures answer { IfOk result (λ reply. ServesCommand (M.view memory.old) (M.view memory.new)
-        (Command.Reserve customer kind id num) reply
-        (AtSpot customer owner kind id item spot)) }
+        (reserve_of who what offer.num) reply
+        (AtSpot who.customer who.owner what.kind what.id what.item spot)) }
 {
     let Some(block) = take_refilling(memory, start)? else {
         return Ok(Reply::No(Why::Full));
     };
-    book_at(memory, spot, block, kind, id, num, offer.price)?;
-    make_of(memory, item, num, offer.free)?;
+    book_at(
+        memory,
+        spot,
+        block,
+        what.kind,
+        what.id,
+        offer.num,
+        offer.price,
+    )?;
+    make_of(memory, what.item, offer.num, offer.free)?;
     Ok(Reply::Done)
 }
 
@@ -161,16 +167,15 @@ fn add_booking<M: TxMem>(
 pub fn cancel<M: TxMem>(
     memory: &mut M,
     customer: u32,
-    kind: Kind,
-    id: u32,
+    place: (Kind, u32),
     start: FreeList,
 ) -> Result<Reply, M::Stop>
-    requires state { HoldsState (M.view memory.old) }
-    requires range { is_command (Command.Cancel customer kind id) ≡ true }
+    requires { CanRun (M.view memory.old) (Command.Cancel customer place.0 place.1) }
     ensures origin { M.origin memory.new ≡ M.origin memory.old }
     ensures answer { IfOk result (λ reply. Ran (M.view memory.old) (M.view memory.new)
-        (Command.Cancel customer kind id) reply) }
+        (Command.Cancel customer place.0 place.1) reply) }
 {
+    let (kind, id) = place;
     let Some(owner) = find_customer(memory, customer)? else {
         return Ok(Reply::No(Why::NoCustomer));
     };
@@ -178,35 +183,31 @@ pub fn cancel<M: TxMem>(
         return Ok(Reply::No(Why::NoItem));
     };
     let spot = spot_of(memory, owner, kind, id)?;
-    cancel_at(memory, customer, owner, kind, id, item, spot, start)
+    let who = CustomerAt { customer, owner };
+    let what = ItemAt { kind, id, item };
+    cancel_at(memory, who, what, spot, start)
 }
 
 /// Cancels a booking at the blocks of the customer and of the item, and at its spot in the
 /// customer's list.
 pub(crate) fn cancel_at<M: TxMem>(
     memory: &mut M,
-    customer: u32,
-    owner: Block,
-    kind: Kind,
-    id: u32,
-    item: Block,
+    who: CustomerAt,
+    what: ItemAt,
     spot: Spot,
     start: FreeList,
 ) -> Result<Reply, M::Stop>
-    requires state { HoldsState (M.view memory.old) }
-    requires customer { CustomerIsAt (M.view memory.old) customer owner }
-    requires item { ItemIsAt (M.view memory.old) kind id item }
-    requires spot { HasSpot (M.view memory.old) owner (kind, id) spot }
-    requires range { is_command (Command.Cancel customer kind id) ≡ true }
+    requires ready { CanServe (M.view memory.old) who what (cancel_of who what) }
+    requires spot { HasSpot (M.view memory.old) who.owner (what.kind, what.id) spot }
     ensures origin { M.origin memory.new ≡ M.origin memory.old }
     ensures answer { IfOk result (λ reply. ServesCommand (M.view memory.old) (M.view memory.new)
-        (Command.Cancel customer kind id) reply
-        (AtSpot customer owner kind id item spot)) }
+        (cancel_of who what) reply
+        (AtSpot who.customer who.owner what.kind what.id what.item spot)) }
 {
     let Some(taken) = unbook_at(memory, spot)? else {
         return Ok(Reply::No(Why::NotBooked));
     };
-    give_units_back(memory, item, taken.1)?;
+    give_units_back(memory, what.item, taken.1)?;
     give(memory, start, taken.0)?;
     Ok(Reply::Done)
 }

@@ -6,10 +6,10 @@ ghost use Rattle.tx_list.specs.Lists.{HasBooking};
 ghost use Rattle.vac_model.specs.Coded.{kind_of_number};
 ghost use Rattle.vac_records.specs.InMemory.{HoldsState};
 ghost use Rattle.vac_commands.specs.Entries.{CustomerIsAt, CustomerIsMissing};
-ghost use Rattle.vac_commands.specs.CustomerSteps.{RanOn, ItemsStayOn, HasSeat, HasNoBookings, StartsAt, PlaceRead, OneGivenBack, GivenBack};
-ghost use Rattle.vac_commands.specs.Ran.{Ran, RanQuestion, CustomerGone, joining};
+ghost use Rattle.vac_commands.specs.CustomerSteps.{RanOn, ItemsStayOn, HasSeat, HasNoBookings, CanDrop, CanCancelFirst, PlaceRead, OneGivenBack, GivenBack};
+ghost use Rattle.vac_commands.specs.Ran.{CanRun, Ran, RanQuestion, CustomerGone, joining};
 
-use crate::bookings::cancel_at;
+use crate::bookings::{CustomerAt, ItemAt, cancel_at};
 use crate::find::{find_customer, find_item};
 use tx_alloc::place::MOST_BLOCKS;
 use tx_alloc::{Block, FreeList, give, take_refilling};
@@ -21,8 +21,7 @@ use vac_records::{CUSTOMERS, init_customer, place};
 /// Makes a customer without bookings, in a block of the first free list that has one, from `start`
 /// on. List `start` is refilled where it had none.
 pub fn new_customer<M: TxMem>(memory: &mut M, id: u32, start: FreeList) -> Result<Reply, M::Stop>
-    requires state { HoldsState (M.view memory.old) }
-    requires range { is_command (Command.NewCustomer id) ≡ true }
+    requires { CanRun (M.view memory.old) (Command.NewCustomer id) }
     ensures origin { M.origin memory.new ≡ M.origin memory.old }
     ensures answer { IfOk result (λ reply. Ran (M.view memory.old) (M.view memory.new)
         (Command.NewCustomer id) reply) }
@@ -97,19 +96,16 @@ pub fn bill_at<M: TxRead>(memory: &mut M, id: u32, customer: Block) -> Result<u6
 /// Gives back all that the customer has booked, and removes the customer. The blocks become the
 /// first of free list `start`.
 pub fn drop_customer<M: TxMem>(memory: &mut M, id: u32, start: FreeList) -> Result<Reply, M::Stop>
-    requires state { HoldsState (M.view memory.old) }
-    requires range { is_command (Command.DropCustomer id) ≡ true }
+    requires { CanRun (M.view memory.old) (Command.DropCustomer id) }
     ensures origin { M.origin memory.new ≡ M.origin memory.old }
     ensures answer { IfOk result (λ reply. Ran (M.view memory.old) (M.view memory.new)
         (Command.DropCustomer id) reply) }
 {
-    match find_customer(memory, id)? {
-        None => Ok(Reply::No(Why::NoCustomer)),
-        Some(customer) => {
-            drop_customer_at(memory, id, customer, start)?;
-            Ok(Reply::Done)
-        }
-    }
+    let Some(customer) = find_customer(memory, id)? else {
+        return Ok(Reply::No(Why::NoCustomer));
+    };
+    drop_customer_at(memory, id, customer, start)?;
+    Ok(Reply::Done)
 }
 
 /// Removes a customer as `drop_customer` does, at the customer's block.
@@ -126,7 +122,11 @@ pub fn drop_customer_at<M: TxMem>(
     ensures answer { IfOk result (λ _. RanOn (M.view memory.old) (M.view memory.new)
         id customer (Command.DropCustomer id) Reply.Done) }
 {
-    give_bookings_back(memory, id, customer, start)?;
+    let who = CustomerAt {
+        customer: id,
+        owner: customer,
+    };
+    give_bookings_back(memory, who, start)?;
     remove_customer(memory, id, start)?;
     Ok(())
 }
@@ -135,23 +135,20 @@ pub fn drop_customer_at<M: TxMem>(
 /// there are blocks.
 fn give_bookings_back<M: TxMem>(
     memory: &mut M,
-    id: u32,
-    customer: Block,
+    who: CustomerAt,
     start: FreeList,
 ) -> Result<(), M::Stop>
-    requires state { HoldsState (M.view memory.old) }
-    requires customer { CustomerIsAt (M.view memory.old) id customer }
-    requires range { is_command (Command.DropCustomer id) ≡ true }
+    requires { CanDrop (M.view memory.old) who }
     ensures origin { M.origin memory.new ≡ M.origin memory.old }
     ensures answer { IfOk result (λ _. GivenBack (M.view memory.old) (M.view memory.new)
-        id customer 0) }
+        who.customer who.owner 0) }
 {
-    let head = customer.word(place::BOOKINGS);
+    let head = who.owner.word(place::BOOKINGS);
     for _ in 0..MOST_BLOCKS {
         let Some(booking) = tx_list::first(memory, head)? else {
             return Ok(());
         };
-        cancel_first(memory, id, customer, booking, start)?;
+        cancel_first(memory, who.customer, who.owner, booking, start)?;
     }
     Ok(())
 }
@@ -165,10 +162,7 @@ fn cancel_first<M: TxMem>(
     booking: Block,
     start: FreeList,
 ) -> Result<(), M::Stop>
-    requires state { HoldsState (M.view memory.old) }
-    requires customer { CustomerIsAt (M.view memory.old) id customer }
-    requires first { StartsAt (M.view memory.old) id customer booking }
-    requires range { is_command (Command.DropCustomer id) ≡ true }
+    requires { CanCancelFirst (M.view memory.old) id customer booking }
     ensures origin { M.origin memory.new ≡ M.origin memory.old }
     ensures answer { IfOk result (λ _. OneGivenBack (M.view memory.old) (M.view memory.new)
         id customer booking) }
@@ -182,7 +176,16 @@ fn cancel_first<M: TxMem>(
                 word: booking.addr().0 as u64,
                 entry: Some(booking),
             };
-            cancel_at(memory, id, customer, kind, item_id, item, spot, start)?;
+            let who = CustomerAt {
+                customer: id,
+                owner: customer,
+            };
+            let what = ItemAt {
+                kind,
+                id: item_id,
+                item,
+            };
+            cancel_at(memory, who, what, spot, start)?;
             Ok(())
         }
     }

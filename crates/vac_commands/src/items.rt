@@ -5,9 +5,9 @@ ghost use Rattle.vac_model.specs.Ranges.{is_command};
 ghost use Rattle.vac_model.specs.Step.{deleted};
 ghost use Rattle.vac_records.specs.InMemory.{HoldsState};
 ghost use Rattle.vac_records.specs.Items.{IsNode, HasRoomForUnits, HasFree, UnitsAdded, ItemChanged};
-ghost use Rattle.vac_commands.specs.Entries.{LacksItem, HasItem, HasItemAt};
+ghost use Rattle.vac_commands.specs.Entries.{LacksItem, HasItemAt, HoldsItem};
 ghost use Rattle.vac_commands.specs.ItemSteps.{PriceGiven};
-ghost use Rattle.vac_commands.specs.Ran.{Ran, RanQuestion, ItemGone};
+ghost use Rattle.vac_commands.specs.Ran.{CanRun, Ran, RanQuestion, ItemGone};
 
 use crate::find::find_item;
 use tx_alloc::{Block, FreeList, give, take_refilling};
@@ -153,8 +153,7 @@ pub fn add<M: TxMem>(
     price: Option<u32>,
     start: FreeList,
 ) -> Result<Reply, M::Stop>
-    requires state { HoldsState (M.view memory.old) }
-    requires range { is_command (Command.Add kind id num price) ≡ true }
+    requires { CanRun (M.view memory.old) (Command.Add kind id num price) }
     ensures origin { M.origin memory.new ≡ M.origin memory.old }
     ensures answer { IfOk result (λ reply. Ran (M.view memory.old) (M.view memory.new)
         (Command.Add kind id num price) reply) }
@@ -173,8 +172,7 @@ fn remove_item<M: TxMem>(
     id: u32,
     start: FreeList,
 ) -> Result<(), M::Stop>
-    requires state { HoldsState (M.view memory.old) }
-    requires item { HasItem (M.view memory.old) kind id }
+    requires { HoldsItem (M.view memory.old) kind id }
     ensures origin { M.origin memory.new ≡ M.origin memory.old }
     ensures answer { IfOk result (λ _. ItemGone (M.view memory.old) (M.view memory.new) kind id) }
 {
@@ -212,8 +210,7 @@ pub fn delete<M: TxMem>(
     num: u32,
     start: FreeList,
 ) -> Result<Reply, M::Stop>
-    requires state { HoldsState (M.view memory.old) }
-    requires range { is_command (Command.Delete kind id num) ≡ true }
+    requires { CanRun (M.view memory.old) (Command.Delete kind id num) }
     ensures origin { M.origin memory.new ≡ M.origin memory.old }
     ensures answer { IfOk result (λ reply. Ran (M.view memory.old) (M.view memory.new)
         (Command.Delete kind id num) reply) }

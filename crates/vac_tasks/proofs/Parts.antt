@@ -1,6 +1,6 @@
 -- Tasks of one command, leaves and updates, out of the commands that they are made of.
 use Rattle.std.proofs.Common.{◌≡◌, ℕ, ◌+◌, ◌-◌, ◌<◌, ◌≤◌, List, [], ◌∷◌, ◌++◌, length, Option, Some, None, refl, sym}
-use Rattle.std.proofs.Common.{ap, ◌∙◌, subst, arith, slice_set, length-append}
+use Rattle.std.proofs.Common.{ap, ◌∙◌, subst, arith, slice_set, length-append, get_or, suc, zero}
 use Rattle.std.specs.Prelude.{◌≡◌, Result, Ok, Err, IfOk, replicate, nat_le, ◌&&◌, true}
 use Rattle.std.specs.List.{list_all}
 use Rattle.std.specs.Option.{option_map}
@@ -126,6 +126,22 @@ few_changes cs e =
     let outer = both_true (is_list_length (length cs)) (list_all (λ c. is_change c && is_command c) cs) e in
     let inner = both_true (nat_le 1 (length cs)) (nat_le (length cs) 32) outer.0 in
     le_true (length cs) 32 inner.1
+
+all_in_range : (cs : List Command) (i : ℕ) (d : Command) → i < length cs →
+    list_all (λ c. is_change c && is_command c) cs ≡ true → is_command (get_or cs i d) ≡ true
+all_in_range [] i d l e = absurd (omega (arith, l))
+all_in_range (c ∷ cs) zero d l e =
+    let first = both_true (is_change c && is_command c) (list_all (λ x. is_change x && is_command x) cs) e in
+    (both_true (is_change c) (is_command c) first.0).1
+all_in_range (c ∷ cs) (suc i) d l e =
+    let rest = both_true (is_change c && is_command c) (list_all (λ x. is_change x && is_command x) cs) e in
+    all_in_range cs i d (omega (arith, l)) rest.1
+
+-- each change of an update can be asked for
+pub change_in_range : (cs : List Command) (i : ℕ) (d : Command) → i < length cs → is_task (task.Update cs) ≡ true →
+    is_command (get_or cs i d) ≡ true
+change_in_range cs i d l e = all_in_range cs i d l
+    (both_true (is_list_length (length cs)) (list_all (λ c. is_change c && is_command c) cs) e).1
 
 -- the changes so far and one more
 after_more : (state : State) (cs ds : List Command) (c : Command) (r : Reply) → ds ≡ cs ++ c ∷ [] →

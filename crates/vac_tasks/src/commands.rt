@@ -1,10 +1,9 @@
 //! Each command by its body.
 
 ghost use Rattle.std.specs.Prelude.{◌≡◌, IfOk, IfErr, true};
-ghost use Rattle.vac_model.specs.Ranges.{is_command};
 ghost use Rattle.vac_model.specs.Run.{refusal_of};
 ghost use Rattle.vac_records.specs.InMemory.{HoldsState};
-ghost use Rattle.vac_commands.specs.Ran.{Ran, RanQuestion};
+ghost use Rattle.vac_commands.specs.Ran.{CanRun, Ran, RanQuestion};
 ghost use Rattle.vac_tasks.specs.Reading.{is_question};
 
 use tx_alloc::FreeList;
@@ -71,8 +70,7 @@ pub(crate) fn run_command<M: TxMem>(
     command: Command,
     start: FreeList,
 ) -> Result<Reply, M::Stop>
-    requires state { HoldsState (M.view memory.old) }
-    requires range { is_command command ≡ true }
+    requires { CanRun (M.view memory.old) command }
     ensures origin { M.origin memory.new ≡ M.origin memory.old }
     ensures answer { IfOk result (λ reply. Ran (M.view memory.old) (M.view memory.new)
         command reply) }
@@ -93,8 +91,8 @@ pub(crate) fn run_command<M: TxMem>(
             kind,
             id,
             num,
-        } => reserve(memory, customer, kind, id, num, start),
-        Command::Cancel { customer, kind, id } => cancel(memory, customer, kind, id, start),
+        } => reserve(memory, customer, (kind, id), num, start),
+        Command::Cancel { customer, kind, id } => cancel(memory, customer, (kind, id), start),
         _ => read_command(memory, command),
     }
 }

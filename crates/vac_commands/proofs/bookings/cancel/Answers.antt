@@ -4,6 +4,7 @@ use Rattle.vac_commands.proofs.Held.{ran_after}
 use Rattle.vac_commands.proofs.Refusals.{cancel_needs, lacks_customer, lacks_item}
 use Rattle.vac_commands.proofs.Owners.{list_held, sought_only, found_after, spot_held}
 use Rattle.vac_commands.proofs.Reserving.{cancelled_found}
+use Rattle.vac_commands.proofs.Small.{cancel_small}
 use Rattle.vac_commands.proofs.bookings.cancel.Goals as goal
 
 pub returns-in_default-clause-answer : goal.returns-in_default-clause-answer
@@ -25,24 +26,20 @@ spot_of-requires-clause-list g c =
     c.requires.state) (customer_found_at _ _ _ (customer_at_on _ _ _ _ c.in_ok-item.ensures.reads
     (rw c.in-Some.is at c.in_ok-owner.ensures.answer)))
 
-pub cancel_at-requires-clause-state : goal.cancel_at-requires-clause-state
-cancel_at-requires-clause-state g c =
-    held_on _ _ (found_after _ _ _ _ _ _ _ c.in_ok-owner.ensures.reads c.in_ok-item.ensures.reads
-    c.in_ok-spot.ensures.answer) c.requires.state
-
-pub cancel_at-requires-clause-customer : goal.cancel_at-requires-clause-customer
-cancel_at-requires-clause-customer g c =
-    customer_found_at _ _ _ (customer_at_on _ _ _ _ (read_both _ _ _ c.in_ok-item.ensures.reads
-    (sought_only _ _ _ _ _ c.in_ok-spot.ensures.answer)) (rw c.in-Some.is at c.in_ok-owner.ensures.answer))
-
-pub cancel_at-requires-clause-item : goal.cancel_at-requires-clause-item
-cancel_at-requires-clause-item g c =
-    item_found_at _ _ _ _ (item_at_on _ _ _ _ _ (sought_only _ _ _ _ _ c.in_ok-spot.ensures.answer)
-    (rw c.in-Some-2.is at c.in_ok-item.ensures.answer))
+pub cancel_at-requires-clause-ready : goal.cancel_at-requires-clause-ready
+cancel_at-requires-clause-ready g c = record {
+  state = held_on _ _ (found_after _ _ _ _ _ _ _ c.in_ok-owner.ensures.reads c.in_ok-item.ensures.reads
+      c.in_ok-spot.ensures.answer) c.requires.state;
+  customer = customer_found_at _ _ _ (customer_at_on _ _ _ _ (read_both _ _ _ c.in_ok-item.ensures.reads
+      (sought_only _ _ _ _ _ c.in_ok-spot.ensures.answer)) (rw c.in-Some.is at c.in_ok-owner.ensures.answer));
+  item = item_found_at _ _ _ _ (item_at_on _ _ _ _ _ (sought_only _ _ _ _ _ c.in_ok-spot.ensures.answer)
+      (rw c.in-Some-2.is at c.in_ok-item.ensures.answer));
+  range = c.requires.range;
+}
 
 pub cancel_at-requires-clause-spot : goal.cancel_at-requires-clause-spot
 cancel_at-requires-clause-spot g c =
-    spot_held _ _ _ _ (c.args.kind, c.args.id) _ (customer_found_at _ _ _
+    spot_held _ _ _ _ (c.args.place.0, c.args.place.1) _ (customer_found_at _ _ _
     (customer_at_on _ _ _ _ c.in_ok-item.ensures.reads (rw c.in-Some.is at c.in_ok-owner.ensures.answer)))
     c.in_ok-spot.ensures.answer
 
@@ -51,5 +48,6 @@ returns-clause-answer g c =
     if_ok _ _ _ (λ r h. ran_after _ _ _ _ r (read_both _ _ _ c.in_ok-owner.ensures.reads c.in_ok-item.ensures.reads)
     (cancelled_found _ _ _ _ _ _ _ _ _ r c.requires.range (customer_at_on _ _ _ _ c.in_ok-item.ensures.reads
     (rw c.in-Some.is at c.in_ok-owner.ensures.answer))
-    (rw c.in-Some-2.is at c.in_ok-item.ensures.answer) c.ranges.id.fits c.in_ok-spot.ensures.answer h).ran)
+    (rw c.in-Some-2.is at c.in_ok-item.ensures.answer) (cancel_small c.args.customer c.args.place.0 c.args.place.1
+    c.requires.range) c.in_ok-spot.ensures.answer h).ran)
     c.cancel_at.ensures.answer

@@ -13,49 +13,41 @@ spot_of-requires-clause-list g c =
     c.requires.state) (customer_is_on _ _ _ _ (loads_only _ _ _ _ _ _ _ c.in_ok-free.ensures.answer
     c.in_ok-price.ensures.answer) c.requires.customer)
 
-pub extend_booking-requires-clause-state : goal.extend_booking-requires-clause-state
-extend_booking-requires-clause-state g c = held_on _ _ (looks_only _ _ _ _ _ _ _ _ _ _ _ c.in_ok-free.ensures.answer
-    c.in_ok-price.ensures.answer c.in_ok-spot.ensures.answer) c.requires.state
+pub extend_booking-requires : goal.extend_booking-requires
+extend_booking-requires g c = record {
+  ready = record {
+    serve = record {
+      state = held_on _ _ (looks_only _ _ _ _ _ _ _ _ _ _ _ c.in_ok-free.ensures.answer
+          c.in_ok-price.ensures.answer c.in_ok-spot.ensures.answer) c.requires.state;
+      customer = customer_is_on _ _ _ _ (looks_only _ _ _ _ _ _ _ _ _ _ _ c.in_ok-free.ensures.answer
+          c.in_ok-price.ensures.answer c.in_ok-spot.ensures.answer) c.requires.customer;
+      item = item_is_on _ _ _ _ _ (looks_only _ _ _ _ _ _ _ _ _ _ _ c.in_ok-free.ensures.answer
+          c.in_ok-price.ensures.answer c.in_ok-spot.ensures.answer) c.requires.item;
+      range = c.requires.range;
+    };
+    offered = offered _ _ _ _ _ _ _ _ c.in_ok-free.ensures.answer c.if-free-num.false c.in_ok-price.ensures.answer
+        (sought_only _ _ _ _ _ c.in_ok-spot.ensures.answer);
+  };
+  booking = booking_held _ _ (c.args.kind, c.args.id) _ _ c.in-Some.is
+      (spot_held _ _ _ _ (c.args.kind, c.args.id) _ (customer_is_on _ _ _ _
+      (loads_only _ _ _ _ _ _ _ c.in_ok-free.ensures.answer c.in_ok-price.ensures.answer) c.requires.customer)
+      c.in_ok-spot.ensures.answer);
+}
 
-pub extend_booking-requires-clause-customer : goal.extend_booking-requires-clause-customer
-extend_booking-requires-clause-customer g c = customer_is_on _ _ _ _
-    (looks_only _ _ _ _ _ _ _ _ _ _ _ c.in_ok-free.ensures.answer c.in_ok-price.ensures.answer
-    c.in_ok-spot.ensures.answer) c.requires.customer
-
-pub extend_booking-requires-clause-item : goal.extend_booking-requires-clause-item
-extend_booking-requires-clause-item g c = item_is_on _ _ _ _ _
-    (looks_only _ _ _ _ _ _ _ _ _ _ _ c.in_ok-free.ensures.answer c.in_ok-price.ensures.answer
-    c.in_ok-spot.ensures.answer) c.requires.item
-
-pub extend_booking-requires-clause-offered : goal.extend_booking-requires-clause-offered
-extend_booking-requires-clause-offered g c =
-    offered _ _ _ _ _ _ _ _ c.in_ok-free.ensures.answer c.if-free-num.false c.in_ok-price.ensures.answer
-    (sought_only _ _ _ _ _ c.in_ok-spot.ensures.answer)
-
-pub extend_booking-requires-clause-booking : goal.extend_booking-requires-clause-booking
-extend_booking-requires-clause-booking g c =
-    booking_held _ _ (c.args.kind, c.args.id) _ _ c.in-Some.is
-    (spot_held _ _ _ _ (c.args.kind, c.args.id) _ (customer_is_on _ _ _ _
-    (loads_only _ _ _ _ _ _ _ c.in_ok-free.ensures.answer c.in_ok-price.ensures.answer) c.requires.customer)
-    c.in_ok-spot.ensures.answer)
-
-pub add_booking-requires-clause-state : goal.add_booking-requires-clause-state
-add_booking-requires-clause-state g c = held_on _ _ (looks_only _ _ _ _ _ _ _ _ _ _ _ c.in_ok-free.ensures.answer
-    c.in_ok-price.ensures.answer c.in_ok-spot.ensures.answer) c.requires.state
-
-pub add_booking-requires-clause-customer : goal.add_booking-requires-clause-customer
-add_booking-requires-clause-customer g c = customer_is_on _ _ _ _
-    (looks_only _ _ _ _ _ _ _ _ _ _ _ c.in_ok-free.ensures.answer c.in_ok-price.ensures.answer
-    c.in_ok-spot.ensures.answer) c.requires.customer
-
-pub add_booking-requires-clause-item : goal.add_booking-requires-clause-item
-add_booking-requires-clause-item g c = item_is_on _ _ _ _ _ (looks_only _ _ _ _ _ _ _ _ _ _ _
-    c.in_ok-free.ensures.answer c.in_ok-price.ensures.answer c.in_ok-spot.ensures.answer) c.requires.item
-
-pub add_booking-requires-clause-offered : goal.add_booking-requires-clause-offered
-add_booking-requires-clause-offered g c =
-    offered _ _ _ _ _ _ _ _ c.in_ok-free.ensures.answer c.if-free-num.false c.in_ok-price.ensures.answer
-    (sought_only _ _ _ _ _ c.in_ok-spot.ensures.answer)
+pub add_booking-requires-clause-ready : goal.add_booking-requires-clause-ready
+add_booking-requires-clause-ready g c = record {
+  serve = record {
+    state = held_on _ _ (looks_only _ _ _ _ _ _ _ _ _ _ _ c.in_ok-free.ensures.answer
+        c.in_ok-price.ensures.answer c.in_ok-spot.ensures.answer) c.requires.state;
+    customer = customer_is_on _ _ _ _ (looks_only _ _ _ _ _ _ _ _ _ _ _ c.in_ok-free.ensures.answer
+        c.in_ok-price.ensures.answer c.in_ok-spot.ensures.answer) c.requires.customer;
+    item = item_is_on _ _ _ _ _ (looks_only _ _ _ _ _ _ _ _ _ _ _ c.in_ok-free.ensures.answer
+        c.in_ok-price.ensures.answer c.in_ok-spot.ensures.answer) c.requires.item;
+    range = c.requires.range;
+  };
+  offered = offered _ _ _ _ _ _ _ _ c.in_ok-free.ensures.answer c.if-free-num.false c.in_ok-price.ensures.answer
+      (sought_only _ _ _ _ _ c.in_ok-spot.ensures.answer);
+}
 
 pub add_booking-requires-clause-spot : goal.add_booking-requires-clause-spot
 add_booking-requires-clause-spot g c =

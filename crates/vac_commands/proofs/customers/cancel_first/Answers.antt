@@ -18,29 +18,22 @@ unreachable-requires g c =
     c.requires.first
     (rw c.in-None.is at c.in_ok-find_item.ensures.answer) (g.met.M.TxRead.seen c.find_item.new.memory)
 
-pub cancel_at-requires-clause-state : goal.cancel_at-requires-clause-state
-cancel_at-requires-clause-state g c =
-    held_on _ _ (reads_of _ _ _ _ _ c.in_ok-kind.ensures.answer c.in_ok-find_item.ensures.reads) c.requires.state
-
-pub cancel_at-requires-clause-customer : goal.cancel_at-requires-clause-customer
-cancel_at-requires-clause-customer g c =
-    customer_is_on _ _ _ _ (reads_of _ _ _ _ _ c.in_ok-kind.ensures.answer c.in_ok-find_item.ensures.reads)
-    c.requires.customer
-
-pub cancel_at-requires-clause-item : goal.cancel_at-requires-clause-item
-cancel_at-requires-clause-item g c = item_found_at _ _ _ _ (rw c.in-Some.is at c.in_ok-find_item.ensures.answer)
+pub cancel_at-requires-clause-ready : goal.cancel_at-requires-clause-ready
+cancel_at-requires-clause-ready g c = record {
+  state = held_on _ _ (reads_of _ _ _ _ _ c.in_ok-kind.ensures.answer c.in_ok-find_item.ensures.reads)
+      c.requires.state;
+  customer = customer_is_on _ _ _ _ (reads_of _ _ _ _ _ c.in_ok-kind.ensures.answer c.in_ok-find_item.ensures.reads)
+      c.requires.customer;
+  item = item_found_at _ _ _ _ (rw c.in-Some.is at c.in_ok-find_item.ensures.answer);
+  range = cancel_range _ _ _ _ _ _ _ c.in_ok-kind.ensures.answer c.in_ok-find_item.ensures.reads c.requires.state
+      c.requires.first _ c.requires.range (rw c.in-Some.is at c.in_ok-find_item.ensures.answer)
+      (g.met.M.TxRead.seen c.find_item.new.memory);
+}
 
 pub cancel_at-requires-clause-spot : goal.cancel_at-requires-clause-spot
 cancel_at-requires-clause-spot g c =
     rw (c.word.ensures, c.addr.ensures) (its_spot _ _ _ _ _ _ _ c.in_ok-kind.ensures.answer
     c.in_ok-find_item.ensures.reads c.requires.state c.requires.first c.requires.customer)
-
-pub cancel_at-requires-clause-range : goal.cancel_at-requires-clause-range
-cancel_at-requires-clause-range g c =
-    cancel_range _ _ _ _ _ _ _ c.in_ok-kind.ensures.answer c.in_ok-find_item.ensures.reads c.requires.state
-    c.requires.first
-    _ c.requires.range (rw c.in-Some.is at c.in_ok-find_item.ensures.answer)
-    (g.met.M.TxRead.seen c.find_item.new.memory)
 
 pub returns-clause-answer : goal.returns-clause-answer
 returns-clause-answer g c =

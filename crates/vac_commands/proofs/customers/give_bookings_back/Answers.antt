@@ -24,25 +24,20 @@ returns-in_default-clause-answer g c =
     none_first _ _ _ _ _ _ _ c.word-head.ensures c.loop.invariant.customer.some
     (rw c.in_default.is at c.in_ok-booking.ensures.answer) c.loop.invariant.given
 
-pub cancel_first-requires-clause-state : goal.cancel_first-requires-clause-state
-cancel_first-requires-clause-state g c =
+pub cancel_first-requires : goal.cancel_first-requires
+cancel_first-requires g c =
     let f = c.in_ok-booking.ensures.answer in
-    held_on _ _ (record { kept = f.kept; writes = f.writes }) c.loop.invariant.state
-
-pub cancel_first-requires-clause-customer : goal.cancel_first-requires-clause-customer
-cancel_first-requires-clause-customer g c =
-    let f = c.in_ok-booking.ensures.answer in
-    customer_is_on _ _ _ _ (record { kept = f.kept; writes = f.writes }) c.loop.invariant.customer
-
-pub cancel_first-requires-clause-first : goal.cancel_first-requires-clause-first
-cancel_first-requires-clause-first g c =
-    let f = c.in_ok-booking.ensures.answer in
-    starts_at _ _ _ _ _ _ c.word-head.ensures (held_on _ _ (record {
-      kept = f.kept;
-      writes = f.writes;
-    }) c.loop.invariant.state)
-    (customer_is_on _ _ _ _ (record { kept = f.kept; writes = f.writes }) c.loop.invariant.customer)
-    (rw c.in-Some.is at c.in_ok-booking.ensures.answer)
+    record {
+      state = held_on _ _ (record { kept = f.kept; writes = f.writes }) c.loop.invariant.state;
+      customer = customer_is_on _ _ _ _ (record { kept = f.kept; writes = f.writes }) c.loop.invariant.customer;
+      first = starts_at _ _ _ _ _ _ c.word-head.ensures (held_on _ _ (record {
+        kept = f.kept;
+        writes = f.writes;
+      }) c.loop.invariant.state)
+          (customer_is_on _ _ _ _ (record { kept = f.kept; writes = f.writes }) c.loop.invariant.customer)
+          (rw c.in-Some.is at c.in_ok-booking.ensures.answer);
+      range = c.requires.range;
+    }
 
 pub loop-preserved : goal.loop-preserved
 loop-preserved g c =

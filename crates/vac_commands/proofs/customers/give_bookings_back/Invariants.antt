@@ -8,6 +8,7 @@ abbrev pub invariant-loop : goal.invariant-loop
 invariant-loop g l = record {
   origin : g.M.TxRead.origin l.memory ≡ g.M.TxRead.origin l.fn.memory;
   state : HoldsState (g.M.TxRead.view l.memory);
-  customer : CustomerIsAt (g.M.TxRead.view l.memory) l.fn.id l.fn.customer;
-  given : GivenBack (g.M.TxRead.view l.fn.memory) (g.M.TxRead.view l.memory) l.fn.id l.fn.customer (262144 - l.counter);
+  customer : CustomerIsAt (g.M.TxRead.view l.memory) l.fn.who.customer l.fn.who.owner;
+  given : GivenBack (g.M.TxRead.view l.fn.memory) (g.M.TxRead.view l.memory) l.fn.who.customer l.fn.who.owner
+      (262144 - l.counter);
 }

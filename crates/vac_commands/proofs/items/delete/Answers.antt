@@ -23,13 +23,13 @@ returns-then-total-num-clause-answer g c =
     c.if-free-num.false c.if-total-num.true
     c.in_ok-take_units.ensures.answer c.in_ok-take_units.ensures.idle
 
-pub remove_item-requires-clause-state : goal.remove_item-requires-clause-state
-remove_item-requires-clause-state g c = held_on _ _ (read_twice _ _ _ _ _ _ _ _ c.in_ok-found.ensures.reads
-    c.in_ok-free.ensures.answer c.in_ok-total.ensures.answer) c.requires.state
-
-pub remove_item-requires-clause-item : goal.remove_item-requires-clause-item
-remove_item-requires-clause-item g c = item_there _ _ _ _ (at_after _ _ _ _ _ _ _ _ _ _
-    (rw c.in-Some.is at c.in_ok-found.ensures.answer) c.in_ok-free.ensures.answer c.in_ok-total.ensures.answer)
+pub remove_item-requires : goal.remove_item-requires
+remove_item-requires g c = record {
+  state = held_on _ _ (read_twice _ _ _ _ _ _ _ _ c.in_ok-found.ensures.reads
+      c.in_ok-free.ensures.answer c.in_ok-total.ensures.answer) c.requires.state;
+  item = item_there _ _ _ _ (at_after _ _ _ _ _ _ _ _ _ _
+      (rw c.in-Some.is at c.in_ok-found.ensures.answer) c.in_ok-free.ensures.answer c.in_ok-total.ensures.answer);
+}
 
 pub returns-clause-answer : goal.returns-clause-answer
 returns-clause-answer g c =

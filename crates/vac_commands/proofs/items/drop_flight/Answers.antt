@@ -12,13 +12,13 @@ pub returns-then-used-gt0-clause-answer : goal.returns-then-used-gt0-clause-answ
 returns-then-used-gt0-clause-answer g c = drop_used _ _ _ _ _ _ c.in_ok-found.ensures.reads
     (rw c.in-Some.is at c.in_ok-found.ensures.answer) c.in_ok-used.ensures.answer c.if-used-gt0.true
 
-pub remove_item-requires-clause-state : goal.remove_item-requires-clause-state
-remove_item-requires-clause-state g c = held_on _ _ (read_both _ _ _ c.in_ok-found.ensures.reads
-    (read_by _ _ _ _ c.in_ok-used.ensures.answer)) c.requires.state
-
-pub remove_item-requires-clause-item : goal.remove_item-requires-clause-item
-remove_item-requires-clause-item g c = item_there _ _ _ _ (item_at_on _ _ _ _ _
-    (read_by _ _ _ _ c.in_ok-used.ensures.answer) (rw c.in-Some.is at c.in_ok-found.ensures.answer))
+pub remove_item-requires : goal.remove_item-requires
+remove_item-requires g c = record {
+  state = held_on _ _ (read_both _ _ _ c.in_ok-found.ensures.reads
+      (read_by _ _ _ _ c.in_ok-used.ensures.answer)) c.requires.state;
+  item = item_there _ _ _ _ (item_at_on _ _ _ _ _
+      (read_by _ _ _ _ c.in_ok-used.ensures.answer) (rw c.in-Some.is at c.in_ok-found.ensures.answer));
+}
 
 pub returns-clause-answer : goal.returns-clause-answer
 returns-clause-answer g c = drop_done _ _ _ _ _ _ _ c.in_ok-found.ensures.reads

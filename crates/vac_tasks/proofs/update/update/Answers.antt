@@ -1,8 +1,14 @@
 use Rattle.std.proofs.Common.{◌≡◌, ◌<◌, ◌∙◌, arith, take, length}
 use Rattle.std.proofs.lemmas.List.{take_more, take_all, length-take-le}
 use Rattle.vac_commands.proofs.Held.{held_ran}
-use Rattle.vac_tasks.proofs.Parts.{changed_more, few_changes, updated}
+use Rattle.vac_tasks.proofs.Parts.{change_in_range, changed_more, few_changes, updated}
 use Rattle.vac_tasks.proofs.update.update.Goals as goal
+
+pub run_command-requires : goal.run_command-requires
+run_command-requires g c = record {
+  state = c.loop-i.invariant.state;
+  range = change_in_range c.args.changes.now c.loop-i.i _ c.loop-i-test.true c.requires.range;
+}
 
 pub loop-i-preserved : goal.loop-i-preserved
 loop-i-preserved g c =
