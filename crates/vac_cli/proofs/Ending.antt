@@ -1,5 +1,6 @@
 -- The last lines of the program.
-use Rattle.std.proofs.Common.{ℕ, Bool, true, false, List, [], sym, subst, ◌∙◌, ◌⊎◌, inl, inr, append-nil, Option, Some, None}
+use Rattle.std.proofs.Common.{ℕ, Bool, true, false, List, [], sym, subst, ◌∙◌, ◌⊎◌, inl, inr, append-nil, Option, Some}
+use Rattle.std.proofs.Common.{None}
 use Rattle.std.specs.Prelude.{Result, Ok, Err, OnOk, OnErr, IfOk, IfErr}
 use Rattle.std.specs.Io.KnownBytes.{Appends}
 use Rattle.vac_lines.specs.Writing.{AppendsPrefix}
