@@ -1,5 +1,5 @@
 -- Lines of attempts that are sent one after the other.
-use Rattle.std.proofs.Common.{◌≡◌, ◌∙◌, ◌+◌, ◌<◌, ◌⊎◌, inl, inr, sym, ap, subst, ℕ, true, Result, Ok, Err, List, []}
+use Rattle.std.proofs.Common.{◌≡◌, ◌∙◌, ◌+◌, ◌<◌, inl, inr, sym, ap, subst, ℕ, true, List, []}
 use Rattle.std.proofs.Common.{◌∷◌, ◌++◌, Option, length, take, drop, get_or, map, append-nil, take-append-drop}
 use Rattle.std.proofs.lemmas.Grind.{flat_map-append}
 use Rattle.std.proofs.lemmas.List.{map-append, take_more}
@@ -8,9 +8,6 @@ use Rattle.std.specs.List.Sorted.{IsPermutation}
 use Rattle.std.specs.Io.KnownBytes.{Appends}
 use Rattle.std.proofs.KnownBytes.{Appends-nil}
 use Rattle.vac_lines.specs.Writing.{AppendsPrefix}
-use Rattle.std.specs.Prelude.{IfErr}
-use Rattle.vac_streams.specs.declared.fault.StreamFault.{StreamFault}
-use Rattle.vac_streams.specs.declared.fault.StreamFault.TheVariants.{Memory, Write}
 use Rattle.vac_streams.specs.Sent.{Sent}
 use Rattle.vac_streams.proofs.Texts.{sent_both, part_second, prefix_longer, prefix_is, none_written, sent_end}
 use Rattle.vac_streams.proofs.Texts.{sent_end_in_part}
@@ -36,12 +33,6 @@ text_more lines place line low at =
     ap text_of (take_more lines place line low) ∙ ap (λ (l : Line). text_of (take place lines ++ l ∷ [])) (sym at)
     ∙ text_both (take place lines) (line ∷ []) ∙ ap (λ t. text_of (take place lines) ++ t)
     (append-nil (line_text (line_entry line)))
-
--- a fault of a write is one of the two that can come
-pub write_fault : {T : Type 0} (r : Result T StreamFault) → IfErr r (λ fault. fault ≡ Write) →
-    IfErr r (λ fault. (fault ≡ Memory) ⊎ (fault ≡ Write))
-write_fault (Ok t) h = tt
-write_fault (Err e) h = inr h
 
 -- nothing was sent yet
 pub none_sent : (held : Option (List ℕ)) (hand : List ℕ) → hand ≡ [] → Sent held held [] hand []

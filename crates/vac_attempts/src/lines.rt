@@ -19,7 +19,7 @@ pub(crate) struct Line<'a> {
 }
 
 /// Appends a text and a number in decimal.
-fn append_field(out: &mut Vec<u8>, text: &[u8], number: u64) -> Result<(), AllocError>
+pub fn append_field(out: &mut Vec<u8>, text: &[u8], number: u64) -> Result<(), AllocError>
     ensures { OnOk result (out.new.items ≡ out.old.items ++ field_text text.now number) }
 {
     out.extend_from_slice(text)?;

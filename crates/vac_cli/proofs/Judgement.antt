@@ -1,12 +1,14 @@
 -- How a judgement ends by a fault.
-use Rattle.std.proofs.Common.{◌≡◌, ◌≢◌, ◌⊎◌, ◌++◌, ◌∙◌, ap, sym, subst, inl, inr, ℕ, Bool, true, false, List, []}
+use Rattle.std.proofs.Common.{◌≡◌, ◌≢◌, ◌⊎◌, ◌++◌, ◌∙◌, refl, ap, sym, subst, inl, inr, ℕ, Bool, true, false, List, []}
 use Rattle.std.proofs.Common.{append-nil, Option, Some, None}
+use Rattle.std.specs.Borrow.{Bor}
+use Rattle.std.specs.Prelude.{Result, Ok, Err, IfOk, IfErr, IsSome, option_map}
 use Rattle.std.specs.Io.KnownBytes.{Appends}
 use Rattle.std.proofs.Math.Seq.{take-nil}
 use Rattle.vac_lines.specs.Writing.{AppendsPrefix}
 use Rattle.vac_judge.specs.Reading.{HasStoppedJudging}
-use Rattle.vac_cli.specs.Ending.{fault_line}
-use Rattle.vac_judge.specs.HeldReading.{HasHeldStopped}
+use Rattle.vac_cli.specs.Ending.{fault_line, EndsJudged}
+use Rattle.vac_judge.specs.HeldReading.{HasHeld, HasHeldStopped}
 use Rattle.vac_streams.specs.declared.fault.StreamFault.{StreamFault}
 use Rattle.vac_streams.specs.declared.fault.StreamFault.TheVariants as stream
 use Rattle.vac_order.specs.declared.ordering.Outcome.{Outcome}
@@ -14,9 +16,9 @@ use Rattle.vac_order.specs.declared.ordering.Outcome.TheVariants as outcome
 use Rattle.vac_order.specs.Ordering.{HasText, HasOrdered}
 use Rattle.vac_order.specs.Ordering as order
 use Rattle.vac_opaque.specs.Reading as opaque
-use Rattle.vac_cli.specs.Judging.{Judges, JudgesHeld, JudgeStopped, WorkStopped}
-use Rattle.vac_cli.specs.Ordering.{OrderStopped, FindsNone, JudgesAnyOrder, JudgesAnyHeld, status_of}
-use Rattle.vac_cli.specs.Asking.{AttemptsStopped}
+use Rattle.vac_cli.specs.Judging.{Judges, JudgesHeld, JudgesWith, JudgeStopped, WorkStopped, NotOpened}
+use Rattle.vac_cli.specs.Ordering.{OrderStopped, FindsNone, JudgesAnyOrder, JudgesAnyHeld, JudgesAnyWith, status_of}
+use Rattle.vac_cli.specs.Asking.{AttemptsStopped, JudgesAs}
 use Rattle.vac_cli.proofs.Ending.{nothing_then}
 
 -- where nothing was written behind it
@@ -196,3 +198,79 @@ found_held tasks blocks steps status unread left rest held middle holds text has
       judged = subst (λ h. JudgesHeld tasks blocks status
           (Some text) rest h holds) same judged;
     })
+
+-- a history was judged and held against work
+pub held_judged : (tasks rest : Option (List ℕ)) (blocks : ℕ) (r : Result Bool StreamFault) (status : ℕ)
+    (unread left held middle holds : Option (List ℕ))
+    → IfOk r (λ legal. HasHeld blocks legal tasks rest unread left held middle)
+    → IfErr r (λ fault. HasHeldStopped blocks fault tasks rest unread left held middle)
+    → EndsJudged r status middle holds → JudgesHeld tasks blocks status unread left held holds
+held_judged tasks rest blocks (Ok true) status unread left held middle holds ok err e =
+    inl (e.0, (rest, subst (λ h. HasHeld blocks true tasks rest unread left held h) (sym e.1) ok))
+held_judged tasks rest blocks (Ok false) status unread left held middle holds ok err e =
+    inr (e.0, inl (rest, subst (λ h. HasHeld blocks false tasks rest unread left held h) (sym e.1) ok))
+held_judged tasks rest blocks (Err fault) status unread left held middle holds ok err e =
+    inr (e.0, inr (work_stopped tasks rest blocks fault unread left held middle holds err e.1))
+
+-- ---- as it is asked for
+
+-- an order was found, and its lines were judged
+pub found_with : (work : Option (Option (List ℕ))) (blocks steps status : ℕ)
+    (unread left rest held middle holds : Option (List ℕ)) (text : List ℕ)
+    → HasText blocks steps unread left outcome.Ordered text → middle ≡ held
+    → JudgesWith work blocks status (Some text) rest middle holds
+    → JudgesAnyWith work blocks steps status unread left held holds
+found_with None blocks steps status unread left rest held middle holds text has same judged =
+    found_judged blocks steps status unread left rest held middle holds text has same judged
+found_with (Some tasks) blocks steps status unread left rest held middle holds text has same judged =
+    found_held tasks blocks steps status unread left rest held middle holds text has same judged
+
+-- no order was found
+pub none_with : (work : Option (Option (List ℕ))) (blocks steps status : ℕ) (unread left held holds : Option (List ℕ))
+    → FindsNone blocks steps status unread left held holds
+    → JudgesAnyWith work blocks steps status unread left held holds
+none_with None blocks steps status unread left held holds none = inr none
+none_with (Some tasks) blocks steps status unread left held holds none = inr none
+
+-- the work that the file of this name has
+abbrev pub work_in : (List ℕ → Option (List ℕ)) → Option (Bor (List ℕ)) → Option (Option (List ℕ))
+work_in files name = option_map (λ n. files n.now) name
+
+-- the calls were judged in their own order
+pub judged_as : (files : List ℕ → Option (List ℕ)) (any : Bool) (name : Option (Bor (List ℕ)))
+    (work : Option (Option (List ℕ))) (blocks steps status : ℕ) (unread left held middle holds : Option (List ℕ))
+    → any ≡ false → work ≡ work_in files name → middle ≡ held
+    → JudgesWith work blocks status unread left middle holds
+    → JudgesAs files any name blocks steps status unread left held holds
+judged_as files true name work blocks steps status unread left held middle holds e is same judged =
+    absurd (let k : true ≡ false = e in cc)
+judged_as files false None work blocks steps status unread left held middle holds e is same judged =
+    subst (λ h. JudgesWith None blocks status unread left h holds) same
+    (subst (λ w. JudgesWith w blocks status unread left middle holds) is judged)
+judged_as files false (Some name) work blocks steps status unread left held middle holds e is same judged =
+    inl (subst (λ h. JudgesHeld (files name.now) blocks status unread left h holds) same
+    (subst (λ w. JudgesWith w blocks status unread left middle holds) is judged))
+
+-- they were judged in an order that was found
+pub any_judged_as : (files : List ℕ → Option (List ℕ)) (any : Bool) (name : Option (Bor (List ℕ)))
+    (work : Option (Option (List ℕ))) (blocks steps status : ℕ) (unread left held middle holds : Option (List ℕ))
+    → any ≡ true → work ≡ work_in files name → middle ≡ held
+    → JudgesAnyWith work blocks steps status unread left middle holds
+    → JudgesAs files any name blocks steps status unread left held holds
+any_judged_as files false name work blocks steps status unread left held middle holds e is same judged =
+    absurd (let k : false ≡ true = e in cc)
+any_judged_as files true None work blocks steps status unread left held middle holds e is same judged =
+    subst (λ h. JudgesAnyWith None blocks steps status unread left h holds) same
+    (subst (λ w. JudgesAnyWith w blocks steps status unread left middle holds) is judged)
+any_judged_as files true (Some name) work blocks steps status unread left held middle holds e is same judged =
+    inl (subst (λ h. JudgesAnyHeld (files name.now) blocks steps status unread left h holds) same
+    (subst (λ w. JudgesAnyWith w blocks steps status unread left middle holds) is judged))
+
+-- the file was not opened
+pub not_opened_as : (files : List ℕ → Option (List ℕ)) (any : Bool) (name : Option (Bor (List ℕ)))
+    (blocks steps status : ℕ) (unread held holds : Option (List ℕ)) → IsSome name → NotOpened status held holds
+    → JudgesAs files any name blocks steps status unread unread held holds
+not_opened_as files any None blocks steps status unread held holds some not =
+    absurd (let k : false ≡ true = some in cc)
+not_opened_as files false (Some name) blocks steps status unread held holds some not = inr (refl, not)
+not_opened_as files true (Some name) blocks steps status unread held holds some not = inr (refl, not)

@@ -1,7 +1,7 @@
 -- How a load ends that writes its attempts.
 use Rattle.std.proofs.Common.{◌≡◌, ◌∙◌, ◌&&◌, ◌≤◌, ◌↔◌, inl, inr, refl, sym, ap, subst, arith, ℕ, Bool, true, false}
-use Rattle.std.proofs.Common.{Err, nat_eq, List, [], ◌∷◌, Option, map}
-use Rattle.std.specs.Prelude.{IsErrOf}
+use Rattle.std.proofs.Common.{Ok, Err, nat_eq, List, [], ◌∷◌, Option, map}
+use Rattle.std.specs.Prelude.{Result, IsErrOf, OnOk, OnErr, IfErr}
 use Rattle.std.proofs.lemmas.Bool.Decides.{nat_tests}
 use Rattle.vac_load.specs.Load.{is_load}
 use Rattle.vac_draws.specs.declared.settings.Settings.{Settings}
@@ -13,7 +13,7 @@ use Rattle.vac_attempts.specs.Text.{WroteAttempts, WroteAttemptsPrefix}
 use Rattle.vac_load.specs.declared.load.LoadFault.TheVariants as load
 use Rattle.vac_streams.specs.declared.fault.StreamFault.{StreamFault}
 use Rattle.vac_lines.specs.Writing.{AppendsPrefix}
-use Rattle.vac_cli.specs.Ending.{load_fault_line, fault_line, CanStopWriting}
+use Rattle.vac_cli.specs.Ending.{load_fault_line, fault_line, CanStopWriting, EndsDone}
 use Rattle.vac_load.specs.declared.load.LoadFault.{LoadFault}
 use Rattle.vac_cli.specs.Load.{HasNoted, IsFaultBySeed}
 use Rattle.vac_cli.specs.Program.{Tries}
@@ -77,6 +77,17 @@ module _ {W : Type 0} (s : Settings) (opening : Ledger W) (clients : List (Ledge
       ),
     ),
   )
+
+  -- they were written, in whole or in part, and then the load ended
+  pub ended_tried : {T : Type 0} (r : Result T StreamFault) (status : ℕ) (held middle holds : Option (List ℕ)) →
+      OnOk r (WroteAttempts s.blocks (pages_of opening clients) held middle) →
+      OnErr r (WroteAttemptsPrefix s.blocks (pages_of opening clients) held middle) → IfErr r CanStopWriting →
+      EndsDone r status middle holds → Tries status s held holds
+  ended_tried (Ok t) status held middle holds ok err can e =
+      subst (λ (n : ℕ). Tries n s held holds) (sym e.0)
+      (wrote_tried held holds (subst (WroteAttempts s.blocks (pages_of opening clients) held) (sym e.1) ok))
+  ended_tried (Err fault) status held middle holds ok err can e =
+      stopped_tried status fault held middle holds e.0 err can e.1
 
 -- a load whose settings fit each other ended by a fault
 pub tried_fault : (s : Settings) (fault : LoadFault) (status : ℕ) (held holds : Option (List ℕ)) →

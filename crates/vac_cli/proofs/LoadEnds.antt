@@ -1,6 +1,7 @@
 -- How a load ends.
 use Rattle.std.proofs.Common.{◌≡◌, ◌≤◌, ◌↔◌, ◌&&◌, ◌⊎◌, inl, inr, refl, ℕ, zero, suc, Bool, true, false, List, Option}
-use Rattle.std.proofs.Common.{map, arith}
+use Rattle.std.proofs.Common.{map, arith, sym, subst}
+use Rattle.std.specs.Prelude.{Result, Ok, Err, OnOk, OnErr, IfErr}
 use Rattle.std.proofs.lemmas.Bool.Decides.{nat_tests}
 use Rattle.vac_draws.specs.declared.settings.Settings.{Settings}
 use Rattle.vac_draws.specs.Streams.{stream_of}
@@ -13,6 +14,7 @@ use Rattle.vac_history.specs.History.{notes_of, kept_by, call_of_entry, calls_te
 use Rattle.vac_history.specs.Legal.{AreLegal, JudgedByPrecedence}
 use Rattle.vac_history.proofs.Legality.{texts_up_to_precedence}
 use Rattle.vac_judge.specs.CallText.{IsTheirHistory}
+use Rattle.vac_load.specs.declared.load.LoadFault.{LoadFault}
 use Rattle.vac_load.specs.declared.load.LoadFault.TheVariants as load
 use Rattle.vac_load.specs.declared.load.LoadReport.{LoadReport}
 use Rattle.vac_load.specs.Streams.{LoadedBySeed}
@@ -20,8 +22,8 @@ use Rattle.vac_streams.specs.declared.fault.StreamFault.{StreamFault}
 use Rattle.vac_streams.specs.declared.fault.StreamFault.TheVariants as stream
 use Rattle.std.specs.Io.KnownBytes.{Appends}
 use Rattle.vac_lines.specs.Writing.{AppendsPrefix}
-use Rattle.vac_cli.specs.Ending.{load_fault_line, fault_line, CanStopWriting}
-use Rattle.vac_cli.specs.Load.{load_text, NamedFault, LoadEnded, HasNoted}
+use Rattle.vac_cli.specs.Ending.{load_fault_line, fault_line, CanStopWriting, EndsDone}
+use Rattle.vac_cli.specs.Load.{load_text, NamedFault, LoadEnded, HasNoted, IsFaultBySeed}
 use Rattle.vac_cli.specs.Program.{Loads}
 use Rattle.vac_cli.proofs.Turning.{each_ordered, each_in_turn}
 use Rattle.vac_cli.proofs.Recorded.{load_legal}
@@ -142,6 +144,31 @@ module _ {C : Type 0} (s : Settings) (opening : Journal C) (clients : List (Jour
       ),
     ),
   )
+
+  -- they were written, in whole or in part, and then the load ended
+  pub ended_calls : {T : Type 0} (r : Result T StreamFault) (status : ℕ) (held middle holds : Option (List ℕ)) →
+      OnOk r (WroteHistory (kept_by opening clients) held middle) →
+      OnErr r (WroteHistoryPrefix (kept_by opening clients) held middle) → IfErr r CanStopWriting →
+      EndsDone r status middle holds → Loads true status s held holds
+  ended_calls (Ok t) status held middle holds ok err can e =
+      subst (λ (n : ℕ). Loads true n s held holds) (sym e.0)
+      (wrote_calls held holds (subst (WroteHistory (kept_by opening clients) held) (sym e.1) ok))
+  ended_calls (Err fault) status held middle holds ok err can e =
+      stopped_calls status fault held middle holds e.0 err can e.1
+
+-- a load whose settings fit each other ended by a fault
+pub ended_by_fault : (history : Bool) (s : Settings) (fault : LoadFault) (status : ℕ) (held holds : Option (List ℕ)) →
+    is_settings s ≡ true → (fault ≡ load.Arguments → ⊥) → IsFaultBySeed s fault → 1 ≤ status → status ≤ 2
+    → ((status ≡ 2) ↔ (fault ≡ load.Arguments)) → AppendsPrefix held holds (load_fault_line fault) →
+    Loads history status s held holds
+ended_by_fault history s fault status held holds fits is_not why low high refused line =
+    inl (
+      fits,
+      inr (
+        one_of status low high (λ two. is_not (refused.0 two)),
+        named history s held holds (fault, is_not, why, line),
+      ),
+    )
 
 -- there are few clients
 pub few_clients : (s : Settings) → is_settings s ≡ true → s.clients ≤ 64

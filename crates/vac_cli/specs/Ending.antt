@@ -1,5 +1,5 @@
 -- How the program says that a fault ended it.
-use Rattle.std.specs.Prelude.{◌≡◌, ◌⊎◌, ℕ, Option, List, [], codes}
+use Rattle.std.specs.Prelude.{◌≡◌, ◌⊎◌, ℕ, Bool, true, false, Option, Result, Ok, Err, List, [], codes}
 use Rattle.vac_lines.specs.Script.{as_line}
 use Rattle.vac_lines.specs.Writing.{AppendsPrefix}
 use Rattle.vac_streams.specs.declared.fault.StreamFault.{StreamFault}
@@ -30,6 +30,21 @@ load_fault_line (load.Opening fault) = as_line (codes "fault opening")
 -- the output is flushed. Tests use streams that fail.
 abbrev pub EndsWithStatus : ℕ → Type 0 → Type 0 → Type 0
 EndsWithStatus status done stopped = ((status ≡ 0) × done) ⊎ ((status ≡ 1) × stopped)
+
+-- how the program ends after its work: 0 where it was done; 1 after a fault, and a prefix of the
+-- line that names it was written
+abbrev pub EndsDone : {T : Type 0} → Result T StreamFault → ℕ → Option (List ℕ) → Option (List ℕ)
+    → Type 0
+EndsDone (Ok t) status held holds = (status ≡ 0) × (holds ≡ held)
+EndsDone (Err fault) status held holds =
+    (status ≡ 1) × AppendsPrefix held holds (fault_line fault)
+
+-- the same after a judgement: 0 where what was judged is right, and 1 where it is not
+abbrev pub EndsJudged : Result Bool StreamFault → ℕ → Option (List ℕ) → Option (List ℕ) → Type 0
+EndsJudged (Ok true) status held holds = (status ≡ 0) × (holds ≡ held)
+EndsJudged (Ok false) status held holds = (status ≡ 1) × (holds ≡ held)
+EndsJudged (Err fault) status held holds =
+    (status ≡ 1) × AppendsPrefix held holds (fault_line fault)
 
 -- a fault that can stop what only writes
 abbrev pub CanStopWriting : StreamFault → Type 0

@@ -1,5 +1,5 @@
 -- What the program does with a history: its status, and what it reads and writes.
-use Rattle.std.specs.Prelude.{◌≡◌, ◌≢◌, ◌⊎◌, ℕ, Bool, true, false, Option, List}
+use Rattle.std.specs.Prelude.{◌≡◌, ◌≢◌, ◌⊎◌, ℕ, Bool, true, false, Option, Some, None, List}
 use Rattle.vac_lines.specs.Writing.{AppendsPrefix}
 use Rattle.vac_streams.specs.declared.fault.StreamFault.{StreamFault}
 use Rattle.vac_streams.specs.declared.fault.StreamFault.TheVariants.{Memory, Write}
@@ -69,3 +69,10 @@ abbrev pub JudgesWork : Option (List ℕ) → ℕ → ℕ → Option (List ℕ) 
 JudgesWork tasks blocks status unread left held holds =
     JudgesHeld tasks blocks status unread left held holds
     ⊎ ((left ≡ unread) × NotOpened status held holds)
+
+-- a history is judged, and held against work of which these bytes are known, where there is any
+abbrev pub JudgesWith : Option (Option (List ℕ)) → ℕ → ℕ → Option (List ℕ) → Option (List ℕ)
+    → Option (List ℕ) → Option (List ℕ) → Type 0
+JudgesWith None blocks status unread left held holds = Judges blocks status unread left held holds
+JudgesWith (Some tasks) blocks status unread left held holds =
+    JudgesHeld tasks blocks status unread left held holds

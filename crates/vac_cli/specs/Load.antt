@@ -1,5 +1,6 @@
 -- The lines that a load writes.
-use Rattle.std.specs.Prelude.{◌≢◌, ℕ, ◌⊎◌, true, false, Bool, List, ◌∷◌, ◌++◌, map, Option, codes}
+use Rattle.std.specs.Prelude.{◌≡◌, ◌≢◌, ◌↔◌, ℕ, ◌⊎◌, true, false, Bool, List, ◌∷◌, ◌++◌, map}
+use Rattle.std.specs.Prelude.{Option, codes, vec_len, Result, IfOk, IfErr, IsErrOf}
 use Rattle.std.specs.Io.KnownBytes.{Appends}
 use Rattle.vac_lines.specs.Script.{as_line}
 use Rattle.vac_lines.specs.Text.{field_text, report_text}
@@ -19,8 +20,11 @@ use Rattle.vac_judge.specs.CallText.{IsTheirHistory}
 use Rattle.vac_attempts.specs.Pages.{Page}
 use Rattle.vac_attempts.specs.Text.{WroteAttempts, WroteAttemptsPrefix}
 use Rattle.vac_load.specs.Lists.{Paired}
-use Rattle.vac_load.specs.Load.{IsLoadFault}
-use Rattle.vac_load.specs.Streams.{LoadedBySeed}
+use Rattle.vac_load.specs.declared.efforts.Efforts.{Efforts}
+use Rattle.vac_load.specs.declared.seats.Keepers.{Keepers}
+use Rattle.vac_load.specs.Keeping.{KeptNotes}
+use Rattle.vac_load.specs.Load.{IsLoadFault, is_load}
+use Rattle.vac_load.specs.Streams.{LoadedBySeed, KeptBySeed}
 use Rattle.vac_lines.specs.Writing.{AppendsPrefix}
 use Rattle.vac_cli.specs.Ending.{NamedAfterWriting, load_fault_line}
 
@@ -55,6 +59,15 @@ pub record WroteLoadInPart (s : Settings) (held holds : Option (List ℕ)) : Typ
 -- why the load of a seed was not run to its end: its opening draws from stream 0
 abbrev pub IsFaultBySeed : Settings → LoadFault → Type 0
 IsFaultBySeed s fault = IsLoadFault gives s (stream_of s.seed 0) fault
+
+-- a load of these settings was run with these keepers, or refused where they do not fit: what they
+-- kept, or why it was not run to its end
+pub record RunsKept {K : Type 0} (notes : K → KeptNotes) (s : Settings) (keepers : Keepers K)
+    (result : Result (LoadReport × Efforts × Keepers K) LoadFault) : Type 0 where
+  pub arguments : IsErrOf result load.Arguments
+      ↔ (is_load s (vec_len keepers.clients) ≡ false)
+  pub kept : IfOk result (λ r. KeptBySeed notes s r.0.tally r.0.report keepers r.2)
+  pub refused : IfErr result (λ fault. IsFaultBySeed s fault)
 
 -- a load of these settings was stopped by a fault, which is not that they do not fit each other,
 -- and a prefix of the line that names it was written

@@ -1,5 +1,5 @@
 -- What the program does where it looks for an order: its status, and what it reads and writes.
-use Rattle.std.specs.Prelude.{◌≡◌, ◌≢◌, ◌⊎◌, ℕ, Option, Some, List}
+use Rattle.std.specs.Prelude.{◌≡◌, ◌≢◌, ◌⊎◌, ℕ, Option, Some, None, List}
 use Rattle.vac_order.specs.declared.ordering.Outcome.{Outcome}
 use Rattle.vac_order.specs.declared.ordering.Outcome.TheVariants as outcome
 use Rattle.vac_order.specs.Ordering.{HasText, HasOrdered, HasOrderedInPart}
@@ -79,3 +79,12 @@ abbrev pub JudgesAnyWork : Option (List ℕ) → ℕ → ℕ → ℕ → Option 
 JudgesAnyWork tasks blocks steps status unread left held holds =
     JudgesAnyHeld tasks blocks steps status unread left held holds
     ⊎ ((left ≡ unread) × NotOpened status held holds)
+
+-- a history is judged in an order that is found for it, and held against work of which these bytes
+-- are known, where there is any
+abbrev pub JudgesAnyWith : Option (Option (List ℕ)) → ℕ → ℕ → ℕ → Option (List ℕ)
+    → Option (List ℕ) → Option (List ℕ) → Option (List ℕ) → Type 0
+JudgesAnyWith None blocks steps status unread left held holds =
+    JudgesAnyOrder blocks steps status unread left held holds
+JudgesAnyWith (Some tasks) blocks steps status unread left held holds =
+    JudgesAnyHeld tasks blocks steps status unread left held holds

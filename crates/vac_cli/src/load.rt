@@ -11,22 +11,31 @@ ghost use Rattle.vac_streams.specs.declared.fault.StreamFault.TheVariants.{Memor
 ghost use Rattle.vac_cli.specs.Ending.{fault_line};
 ghost use Rattle.vac_lines.specs.Script.{as_line};
 ghost use Rattle.vac_lines.specs.Writing.{AppendsPrefix};
-ghost use Rattle.vac_lines.specs.Text.{field_text, report_text};
+ghost use Rattle.vac_lines.specs.Text.{report_text};
 
-use crate::noting::{load_noted, run_told};
 use crate::stats::{Span, tell_stats};
 use crate::status::{DONE, FAULT, REFUSED, end_by, end_by_settings, end_load_by};
-use crate::tracing::load_traced;
+use crate::telling::run_told;
 use std::alloc::{AllocError, Global};
 use std::io::Write;
 use std::sync::Wait;
 use std::thread::Threads;
 use std::time::Clock;
+use vac_attempts::append_field;
 use vac_lines::{print_reply, write_and_flush};
 use vac_load::{LoadFault, LoadReport, Settings, Tally, no_keepers};
 use vac_model::{Reply, Report};
 use vac_options::How;
 use vac_streams::StreamFault;
+
+/// A load that is asked for, and what it runs on.
+#[derive(Drop)]
+pub(crate) struct AskedLoad<'a, T> {
+    pub(crate) rt: &'a T,
+    pub(crate) settings: &'a Settings,
+    /// What it is to write of itself.
+    pub(crate) how: How,
+}
 
 /// Says that a load cannot write both its history and its attempts, and returns the status of a
 /// refused command line.
@@ -54,40 +63,38 @@ pub(crate) fn load<T: Threads + Wait + Clock + Sync + AllocGlobal, W: Write, E: 
     ensures { LoadsAs how.history how.attempts result settings.now
         (W.contents output.old) (W.contents output.new) }
 {
+    let asked = AskedLoad { rt, settings, how };
     match (how.history, how.attempts) {
         (true, true) => refuse_both(errors),
-        (true, false) => load_noted(rt, settings, how, output, errors),
-        (false, true) => load_traced(rt, settings, how, output, errors),
-        (false, false) => load_reported(rt, settings, how, output, errors),
+        (true, false) => asked.note(output, errors),
+        (false, true) => asked.trace(output, errors),
+        (false, false) => asked.report(output, errors),
     }
 }
 
-/// Runs a load, writes its two lines, and returns the status.
-fn load_reported<T: Threads + Wait + Clock + Sync + AllocGlobal, W: Write, E: Write + Send>(
-    rt: &T,
-    settings: &Settings,
-    how: How,
-    output: &mut W,
-    errors: &mut E,
-) -> u8
-    ensures { Loads false result settings.now (W.contents output.old) (W.contents output.new) }
-{
-    if !settings.is_in_range() {
-        return end_by_settings(rt.alloc(), settings, output, errors);
-    }
-    let Ok(keepers) = no_keepers(rt.alloc(), settings.clients) else {
-        return end_load_by(LoadFault::Memory, output);
-    };
-    let span = Span::new(rt, settings.clients);
-    match run_told(rt, settings, how, keepers, &span, errors) {
-        Ok((report, efforts, _kept)) => {
-            if how.stats {
-                let answered = report.tally.answered;
-                tell_stats(rt.alloc(), span.nanos(), answered, efforts, errors);
-            }
-            write_load(rt.alloc(), &report, output)
+impl<T: Threads + Wait + Clock + Sync + AllocGlobal> AskedLoad<'_, T> {
+    /// Runs the load, writes its two lines, and returns the status.
+    fn report<W: Write, E: Write + Send>(&self, output: &mut W, errors: &mut E) -> u8
+        ensures { Loads false result self.now.settings.now
+            (W.contents output.old) (W.contents output.new) }
+    {
+        if !self.settings.is_in_range() {
+            return end_by_settings(self.rt.alloc(), self.settings, output, errors);
         }
-        Err(fault) => end_load_by(fault, output),
+        let Ok(keepers) = no_keepers(self.rt.alloc(), self.settings.clients) else {
+            return end_load_by(LoadFault::Memory, output);
+        };
+        let span = Span::new(self.rt, self.settings.clients);
+        match run_told(self.rt, self.settings, self.how, keepers, &span, errors) {
+            Ok((report, efforts, _kept)) => {
+                if self.how.stats {
+                    let answered = report.tally.answered;
+                    tell_stats(self.rt.alloc(), span.nanos(), answered, efforts, errors);
+                }
+                write_load(self.rt.alloc(), &report, output)
+            }
+            Err(fault) => end_load_by(fault, output),
+        }
     }
 }
 
@@ -119,29 +126,21 @@ fn write_load<W: Write>(alloc: Global, report: &LoadReport, output: &mut W) -> u
     }
 }
 
-/// Appends a name and how often it came.
-fn append_count(out: &mut Vec<u8>, name: &[u8], count: u64) -> Result<(), AllocError>
-    ensures { OnOk result (out.new.items ≡ out.old.items ++ field_text name.now count) }
-{
-    out.extend_from_slice(name)?;
-    print_reply(&Reply::Number(Some(count)), out)
-}
-
 /// Appends how many tasks were answered, and how many met a conflict with another client in each
 /// try.
 fn append_tried(out: &mut Vec<u8>, tally: Tally) -> Result<(), AllocError>
     ensures { OnOk result (out.new.items ≡ out.old.items ++ tried_text tally) }
 {
-    append_count(out, b"answered ", tally.answered)?;
-    append_count(out, b" busy ", tally.busy)
+    append_field(out, b"answered ", tally.answered)?;
+    append_field(out, b" busy ", tally.busy)
 }
 
 /// Appends how many tasks were refused memory, and how many found no version left.
 fn append_wanting(out: &mut Vec<u8>, tally: Tally) -> Result<(), AllocError>
     ensures { OnOk result (out.new.items ≡ out.old.items ++ wanting_text tally) }
 {
-    append_count(out, b" memory ", tally.memory)?;
-    append_count(out, b" spent ", tally.spent)
+    append_field(out, b" memory ", tally.memory)?;
+    append_field(out, b" spent ", tally.spent)
 }
 
 /// Appends how the tasks ended, without a line end.

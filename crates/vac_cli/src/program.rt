@@ -11,7 +11,7 @@ use crate::files::Open;
 use crate::judging::{judge, judge_opaque};
 use crate::load::load;
 use crate::searching::order;
-use crate::status::{DONE, FAULT, REFUSED, end_by, end_by_settings};
+use crate::status::{DONE, FAULT, REFUSED, end_by, end_by_settings, end_done, end_judged};
 use clap::Error;
 use clap::error::ErrorKind;
 use std::alloc::Global;
@@ -83,10 +83,7 @@ fn run<R: Read, W: Write>(alloc: Global, blocks: u32, input: &mut R, output: &mu
     ensures { RunsScript blocks result (R.remaining input.old) (R.remaining input.new)
         (W.contents output.old) (W.contents output.new) }
 {
-    match run_script(alloc, blocks, input, output) {
-        Ok(()) => DONE,
-        Err(fault) => end_by(fault, output),
-    }
+    end_done(run_script(alloc, blocks, input, output), output)
 }
 
 /// Dumps the memory that a script leaves, and returns the status.
@@ -95,10 +92,7 @@ fn dump<R: Read, W: Write>(alloc: Global, blocks: u32, input: &mut R, output: &m
     ensures { Dumps blocks result (R.remaining input.old) (R.remaining input.new)
         (W.contents output.old) (W.contents output.new) }
 {
-    match dump_script(alloc, blocks, input, output) {
-        Ok(()) => DONE,
-        Err(fault) => end_by(fault, output),
-    }
+    end_done(dump_script(alloc, blocks, input, output), output)
 }
 
 /// Audits words, and returns the status: 0 where they are those of a balanced state.
@@ -106,11 +100,7 @@ fn check<R: Read, W: Write>(alloc: Global, input: &mut R, output: &mut W) -> u8
     ensures { Checks result (R.remaining input.old) (R.remaining input.new)
         (W.contents output.old) (W.contents output.new) }
 {
-    match check_words(alloc, input, output) {
-        Ok(true) => DONE,
-        Ok(false) => FAULT,
-        Err(fault) => end_by(fault, output),
-    }
+    end_judged(check_words(alloc, input, output), output)
 }
 
 /// Writes the tasks of a load, and returns the status.

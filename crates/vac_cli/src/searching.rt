@@ -1,16 +1,17 @@
 //! Looking for an order of a history's calls, and writing how far the search is.
 
-ghost use Rattle.std.specs.Prelude.{◌≡◌, ◌≢◌, ◌⊎◌, true, IfOk, IfErr, OnOk};
+ghost use Rattle.std.specs.Prelude.{◌≡◌, ◌≢◌, ◌⊎◌, true, IfOk, IfErr, OnOk, option_map};
 ghost use Rattle.std.specs.Io.KnownBytes.{Appends};
 ghost use Rattle.vac_model.specs.Ranges.{is_block_count};
 ghost use Rattle.vac_lines.specs.Writing.{AppendsPrefix};
 ghost use Rattle.vac_order.specs.declared.ordering.Outcome.TheVariants.{Ordered};
 ghost use Rattle.vac_order.specs.Ordering.{HasText};
-ghost use Rattle.vac_cli.specs.Ordering.{Orders, FindsNone, JudgesAnyOrder, JudgesAnyHeld, status_of};
+ghost use Rattle.vac_cli.specs.Ordering.{Orders, FindsNone, JudgesAnyWith, status_of};
 
-use crate::judging::{judge_alone, judge_held};
+use crate::judging::judge_with;
 use crate::status::{DONE, FAULT, UNDECIDED, end_by};
 use crate::telling::has_passed;
+use std::alloc::Global;
 use std::io::{Read, Write};
 use std::time::{Clock, Instant};
 use vac_lines::write_and_flush;
@@ -116,26 +117,24 @@ fn without_output(fault: StreamFault) -> StreamFault
 /// The lines of a history in an order that is found. Where there is none, this is the status, and
 /// what was found in its place is written, or a fault.
 #[tactic(auto, using(crate::proofs::Judgement::kept, crate::proofs::Judgement::unordered))]
-fn order_kept<T: Clock + AllocGlobal, R: Read, W: Write, E: Write>(
-    rt: &T,
+fn order_kept<R: Read, W: Write, V: Watcher>(
+    alloc: Global,
     blocks: u32,
-    search: Search,
+    steps: u64,
     input: &mut R,
     output: &mut W,
-    errors: &mut E,
+    watcher: &mut V,
 ) -> Result<Vec<u8>, u8>
     requires { is_block_count blocks ≡ true }
-    ensures order { IfOk result (λ text. HasText blocks search.steps
+    ensures order { IfOk result (λ text. HasText blocks steps
         (R.remaining input.old) (R.remaining input.new) Ordered text.items) }
     ensures unwritten { OnOk result (W.contents output.new ≡ W.contents output.old) }
-    ensures none { IfErr result (λ status. FindsNone blocks search.steps status
+    ensures none { IfErr result (λ status. FindsNone blocks steps status
         (R.remaining input.old) (R.remaining input.new)
         (W.contents output.old) (W.contents output.new)) }
 {
-    let alloc = rt.alloc();
     let mut text = Vec::new(alloc);
-    let mut teller = Teller::new(rt, search.progress, errors);
-    match order_history(alloc, blocks, search.steps, input, &mut text, &mut teller) {
+    match order_history(alloc, blocks, steps, input, &mut text, watcher) {
         Ok(Outcome::Ordered) => Ok(text),
         Ok(Outcome::Illegal) => Err(write_found(Outcome::Illegal, text.as_slice(), output)),
         Ok(Outcome::Undecided) => Err(write_found(Outcome::Undecided, text.as_slice(), output)),
@@ -143,48 +142,27 @@ fn order_kept<T: Clock + AllocGlobal, R: Read, W: Write, E: Write>(
     }
 }
 
-/// Judges a history in an order that is found, or says that there is none, and returns the status.
-pub(crate) fn judge_any_order<T: Clock + AllocGlobal, R: Read, W: Write, E: Write>(
+/// Judges a history in an order that is found, or says that there is none, holds it against these
+/// tasks, where there are any, and returns the status.
+pub(crate) fn judge_any<T: Clock + AllocGlobal, F: Read + Drop, R: Read, W: Write, E: Write>(
     rt: &T,
     blocks: u32,
     search: Search,
+    tasks: Option<F>,
     input: &mut R,
     output: &mut W,
     errors: &mut E,
 ) -> u8
     requires { is_block_count blocks ≡ true }
-    ensures { JudgesAnyOrder blocks search.steps result
+    ensures { JudgesAnyWith (option_map F.remaining tasks) blocks search.steps result
         (R.remaining input.old) (R.remaining input.new)
         (W.contents output.old) (W.contents output.new) }
 {
-    match order_kept(rt, blocks, search, input, output, errors) {
+    let mut teller = Teller::new(rt, search.progress, errors);
+    match order_kept(rt.alloc(), blocks, search.steps, input, output, &mut teller) {
         Ok(text) => {
             let mut order = text.as_slice();
-            judge_alone(rt.alloc(), blocks, &mut order, output)
-        }
-        Err(status) => status,
-    }
-}
-
-/// Judges a history in an order that is found, holds it against tasks, and returns the status.
-pub(crate) fn judge_any_held<T: Clock + AllocGlobal, F: Read, R: Read, W: Write, E: Write>(
-    rt: &T,
-    blocks: u32,
-    search: Search,
-    tasks: &mut F,
-    input: &mut R,
-    output: &mut W,
-    errors: &mut E,
-) -> u8
-    requires { is_block_count blocks ≡ true }
-    ensures { JudgesAnyHeld (F.remaining tasks.old) blocks search.steps result
-        (R.remaining input.old) (R.remaining input.new)
-        (W.contents output.old) (W.contents output.new) }
-{
-    match order_kept(rt, blocks, search, input, output, errors) {
-        Ok(text) => {
-            let mut order = text.as_slice();
-            judge_held(rt.alloc(), blocks, tasks, &mut order, output)
+            judge_with(rt.alloc(), blocks, tasks, &mut order, output)
         }
         Err(status) => status,
     }

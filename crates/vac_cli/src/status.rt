@@ -3,6 +3,7 @@
 ghost use Rattle.std.specs.Prelude.{◌≡◌, ◌≤◌, ◌↔◌};
 ghost use Rattle.vac_lines.specs.Writing.{AppendsPrefix};
 ghost use Rattle.vac_cli.specs.Ending.{fault_line, unopened_line, load_fault_line};
+ghost use Rattle.vac_cli.specs.Ending.{EndsDone, EndsJudged};
 
 use std::alloc::Global;
 use std::io::Write;
@@ -56,6 +57,27 @@ pub(crate) fn end_by<W: Write>(fault: StreamFault, output: &mut W) -> u8
         write_last(line, output);
     }
     FAULT
+}
+
+/// Ends the program after its work, and returns the status.
+pub(crate) fn end_done<W: Write>(done: Result<(), StreamFault>, output: &mut W) -> u8
+    ensures { EndsDone done result (W.contents output.old) (W.contents output.new) }
+{
+    match done {
+        Ok(()) => DONE,
+        Err(fault) => end_by(fault, output),
+    }
+}
+
+/// Ends the program after a judgement, and returns the status: 0 where what was judged is right.
+pub(crate) fn end_judged<W: Write>(judged: Result<bool, StreamFault>, output: &mut W) -> u8
+    ensures { EndsJudged judged result (W.contents output.old) (W.contents output.new) }
+{
+    match judged {
+        Ok(true) => DONE,
+        Ok(false) => FAULT,
+        Err(fault) => end_by(fault, output),
+    }
 }
 
 /// Writes the last line of a program that could not open a file, and returns its status.

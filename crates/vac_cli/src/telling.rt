@@ -1,9 +1,6 @@
 //! Loads that write how far they are while they run.
 
-ghost use Rattle.std.specs.Prelude.{◌≡◌, ◌↔◌, false, vec_len, IfOk, IfErr, IsErrOf};
-ghost use Rattle.vac_load.specs.Load.{is_load};
-ghost use Rattle.vac_load.specs.Streams.{KeptBySeed};
-ghost use Rattle.vac_cli.specs.Load.{IsFaultBySeed};
+ghost use Rattle.vac_cli.specs.Load.{RunsKept};
 
 use crate::stats::Span;
 use std::alloc::Global;
@@ -13,9 +10,10 @@ use std::sync::atomic::{AtomicBool, AtomicU64, Ordering};
 use std::thread;
 use std::thread::{Parker, Threads};
 use std::time::{Clock, Duration, Instant};
-use stm_attempt::{Gate, Point};
+use stm_attempt::{Gate, NoGate, Point};
 use vac_load::{Efforts, Keepers, LoadFault, LoadReport, Settings, run_load_kept};
 use vac_manager::Keep;
+use vac_options::How;
 
 /// The least time between two lines, in milliseconds.
 const PAUSE_MILLIS: u64 = 500;
@@ -59,11 +57,7 @@ impl Progress {
         keepers: Keepers<K>,
         span: &Span<T>,
     ) -> Result<(LoadReport, Efforts, Keepers<K>), LoadFault>
-        ensures arguments { IsErrOf result LoadFault.Arguments
-            ↔ (is_load settings.now (vec_len keepers.clients) ≡ false) }
-        ensures kept { IfOk result (λ r.
-            KeptBySeed K.notes settings.now r.0.tally r.0.report keepers r.2) }
-        ensures refused { IfErr result (λ fault. IsFaultBySeed settings.now fault) }
+        ensures { RunsKept K.notes settings.now keepers result }
     {
         let answered = &self.answered;
         let loaded = run_load_kept(rt, settings, Counter { answered }, span, keepers);
@@ -123,38 +117,34 @@ fn all_tasks(settings: &Settings) -> u64 {
     of_one.saturating_mul(u64::from(settings.clients))
 }
 
-/// Runs the load of a seed as `run_load_kept` does. While it runs, writes to `errors`, at most
-/// twice a second, how many of its tasks were answered.
+/// Runs the load of a seed as `run_load_kept` does. Where that is asked for, writes to `errors`
+/// while it runs, at most twice a second, how many of its tasks were answered.
 ///
 /// Where no thread can be started for that, the load is run and nothing is written: a join then
 /// makes its second call first.
-pub(crate) fn run_load_told<
+pub(crate) fn run_told<
     T: Threads + Wait + Clock + Sync + AllocGlobal,
     K: Keep + Send + Drop,
     E: Write + Send,
 >(
     rt: &T,
     settings: &Settings,
+    how: How,
     keepers: Keepers<K>,
     span: &Span<T>,
     errors: &mut E,
 ) -> Result<(LoadReport, Efforts, Keepers<K>), LoadFault>
-    ensures arguments { IsErrOf result LoadFault.Arguments
-        ↔ (is_load settings.now (vec_len keepers.clients) ≡ false) }
-    ensures kept { IfOk result (λ r.
-        KeptBySeed K.notes settings.now r.0.tally r.0.report keepers r.2) }
-    ensures refused { IfErr result (λ fault. IsFaultBySeed settings.now fault) }
+    ensures { RunsKept K.notes settings.now keepers result }
 {
+    if !how.progress {
+        return run_load_kept(rt, settings, NoGate, span, keepers);
+    }
     let progress = Progress::new();
     let (shared, settings) = (&progress, *settings);
     let all = all_tasks(&settings);
     let tell = || shared.tell(rt, all, errors);
     let run = move || -> Result<(LoadReport, Efforts, Keepers<K>), LoadFault>
-        ensures arguments { IsErrOf result LoadFault.Arguments
-            ↔ (is_load settings (vec_len keepers.clients) ≡ false) }
-        ensures kept { IfOk result (λ r.
-            KeptBySeed K.notes settings r.0.tally r.0.report keepers r.2) }
-        ensures refused { IfErr result (λ fault. IsFaultBySeed settings fault) }
+        ensures { RunsKept K.notes settings keepers result }
     { shared.run(rt, &settings, keepers, span) };
     let ((), loaded) = thread::join(rt, tell, run);
     loaded

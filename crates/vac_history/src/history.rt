@@ -1,10 +1,11 @@
 //! One history of the calls of all clients.
 
-ghost use Rattle.std.specs.Prelude.{◌≡◌, ◌<◌, false, ◌^◌, ◌++◌, [], length, OnOk, OnErr, IfOk, IsErrOf};
+ghost use Rattle.std.specs.Prelude.{◌≡◌, ◌⊎◌, ◌<◌, false, ◌^◌, ◌++◌, [], length, OnOk, OnErr, IfOk, IfErr, IsErrOf};
 ghost use Rattle.std.specs.List.{list_all};
 ghost use Rattle.vac_lines.specs.Script.{as_line};
 ghost use Rattle.vac_judge.specs.CallText.{call_text};
 ghost use Rattle.vac_lines.specs.Writing.{AppendsPrefix};
+ghost use Rattle.vac_streams.specs.declared.fault.StreamFault.TheVariants.{Memory, Write};
 ghost use Rattle.vac_streams.specs.Sent.{Sent};
 ghost use Rattle.vac_history.specs.Order.{entries_from};
 ghost use Rattle.vac_history.specs.Rests.{left_of, picked_entry};
@@ -13,7 +14,6 @@ ghost use Rattle.vac_history.specs.History.{WroteHistory, WroteHistoryPrefix};
 ghost use Rattle.vac_history.specs.Sending.{number_and_space, stamps_text, task_and_reply_text};
 ghost use Rattle.vac_history.specs.Sending.{SentMerged, MergedPrefix};
 
-use crate::fault::HistoryFault;
 use crate::journal::Journal;
 use crate::merging::{Picked, Rest, take_least};
 use crate::watch::Watch;
@@ -22,7 +22,7 @@ use std::io::Write;
 use vac_lines::{print_reply, print_task};
 use vac_manager::Note;
 use vac_model::Reply;
-use vac_streams::{send_chunk, send_rest};
+use vac_streams::{StreamFault, send_chunk, send_rest};
 use vac_worklist::OPENING;
 
 /// Appends a number and a space.
@@ -68,18 +68,16 @@ fn send_line<W: Write>(
     output: &mut W,
     hand: &mut Vec<u8>,
     picked: Picked<'_>,
-) -> Result<(), HistoryFault>
+) -> Result<(), StreamFault>
     ensures ok { OnOk result (Sent (W.contents output.old) (W.contents output.new)
         hand.old.items hand.new.items
         (as_line (call_text (call_of_entry (picked_entry picked.entry))))) }
     ensures err { OnErr result (AppendsPrefix (W.contents output.old) (W.contents output.new)
         (hand.old.items ++ as_line (call_text (call_of_entry (picked_entry picked.entry))))) }
+    ensures fault { IfErr result (λ fault. (fault ≡ Memory) ⊎ (fault ≡ Write)) }
 {
     append_line(hand, picked)?;
-    match send_chunk(output, hand) {
-        Ok(()) => Ok(()),
-        Err(_) => Err(HistoryFault::Write),
-    }
+    send_chunk(output, hand)
 }
 
 /// Sends the lines of all calls that are left, in their order.
@@ -87,12 +85,13 @@ fn send_all<W: Write>(
     output: &mut W,
     hand: &mut Vec<u8>,
     rests: &mut [Rest<'_>],
-) -> Result<(), HistoryFault>
+) -> Result<(), StreamFault>
     requires empty { hand.old.items ≡ [] }
     ensures ok { OnOk result (SentMerged (left_of rests.old)
         (W.contents output.old) (W.contents output.new) hand.new.items) }
     ensures err { OnErr result (MergedPrefix (left_of rests.old)
         (W.contents output.old) (W.contents output.new)) }
+    ensures fault { IfErr result (λ fault. (fault ≡ Memory) ⊎ (fault ≡ Write)) }
 {
     'lines: while let Some(picked) = take_least(rests) {
         send_line(output, hand, picked)?;
@@ -151,23 +150,21 @@ pub fn write_history<J: Watch, W: Write>(
     opening: &Journal<J>,
     clients: &[Journal<J>],
     output: &mut W,
-) -> Result<(), HistoryFault>
+) -> Result<(), StreamFault>
     requires few { length clients.now < 2 ^ 32 }
     ensures ok { OnOk result (WroteHistory (kept_by opening.now clients.now)
         (W.contents output.old) (W.contents output.new)) }
     ensures err { OnErr result (WroteHistoryPrefix (kept_by opening.now clients.now)
         (W.contents output.old) (W.contents output.new)) }
     ensures partial { are_whole opening.now clients.now ≡ false →
-        IsErrOf result HistoryFault.Memory × (W.contents output.new ≡ W.contents output.old) }
+        IsErrOf result Memory × (W.contents output.new ≡ W.contents output.old) }
+    ensures fault { IfErr result (λ fault. (fault ≡ Memory) ⊎ (fault ≡ Write)) }
 {
     if !are_whole(opening, clients) {
-        return Err(HistoryFault::Memory);
+        return Err(StreamFault::Memory);
     }
     let mut rests = rests_of(alloc, opening, clients)?;
     let mut hand = Vec::new(alloc);
     send_all(output, &mut hand, rests.as_mut_slice())?;
-    match send_rest(output, hand.as_slice()) {
-        Ok(()) => Ok(()),
-        Err(_) => Err(HistoryFault::Write),
-    }
+    send_rest(output, hand.as_slice())
 }

@@ -2,11 +2,12 @@ use Rattle.std.proofs.Common.{◌≡◌, map, rules, ℕ}
 use Rattle.std.proofs.lemmas.List.Sorted.{answers_always}
 use Rattle.vac_lines.proofs.Extends.{on_err}
 use Rattle.vac_streams.proofs.Texts.{on_ok_map, on_err_map}
+use Rattle.vac_history.proofs.Texts.{write_fault}
 use Rattle.vac_history.specs.Order.{rank_of}
 use Rattle.vac_attempts.specs.declared.lines.Line.{Line}
 use Rattle.vac_attempts.specs.Lines.{line_entry}
 use Rattle.vac_attempts.specs.Pages.{pages_of, attempt_entries_of}
-use Rattle.vac_attempts.proofs.Texts.{attempts, wrote_nothing, wrote_all, wrote_part, wrote_rest, write_fault}
+use Rattle.vac_attempts.proofs.Texts.{attempts, wrote_nothing, wrote_all, wrote_part, wrote_rest}
 use Rattle.vac_attempts.proofs.Sorted.{in_order}
 use Rattle.vac_attempts.proofs.writing.write_attempts.Goals as goal
 
