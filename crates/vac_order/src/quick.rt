@@ -4,9 +4,10 @@
 //! The call that ends first goes first, where it gives its reply. Another goes before it where only
 //! so both give theirs, and another yet where it gives its own only after that one: of several the
 //! one after which most of the next calls give theirs. Where both orders of two calls are right and
-//! lead to other states, that is noted as a doubt. Where nothing fits, the last doubt about a call
-//! that meets the one that does not fit is decided the other way. Where there is none, the search
-//! goes back, and draws what it decides.
+//! lead to other states, that is noted as a doubt. Where nothing fits, each doubt about a call near
+//! the one that does not fit is tried the other way: what came after it is made again, and taken
+//! back where that call still does not fit. Where none helps, the last one is decided the other way
+//! all the same; where there is none, the search goes back, and draws what it decides.
 
 use crate::calls::Calls;
 use crate::layout::Layout;
@@ -25,10 +26,17 @@ const MOST_FAILS: u64 = 120;
 
 const FARTHER: u64 = 64;
 
-/// How many doubts are kept, and how many are decided the other way before one more call fits.
-const MOST_DOUBTS: usize = 64;
+/// How many doubts are kept.
+const MOST_DOUBTS: usize = 256;
 
+/// How often doubts are looked for before one more call fits, and how many of the near ones are then
+/// tried, and of those farther off.
 const MOST_JUMPS: u64 = 8;
+
+const MOST_TRIES: usize = 16;
+
+/// How many of the last calls are looked at for those that a call meets.
+const NEAR: usize = 262_144;
 
 /// How many of the next calls tell how good a choice is, at most.
 const FARTHEST: u64 = 128;
@@ -59,9 +67,28 @@ struct Doubt<M> {
     machine: M,
 }
 
+/// The two calls of a doubt: the one that was taken and the other.
+#[derive(Clone, Copy)]
+struct Pair {
+    taken: usize,
+    other: usize,
+}
+
+/// What was taken back to decide a doubt the other way: how many calls were left, the others and the
+/// doubts about them, each first one last, and where the search was.
+#[derive(Drop)]
+struct Cut<M> {
+    at: usize,
+    turns: Vec<Turn<M>>,
+    doubts: Vec<Doubt<M>>,
+    machine: M,
+    low: usize,
+    is_full: bool,
+}
+
 /// The state of a quick search.
 #[derive(Drop)]
-struct Trail<M> {
+struct Search<M> {
     /// Where it is.
     machine: M,
     /// How many answered calls have a place there.
@@ -76,11 +103,18 @@ struct Trail<M> {
     path: Vec<Turn<M>>,
     /// What is to be made again, the next one last.
     plan: Vec<usize>,
-    /// Choices that may have been wrong.
+    /// Choices that may have been wrong, the first one first.
     doubts: Vec<Doubt<M>>,
+    /// The doubts about what is planned, the next one last.
+    again: Vec<Pair>,
+    /// The doubts that are tried where nothing fits, and how many of them were.
+    tries: Vec<Pair>,
+    tried: usize,
+    /// What is put back where a try does not help.
+    cut: Option<Cut<M>>,
     /// The most answered calls that had a place.
     most: u64,
-    /// How often it went back since, and how often a doubt was decided the other way.
+    /// How often it went back since, and how often it looked for doubts.
     fails: u64,
     jumps: u64,
     /// How many calls may still be looked at beside those that end first.
@@ -118,10 +152,21 @@ fn led_to<M: Machine + Drop>(
     }
 }
 
-impl<M: Machine + Drop> Trail<M> {
+/// Whether one of the calls of a doubt meets one of these calls.
+fn meets_any(layout: &Layout, pair: Pair, places: &[usize]) -> bool {
+    'places: for number in 0..places.len() {
+        let place = places[number];
+        if layout.meets(pair.taken, place) || layout.meets(pair.other, place) {
+            return true;
+        }
+    }
+    false
+}
+
+impl<M: Machine + Drop> Search<M> {
     /// Where a search begins.
-    fn new(alloc: Global, machine: M, layout: &Layout) -> Result<Trail<M>, AllocError> {
-        Ok(Trail {
+    fn new(alloc: Global, machine: M, layout: &Layout) -> Result<Search<M>, AllocError> {
+        Ok(Search {
             machine,
             placed: 0,
             low: 0,
@@ -130,6 +175,10 @@ impl<M: Machine + Drop> Trail<M> {
             path: Vec::new(alloc),
             plan: Vec::new(alloc),
             doubts: Vec::new(alloc),
+            again: Vec::new(alloc),
+            tries: Vec::new(alloc),
+            tried: 0,
+            cut: None,
             most: 0,
             fails: 0,
             jumps: 0,
@@ -162,6 +211,11 @@ impl<M: Machine + Drop> Trail<M> {
         } else {
             usize::MAX
         }
+    }
+
+    /// Whether the call at a place was made.
+    fn is_made(&self, layout: &Layout, place: usize) -> bool {
+        place < self.head(layout.spot(place).client)
     }
 
     /// Sets the place of a client's next call.
@@ -206,23 +260,22 @@ impl<M: Machine + Drop> Trail<M> {
         next: M,
     ) -> Result<Quick, AllocError> {
         let spot = layout.spot(place);
-        self.path.push(Turn {
+        let turn = Turn {
             place,
             machine: Some(replace(&mut self.machine, next)),
             low: self.low,
             is_full: self.is_full,
-        })?;
+        };
+        self.add_turn(lines, layout, turn)?;
         self.forget();
-        self.set_head(spot.client, spot.next);
         self.find_low(lines, layout);
         self.is_full = spot.is_full || self.is_full && !spot.is_freeing;
-        if place < lines.len() && lines[place].reply.is_some() {
-            self.placed = self.placed.wrapping_add(1);
-        }
         if self.most < self.placed {
             self.most = self.placed;
             self.fails = 0;
             self.jumps = 0;
+            self.tried = self.tries.len();
+            self.cut = None;
         }
         if self.placed == layout.answered {
             return Ok(Quick::Found);
@@ -230,37 +283,58 @@ impl<M: Machine + Drop> Trail<M> {
         Ok(Quick::On)
     }
 
-    /// Takes the last call back, and returns its place.
-    fn go_back(&mut self, lines: &[Line], layout: &Layout) -> Option<usize> {
-        let Turn {
-            place,
-            machine,
-            low,
-            is_full,
-        } = self.path.pop()?;
-        if let Some(machine) = machine {
-            self.machine = machine;
-        }
-        self.low = low;
-        self.is_full = is_full;
+    /// Takes the last call back, but leaves the machine and the doubts as they are.
+    fn take_turn(&mut self, lines: &[Line], layout: &Layout) -> Option<Turn<M>> {
+        let turn = self.path.pop()?;
+        let place = turn.place;
+        self.low = turn.low;
+        self.is_full = turn.is_full;
         self.set_head(layout.spot(place).client, place);
         if place < lines.len() && lines[place].reply.is_some() {
             self.placed = self.placed.wrapping_sub(1);
         }
-        let length = self.path.len();
-        self.drop_doubts(length);
-        Some(place)
+        Some(turn)
     }
 
-    /// Drops the doubts about what comes after so many calls.
-    fn drop_doubts(&mut self, length: usize) {
-        'doubts: for _ in 0..self.doubts.len() {
-            let count = self.doubts.len();
-            if count == 0 || self.doubts[count - 1].at < length {
-                return;
-            }
-            self.doubts.pop();
+    /// Puts a call at the end.
+    fn add_turn(
+        &mut self,
+        lines: &[Line],
+        layout: &Layout,
+        turn: Turn<M>,
+    ) -> Result<(), AllocError> {
+        let place = turn.place;
+        let spot = layout.spot(place);
+        self.path.push(turn)?;
+        self.set_head(spot.client, spot.next);
+        if place < lines.len() && lines[place].reply.is_some() {
+            self.placed = self.placed.wrapping_add(1);
         }
+        Ok(())
+    }
+
+    /// Takes the last doubt about what comes after so many calls.
+    fn take_doubt(&mut self, length: usize) -> Option<Doubt<M>> {
+        let count = self.doubts.len();
+        if count == 0 || self.doubts[count - 1].at < length {
+            return None;
+        }
+        self.doubts.pop()
+    }
+
+    /// Takes the last call back, where the machine before it is kept.
+    fn go_back(&mut self, lines: &[Line], layout: &Layout) -> Option<()> {
+        let length = self.path.len();
+        if length == 0 || self.path[length - 1].machine.is_none() {
+            return None;
+        }
+        self.machine = self.take_turn(lines, layout)?.machine?;
+        'doubts: for _ in 0..self.doubts.len() {
+            if self.take_doubt(length - 1).is_none() {
+                break;
+            }
+        }
+        Some(())
     }
 
     /// Notes a choice between two calls.
@@ -460,19 +534,163 @@ impl<M: Machine + Drop> Trail<M> {
         Ok(found)
     }
 
-    /// The last doubt about calls one of which meets the one that ends first.
-    fn last_doubt(&self, layout: &Layout) -> Option<usize> {
+    /// The calls of a doubt, where the one that was taken came next.
+    fn pair_at(&self, number: usize) -> Option<Pair> {
+        if self.doubts.len() <= number {
+            return None;
+        }
+        let doubt = &self.doubts[number];
+        if self.path.len() <= doubt.at || self.path[doubt.at].place != doubt.taken {
+            return None;
+        }
+        Some(Pair {
+            taken: doubt.taken,
+            other: doubt.other,
+        })
+    }
+
+    /// The number of the last doubt about these calls.
+    fn doubt_of(&self, pair: Pair) -> Option<usize> {
         let count = self.doubts.len();
         'doubts: for back in 0..count {
-            let doubt = &self.doubts[count - 1 - back];
-            let is_made = doubt.at < self.path.len() && self.path[doubt.at].place == doubt.taken;
-            if is_made
-                && (layout.meets(doubt.taken, self.low) || layout.meets(doubt.other, self.low))
+            let number = count - 1 - back;
+            if let Some(found) = self.pair_at(number)
+                && found.taken == pair.taken
+                && found.other == pair.other
             {
-                return Some(count - 1 - back);
+                return Some(number);
             }
         }
         None
+    }
+
+    /// The last calls that meet the one that ends first, made ones and those that may come next.
+    fn met(&self, alloc: Global, layout: &Layout) -> Result<Vec<usize>, AllocError> {
+        let mut met = Vec::new(alloc);
+        'path: for number in self.path.len().saturating_sub(NEAR)..self.path.len() {
+            let place = self.path[number].place;
+            if layout.meets(place, self.low) {
+                met.push(place)?;
+            }
+        }
+        'clients: for client in 0..self.heads.len() {
+            let place = self.head(client);
+            if place != self.low && layout.meets(place, self.low) {
+                met.push(place)?;
+            }
+        }
+        Ok(met)
+    }
+
+    /// Adds the last doubts that are about one of these calls and not about that one, where it is
+    /// there.
+    fn add_tries(
+        &mut self,
+        layout: &Layout,
+        met: &[usize],
+        but: Option<usize>,
+    ) -> Result<(), AllocError> {
+        let most = self.tries.len().saturating_add(MOST_TRIES);
+        let count = self.doubts.len();
+        'doubts: for back in 0..count {
+            let Some(pair) = self.pair_at(count - 1 - back) else {
+                continue;
+            };
+            let is_left_out = match but {
+                None => false,
+                Some(place) => meets_any(layout, pair, [place].as_slice()),
+            };
+            if is_left_out || !meets_any(layout, pair, met) {
+                continue;
+            }
+            self.tries.push(pair)?;
+            if most <= self.tries.len() {
+                return Ok(());
+            }
+        }
+        Ok(())
+    }
+
+    /// Looks for the doubts to try: those about a call that meets the one that ends first, the last
+    /// one first, and then those about a call that meets such a call.
+    fn find_tries(&mut self, alloc: Global, layout: &Layout) -> Result<(), AllocError> {
+        let low = self.low;
+        let met = self.met(alloc, layout)?;
+        self.tries = Vec::new(alloc);
+        self.tried = 0;
+        self.add_tries(layout, [low].as_slice(), None)?;
+        self.add_tries(layout, met.as_slice(), Some(low))
+    }
+
+    /// Takes back all but so many calls, and leaves the machine as it is.
+    fn cut_to(
+        &mut self,
+        alloc: Global,
+        lines: &[Line],
+        layout: &Layout,
+        at: usize,
+    ) -> Result<(Vec<Turn<M>>, Vec<Doubt<M>>), AllocError> {
+        let mut turns = Vec::new(alloc);
+        let mut doubts = Vec::new(alloc);
+        'doubts: for _ in 0..self.doubts.len() {
+            match self.take_doubt(at) {
+                Some(doubt) => doubts.push(doubt)?,
+                None => break,
+            }
+        }
+        'back: for _ in at..self.path.len() {
+            match self.take_turn(lines, layout) {
+                Some(turn) => turns.push(turn)?,
+                None => break,
+            }
+        }
+        Ok((turns, doubts))
+    }
+
+    /// Puts back what was taken back, in place of all that was made since.
+    fn put_back(
+        &mut self,
+        alloc: Global,
+        lines: &[Line],
+        layout: &Layout,
+        mut cut: Cut<M>,
+    ) -> Result<(), AllocError> {
+        self.cut_to(alloc, lines, layout, cut.at)?;
+        'turns: for _ in 0..cut.turns.len() {
+            if let Some(turn) = cut.turns.pop() {
+                self.add_turn(lines, layout, turn)?;
+            }
+        }
+        'doubts: for _ in 0..cut.doubts.len() {
+            if let Some(doubt) = cut.doubts.pop() {
+                self.doubts.push(doubt)?;
+            }
+        }
+        self.machine = cut.machine;
+        self.low = cut.low;
+        self.is_full = cut.is_full;
+        self.plan = Vec::new(alloc);
+        self.again = Vec::new(alloc);
+        Ok(())
+    }
+
+    /// Plans anew what was taken back, and notes which doubts there were about it.
+    fn plan_again(&mut self, alloc: Global, cut: &Cut<M>) -> Result<(), AllocError> {
+        let mut plan = Vec::new(alloc);
+        let mut again = Vec::new(alloc);
+        'turns: for number in 0..cut.turns.len() {
+            plan.push(cut.turns[number].place)?;
+        }
+        'doubts: for number in 0..cut.doubts.len() {
+            let doubt = &cut.doubts[number];
+            again.push(Pair {
+                taken: doubt.taken,
+                other: doubt.other,
+            })?;
+        }
+        self.plan = plan;
+        self.again = again;
+        Ok(())
     }
 
     /// Decides a doubt the other way, and plans what came after it anew.
@@ -481,29 +699,53 @@ impl<M: Machine + Drop> Trail<M> {
         alloc: Global,
         lines: &[Line],
         layout: &Layout,
-        doubt: Doubt<M>,
-    ) -> Result<Quick, AllocError> {
-        let mut plan = Vec::new(alloc);
-        'back: for _ in 0..self.path.len() {
-            if self.path.len() <= doubt.at {
-                break;
-            }
-            let Some(place) = self.go_back(lines, layout) else {
-                break;
-            };
-            if place != doubt.other && place != doubt.taken {
-                plan.push(place)?;
-            }
-        }
-        self.machine = doubt.machine;
-        self.plan = plan;
-        let Some(next) = led_to(alloc, &self.machine, lines, doubt.other)? else {
-            return Ok(Quick::On);
+        pair: Pair,
+    ) -> Result<Option<Quick>, AllocError> {
+        let Some(number) = self.doubt_of(pair) else {
+            return Ok(None);
         };
-        if led_to(alloc, &next, lines, doubt.taken)?.is_some() {
-            self.plan.push(doubt.taken)?;
+        if self.doubts.len() <= number {
+            return Ok(None);
         }
-        self.go_on(lines, layout, doubt.other, next)
+        let at = self.doubts[number].at;
+        let before = self.doubts[number].machine.copy()?;
+        let Some(next) = led_to(alloc, &before, lines, pair.other)? else {
+            return Ok(None);
+        };
+        let (low, is_full) = (self.low, self.is_full);
+        let (turns, doubts) = self.cut_to(alloc, lines, layout, at)?;
+        let cut = Cut {
+            at,
+            turns,
+            doubts,
+            machine: replace(&mut self.machine, before),
+            low,
+            is_full,
+        };
+        self.plan_again(alloc, &cut)?;
+        self.cut = Some(cut);
+        Ok(Some(self.go_on(lines, layout, pair.other, next)?))
+    }
+
+    /// Tries the next doubt the other way.
+    fn try_next(
+        &mut self,
+        alloc: Global,
+        lines: &[Line],
+        layout: &Layout,
+    ) -> Result<Option<Quick>, AllocError> {
+        'tries: for _ in self.tried..self.tries.len() {
+            let number = self.tried;
+            if self.tries.len() <= number {
+                break;
+            }
+            let pair = self.tries[number];
+            self.tried = number + 1;
+            if let Some(quick) = self.jump(alloc, lines, layout, pair)? {
+                return Ok(Some(quick));
+            }
+        }
+        Ok(None)
     }
 
     /// Goes back, the farther the more often it had to.
@@ -513,6 +755,7 @@ impl<M: Machine + Drop> Trail<M> {
         }
         self.fails += 1;
         self.plan = Vec::new(alloc);
+        self.again = Vec::new(alloc);
         let most = self.fails.wrapping_mul(FARTHER);
         'back: for _ in 0..self.draw(most).wrapping_add(1) {
             if self.go_back(lines, layout).is_none() {
@@ -529,19 +772,48 @@ impl<M: Machine + Drop> Trail<M> {
         lines: &[Line],
         layout: &Layout,
     ) -> Result<Quick, AllocError> {
-        if self.jumps < MOST_JUMPS {
-            if let Some(last) = self.last_doubt(layout) {
-                if last < self.doubts.len() {
-                    self.jumps += 1;
-                    let doubt = self.doubts.remove(last);
-                    return self.jump(alloc, lines, layout, doubt);
-                }
+        match self.cut.take() {
+            Some(cut) => self.put_back(alloc, lines, layout, cut)?,
+            None if self.jumps < MOST_JUMPS => {
+                self.jumps += 1;
+                self.find_tries(alloc, layout)?;
+            }
+            None => {}
+        }
+        if let Some(quick) = self.try_next(alloc, lines, layout)? {
+            return Ok(quick);
+        }
+        if self.jumps < MOST_JUMPS && !self.tries.is_empty() {
+            let last = self.tries[0];
+            self.tries = Vec::new(alloc);
+            if let Some(quick) = self.jump(alloc, lines, layout, last)? {
+                self.cut = None;
+                return Ok(quick);
             }
         }
         Ok(self.retreat(alloc, lines, layout))
     }
 
-    /// The next call that is planned, where another than the one that ends first.
+    /// Notes the doubts about a planned call again.
+    fn doubt_again(&mut self, layout: &Layout, place: usize) -> Result<(), AllocError> {
+        'again: for _ in 0..self.again.len() {
+            let count = self.again.len();
+            if count == 0 {
+                break;
+            }
+            let pair = self.again[count - 1];
+            if pair.taken != place && !self.is_made(layout, pair.taken) {
+                break;
+            }
+            self.again.pop();
+            if pair.taken == place && !self.is_made(layout, pair.other) {
+                self.doubt(place, pair.other)?;
+            }
+        }
+        Ok(())
+    }
+
+    /// The next call that is planned. One that does not give its reply there is left out.
     fn planned(
         &mut self,
         alloc: Global,
@@ -555,15 +827,16 @@ impl<M: Machine + Drop> Trail<M> {
             if self.head(layout.spot(place).client) != place {
                 continue;
             }
+            if self.is_open(lines, place)
+                && let Some(next) = led_to(alloc, &self.machine, lines, place)?
+            {
+                self.doubt_again(layout, place)?;
+                return Ok(Some((place, next)));
+            }
             if place == self.low || !self.is_open(lines, place) {
                 self.plan.push(place)?;
                 return Ok(None);
             }
-            let Some(next) = led_to(alloc, &self.machine, lines, place)? else {
-                self.plan = Vec::new(alloc);
-                return Ok(None);
-            };
-            return Ok(Some((place, next)));
         }
         Ok(None)
     }
@@ -626,12 +899,12 @@ pub(crate) fn find_quickly<M: Machine + Drop, P: Watcher>(
     if layout.answered == 0 {
         return Ok(None);
     }
-    let mut trail = Trail::new(alloc, machine, &layout)?;
+    let mut search = Search::new(alloc, machine, &layout)?;
     'steps: for made in 0..steps {
-        watcher.tell(trail.placed, made);
-        match trail.step(alloc, lines, &layout)? {
+        watcher.tell(search.placed, made);
+        match search.step(alloc, lines, &layout)? {
             Quick::On => {}
-            Quick::Found => return Ok(Some(trail.places(alloc)?)),
+            Quick::Found => return Ok(Some(search.places(alloc)?)),
             Quick::Missed => return Ok(None),
         }
     }
