@@ -162,8 +162,7 @@ pub(crate) fn run_in_attempts<G: Gate, T: Tracer>(
     tracer: &mut T,
 ) -> Result<Reply, Stop>
     requires may { MayTry region.now client.old task.now }
-    requires some { 1 ≤ tries }
-    requires few { tries ≤ MOST_TRIES }
+    requires tries { (1 ≤ tries) × (tries ≤ MOST_TRIES) }
     requires none { traced.old.effort ≡ nothing_done }
     ensures lists { KeepsLists own.old own.new }
     ensures leaves { Leaves region.now task.now client.old client.new
