@@ -106,7 +106,7 @@ pub record NeedsTurn (s : View) (xs : List ℕ) (d : ℕ) : Type 0 where
   pub under : (image : List ℕ) → Sees s image →
       IsToTurn (mem s image) (slice_index xs d) (slice_index xs (d - 1))
 
--- the red node b at the end of the path is below a red one, beside which is none
+-- the red node b at the end of the path is below a red one, beside which is no red one
 pub record HasTwoReds (s : View) (xs : List ℕ) (d b : ℕ) : Type 0 where
   pub raised : HasRaised s xs d b
   pub turn : NeedsTurn s xs d

@@ -19,7 +19,7 @@ use vac_records::{
     units_at,
 };
 
-/// A customer, and the block.
+/// A customer, and the customer's block.
 #[derive(Clone, Copy)]
 pub(crate) struct CustomerAt {
     pub customer: u32,
@@ -47,7 +47,8 @@ struct Offer {
 
 /// Books units of an item for a customer, at the item's present price. A booking that is there
 /// takes more units; a new one takes its block from the first free list that has one, from `start`
-/// on, and refills list `start` where that had none.
+/// on, and refills list `start` where that had none. The place of an item is its kind and its id, by
+/// which a customer's bookings are told apart.
 pub fn reserve<M: TxMem>(
     memory: &mut M,
     customer: u32,
