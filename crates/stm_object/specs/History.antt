@@ -46,8 +46,8 @@ pub record AddsEntry {E : Type 0} (code : E → List ℕ) (region : RegionShown)
   pub records : v'.records ≡ inserted made v.records
 
 -- the client is of the region, which was opened on a fitting image, and holds no lock
-pub record MayAttempt (fits : List ℕ → Type 0) (size : ℕ) (region : RegionShown) (client : ClientShown)
-    : Type 0 where
+pub record MayAttempt (fits : List ℕ → Type 0) (size : ℕ) (region : RegionShown)
+    (client : ClientShown) : Type 0 where
   pub own : client.table ≡ region.table
   pub free_handed : IsFreeHanded client.value
   pub opened : IsOpenedOnFitting fits size region
