@@ -4,8 +4,8 @@
 //! The call that ends first goes first, where it gives its reply. Another goes before it where only
 //! so both give theirs, and another yet where it gives its own only after that one: of several the
 //! one after which most of the next calls give theirs. Where both orders of two calls are right and
-//! lead to other states, that is noted as a doubt. Where nothing fits, each doubt about a call near
-//! the one that does not fit is tried the other way: what came after it is made again, and taken
+//! lead to other states, that is noted as a doubt. Where nothing fits, some of the last doubts near
+//! the call that does not fit are tried the other way: what came after is made again, and taken
 //! back where that call still does not fit. Where none helps, the last one is decided the other way
 //! all the same; where there is none, the search goes back, and draws what it decides.
 
