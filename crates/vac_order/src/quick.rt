@@ -4,8 +4,8 @@
 //! The call that ends first goes first, where it gives its reply. Another goes before it where only
 //! so both give theirs, and another yet where it gives its own only after that one: of several the
 //! one after which most of the next calls give theirs. Where both orders of two calls are right and
-//! lead to other states, that is noted as a doubt. Where nothing fits, each doubt about a call near
-//! the one that does not fit is tried the other way: what came after it is made again, and taken
+//! lead to other states, that is noted as a doubt. Where nothing fits, some of the last doubts near
+//! the call that does not fit are tried the other way: what came after is made again, and taken
 //! back where that call still does not fit. Where none helps, the last one is decided the other way
 //! all the same; where there is none, the search goes back, and draws what it decides.
 
@@ -29,8 +29,8 @@ const FARTHER: u64 = 64;
 /// How many doubts are kept.
 const MOST_DOUBTS: usize = 256;
 
-/// How often doubts are looked for before one more call fits, and how many of the near ones are then
-/// tried, and of those farther off.
+/// How often doubts are looked for before one more call fits, and how many of the near ones are
+/// then tried, and of those farther off.
 const MOST_JUMPS: u64 = 8;
 
 const MOST_TRIES: usize = 16;
@@ -74,8 +74,8 @@ struct Pair {
     other: usize,
 }
 
-/// What was taken back to decide a doubt the other way: how many calls were left, the others and the
-/// doubts about them, each first one last, and where the search was.
+/// What was taken back to decide a doubt the other way: how many calls were left, the others and
+/// the doubts about them, each first one last, and where the search was.
 #[derive(Drop)]
 struct Cut<M> {
     at: usize,
@@ -88,7 +88,7 @@ struct Cut<M> {
 
 /// The state of a quick search.
 #[derive(Drop)]
-struct Search<M> {
+struct QuickSearch<M> {
     /// Where it is.
     machine: M,
     /// How many answered calls have a place there.
@@ -163,10 +163,10 @@ fn meets_any(layout: &Layout, pair: Pair, places: &[usize]) -> bool {
     false
 }
 
-impl<M: Machine + Drop> Search<M> {
+impl<M: Machine + Drop> QuickSearch<M> {
     /// Where a search begins.
-    fn new(alloc: Global, machine: M, layout: &Layout) -> Result<Search<M>, AllocError> {
-        Ok(Search {
+    fn new(alloc: Global, machine: M, layout: &Layout) -> Result<QuickSearch<M>, AllocError> {
+        Ok(QuickSearch {
             machine,
             placed: 0,
             low: 0,
@@ -899,7 +899,7 @@ pub(crate) fn find_quickly<M: Machine + Drop, P: Watcher>(
     if layout.answered == 0 {
         return Ok(None);
     }
-    let mut search = Search::new(alloc, machine, &layout)?;
+    let mut search = QuickSearch::new(alloc, machine, &layout)?;
     'steps: for made in 0..steps {
         watcher.tell(search.placed, made);
         match search.step(alloc, lines, &layout)? {
