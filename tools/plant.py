@@ -24,6 +24,7 @@ import tempfile
 from collections import Counter
 from concurrent.futures import ThreadPoolExecutor
 from dataclasses import dataclass, field
+from itertools import chain
 from pathlib import Path
 
 from build_program import Building, kit_module
@@ -31,6 +32,9 @@ from build_program import Building, kit_module
 ROOT = Path(__file__).resolve().parent.parent
 LISTS = ROOT / "tests" / "plants"
 PARTS = ("src", "specs", "proofs")
+
+# So many plants are tried at once at most, and so often without the answers by hand that no longer fit.
+MOST_AT_ONCE, MOST_ROUNDS = 8, 6
 
 # What a try comes to.
 CLAUSE, HAND, ROW = "refused by a clause", "refused by a hand proof alone", "refused by a row"
@@ -68,6 +72,10 @@ class Plant:
             found.append(name and module + name)
         return [] if None in found else list(dict.fromkeys(found))
 
+    def is_in_bodies(self):
+        """Whether it turns bodies alone, and no contract, type or constant."""
+        return all(body_at((ROOT / "crates" / self.crate / file).read_text(), old) for file, old, _ in self.edits)
+
     def fault(self):
         """Why it can't be planted, or none."""
         try:
@@ -96,6 +104,18 @@ def function_at(text, old):
         owner = re.sub(r"<[^<>]*>", "", owner)
     trait, _, of = owner.strip().partition(" for ")
     return f"{of}{trait}::{name}".replace(" ", "") if of else f"{trait}::{name}"
+
+
+def body_at(text, old):
+    """Whether a text stands, with all its lines, in the body of a function."""
+    start = text.find(old)
+    functions = list(re.finditer(r"^( *)(?:pub(?:\([^)]*\))? )?(?:const )?(?:unsafe )?fn \w+", text[:start], re.M))
+    if not functions:
+        return False
+    indent = functions[-1][1]
+    opened = re.search(rf"^{indent}(?:\S.*)?\{{$", text[functions[-1].start():start], re.M)
+    closed = re.compile(rf"^{indent}\}}", re.M).search(text, functions[-1].start())
+    return bool(opened and closed and closed.start() >= start + len(old))
 
 
 def read_list(path):
@@ -222,6 +242,33 @@ class Bed:
             return HAND, [f"{line}, which wanted a proof by hand before" for line in shown]
         return came_to, shown
 
+    def attempt_many(self, plants):
+        """What the tries of plants in different bodies come to, by one check of all their functions, and more where
+        answers by hand no longer fit: a body is proved by the contracts of what it calls, so none changes what is said
+        of another. A plant whose functions do not fail by this check is tried alone."""
+        if len(plants) == 1:
+            return [(plants[0], *self.attempt(plants[0]))]
+        texts, dropped = planted(plants), set()
+        flags = [word for plant in plants for name in plant.functions() for word in ("--only", name)]
+        for _ in range(MOST_ROUNDS):
+            status, said = self.check(texts, flags)
+            texts, more = self.without_answers(texts, said)
+            dropped |= more
+            if not more:
+                break
+        told = {} if more else goals_by_function(status, said)
+        tried = []
+        for plant in plants:
+            goals = [goal for name in plant.functions() for goal in told.get(name, [])]
+            shown = [f"{', '.join(plant.functions())}: {', '.join(goals)}"]
+            if not goals:
+                tried.append((plant, *self.attempt(plant)))
+            elif all(goal in dropped for goal in goals):
+                tried.append((plant, HAND, [f"{line}, which wanted a proof by hand before" for line in shown]))
+            else:
+                tried.append((plant, CLAUSE, shown))
+        return tried
+
     def without_answers(self, texts, said):
         """The texts without the answers by hand that no longer fit, and the names of these."""
         texts, dropped = dict(texts), set()
@@ -268,6 +315,50 @@ def judged(status, said):
     return CLAUSE, [told for _, told in goals] or lines[-3:]
 
 
+def goals_by_function(status, said):
+    """The goals that stayed open, by function; none, where the check said something else too."""
+    lines = said.rstrip("\n").split("\n")
+    if status != 1 or any(map(UNREAD.search, lines)) or any(map(BY_HAND.match, lines)):
+        return {}
+    false = {found[1] for found in map(FALSE.match, lines) if found}
+    told = {}
+    for found in filter(None, map(GOALS.match, lines)):
+        names = [name + "!" * (name in false) for name in re.findall(r"`([^`]+)`", found[2] or "")]
+        told.setdefault(found[1].split("::", 1)[1], []).extend(names)
+    return told
+
+
+def planted(plants):
+    """The texts of the files that these plants of one crate change, by their path in it, all planted."""
+    texts = {}
+    for plant in plants:
+        for file, old, new in plant.edits:
+            text = texts.get(file) or (ROOT / "crates" / plant.crate / file).read_text()
+            texts[file] = text.replace(old, new)
+    return texts
+
+
+def fit_together(one, other):
+    """Whether two plants can stand in one copy: they turn different bodies, and no other function or text."""
+    if set(one.functions()) & set(other.functions()) or not (one.is_in_bodies() and other.is_in_bodies()):
+        return False
+    return not any(old in new for old, new in [(a[1], b[2]) for a in one.edits for b in other.edits]
+                   + [(b[1], a[2]) for a in one.edits for b in other.edits])
+
+
+def batches(plants, jobs):
+    """The plants in batches that are tried at once."""
+    most, found = min(MOST_AT_ONCE, max(1, -(-len(plants) // jobs))), []
+    for plant in plants:
+        fits = (batch for batch in found if len(batch) < most and all(fit_together(plant, other) for other in batch))
+        batch = next(fits, None) if plant.functions() else None
+        if batch is None:
+            found.append([plant])
+        else:
+            batch.append(plant)
+    return found
+
+
 def asked_for(plants, words):
     """The plants of the crates and of the names given; all, where none is given. Stops at a word that is neither."""
     if not words:
@@ -303,7 +394,8 @@ def try_crate(name, plants, options, counts):
     """Tries the plants of one crate, and tells of each."""
     bed = Bed(name, options["jobs"])
     with ThreadPoolExecutor(options["jobs"]) as pool:
-        for plant, (came_to, shown) in zip(plants, pool.map(bed.attempt, plants)):
+        tried = pool.map(bed.attempt_many, batches(plants, options["jobs"]))
+        for plant, came_to, shown in chain.from_iterable(tried):
             came_to, shown = as_meant(plant, came_to, shown, options)
             counts[came_to] += 1
             print(f"{plant.crate}/{plant.name}: {came_to}", flush=True)

@@ -47,8 +47,8 @@ struct Offer {
 
 /// Books units of an item for a customer, at the item's present price. A booking that is there
 /// takes more units; a new one takes its block from the first free list that has one, from `start`
-/// on, and refills list `start` where that had none. The place of an item is its kind and its id, by
-/// which a customer's bookings are told apart.
+/// on, and refills list `start` where that had none. The place of an item is its kind and its id,
+/// by which a customer's bookings are told apart.
 pub fn reserve<M: TxMem>(
     memory: &mut M,
     customer: u32,
