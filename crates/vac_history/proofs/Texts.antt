@@ -1,5 +1,6 @@
 -- The lines of calls that are picked and sent.
-use Rattle.std.proofs.Common.{◌≡◌, ◌∙◌, ◌⊎◌, inr, Result, Ok, Err, refl, sym, ap, subst, ℕ, List, [], ◌∷◌, ◌++◌, Option, map, append-nil}
+use Rattle.std.proofs.Common.{◌≡◌, ◌∙◌, ◌⊎◌, inr, Result, Ok, Err, refl, sym, ap, subst, ℕ, List, [], ◌∷◌, ◌++◌, Option}
+use Rattle.std.proofs.Common.{map, append-nil}
 use Rattle.std.proofs.lemmas.Grind.{flat_map-append}
 use Rattle.std.proofs.lemmas.List.{map-append}
 use Rattle.std.specs.Prelude.{IfErr}
