@@ -63,67 +63,10 @@ returns-in-Ok-commit-clause-tried g c = record {
       near_committed c.args.region.now _ c.args.client.now c.begin-attempt.result.client.now
       c.run_task-answer.new.memory.client.now.value c.begin-attempt.ensures.value
       (ap (λ (o : Origin). o.client.value) c.run_task-answer.ensures.origin) c.begin-attempt.ensures.alone all
-      c.run_task-answer.new.memory.region.now _ _ _ _ _ c.in-Ok-commit.ensures.next c.in-Ok-commit.ensures.ok
+      c.run_task-answer.new.memory.region.now _ _ _ _ _ c.in-Ok-commit.ensures.version.next c.in-Ok-commit.ensures.ok
       (search rules);
 }
 
-<<<<<<< HEAD
-pub returns-in_default-answer-clause-near : goal.returns-in_default-answer-clause-near
-returns-in_default-answer-clause-near g c = λ all.
-    near_begun c.args.region.now _ c.args.client.now c.begin-attempt.result.client.now
-    c.run_task-answer.new.memory.client.now.value c.begin-attempt.ensures.value
-    (ap (λ (o : Origin). o.client.value) c.run_task-answer.ensures.origin) c.begin-attempt.ensures.alone all _
-    (search rules)
-
-pub returns-in-Ok-commit-clause-near : goal.returns-in-Ok-commit-clause-near
-returns-in-Ok-commit-clause-near g c = λ all.
-    near_committed c.args.region.now _ c.args.client.now c.begin-attempt.result.client.now
-    c.run_task-answer.new.memory.client.now.value c.begin-attempt.ensures.value
-    (ap (λ (o : Origin). o.client.value) c.run_task-answer.ensures.origin) c.begin-attempt.ensures.alone all
-    c.run_task-answer.new.memory.region.now _ _ _ _ _ c.in-Ok-commit.ensures.version.next c.in-Ok-commit.ensures.ok
-    (search rules)
-
-pub returns-in-Err-clause-near : goal.returns-in-Err-clause-near
-returns-in-Err-clause-near g c = λ all.
-    near_stopped c.args.region.now _ c.args.client.now c.begin-attempt.result.client.now
-    c.run_task-answer.new.memory.client.now.value c.begin-attempt.ensures.value
-    (ap (λ (o : Origin). o.client.value) c.run_task-answer.ensures.origin) c.begin-attempt.ensures.alone all
-    c.run_task-answer.new.memory.region.now _ _ _ _
-    (ap (λ (o : Origin). o.region) c.run_task-answer.ensures.origin ∙ c.begin-attempt.ensures.region)
-    c.in-Err.ensures.version.next c.in-Err.ensures.version.lone (c.in-Err.ensures.refused (search rules))
-
-pub returns-in-Ok-commit-clause-leaves : goal.returns-in-Ok-commit-clause-leaves
-returns-in-Ok-commit-clause-leaves g c =
-    left_decided _ _ _ _ _ _ _ _ _ _ _ (search rules) (search rules)
-    (committed c.args.region.now c.run_task-answer.new.memory.region.now c.args.task.now c.in-Ok.reply _ _ _ _ _
-    c.run_task-answer.new.memory.client.now.value _ _ (ap
-    (λ (o : Origin). o.region.renewal) c.run_task-answer.ensures.origin ∙
-    ap (λ (r : RegionShown). r.renewal) c.begin-attempt.ensures.region) c.begin-attempt.ensures.earlier
-    c.requires.may.unplaced c.begin-attempt.ensures.value
-    (ap (λ (o : Origin). o.client.value) c.run_task-answer.ensures.origin) c.begin-attempt.ensures.version
-    c.in-Ok-commit.ensures.ok (search rules))
-    (search rules) (search rules) (wrote_is c.run_task-answer.new.memory.client.now.value _ _ _ _ (search rules)
-    (search rules) c.in-Ok-commit.ensures.ok.versioned)
-    (wrote_none c.args.task.now c.in-Ok.reply _ (wrote_nothing _ _ _ _ _ _ _ _ _ _ _ _ _ _
-    c.begin-attempt.ensures.empty.2 c.begin-attempt.ensures.empty.1 c.requires.writes
-    c.run_task-answer.ensures.origin c.in-Ok.ensures.answer))
-    (committed_legal _ _ _ _ _ _ (ap (λ (o : Origin). o.region) c.run_task-answer.ensures.origin ∙
-    c.begin-attempt.ensures.region) c.requires.may.opened c.commit.ensures.free_handed.0
-    (added_last c.args.region.now c.run_task-answer.new.memory.region.now c.args.task.now c.in-Ok.reply _ _ _
-    c.args.client.now _ c.run_task-answer.new.memory.client.now.value _
-    (ap (λ (o : Origin). o.region.renewal) c.run_task-answer.ensures.origin ∙
-    ap (λ (r : RegionShown). r.renewal) c.begin-attempt.ensures.region) c.begin-attempt.ensures.earlier
-    c.requires.may.unplaced c.begin-attempt.ensures.value
-    (ap (λ (o : Origin). o.client.value) c.run_task-answer.ensures.origin) c.in-Ok-commit.ensures.ok)
-    c.in-Ok-commit.ensures.decides (search rules))
-
-pub returns-in-Err-clause-leaves : goal.returns-in-Err-clause-leaves
-returns-in-Err-clause-leaves g c = record {
-  own = search rules;
-  free_handed = search rules;
-  unplaced = unplaced_stopped c.args.region.now _ _ _ _ _ _ _ _ _ c.requires.may.unplaced c.begin-attempt.ensures.value
-      (ap (λ (o : Origin). o.client.value) c.run_task-answer.ensures.origin)
-=======
 pub returns-in-Err-clause-tried : goal.returns-in-Err-clause-tried
 returns-in-Err-clause-tried g c = record {
   leaves = record {
@@ -144,7 +87,6 @@ returns-in-Err-clause-tried g c = record {
       c.requires.may.range c.run_task-answer.ensures.origin c.in-Ok.ensures.answer)
       (wrote_nothing _ _ _ _ _ _ _ _ _ _ _ _ _ _ c.begin-attempt.ensures.empty.2 c.begin-attempt.ensures.empty.1
       c.requires.writes c.run_task-answer.ensures.origin c.in-Ok.ensures.answer)
->>>>>>> eab490ce49c3fbc6301064b83bf412562dc09a7b
       (c.in-Err.ensures.refused (search rules)) (search rules);
   lone = search rules;
   near = λ all.
@@ -153,7 +95,7 @@ returns-in-Err-clause-tried g c = record {
       (ap (λ (o : Origin). o.client.value) c.run_task-answer.ensures.origin) c.begin-attempt.ensures.alone all
       c.run_task-answer.new.memory.region.now _ _ _ _
       (ap (λ (o : Origin). o.region) c.run_task-answer.ensures.origin ∙ c.begin-attempt.ensures.region)
-      c.in-Err.ensures.next c.in-Err.ensures.lone (c.in-Err.ensures.refused (search rules));
+      c.in-Err.ensures.version.next c.in-Err.ensures.version.lone (c.in-Err.ensures.refused (search rules));
 }
 
 pub returns-in-Some-clause-tried : goal.returns-in-Some-clause-tried

@@ -52,4 +52,4 @@ returns-in-Err g c =
     (vec_len c.in-Ok.clients) c.in-Err.fault fits c.in-Ok.ensures.number c.in-Err.ensures.arguments in
     tried_fault s c.in-Err.fault c.end_load_by-in-Err.result (g.W.Write.contents c.args.output.now)
     (g.W.Write.contents c.end_load_by-in-Err.new.output) fits is_not c.in-Err.ensures.refused e.low e.high e.refused
-        e.line
+    e.line
