@@ -3,11 +3,11 @@ use Rattle.stm_region.specs.Shown.{RegionShown}
 use Rattle.vac_load.specs.Attempted.{CountsShown}
 use Rattle.vac_load.specs.Load.{RoundHasRun}
 use Rattle.vac_load.proofs.Joining.{ran_more, ran_total, few, few_all, few_each}
-use Rattle.vac_load.proofs.rounds.run_rounds.Goals as goal
+use Rattle.vac_load.proofs.plan.Plan.run_rounds.Goals as goal
 
 pub rounds-init : goal.rounds-init
 rounds-init g c =
-    let one : c.args.settings.now.tasks ≡ 1 * c.args.settings.now.tasks = omega arith in
+    let one : c.args.self.settings.tasks ≡ 1 * c.args.self.settings.tasks = omega arith in
     let same = c.in_ok-round.ensures.manager in
     let first : c.in_ok-round.round.alone.manager.renewal ≡ c.args.alone.manager.renewal =
     ap (λ (m : RegionShown). m.renewal) same in
@@ -15,16 +15,16 @@ rounds-init g c =
       renewals = omega (arith, first, c.requires.renewals);
       size = ap (λ (m : RegionShown). m.size) same;
       round = c.in_ok-round.ensures.round;
-      ran = subst (λ (n : ℕ). RoundHasRun g.D.Draws.leads g.K.Keep.notes c.args.settings.now n c.args.alone
+      ran = subst (λ (n : ℕ). RoundHasRun g.D.Draws.leads g.K.Keep.notes c.args.self.settings n c.args.alone
           c.args.seats.items c.in_ok-round.round) one c.in_ok-round.ensures.ran;
     }
 
 pub renewed-requires : goal.renewed-requires
 renewed-requires g c =
-    let most = few c.args.settings.now c.requires.settings in
+    let most = few c.args.self.settings c.args.self.in_range in
     record {
       renewals = omega (arith, c.rounds.invariant.renewals, c.rounds-test.true, most.rounds);
-      settings = c.requires.settings;
+      settings = c.args.self.in_range;
     }
 
 pub run_round-requires-in-rounds-clause-number : goal.run_round-requires-in-rounds-clause-number
@@ -35,10 +35,10 @@ run_round-requires-in-rounds-clause-ready g c = λ _ _. c.in_ok-alone.ensures.re
 
 pub plus-requires : goal.plus-requires
 plus-requires g c =
-    let most = few c.args.settings.now c.requires.settings in
-    let count : length c.args.seats.items ≡ c.args.settings.now.clients =
+    let most = few c.args.self.settings c.args.self.in_range in
+    let count : length c.args.seats.items ≡ c.args.self.settings.clients =
     sym c.args.seats.ok.0 ∙ c.requires.number in
-    let here : length c.rounds.round.seats.items ≡ c.args.settings.now.clients =
+    let here : length c.rounds.round.seats.items ≡ c.args.self.settings.clients =
     sym c.rounds.round.seats.ok.0 ∙ c.rounds.invariant.round.number in
     let rounds : c.rounds.done ≤ 100 = omega (arith, most.rounds, c.rounds-test.true) in
     let so_far = few_all _ _ _ c.rounds.done _ (ran_total _ _ _ _ _ _ _ _ _ c.rounds.invariant.ran) count
@@ -61,14 +61,14 @@ rounds-preserved g c =
         number = more.round.number;
         tries = ap (λ (x : CountsShown). x.tries) c.plus.ensures ∙ i.round.tries;
       };
-      ran = ran_more g.D.Draws.leads g.K.Keep.notes c.args.settings.now c.rounds.done c.args.alone c.in_ok-alone.alone
+      ran = ran_more g.D.Draws.leads g.K.Keep.notes c.args.self.settings c.rounds.done c.args.alone c.in_ok-alone.alone
           c.args.seats.items c.rounds.round c.in_ok-more.more c.plus.result.tally i.ran renewed.records more.ran
           (ap (λ (x : CountsShown). x.tally) c.plus.ensures);
     }
 
 pub returns-clause-ran : goal.returns-clause-ran
 returns-clause-ran g c =
-    let most = few c.args.settings.now c.requires.settings in
-    let all : c.rounds.done ≡ c.args.settings.now.rounds = omega (arith, most.some) in
-    subst (λ (n : ℕ). RoundHasRun g.D.Draws.leads g.K.Keep.notes c.args.settings.now (n * c.args.settings.now.tasks)
+    let most = few c.args.self.settings c.args.self.in_range in
+    let all : c.rounds.done ≡ c.args.self.settings.rounds = omega (arith, most.some) in
+    subst (λ (n : ℕ). RoundHasRun g.D.Draws.leads g.K.Keep.notes c.args.self.settings (n * c.args.self.settings.tasks)
     c.args.alone c.args.seats.items c.rounds.round) all c.rounds.invariant.ran

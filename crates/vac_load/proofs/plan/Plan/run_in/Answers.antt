@@ -1,6 +1,6 @@
 use Rattle.std.proofs.Common.{rules}
 use Rattle.vac_load.proofs.Pairs.{worked_through}
-use Rattle.vac_load.proofs.workers.run_in.Goals as goal
+use Rattle.vac_load.proofs.plan.Plan.run_in.Goals as goal
 
 pub returns-clause-worked : goal.returns-clause-worked
 returns-clause-worked g c = record {

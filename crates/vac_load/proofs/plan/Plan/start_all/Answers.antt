@@ -1,6 +1,6 @@
 use Rattle.std.proofs.Common.{rules}
 use Rattle.vac_load.proofs.Pairs.{paired_none, paired_step, paired_all, one_on, nothing_left}
-use Rattle.vac_load.proofs.workers.start_all.Goals as goal
+use Rattle.vac_load.proofs.plan.Plan.start_all.Goals as goal
 
 pub loop-worker-init : goal.loop-worker-init
 loop-worker-init g c = record {
