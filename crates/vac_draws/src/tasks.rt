@@ -1,10 +1,10 @@
 //! The tasks of a load, as they are drawn.
 
-ghost use Rattle.std.specs.Prelude.{◌≡◌, ◌<◌, ◌≤◌, ◌&&◌, true, length, IfOk};
+ghost use Rattle.std.specs.Prelude.{◌≡◌, ◌<◌, ◌≤◌, ◌&&◌, Bool, true, length, IfOk};
 ghost use Rattle.std.specs.List.{list_all};
 ghost use Rattle.vac_model.specs.Amounts.{is_amount, is_id};
 ghost use Rattle.vac_model.specs.Ranges.{is_change, is_command, is_task};
-ghost use Rattle.vac_draws.specs.Draws.{Drawn, below, times_over};
+ghost use Rattle.vac_draws.specs.Draws.{Reader, Drawn, below, times_over};
 ghost use Rattle.vac_draws.specs.Setting.{is_settings};
 ghost use Rattle.vac_draws.specs.Tasks.{up_to, kind_at, kind, price, ask, drawn_trip, drawn_leave, removal};
 ghost use Rattle.vac_draws.specs.Tasks.{change_of, change, drawn_update, work, task_of, DrawnTask};
@@ -64,62 +64,6 @@ pub(crate) fn draw_price<D: Draws>(draws: &mut D) -> u32
     draw_below(draws, LEVELS) * PRICE_STEP + LOWEST_PRICE
 }
 
-/// An ask of a trip.
-fn draw_ask<D: Draws>(draws: &mut D, settings: &Settings) -> (Kind, u32)
-    requires { is_settings settings.now ≡ true }
-    ensures drawn { Drawn D.leads (ask settings.now) draws.old result draws.new }
-    ensures range { is_id result.1 ≡ true }
-{
-    let kind = draw_kind(draws);
-    (kind, draw_up_to(draws, settings.items))
-}
-
-/// `count` asks of a trip.
-fn draw_asks<D: Draws>(
-    draws: &mut D,
-    settings: &Settings,
-    count: u32,
-) -> ArrayVec<(Kind, u32), MOST_PARTS>
-    requires settings { is_settings settings.now ≡ true }
-    requires room { count ≤ MOST_PARTS }
-    ensures drawn { Drawn D.leads (times_over count (ask settings.now))
-        draws.old result.items draws.new }
-    ensures number { length result.items ≡ count }
-    ensures range { list_all (λ a. is_id a.1) result.items ≡ true }
-{
-    let mut asks = ArrayVec::new();
-    'asks: for _ in 0..count {
-        asks.push(draw_ask(draws, settings));
-    }
-    asks
-}
-
-/// A trip. All its words are drawn, even where memory is refused to build it.
-fn draw_trip<D: Draws>(
-    alloc: Global,
-    draws: &mut D,
-    settings: &Settings,
-) -> Result<Task, AllocError>
-    requires { is_settings settings.now ≡ true }
-    ensures drawn { DrawnTask D.leads (drawn_trip settings.now) draws.old result draws.new }
-    ensures range { IfOk result (λ task. is_task task ≡ true) }
-{
-    let count = draw_up_to(draws, settings.asks);
-    let customer = draw_up_to(draws, settings.items);
-    let asks = draw_asks(draws, settings, count);
-    Task::trip(alloc, customer, asks.as_slice())
-}
-
-fn draw_leave<D: Draws>(draws: &mut D, settings: &Settings) -> Task
-    requires { is_settings settings.now ≡ true }
-    ensures drawn { Drawn D.leads (drawn_leave settings.now) draws.old result draws.new }
-    ensures range { is_task result ≡ true }
-{
-    Task::Leave {
-        customer: draw_up_to(draws, settings.items),
-    }
-}
-
 /// The command that takes an item away.
 fn removal_of(kind: Kind, id: u32) -> Command
     requires { is_id id ≡ true }
@@ -156,83 +100,148 @@ fn draw_change_of<D: Draws>(draws: &mut D, kind: Kind, id: u32, number: u32) -> 
     }
 }
 
-/// A change of an update.
-fn draw_change<D: Draws>(draws: &mut D, settings: &Settings) -> Command
-    requires { is_settings settings.now ≡ true }
-    ensures drawn { Drawn D.leads (change settings.now) draws.old result draws.new }
-    ensures change { is_change result ≡ true }
-    ensures range { is_command result ≡ true }
-{
-    let kind = draw_kind(draws);
-    let id = draw_up_to(draws, settings.items);
-    let number = draw_below(draws, 2);
-    draw_change_of(draws, kind, id, number)
-}
-
-/// `count` changes of an update.
-fn draw_changes<D: Draws>(
-    draws: &mut D,
-    settings: &Settings,
-    count: u32,
-) -> ArrayVec<Command, MOST_PARTS>
-    requires settings { is_settings settings.now ≡ true }
-    requires room { count ≤ MOST_PARTS }
-    ensures drawn { Drawn D.leads (times_over count (change settings.now))
-        draws.old result.items draws.new }
-    ensures number { length result.items ≡ count }
-    ensures range { list_all (λ c. is_change c && is_command c) result.items ≡ true }
-{
-    let mut changes = ArrayVec::new();
-    'changes: for _ in 0..count {
-        changes.push(draw_change(draws, settings));
-    }
-    changes
-}
-
-/// An update. All its words are drawn, even where memory is refused to build it.
-fn draw_update<D: Draws>(
+/// What tasks are drawn by: settings in their ranges. The tasks are built in this memory.
+#[derive(Drop)]
+struct Drawing<'a> {
     alloc: Global,
-    draws: &mut D,
-    settings: &Settings,
-) -> Result<Task, AllocError>
-    requires { is_settings settings.now ≡ true }
-    ensures drawn { DrawnTask D.leads (drawn_update settings.now) draws.old result draws.new }
-    ensures range { IfOk result (λ task. is_task task ≡ true) }
-{
-    let count = draw_up_to(draws, settings.asks);
-    let changes = draw_changes(draws, settings, count);
-    Task::update(alloc, changes.as_slice())
+    settings: &'a Settings,
+    ghost in_range: { is_settings settings.now ≡ true },
 }
 
-/// The question that a number below 100 leads to.
-fn draw_question_at<D: Draws>(draws: &mut D, settings: &Settings, number: u32) -> Task
-    requires { is_settings settings.now ≡ true }
-    ensures drawn { Drawn D.leads (question_at settings.now number) draws.old result draws.new }
-    ensures range { is_task result ≡ true }
-{
-    if number == 0 {
-        return Task::One(Command::Audit);
-    }
-    if number % 3 == 0 {
-        let id = draw_up_to(draws, settings.items);
-        return Task::One(Command::Bill { id });
-    }
-    let (kind, id) = draw_ask(draws, settings);
-    if number % 3 == 1 {
-        Task::One(Command::Free { kind, id })
-    } else {
-        Task::One(Command::Price { kind, id })
+/// What a trip or an update is made of: so many of them are drawn, one after the other.
+trait Part: Default + Drop {
+    ghost use Rattle.vac_draws.specs.declared.settings.Settings.{Settings};
+
+    ghost read: { Settings → Reader Self };
+
+    ghost is_part: { Self → Bool };
+
+    /// Draws one.
+    fn draw<D: Draws>(drawing: &Drawing<'_>, draws: &mut D) -> Self
+        ensures drawn { Drawn D.leads (read drawing.now.settings.now) draws.old result draws.new }
+        ensures range { is_part result ≡ true };
+}
+
+/// An ask of a trip.
+impl Part for (Kind, u32) {
+    ghost read = { ask };
+
+    ghost is_part = { λ a. is_id a.1 };
+
+    fn draw<D: Draws>(drawing: &Drawing<'_>, draws: &mut D) -> (Kind, u32) {
+        let kind = draw_kind(draws);
+        (kind, draw_up_to(draws, drawing.settings.items))
     }
 }
 
-/// A question.
-fn draw_question<D: Draws>(draws: &mut D, settings: &Settings) -> Task
-    requires { is_settings settings.now ≡ true }
-    ensures drawn { Drawn D.leads (question settings.now) draws.old result draws.new }
-    ensures range { is_task result ≡ true }
-{
-    let number = draw_below(draws, PERCENT);
-    draw_question_at(draws, settings, number)
+/// A change of an update.
+impl Part for Command {
+    ghost read = { change };
+
+    ghost is_part = { λ c. is_change c && is_command c };
+
+    fn draw<D: Draws>(drawing: &Drawing<'_>, draws: &mut D) -> Command {
+        let kind = draw_kind(draws);
+        let id = draw_up_to(draws, drawing.settings.items);
+        let number = draw_below(draws, 2);
+        draw_change_of(draws, kind, id, number)
+    }
+}
+
+impl Drawing<'_> {
+    /// So many parts.
+    fn draw_parts<P: Part, D: Draws>(&self, draws: &mut D, count: u32) -> ArrayVec<P, MOST_PARTS>
+        requires { count ≤ MOST_PARTS }
+        ensures drawn { Drawn D.leads (times_over count (P.read self.now.settings.now))
+            draws.old result.items draws.new }
+        ensures number { length result.items ≡ count }
+        ensures range { list_all P.is_part result.items ≡ true }
+    {
+        let mut parts = ArrayVec::new();
+        'parts: for _ in 0..count {
+            parts.push(P::draw(self, draws));
+        }
+        parts
+    }
+
+    /// A trip. All its words are drawn, even where memory is refused to build it.
+    fn draw_trip<D: Draws>(&self, draws: &mut D) -> Result<Task, AllocError>
+        ensures drawn { DrawnTask D.leads (drawn_trip self.now.settings.now)
+            draws.old result draws.new }
+        ensures range { IfOk result (λ task. is_task task ≡ true) }
+    {
+        let count = draw_up_to(draws, self.settings.asks);
+        let customer = draw_up_to(draws, self.settings.items);
+        let asks = self.draw_parts(draws, count);
+        Task::trip(self.alloc, customer, asks.as_slice())
+    }
+
+    fn draw_leave<D: Draws>(&self, draws: &mut D) -> Task
+        ensures drawn { Drawn D.leads (drawn_leave self.now.settings.now)
+            draws.old result draws.new }
+        ensures range { is_task result ≡ true }
+    {
+        Task::Leave {
+            customer: draw_up_to(draws, self.settings.items),
+        }
+    }
+
+    /// An update. All its words are drawn, even where memory is refused to build it.
+    fn draw_update<D: Draws>(&self, draws: &mut D) -> Result<Task, AllocError>
+        ensures drawn { DrawnTask D.leads (drawn_update self.now.settings.now)
+            draws.old result draws.new }
+        ensures range { IfOk result (λ task. is_task task ≡ true) }
+    {
+        let count = draw_up_to(draws, self.settings.asks);
+        let changes = self.draw_parts(draws, count);
+        Task::update(self.alloc, changes.as_slice())
+    }
+
+    /// The question that a number below 100 leads to.
+    fn draw_question_at<D: Draws>(&self, draws: &mut D, number: u32) -> Task
+        ensures drawn { Drawn D.leads (question_at self.now.settings.now number)
+            draws.old result draws.new }
+        ensures range { is_task result ≡ true }
+    {
+        if number == 0 {
+            return Task::One(Command::Audit);
+        }
+        if number % 3 == 0 {
+            let id = draw_up_to(draws, self.settings.items);
+            return Task::One(Command::Bill { id });
+        }
+        let (kind, id) = Part::draw(self, draws);
+        if number % 3 == 1 {
+            Task::One(Command::Free { kind, id })
+        } else {
+            Task::One(Command::Price { kind, id })
+        }
+    }
+
+    /// A question.
+    fn draw_question<D: Draws>(&self, draws: &mut D) -> Task
+        ensures drawn { Drawn D.leads (question self.now.settings.now) draws.old result draws.new }
+        ensures range { is_task result ≡ true }
+    {
+        let number = draw_below(draws, PERCENT);
+        self.draw_question_at(draws, number)
+    }
+
+    /// A task that is no question. All its words are drawn, even where memory is refused to build
+    /// it.
+    fn draw_work<D: Draws>(&self, draws: &mut D) -> Result<Task, AllocError>
+        ensures drawn { DrawnTask D.leads (work self.now.settings.now) draws.old result draws.new }
+        ensures range { IfOk result (λ task. is_task task ≡ true) }
+    {
+        let number = draw_below(draws, PERCENT);
+        if number < self.settings.user {
+            self.draw_trip(draws)
+        } else if number % 2 == 1 {
+            Ok(self.draw_leave(draws))
+        } else {
+            self.draw_update(draws)
+        }
+    }
 }
 
 /// A task. All its words are drawn, even where memory is refused to build it.
@@ -245,34 +254,15 @@ pub fn draw_task<D: Draws>(
     ensures drawn { DrawnTask D.leads (task_of settings.now) draws.old result draws.new }
     ensures range { IfOk result (λ task. is_task task ≡ true) }
 {
+    let drawing = Drawing { alloc, settings };
     if settings.reads == 0 {
-        return draw_work(alloc, draws, settings);
+        return drawing.draw_work(draws);
     }
     let number = draw_below(draws, PERCENT);
     if number < settings.reads {
-        Ok(draw_question(draws, settings))
+        Ok(drawing.draw_question(draws))
     } else {
-        draw_work(alloc, draws, settings)
-    }
-}
-
-/// A task that is no question. All its words are drawn, even where memory is refused to build it.
-fn draw_work<D: Draws>(
-    alloc: Global,
-    draws: &mut D,
-    settings: &Settings,
-) -> Result<Task, AllocError>
-    requires { is_settings settings.now ≡ true }
-    ensures drawn { DrawnTask D.leads (work settings.now) draws.old result draws.new }
-    ensures range { IfOk result (λ task. is_task task ≡ true) }
-{
-    let number = draw_below(draws, PERCENT);
-    if number < settings.user {
-        draw_trip(alloc, draws, settings)
-    } else if number % 2 == 1 {
-        Ok(draw_leave(draws, settings))
-    } else {
-        draw_update(alloc, draws, settings)
+        drawing.draw_work(draws)
     }
 }
 

@@ -12,7 +12,7 @@ use Rattle.vac_draws.specs.Tasks.{stocks, customers, opening}
 use Rattle.vac_draws.specs.declared.settings.Settings.{Settings}
 use Rattle.vac_load.specs.Looping.{Answered}
 use Rattle.stm_region.specs.Shown.{RegionShown}
-use Rattle.vac_manager.specs.Called.{HasWholeHistory}
+use Rattle.vac_manager.specs.Called.{HasAllGrants, HasWholeHistory}
 use Rattle.vac_manager.specs.Legal.{WasLegal}
 use Rattle.vac_manager.specs.Session.{SessionShown, GoesOn}
 use Rattle.vac_manager.specs.Placed.{replied}
@@ -20,14 +20,14 @@ use Rattle.vac_manager.specs.declared.placed.Placed.{Placed}
 use Rattle.vac_manager.specs.declared.fault.Fault.{Fault}
 use Rattle.vac_load.specs.Keeping.{KeptNotes, HasKeptAdded}
 use Rattle.vac_load.specs.Opening.{as_tasks, RanDrawn, RanIn, Begun, Stopped, StoppedIn, IsAnswered, IsOpeningFault}
-use Rattle.vac_load.specs.Opening.{WasAnswered, WasRefused}
+use Rattle.vac_load.specs.Opening.{WasAnswered, WasRefused, RanOrStopped, RanOpening}
 use Rattle.vac_draws.proofs.Drawing.{plus_one, drawn_always, drawn_then_always, drawn_joined}
 use Rattle.vac_load.proofs.Answering.{answered_both, answered_quiet}
-use Rattle.vac_load.proofs.Sessions.{of_manager}
+use Rattle.vac_load.proofs.Sessions.{of_manager, went_both}
 use Rattle.vac_load.proofs.Beginning.{Readable, readable_stocks, begun_whole, begun_first, begun_second, begun_on}
 use Rattle.vac_load.proofs.Beginning.{begun_items, begun_customers, More, more_customers, long_customers}
 
-pub ran_joined : {D : Type 0} (leads : D → ℕ → D → Type 0) (first second : Reader (List Command))
+ran_joined : {D : Type 0} (leads : D → ℕ → D → Type 0) (first second : Reader (List Command))
     (y z w : SessionShown) (a b c : D) → GoesOn y z → RanIn leads first y z a b → RanIn leads second z w b c →
     RanIn leads (joined first second) y w a c
 ran_joined leads first second y z w a b c e p k =
@@ -41,45 +41,12 @@ ran_joined leads first second y z w a b c e p k =
       near = omega (arith, length-append p.commands q.commands, p.near, q.near);
     }
 
--- nothing yet
-pub ran_none : {D : Type 0} (leads : D → ℕ → D → Type 0) (f : ℕ → Reader (List Command)) (y : SessionShown) (a : D) →
-    RanIn leads (for_each 0 f) y y a a
-ran_none leads f y a = record {
-  commands = [];
-  drawn = drawn_always leads a [];
-  answered = answered_quiet y.manager.renewal y.client.value y.client.value refl (omega arith) refl;
-  near = omega arith;
-}
-
-pub ran_more : {D : Type 0} (leads : D → ℕ → D → Type 0) (n : ℕ) (f : ℕ → Reader (List Command)) (y z w : SessionShown)
-    (a b c : D) → GoesOn y z → RanIn leads (for_each n f) y z a b → RanIn leads (f (n + 1)) z w b c →
-    RanIn leads (for_each (n + 1) f) y w a c
-ran_more leads n f y z w a b c =
-    rw (plus_one n) (λ e p q. ran_joined leads (for_each n f) (f (suc n)) y z w a b c e p q)
-
--- where a call was answered, its commands were run
-pub ran_if_ok : {D E : Type 0} (leads : D → ℕ → D → Type 0) (reader : Reader (List Command)) (command : Command)
-    (y y' : SessionShown) (before after : KeptNotes) (a b : D) (result : Result (Unit {0}) E) →
-    Drawn leads reader a (command ∷ []) b → IfOk result (λ _. WasAnswered command y y' before after) →
-    IfOk result (λ _. RanIn leads reader y y' a b)
-ran_if_ok leads reader command y y' before after a b (Ok x) p q =
-    record { commands = command ∷ []; drawn = p; answered = q.answered; near = q.near }
-ran_if_ok leads reader command y y' before after a b (Err e) p q = tt
-
--- and kept
+-- a call that was answered was kept
 pub kept_if_ok : {E : Type 0} (command : Command) (y y' : SessionShown) (before after : KeptNotes)
     (result : Result (Unit {0}) E) → IfOk result (λ _. WasAnswered command y y' before after) →
     IfOk result (λ _. HasKeptAdded y.client.value y'.client.value before after)
 kept_if_ok command y y' before after (Ok x) q = q.kept
 kept_if_ok command y y' before after (Err e) q = tt
-
--- where the last of two was answered, both were run
-pub ran_both : {D E : Type 0} (leads : D → ℕ → D → Type 0) (first second : Reader (List Command))
-    (y z w : SessionShown) (a b c : D) (result : Result (Unit {0}) E) → GoesOn y z →
-    RanIn leads first y z a b → IfOk result (λ _. RanIn leads second z w b c) →
-    IfOk result (λ _. RanIn leads (joined first second) y w a c)
-ran_both leads first second y z w a b c (Ok x) e p q = ran_joined leads first second y z w a b c e p q
-ran_both leads first second y z w a b c (Err f) e p q = tt
 
 pub customers_more : (renewal n : ℕ) (v w u : Client) → Answered renewal (as_tasks (customers n)) v w →
     Answered renewal (One (NewCustomer (n + 1)) ∷ []) w u → Answered renewal (as_tasks (customers (n + 1))) v u
@@ -127,24 +94,8 @@ opening_all leads renewal s v u a b p = record {
   );
 }
 
--- a command that was refused after its words were drawn
-pub stopped_if_err : {D X : Type 0} (leads : D → ℕ → D → Type 0) (reader : Reader (List Command)) (command : Command)
-    (y y' : SessionShown) (a b : D) (result : Result X Fault) → Drawn leads reader a (command ∷ []) b →
-    IfErr result (λ fault. WasRefused fault y y') → IfErr result (λ fault. StoppedIn leads reader fault y y' a b)
-stopped_if_err leads reader command y y' a b (Ok x) p q = tt
-stopped_if_err leads reader command y y' a b (Err e) p q = record {
-  asked = [];
-  refused = command;
-  begun = begun_whole leads reader a (command ∷ []) b p;
-  between = y.client.value;
-  answered = answered_quiet y.manager.renewal y.client.value y.client.value refl (omega arith) refl;
-  near = omega arith;
-  kept = q.same;
-  why = q.why;
-}
-
 -- the first of two stopped
-pub stopped_first : {D : Type 0} (leads : D → ℕ → D → Type 0) (first second : Reader (List Command)) (fault : Fault)
+stopped_first : {D : Type 0} (leads : D → ℕ → D → Type 0) (first second : Reader (List Command)) (fault : Fault)
     (y y' : SessionShown) (a b : D) → Readable second → StoppedIn leads first fault y y' a b →
     StoppedIn leads (joined first second) fault y y' a b
 stopped_first leads first second fault y y' a b r p = record {
@@ -159,7 +110,7 @@ stopped_first leads first second fault y y' a b r p = record {
 }
 
 -- the second of two stopped
-pub stopped_second : {D : Type 0} (leads : D → ℕ → D → Type 0) (first second : Reader (List Command)) (fault : Fault)
+stopped_second : {D : Type 0} (leads : D → ℕ → D → Type 0) (first second : Reader (List Command)) (fault : Fault)
     (y z w : SessionShown) (a b c : D) → GoesOn y z → RanIn leads first y z a b →
     StoppedIn leads second fault z w b c → StoppedIn leads (joined first second) fault y w a c
 stopped_second leads first second fault y z w a b c e p k =
@@ -179,16 +130,8 @@ stopped_second leads first second fault y z w a b c e p k =
       why = q.why;
     }
 
-pub stopped_second_if_err : {D X : Type 0} (leads : D → ℕ → D → Type 0) (first second : Reader (List Command))
-    (y z w : SessionShown) (a b c : D) (result : Result X Fault) → GoesOn y z → RanIn leads first y z a b →
-    IfErr result (λ fault. StoppedIn leads second fault z w b c) →
-    IfErr result (λ fault. StoppedIn leads (joined first second) fault y w a c)
-stopped_second_if_err leads first second y z w a b c (Ok x) e p q = tt
-stopped_second_if_err leads first second y z w a b c (Err f) e p q =
-    stopped_second leads first second f y z w a b c e p q
-
 -- the items stopped at those of this id, of so many that there are
-pub stopped_items : {D : Type 0} (leads : D → ℕ → D → Type 0) (n m : ℕ) (fault : Fault) (y z w : SessionShown)
+stopped_items : {D : Type 0} (leads : D → ℕ → D → Type 0) (n m : ℕ) (fault : Fault) (y z w : SessionShown)
     (a b c : D) → n + 1 ≤ m → GoesOn y z → RanIn leads (for_each n stocks) y z a b →
     StoppedIn leads (stocks (n + 1)) fault z w b c → StoppedIn leads (for_each m stocks) fault y w a c
 stopped_items leads n m fault y z w a b c less e p q =
@@ -208,7 +151,7 @@ stopped_items leads n m fault y z w a b c less e p q =
     }
 
 -- the items stopped, and the opening with them
-pub stopped_opening : {D : Type 0} (leads : D → ℕ → D → Type 0) (s : Settings) (fault : Fault) (y y' : SessionShown)
+stopped_opening : {D : Type 0} (leads : D → ℕ → D → Type 0) (s : Settings) (fault : Fault) (y y' : SessionShown)
     (a b : D) → StoppedIn leads (for_each s.items stocks) fault y y' a b → StoppedIn leads (opening s) fault y y' a b
 stopped_opening leads s fault y y' a b p = record {
   asked = p.asked;
@@ -222,7 +165,7 @@ stopped_opening leads s fault y y' a b p = record {
 }
 
 -- a customer was refused
-pub stopped_customers : {D : Type 0} (leads : D → ℕ → D → Type 0) (s : Settings) (n : ℕ) (fault : Fault)
+stopped_customers : {D : Type 0} (leads : D → ℕ → D → Type 0) (s : Settings) (n : ℕ) (fault : Fault)
     (y z w : SessionShown) (a b : D) → n + 1 ≤ s.items → GoesOn y z →
     Opening leads y.manager.renewal s.items n y.client.value z.client.value a b → WasRefused fault z w →
     StoppedIn leads (opening s) fault y w a b
@@ -243,10 +186,129 @@ stopped_customers leads s n fault y z w a b less e p q =
       why = of_manager (λ m. IsOpeningFault m.last z.client.value.floor fault) y z e q.why;
     }
 
+-- a client that is alone asked for a command whose words were drawn
+pub asked_one : {D : Type 0} (leads : D → ℕ → D → Type 0) (reader : Reader (List Command)) (command : Command)
+    (y y' : SessionShown) (before after : KeptNotes) (a b : D) (result : Result (Unit {0}) Fault) → GoesOn y y' →
+    HasAllGrants y'.client.value → Drawn leads reader a (command ∷ []) b →
+    IfOk result (λ _. WasAnswered command y y' before after) → IfErr result (λ fault. WasRefused fault y y') →
+    RanOrStopped leads reader result y y' a b
+asked_one leads reader command y y' before after a b (Ok x) e all p q r = record {
+  session = e;
+  grants = all;
+  ran = record { commands = command ∷ []; drawn = p; answered = q.answered; near = q.near };
+  stopped = tt;
+}
+asked_one leads reader command y y' before after a b (Err f) e all p q r = record {
+  session = e;
+  grants = all;
+  ran = tt;
+  stopped = record {
+    asked = [];
+    refused = command;
+    begun = begun_whole leads reader a (command ∷ []) b p;
+    between = y.client.value;
+    answered = answered_quiet y.manager.renewal y.client.value y.client.value refl (omega arith) refl;
+    near = omega arith;
+    kept = r.same;
+    why = r.why;
+  };
+}
+
+-- for those of the first of two, which it ran, and then for those of the second
+pub asked_both : {D : Type 0} (leads : D → ℕ → D → Type 0) (first second : Reader (List Command))
+    (y z w : SessionShown) (a b c : D) (x : Unit {0}) (result : Result (Unit {0}) Fault) →
+    RanOrStopped leads first (Ok x) y z a b → RanOrStopped leads second result z w b c →
+    RanOrStopped leads (joined first second) result y w a c
+asked_both leads first second y z w a b c x (Ok u) p q = record {
+  session = went_both y z w p.session q.session;
+  grants = q.grants;
+  ran = ran_joined leads first second y z w a b c p.session p.ran q.ran;
+  stopped = tt;
+}
+asked_both leads first second y z w a b c x (Err f) p q = record {
+  session = went_both y z w p.session q.session;
+  grants = q.grants;
+  ran = tt;
+  stopped = stopped_second leads first second f y z w a b c p.session p.ran q.stopped;
+}
+
+-- it stopped within those of the first of two
+pub asked_first : {D : Type 0} (leads : D → ℕ → D → Type 0) (first second : Reader (List Command)) (fault : Fault)
+    (y y' : SessionShown) (a b : D) → Readable second → RanOrStopped leads first (Err fault) y y' a b →
+    RanOrStopped leads (joined first second) (Err fault) y y' a b
+asked_first leads first second fault y y' a b r p = record {
+  session = p.session;
+  grants = p.grants;
+  ran = tt;
+  stopped = stopped_first leads first second fault y y' a b r p.stopped;
+}
+
+-- for those of no item yet
+pub asked_none : {D : Type 0} (leads : D → ℕ → D → Type 0) (f : ℕ → Reader (List Command)) (y : SessionShown) (a : D)
+    (x : Unit {0}) → HasAllGrants y.client.value → RanOrStopped leads (for_each 0 f) (Ok x) y y a a
+asked_none leads f y a x all = record {
+  session = refl;
+  grants = all;
+  ran = record {
+    commands = [];
+    drawn = drawn_always leads a [];
+    answered = answered_quiet y.manager.renewal y.client.value y.client.value refl (omega arith) refl;
+    near = omega arith;
+  };
+  stopped = tt;
+}
+
+-- for those of one item more
+pub asked_more : {D : Type 0} (leads : D → ℕ → D → Type 0) (n : ℕ) (f : ℕ → Reader (List Command))
+    (y z w : SessionShown) (a b c : D) (x u : Unit {0}) → RanOrStopped leads (for_each n f) (Ok x) y z a b →
+    RanOrStopped leads (f (n + 1)) (Ok u) z w b c → RanOrStopped leads (for_each (n + 1) f) (Ok u) y w a c
+asked_more leads n f y z w a b c x u =
+    rw (plus_one n) (λ p q. asked_both leads (for_each n f) (f (suc n)) y z w a b c x (Ok u) p q)
+
 -- a fault that is handed on
 pub handed_on : {X E : Type 0} (r : Result X E) (e : E) (P : E → Type 0) → IsErrAnd r (λ f. f ≡ e) → P e → IfErr r P
 handed_on (Ok x) e P is holds = tt
 handed_on (Err f) e P is holds = subst P (sym is) holds
+
+pub asked_handed_on : {D : Type 0} (leads : D → ℕ → D → Type 0) (reader : Reader (List Command))
+    (r : Result (Unit {0}) Fault) (fault : Fault) (y y' : SessionShown) (a b : D) → IsErrAnd r (λ f. f ≡ fault) →
+    RanOrStopped leads reader (Err fault) y y' a b → RanOrStopped leads reader r y y' a b
+asked_handed_on leads reader (Ok x) fault y y' a b is p = absurd is
+asked_handed_on leads reader (Err f) fault y y' a b is p =
+    subst (λ (e : Fault). RanOrStopped leads reader (Err e) y y' a b) (sym is) p
+
+-- a load's opening stopped
+opening_stopped : {D : Type 0} (leads : D → ℕ → D → Type 0) (s : Settings) (r : Result (Unit {0}) Fault) (fault : Fault)
+    (y y' : SessionShown) (a b : D) → IsErrAnd r (λ f. f ≡ fault) → GoesOn y y' → HasAllGrants y'.client.value →
+    StoppedIn leads (opening s) fault y y' a b → RanOpening leads s r y y' a b
+opening_stopped leads s (Ok x) fault y y' a b is e all p = absurd is
+opening_stopped leads s (Err f) fault y y' a b is e all p = record {
+  asked = record {
+    session = e;
+    grants = all;
+    ran = tt;
+    stopped = subst (λ (e : Fault). StoppedIn leads (opening s) e y y' a b) (sym is) p;
+  };
+  ready = tt;
+}
+
+-- at the items of this number
+pub opening_stopped_at_items : {D : Type 0} (leads : D → ℕ → D → Type 0) (s : Settings) (n : ℕ)
+    (r : Result (Unit {0}) Fault) (fault : Fault) (y z w : SessionShown) (a b c : D) (x : Unit {0}) → n + 1 ≤ s.items →
+    IsErrAnd r (λ f. f ≡ fault) → RanOrStopped leads (for_each n stocks) (Ok x) y z a b →
+    RanOrStopped leads (stocks (n + 1)) (Err fault) z w b c → RanOpening leads s r y w a c
+opening_stopped_at_items leads s n r fault y z w a b c x less is p q = opening_stopped leads s r fault y w a c is
+    (went_both y z w p.session q.session) q.grants (stopped_opening leads s fault y w a c
+    (stopped_items leads n s.items fault y z w a b c less p.session p.ran q.stopped))
+
+-- at the customer of this number
+pub opening_stopped_at_customer : {D : Type 0} (leads : D → ℕ → D → Type 0) (s : Settings) (n : ℕ)
+    (r : Result (Unit {0}) Fault) (fault : Fault) (y z w : SessionShown) (a b : D) → n + 1 ≤ s.items →
+    IsErrAnd r (λ f. f ≡ fault) → GoesOn y z → GoesOn z w → HasAllGrants w.client.value →
+    Opening leads y.manager.renewal s.items n y.client.value z.client.value a b → WasRefused fault z w →
+    RanOpening leads s r y w a b
+opening_stopped_at_customer leads s n r fault y z w a b less is e f all p q = opening_stopped leads s r fault y w a b is
+    (went_both y z w e f) all (stopped_customers leads s n fault y z w a b less e p q)
 
 -- a call of a client that is alone was answered
 pub is_answered : {E : Type 0} (region : RegionShown) (end : Result Placed E) (p : Placed) (v : Client) → end ≡ Ok p →

@@ -1,16 +1,19 @@
 -- What the opening of a load does.
 use Rattle.std.specs.Prelude.{◌≡◌, ◌≤◌, ◌+◌, ℕ, List, [], ◌∷◌, ◌++◌, length, map}
+use Rattle.std.specs.Prelude.{Result, IfOk, IfErr}
 use Rattle.stm_core.specs.Client.{Client}
 use Rattle.stm_region.specs.Shown.{RegionShown}
 use Rattle.vac_model.specs.declared.commands.Command.{Command}
 use Rattle.vac_model.specs.declared.tasks.Task.{Task}
 use Rattle.vac_model.specs.declared.tasks.Task.TheVariants as task
-use Rattle.vac_manager.specs.Called.{HasWholeHistory}
+use Rattle.vac_manager.specs.Called.{HasAllGrants, HasWholeHistory}
 use Rattle.vac_manager.specs.Legal.{WasLegal}
-use Rattle.vac_manager.specs.Session.{SessionShown}
+use Rattle.vac_manager.specs.Session.{SessionShown, GoesOn}
 use Rattle.vac_manager.specs.declared.fault.Fault.{Fault}
 use Rattle.vac_manager.specs.declared.fault.Fault.TheVariants as fault
 use Rattle.vac_draws.specs.Draws.{Reader, Reads, Drew, Drawn}
+use Rattle.vac_draws.specs.Tasks.{opening}
+use Rattle.vac_draws.specs.declared.settings.Settings.{Settings}
 use Rattle.vac_load.specs.Keeping.{KeptNotes, HasKeptAdded}
 use Rattle.vac_load.specs.Looping.{Answered}
 
@@ -90,3 +93,18 @@ abbrev pub StoppedIn : {D : Type 0} → (D → ℕ → D → Type 0) → Reader 
     → SessionShown → SessionShown → D → D → Type 0
 StoppedIn leads reader e y y' state left = Stopped leads y.manager.renewal y.manager.last reader e
     y.client.value y'.client.value state left
+
+-- a client that is alone asked for the commands of this reader, which ended so: its session went on
+-- and it has all grants; it ran them all, or stopped within them
+pub record RanOrStopped {D : Type 0} (leads : D → ℕ → D → Type 0) (reader : Reader (List Command))
+    (result : Result (Unit {0}) Fault) (y y' : SessionShown) (state last : D) : Type 0 where
+  pub session : GoesOn y y'
+  pub grants : HasAllGrants y'.client.value
+  pub ran : IfOk result (λ _. RanIn leads reader y y' state last)
+  pub stopped : IfErr result (λ fault. StoppedIn leads reader fault y y' state last)
+
+-- so it asked for those of a load's opening; where it ran them all, its last call was answered
+pub record RanOpening {D : Type 0} (leads : D → ℕ → D → Type 0) (s : Settings)
+    (result : Result (Unit {0}) Fault) (y y' : SessionShown) (state last : D) : Type 0 where
+  pub asked : RanOrStopped leads (opening s) result y y' state last
+  pub ready : IfOk result (λ _. IsAnswered y.manager y'.client.value)

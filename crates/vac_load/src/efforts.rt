@@ -4,6 +4,7 @@ ghost use Rattle.std.specs.Prelude.{◌≡◌, ◌<◌, ◌≤◌, ◌+◌, ◌^
 ghost use Rattle.vac_manager.specs.Placed.{conflicts_of};
 ghost use Rattle.vac_load.specs.Attempted.{no_effort, conflicts_in, lock_conflicts_in, with_call, both_efforts};
 
+use crate::sums::added_up;
 use vac_manager::Effort;
 
 /// How many attempts the calls of a load took, how many of these aborted on a conflict of each
@@ -72,18 +73,9 @@ impl Efforts {
         requires others_locks { lock_conflicts_in other ≤ conflicts_in other }
         ensures { result ≡ both_efforts self other }
     {
-        Efforts {
-            attempts: self.attempts + other.attempts,
-            held: self.held + other.held,
-            newer: self.newer + other.newer,
-            moved: self.moved + other.moved,
-            lost_lock: self.lost_lock + other.lost_lock,
-            lost_tick: self.lost_tick + other.lost_tick,
-            roots: self.roots + other.roots,
-            heads: self.heads + other.heads,
-            nodes: self.nodes + other.nodes,
-            uses: self.uses + other.uses,
-            stocks: self.stocks + other.stocks,
-        }
+        added_up!(
+            Efforts, self, other, attempts, held, newer, moved, lost_lock, lost_tick, roots, heads,
+            nodes, uses, stocks
+        )
     }
 }

@@ -12,8 +12,10 @@ mod load;
 mod looping;
 mod opening;
 mod phases;
+mod plan;
 mod rounds;
 mod seats;
+mod sums;
 mod tally;
 mod workers;
 

@@ -12,7 +12,8 @@ use crate::alone::Alone;
 use crate::efforts::Efforts;
 use crate::opening::open_kept;
 use crate::phases::{NoPhases, Phases, Stages};
-use crate::rounds::{Round, run_rounds};
+use crate::plan::Plan;
+use crate::rounds::Round;
 use crate::seats::{Keepers, Seat, Sent, keepers_of, no_keepers, seats_by_seed, seats_unkept};
 use crate::tally::Tally;
 use std::alloc::Global;
@@ -96,7 +97,12 @@ fn run_in_range<R: Threads + Wait, D: Draws + Sent, G: Gate + Sent, K: Keep + Se
         IsStopOfLoad D.leads settings.now opening.old opening.new fault) }
 {
     let alone = open_load(alloc, settings, opening, keep)?;
-    let round = run_rounds(rt, alloc, settings, alone, seats, phases)?;
+    let plan = Plan {
+        alloc,
+        settings: *settings,
+        phases,
+    };
+    let round = plan.run_rounds(rt, alone, seats)?;
     let Round {
         alone,
         seats,

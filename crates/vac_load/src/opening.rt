@@ -1,14 +1,13 @@
 //! The opening of a load: its items and customers.
 
-ghost use Rattle.std.specs.Prelude.{◌≡◌, ◌<◌, ◌≤◌, ◌^◌, true, IfOk, IfErr};
+ghost use Rattle.std.specs.Prelude.{◌≡◌, ◌≤◌, true, IfOk, IfErr};
 ghost use Rattle.vac_model.specs.Ranges.{is_command};
 ghost use Rattle.vac_manager.specs.Called.{HasAllGrants};
 ghost use Rattle.vac_manager.specs.Session.{GoesOn};
-ghost use Rattle.vac_draws.specs.Draws.{for_each};
 ghost use Rattle.vac_draws.specs.Setting.{is_settings};
 ghost use Rattle.vac_load.specs.Keeping.{HasKeptAdded};
-ghost use Rattle.vac_draws.specs.Tasks.{stock, stocks, opening};
-ghost use Rattle.vac_load.specs.Opening.{RanIn, StoppedIn, IsAnswered, WasAnswered, WasRefused};
+ghost use Rattle.vac_draws.specs.Tasks.{stock, stocks};
+ghost use Rattle.vac_load.specs.Opening.{RanOrStopped, RanOpening, WasAnswered, WasRefused};
 
 use stm_attempt::NoGate;
 use vac_draws::{Draws, Settings, draw_stock};
@@ -55,12 +54,8 @@ fn add_item<D: Draws, K: Keep>(
 ) -> Result<(), Fault>
     requires alone { HasAllGrants session.old.client.value }
     requires id { 1 ≤ id }
-    ensures session { GoesOn session.old session.new }
-    ensures grants { HasAllGrants session.new.client.value }
-    ensures ran { IfOk result (λ _. RanIn D.leads (stock id kind)
-        session.old session.new draws.old draws.new) }
-    ensures stopped { IfErr result (λ fault. StoppedIn D.leads (stock id kind) fault
-        session.old session.new draws.old draws.new) }
+    ensures asked { RanOrStopped D.leads (stock id kind) result
+        session.old session.new draws.old draws.new }
     ensures kept { IfOk result (λ _. HasKeptAdded session.old.client.value session.new.client.value
         (K.notes keep.old) (K.notes keep.new)) }
 {
@@ -77,42 +72,14 @@ fn add_items<D: Draws, K: Keep>(
 ) -> Result<(), Fault>
     requires alone { HasAllGrants session.old.client.value }
     requires id { 1 ≤ id }
-    ensures session { GoesOn session.old session.new }
-    ensures grants { HasAllGrants session.new.client.value }
-    ensures ran { IfOk result (λ _. RanIn D.leads (stocks id)
-        session.old session.new draws.old draws.new) }
-    ensures stopped { IfErr result (λ fault. StoppedIn D.leads (stocks id) fault
-        session.old session.new draws.old draws.new) }
+    ensures asked { RanOrStopped D.leads (stocks id) result
+        session.old session.new draws.old draws.new }
     ensures kept { IfOk result (λ _. HasKeptAdded session.old.client.value session.new.client.value
         (K.notes keep.old) (K.notes keep.new)) }
 {
     add_item(session, draws, id, Kind::Car, keep)?;
     add_item(session, draws, id, Kind::Flight, keep)?;
     add_item(session, draws, id, Kind::Room, keep)
-}
-
-/// Adds the items of each id from 1 on.
-fn add_all<D: Draws, K: Keep>(
-    session: &mut Session<'_>,
-    draws: &mut D,
-    items: u32,
-    keep: &mut K,
-) -> Result<(), Fault>
-    requires alone { HasAllGrants session.old.client.value }
-    requires fits { items < 2 ^ 31 }
-    ensures session { GoesOn session.old session.new }
-    ensures grants { HasAllGrants session.new.client.value }
-    ensures ran { IfOk result (λ _. RanIn D.leads (for_each items stocks)
-        session.old session.new draws.old draws.new) }
-    ensures stopped { IfErr result (λ fault. StoppedIn D.leads (for_each items stocks) fault
-        session.old session.new draws.old draws.new) }
-    ensures kept { IfOk result (λ _. HasKeptAdded session.old.client.value session.new.client.value
-        (K.notes keep.old) (K.notes keep.new)) }
-{
-    'items: for place in 0..items {
-        add_items(session, draws, place + 1, keep)?;
-    }
-    Ok(())
 }
 
 /// Makes the items and the customers of a load, one command after the other, each by one try, and
@@ -126,18 +93,14 @@ pub(crate) fn open_kept<D: Draws, K: Keep>(
 ) -> Result<(), Fault>
     requires alone { HasAllGrants session.old.client.value }
     requires settings { is_settings settings.now ≡ true }
-    ensures session { GoesOn session.old session.new }
-    ensures grants { HasAllGrants session.new.client.value }
-    ensures ran { IfOk result (λ _. RanIn D.leads (opening settings.now)
-        session.old session.new draws.old draws.new) }
-    ensures ready { IfOk result (λ _.
-        IsAnswered session.old.manager session.new.client.value) }
-    ensures stopped { IfErr result (λ fault. StoppedIn D.leads (opening settings.now) fault
-        session.old session.new draws.old draws.new) }
+    ensures opened { RanOpening D.leads settings.now result
+        session.old session.new draws.old draws.new }
     ensures kept { IfOk result (λ _. HasKeptAdded session.old.client.value session.new.client.value
         (K.notes keep.old) (K.notes keep.new)) }
 {
-    add_all(session, draws, settings.items, keep)?;
+    'items: for place in 0..settings.items {
+        add_items(session, draws, place + 1, keep)?;
+    }
     'customers: for place in 0..settings.items {
         let command = Command::NewCustomer { id: place + 1 };
         ask_for(session, command, keep)?;
@@ -155,14 +118,8 @@ pub fn open<D: Draws>(
 ) -> Result<(), Fault>
     requires alone { HasAllGrants session.old.client.value }
     requires settings { is_settings settings.now ≡ true }
-    ensures session { GoesOn session.old session.new }
-    ensures grants { HasAllGrants session.new.client.value }
-    ensures ran { IfOk result (λ _. RanIn D.leads (opening settings.now)
-        session.old session.new draws.old draws.new) }
-    ensures ready { IfOk result (λ _.
-        IsAnswered session.old.manager session.new.client.value) }
-    ensures stopped { IfErr result (λ fault. StoppedIn D.leads (opening settings.now) fault
-        session.old session.new draws.old draws.new) }
+    ensures { RanOpening D.leads settings.now result
+        session.old session.new draws.old draws.new }
 {
     open_kept(session, draws, settings, &mut Unkept)
 }

@@ -4,6 +4,7 @@ ghost use Rattle.std.specs.Prelude.{◌≡◌, ◌≢◌, ◌<◌, ◌^◌, ◌+
 ghost use Rattle.vac_load.specs.Looping.{nothing, counted, total};
 ghost use Rattle.vac_load.specs.Sums.{plus};
 
+use crate::sums::added_up;
 use vac_manager::Fault;
 
 /// How many tasks were answered, and how many were not, by why.
@@ -47,11 +48,6 @@ impl Tally {
         requires fits { total self + total other < 2 ^ 63 }
         ensures { result ≡ plus self other }
     {
-        Tally {
-            answered: self.answered + other.answered,
-            busy: self.busy + other.busy,
-            memory: self.memory + other.memory,
-            spent: self.spent + other.spent,
-        }
+        added_up!(Tally, self, other, answered, busy, memory, spent)
     }
 }

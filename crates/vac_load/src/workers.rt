@@ -1,16 +1,15 @@
 //! Clients in threads of their own.
 
-ghost use Rattle.std.specs.Prelude.{◌≡◌, ◌≤◌, [], true, IfOk, IfErr, vec_len, vec_capacity};
-ghost use Rattle.vac_draws.specs.Setting.{is_settings};
+ghost use Rattle.std.specs.Prelude.{◌≡◌, ◌≤◌, [], IfOk, IfErr, vec_len, vec_capacity};
 ghost use Rattle.vac_load.specs.Lists.{Paired};
 ghost use Rattle.vac_load.specs.Load.{DidWork, DidAllWork, IsPromise, IsLoadRefusal};
 
 use crate::counts::Counts;
 use crate::load::LoadFault;
 use crate::looping::count_loop;
-use crate::phases::Phases;
-use crate::seats::Seat;
-use std::alloc::Global;
+use crate::phases::{Phases, Stages};
+use crate::plan::Plan;
+use crate::seats::{Seat, Sent};
 use std::snapshot::Snapshot;
 use std::sync::Wait;
 use std::thread;
@@ -42,109 +41,11 @@ impl<'m, D: Draws, G, K: Keep> Promise<Worker<'m, D, G, K>> for WorkOf<'m, D, G,
 /// The thread of a worker.
 type Handle<'m, D, G, K> = PromisedHandle<Worker<'m, D, G, K>, WorkOf<'m, D, G, K>>;
 
-/// Has a worker run its tasks.
-fn work<'m, D: Draws, G: Gate, K: Keep, S: Phases + Drop>(
-    alloc: Global,
-    settings: &Settings,
-    worker: Worker<'m, D, G, K>,
-    phases: S,
-) -> Worker<'m, D, G, K>
-    requires settings { is_settings settings.now ≡ true }
-    ensures { DidWork D.leads K.notes settings.now worker.entry result }
-{
-    let Worker {
-        mut session,
-        seat,
-        ..
-    } = worker;
-    let Seat {
-        mut draws,
-        mut gate,
-        mut keep,
-    } = seat;
-    phases.ready();
-    let tally = count_loop(
-        alloc,
-        &mut session,
-        &mut draws,
-        settings,
-        &mut gate,
-        &mut keep,
-    );
-    phases.done();
-    let seat = Seat { draws, gate, keep };
-    Worker {
-        session,
-        seat,
-        tally,
-    }
-}
-
-/// Starts the thread of a worker.
-fn start<
-    's,
-    'm: 's,
-    E,
-    D: Draws + Send + Drop + 's,
-    G: Gate + Send + Drop + 's,
-    K: Keep + Send + Drop + 's,
-    S: Phases + Copy + Send + Drop + 's,
->(
-    scope: &Scope<'s, E>,
-    alloc: Global,
-    settings: Settings,
-    worker: Worker<'m, D, G, K>,
-    phases: S,
-) -> Result<Handle<'m, D, G, K>, LoadFault>
-    requires settings { is_settings settings ≡ true }
-    ensures promise { IfOk result (λ handle. IsPromise settings worker.entry handle.promise) }
-    ensures refused { IfErr result (λ fault. fault ≡ LoadFault.Spawn) }
-{
-    let promise = WorkOf {
-        settings,
-        worker: Snapshot::of(&worker),
-    };
-    let run = move || -> Worker<'_, D, G, K>
-        requires { is_settings settings ≡ true }
-        ensures { DidWork D.leads K.notes settings worker.entry result }
-    { work(alloc, &settings, worker, phases) };
-    match scope.spawn_with(promise, run) {
-        Ok(handle) => Ok(handle),
-        Err(_refused) => Err(LoadFault::Spawn),
-    }
-}
-
-/// Starts a thread for each worker, and keeps those that were started.
-fn start_all<
-    's,
-    'm: 's,
-    E,
-    D: Draws + Send + Drop + 's,
-    G: Gate + Send + Drop + 's,
-    K: Keep + Send + Drop + 's,
-    S: Phases + Copy + Send + Drop + 's,
->(
-    scope: &Scope<'s, E>,
-    alloc: Global,
-    settings: Settings,
-    workers: Vec<Worker<'m, D, G, K>>,
-    phases: S,
-    handles: &mut Vec<Handle<'m, D, G, K>>,
-) -> Result<(), LoadFault>
-    requires settings { is_settings settings ≡ true }
-    requires room { vec_len workers ≤ vec_capacity handles.old }
-    requires empty { handles.old.items ≡ [] }
-    ensures promises { IfOk result (λ _.
-        Paired (λ w h. IsPromise settings w h.promise)
-        workers.entry.items handles.new.items) }
-    ensures few { vec_len handles.new ≤ vec_len workers.entry }
-    ensures refused { IfErr result (λ fault. fault ≡ LoadFault.Spawn) }
-{
-    for worker in workers {
-        let handle = start(scope, alloc, settings, worker, phases)?;
-        handles.push_reserved(handle);
-    }
-    Ok(())
+/// Workers that are to run their tasks, or that ran them, the first one apart.
+#[derive(Drop)]
+pub(crate) struct Crew<'m, D, G, K> {
+    pub(crate) first: Worker<'m, D, G, K>,
+    pub(crate) others: Vec<Worker<'m, D, G, K>>,
 }
 
 /// Joins the threads in their order.
@@ -165,78 +66,147 @@ fn join_all<'m, R: Threads, D: Draws + Drop, G: Drop, K: Keep + Drop>(
     done
 }
 
-/// Workers that are to run their tasks, or that ran them, the first one apart.
-#[derive(Drop)]
-pub(crate) struct Crew<'m, D, G, K> {
-    pub(crate) first: Worker<'m, D, G, K>,
-    pub(crate) others: Vec<Worker<'m, D, G, K>>,
-}
+impl<S: Stages> Plan<S> {
+    /// Has a worker run its tasks.
+    fn work<'m, D: Draws, G: Gate, K: Keep>(
+        self,
+        worker: Worker<'m, D, G, K>,
+    ) -> Worker<'m, D, G, K>
+        ensures { DidWork D.leads K.notes self.settings worker.entry result }
+    {
+        let Worker {
+            mut session,
+            seat,
+            ..
+        } = worker;
+        let Seat {
+            mut draws,
+            mut gate,
+            mut keep,
+        } = seat;
+        self.phases.ready();
+        let tally = count_loop(
+            self.alloc,
+            &mut session,
+            &mut draws,
+            &self.settings,
+            &mut gate,
+            &mut keep,
+        );
+        self.phases.done();
+        let seat = Seat { draws, gate, keep };
+        Worker {
+            session,
+            seat,
+            tally,
+        }
+    }
 
-/// Starts a thread for each worker and joins them all, in the order of the workers. Their places
-/// are made first.
-fn run_in<
-    's,
-    'm: 's,
-    E,
-    R: Threads,
-    D: Draws + Send + Drop + 's,
-    G: Gate + Send + Drop + 's,
-    K: Keep + Send + Drop + 's,
-    S: Phases + Copy + Send + Drop + 's,
->(
-    scope: &Scope<'s, E>,
-    rt: &R,
-    alloc: Global,
-    settings: Settings,
-    crew: Crew<'m, D, G, K>,
-    phases: S,
-) -> Result<Crew<'m, D, G, K>, LoadFault>
-    requires settings { is_settings settings ≡ true }
-    ensures worked { IfOk result (λ r. DidAllWork D.leads K.notes settings crew.entry r) }
-    ensures refused { IfErr result (λ fault. IsLoadRefusal fault) }
-{
-    let Crew { first, others } = crew;
-    let Ok(mut handles) = Vec::with_capacity(alloc, others.len()) else {
-        return Err(LoadFault::Memory);
-    };
-    let Ok(done) = Vec::with_capacity(alloc, others.len()) else {
-        return Err(LoadFault::Memory);
-    };
-    let first = start(scope, alloc, settings, first, phases)?;
-    let started = start_all(scope, alloc, settings, others, phases, &mut handles);
-    let first = first.join(rt);
-    let others = join_all(rt, handles, done);
-    started?;
-    Ok(Crew { first, others })
-}
+    /// Starts the thread of a worker.
+    fn start<'s, 'm: 's, E, D: Draws + Sent + 's, G: Gate + Sent + 's, K: Keep + Sent + 's>(
+        self,
+        scope: &Scope<'s, E>,
+        worker: Worker<'m, D, G, K>,
+    ) -> Result<Handle<'m, D, G, K>, LoadFault>
+    where
+        S: 's,
+        ensures promise { IfOk result (λ handle.
+            IsPromise self.settings worker.entry handle.promise) }
+        ensures refused { IfErr result (λ fault. fault ≡ LoadFault.Spawn) }
+    {
+        let promise = WorkOf {
+            settings: self.settings,
+            worker: Snapshot::of(&worker),
+        };
+        let run = move || -> Worker<'_, D, G, K>
+            ensures { DidWork D.leads K.notes self.settings worker.entry result }
+        { self.work(worker) };
+        match scope.spawn_with(promise, run) {
+            Ok(handle) => Ok(handle),
+            Err(_refused) => Err(LoadFault::Spawn),
+        }
+    }
 
-/// Has each worker run its tasks in a thread of its own, all at once, and returns the workers in
-/// their order. Where a thread cannot be started, those that were started are joined first.
-pub(crate) fn run_all<
-    'm,
-    R: Threads + Wait,
-    D: Draws + Send + Drop,
-    G: Gate + Send + Drop,
-    K: Keep + Send + Drop,
-    S: Phases + Copy + Send + Drop,
->(
-    rt: &R,
-    alloc: Global,
-    settings: Settings,
-    crew: Crew<'m, D, G, K>,
-    phases: S,
-) -> Result<Crew<'m, D, G, K>, LoadFault>
-    requires settings { is_settings settings ≡ true }
-    ensures worked { IfOk result (λ r. DidAllWork D.leads K.notes settings crew.entry r) }
-    ensures refused { IfErr result (λ fault. IsLoadRefusal fault) }
-{
-    thread::scope(
-        thread::scope_env(),
-        rt,
-        move |scope| -> Result<Crew<'_, D, G, K>, LoadFault>
-            requires { is_settings settings ≡ true }
-            ensures worked { IfOk result (λ r. DidAllWork D.leads K.notes settings crew.entry r) }
-            ensures refused { IfErr result (λ fault. IsLoadRefusal fault) }
-        { run_in(scope, rt, alloc, settings, crew, phases) },
-    )
+    /// Starts a thread for each worker, and keeps those that were started.
+    fn start_all<'s, 'm: 's, E, D: Draws + Sent + 's, G: Gate + Sent + 's, K: Keep + Sent + 's>(
+        self,
+        scope: &Scope<'s, E>,
+        workers: Vec<Worker<'m, D, G, K>>,
+        handles: &mut Vec<Handle<'m, D, G, K>>,
+    ) -> Result<(), LoadFault>
+    where
+        S: 's,
+        requires room { vec_len workers ≤ vec_capacity handles.old }
+        requires empty { handles.old.items ≡ [] }
+        ensures promises { IfOk result (λ _.
+            Paired (λ w h. IsPromise self.settings w h.promise)
+            workers.entry.items handles.new.items) }
+        ensures few { vec_len handles.new ≤ vec_len workers.entry }
+        ensures refused { IfErr result (λ fault. fault ≡ LoadFault.Spawn) }
+    {
+        for worker in workers {
+            let handle = self.start(scope, worker)?;
+            handles.push_reserved(handle);
+        }
+        Ok(())
+    }
+
+    /// Starts a thread for each worker and joins them all, in the order of the workers. Their
+    /// places are made first.
+    fn run_in<
+        's,
+        'm: 's,
+        E,
+        R: Threads,
+        D: Draws + Sent + 's,
+        G: Gate + Sent + 's,
+        K: Keep + Sent + 's,
+    >(
+        self,
+        scope: &Scope<'s, E>,
+        rt: &R,
+        crew: Crew<'m, D, G, K>,
+    ) -> Result<Crew<'m, D, G, K>, LoadFault>
+    where
+        S: 's,
+        ensures worked { IfOk result (λ r.
+            DidAllWork D.leads K.notes self.settings crew.entry r) }
+        ensures refused { IfErr result (λ fault. IsLoadRefusal fault) }
+    {
+        let Crew { first, others } = crew;
+        let Ok(mut handles) = Vec::with_capacity(self.alloc, others.len()) else {
+            return Err(LoadFault::Memory);
+        };
+        let Ok(done) = Vec::with_capacity(self.alloc, others.len()) else {
+            return Err(LoadFault::Memory);
+        };
+        let first = self.start(scope, first)?;
+        let started = self.start_all(scope, others, &mut handles);
+        let first = first.join(rt);
+        let others = join_all(rt, handles, done);
+        started?;
+        Ok(Crew { first, others })
+    }
+
+    /// Has each worker run its tasks in a thread of its own, all at once, and returns the workers
+    /// in their order. Where a thread cannot be started, those that were started are joined first.
+    pub(crate) fn run_all<'m, R: Threads + Wait, D: Draws + Sent, G: Gate + Sent, K: Keep + Sent>(
+        self,
+        rt: &R,
+        crew: Crew<'m, D, G, K>,
+    ) -> Result<Crew<'m, D, G, K>, LoadFault>
+        ensures worked { IfOk result (λ r.
+            DidAllWork D.leads K.notes self.settings crew.entry r) }
+        ensures refused { IfErr result (λ fault. IsLoadRefusal fault) }
+    {
+        thread::scope(
+            thread::scope_env(),
+            rt,
+            move |scope| -> Result<Crew<'_, D, G, K>, LoadFault>
+                ensures worked { IfOk result (λ r.
+                    DidAllWork D.leads K.notes self.settings crew.entry r) }
+                ensures refused { IfErr result (λ fault. IsLoadRefusal fault) }
+            { self.run_in(scope, rt, crew) },
+        )
+    }
 }

@@ -2,15 +2,17 @@
 use Rattle.std.proofs.Common.{◌≡◌, ◌∙◌, ◌++◌, ℕ, List, [], ◌∷◌, Bool, Some, false, refl, sym, ap, ap₂}
 use Rattle.std.specs.Prelude.{◌||◌, Option, Result, Ok, Err, IfOk, IsOkAnd}
 use Rattle.std.specs.declared.alloc.AllocError.{AllocError}
+use Rattle.clap.specs.Simple.{app_of_fields, new_app}
 use Rattle.clap.specs.Words.{App, Shape, Rule, Text, AddsArg, AddsSubcommand, app_of, rule_of, with_rule}
 use Rattle.clap.specs.Words.{with_subcommand}
+use Rattle.clap.specs.declared.builder.command.Command.TheViews.{out-Command}
 use Rattle.clap.specs.declared.builder.command.Command.{Command}
 use Rattle.clap.specs.declared.builder.arg.Arg.{Arg}
 use Rattle.clap.specs.declared.builder.value_parser.ValueParser.{ValueParser}
 use Rattle.clap.specs.declared.builder.texts.Texts.TheVariants.{One}
 use Rattle.vac_options.specs.CommandLine.{short_option, IsOption, IsCommand, AddsOptions, AddsCommands, with_commands}
 use Rattle.vac_options.specs.CommandLine.{with_rules, with_options, client_options, task_options, telling_options}
-use Rattle.vac_options.specs.CommandLine.{load_options}
+use Rattle.vac_options.specs.CommandLine.{load_options, GetsOptions, GetsCommands}
 
 -- ---- options
 
@@ -31,6 +33,13 @@ pub short_set : (a b : Arg) (letter : ℕ) (r : Rule) → b ≡ record a { short
     IsOption b (short_option letter r)
 short_set a b letter r e is = record {
   rule = ap rule_of e ∙ ap (λ (s : Rule). record s { short = Some letter }) is.rule;
+  own = ap (λ (x : Arg). x.global) e ∙ is.own;
+}
+
+-- an option with this help
+pub help_set : (a b : Arg) (text : _) (r : Rule) → b ≡ record a { help = Some text } → IsOption a r → IsOption b r
+help_set a b text r e is = record {
+  rule = ap rule_of e ∙ is.rule;
   own = ap (λ (x : Arg). x.global) e ∙ is.own;
 }
 
@@ -59,20 +68,16 @@ one_more first before after a options option s h is = record {
   own = h.globals ∙ or_false _ a.global is.own ∙ s.own;
 }
 
--- a command to which these options were added, where no memory was refused
-abbrev pub Gets : Result Command AllocError → List Rule → Result Command AllocError → Type 0
-Gets given options result = IfOk result (λ after. IsOkAnd given (λ before. AddsOptions before options after))
-
 -- no option was added
-pub no_option : (given : Result Command AllocError) → Gets given [] given
+pub no_option : (given : Result Command AllocError) → GetsOptions given [] given
 no_option (Ok c) = record { app = refl; own = refl }
 no_option (Err e) = tt
 
 -- an option was added behind others
 pub option_more : (given middle result : Result Command AllocError) (a : Arg) (options : List Rule) (option : Rule) →
-    Gets given options middle
+    GetsOptions given options middle
     → IfOk result (λ after. IsOkAnd middle (λ before. AddsArg before a after)) → IsOption a option →
-    Gets given (options ++ option ∷ []) result
+    GetsOptions given (options ++ option ∷ []) result
 option_more given middle (Err e) a options option s h is = tt
 option_more given (Err e) (Ok after) a options option s h is = absurd h
 option_more (Err e) (Ok before) (Ok after) a options option s h is = absurd s
@@ -95,7 +100,7 @@ command_and (Ok before) (Ok after) a name options option c h is = record {
 -- a command that got options, as what it is then
 pub command_gets : (given result : Result Command AllocError) (first s : Shape) (more : List Rule) →
     with_rules (record { top = first; subs = [] }) more ≡ record { top = s; subs = [] }
-    → IfOk given (λ c. IsCommand c first) → Gets given more result → IfOk result (λ c. IsCommand c s)
+    → IfOk given (λ c. IsCommand c first) → GetsOptions given more result → IfOk result (λ c. IsCommand c s)
 command_gets given (Err e) first s more same is gets = tt
 command_gets (Err e) (Ok after) first s more same is gets = absurd gets
 command_gets (Ok before) (Ok after) first s more same is gets = record {
@@ -103,19 +108,28 @@ command_gets (Ok before) (Ok after) first s more same is gets = record {
   own = gets.own ∙ is.own;
 }
 
--- a command with these options
-pub command_with : (first : Command) (second third result : Result Command AllocError) (name : Text) →
-    IsCommand first (with_options name []) → Gets (Ok first) client_options second
-    → Gets second task_options third → Gets third telling_options result →
-    IfOk result (λ c. IsCommand c (with_options name load_options))
-command_with first second third (Err e) name is a b c = tt
-command_with first second (Err e) (Ok after) name is a b c = absurd c
-command_with first (Err e) (Ok before) (Ok after) name is a b c = absurd b
-command_with first (Ok middle) (Ok before) (Ok after) name is a b c = record {
+-- a command that got options in three turns
+pub load_gets : (given first second result : Result Command AllocError) → GetsOptions given client_options first →
+    GetsOptions first task_options second → GetsOptions second telling_options result →
+    GetsOptions given load_options result
+load_gets given first second (Err e) a b c = tt
+load_gets given first (Err e) (Ok after) a b c = absurd c
+load_gets given (Err e) (Ok before) (Ok after) a b c = absurd b
+load_gets (Err e) (Ok middle) (Ok before) (Ok after) a b c = absurd a
+load_gets (Ok start) (Ok middle) (Ok before) (Ok after) a b c = record {
   app = c.app ∙ ap (λ (w : App). with_rules w telling_options)
-      (b.app ∙ ap (λ (w : App). with_rules w task_options) (a.app ∙
-      ap (λ (w : App). with_rules w client_options) is.app));
-  own = c.own ∙ b.own ∙ a.own ∙ is.own;
+      (b.app ∙ ap (λ (w : App). with_rules w task_options) a.app);
+  own = c.own ∙ b.own ∙ a.own;
+}
+
+-- a command with these texts of its help
+pub new_command : (first told result : Command) (name : Text) (about example : _) → app_of first ≡ new_app name →
+    (out-Command first).has_globals ≡ false → out-Command told ≡ record (out-Command first) { about = Some about } →
+    out-Command result ≡ record (out-Command told) { after_help = Some example } →
+    IsCommand result (with_options name [])
+new_command first told result name about example app own e f = record {
+  app = ap app_of_fields f ∙ ap app_of_fields e ∙ app;
+  own = ap (λ w. w.has_globals) f ∙ ap (λ w. w.has_globals) e ∙ own;
 }
 
 -- ---- subcommands
@@ -132,10 +146,6 @@ one_command_more first before sub after subs s e h is = record {
   app = h.shape is.own ∙ ap₂ with_subcommand e.app (ap (λ (b : App). b.top) is.app) ∙
       sym (commands_one_more (app_of first) subs s);
 }
-
--- a command to which these subcommands were added, where no memory was refused
-abbrev pub GetsCommands : Result Command AllocError → List Shape → Result Command AllocError → Type 0
-GetsCommands given subs result = IfOk result (λ after. IsOkAnd given (λ before. AddsCommands before subs after))
 
 -- no subcommand was added
 pub no_command : (given : Result Command AllocError) → GetsCommands given [] given

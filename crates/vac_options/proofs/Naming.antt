@@ -39,7 +39,7 @@ use Rattle.clap.specs.Facts.{unwrap_or_range}
 use Rattle.clap.specs.Values.{is_request}
 use Rattle.clap.specs.Walk.{action_of, arg_by_id}
 use Rattle.std.proofs.Common.{nat_lt}
-use Rattle.vac_options.specs.declared.asked.TheConstants.{MOST_SEED, MOST_STEPS, MOST_WORDS}
+use Rattle.vac_options.specs.declared.asked.TheConstants.{MOST_NUMBER, MOST_WORDS}
 use Rattle.vac_options.specs.CommandLine.{vacation, blocks_option, clients_option, tasks_option, rounds_option}
 use Rattle.vac_options.specs.CommandLine.{tries_option, items_option, asks_option, reads_option, user_option}
 use Rattle.vac_options.specs.CommandLine.{seed_option, steps_option, words_option, flag, Gives, GivesIn, Says, IsFlag}
@@ -238,9 +238,9 @@ settings_number of rows e a least most parser own some =
     (level_gives (with_settings of) e.words a (settings_fit of) e.passes own some))
 
 settings_seed : (of : Text) (rows : List Row) → IsEntered (with_settings of) rows →
-    GivesIn rows (codes "seed") 0 MOST_SEED
+    GivesIn rows (codes "seed") 0 MOST_NUMBER
 unfolding shape_at with_settings
-settings_seed of rows e = seed_given rows (filled seed_option) MOST_SEED refl
+settings_seed of rows e = seed_given rows (filled seed_option) MOST_NUMBER refl
     (subst (IsGiven (filled seed_option)) e.rows_are (level_gives (with_settings of) e.words (filled seed_option)
     (settings_fit of) e.passes refl (omega arith)))
 
@@ -294,7 +294,7 @@ judging_given rows e = record {
   any_order = flag_given rows (codes "any-order") (option_given judging rows judging_fit e
       (filled (flag (codes "any-order"))) refl (omega arith));
   search = record {
-    steps = seed_given rows (filled steps_option) MOST_STEPS refl
+    steps = seed_given rows (filled steps_option) MOST_NUMBER refl
         (option_given judging rows judging_fit e (filled steps_option) refl (omega arith));
     progress = flag_given rows (codes "progress") (option_given judging rows judging_fit e
         (filled (flag (codes "progress"))) refl (omega arith));
@@ -309,7 +309,7 @@ ordering_blocks rows e = number_given rows (filled blocks_option) 1 MOST_BLOCKS 
 ordering_given : (rows : List Row) → IsEntered ordering rows → HasSearch rows
 unfolding shape_at ordering
 ordering_given rows e = record {
-  steps = seed_given rows (filled steps_option) MOST_STEPS refl
+  steps = seed_given rows (filled steps_option) MOST_NUMBER refl
       (option_given ordering rows ordering_fit e (filled steps_option) refl (omega arith));
   progress = flag_given rows (codes "progress") (option_given ordering rows ordering_fit e
       (filled (flag (codes "progress"))) refl (omega arith));

@@ -1,6 +1,7 @@
 -- The command line that the program takes, in clap's terms, and what its words ask for.
 use Rattle.std.specs.Prelude.{◌≡◌, ℕ, ◌+◌, pos, ◌≤◌, ◌⊎◌, Bool, true, false, Some, codes}
-use Rattle.std.specs.Prelude.{List, [], ◌∷◌, ◌++◌, Option, option_map}
+use Rattle.std.specs.Prelude.{List, [], ◌∷◌, ◌++◌, Option, option_map, Result, IfOk, IsOkAnd}
+use Rattle.std.specs.declared.alloc.AllocError.{AllocError}
 use Rattle.std.specs.Borrow.{Bor}
 use Rattle.std.specs.Str.Parse.{IsNumeral, digits_value, without_leading_plus}
 use Rattle.clap.specs.Simple.{new_shape}
@@ -21,7 +22,7 @@ use Rattle.vac_draws.specs.declared.settings.TheConstants.{MOST_ROUNDS, PERCENT}
 use Rattle.vac_draws.specs.declared.settings.Settings.{Settings}
 use Rattle.vac_model.specs.declared.limits.TheConstants.{MOST_TRIES}
 use Rattle.stm_words.specs.declared.version.TheConstants.{VERSION_LIMIT}
-use Rattle.vac_options.specs.declared.asked.TheConstants.{MOST_SEED, MOST_STEPS, MOST_WORDS}
+use Rattle.vac_options.specs.declared.asked.TheConstants.{MOST_NUMBER, MOST_WORDS}
 use Rattle.vac_options.specs.declared.asked.How.{How}
 use Rattle.vac_options.specs.declared.asked.Asked.{Asked}
 use Rattle.vac_options.specs.declared.asked.Asked.TheVariants.{Run, Dump, Check, Judge, Order}
@@ -43,6 +44,13 @@ number_parser least most = parser.Signed (pos least) (pos most)
 abbrev pub number_option : Text → ℕ → ℕ → Text → Rule
 number_option name least most default = record (valued_option name) {
   parser = Some (number_parser least most);
+  defaults = default ∷ [];
+}
+
+-- an option `--name N` of any number of 64 bits, and its default
+abbrev pub any_number_option : Text → Text → Rule
+any_number_option name default = record (valued_option name) {
+  parser = Some (parser.Unsigned 0 MOST_NUMBER);
   defaults = default ∷ [];
 }
 
@@ -90,12 +98,9 @@ user_option = short_option 117 (number_option (codes "user") 0 PERCENT (codes "8
 abbrev pub reads_option : Rule
 reads_option = number_option (codes "reads") 0 PERCENT (codes "0")
 
--- `-s`, `--seed`: what the tasks are drawn from, any number of 64 bits
+-- `-s`, `--seed`: what the tasks are drawn from
 abbrev pub seed_option : Rule
-seed_option = short_option 115 (record (valued_option (codes "seed")) {
-  parser = Some (parser.Unsigned 0 MOST_SEED);
-  defaults = codes "1" ∷ [];
-})
+seed_option = short_option 115 (any_number_option (codes "seed") (codes "1"))
 
 -- those that say what the tasks are
 abbrev pub task_options : List Rule
@@ -110,12 +115,9 @@ file_option = valued_option (codes "tasks")
 abbrev pub flag : Text → Rule
 flag name = record (new_rule name) { long = Some name; action = Some SetTrue }
 
--- `--steps`: how many steps a search makes at most, any number of 64 bits
+-- `--steps`: how many steps a search makes at most
 abbrev pub steps_option : Rule
-steps_option = record (valued_option (codes "steps")) {
-  parser = Some (parser.Unsigned 0 MOST_STEPS);
-  defaults = codes "10000000" ∷ [];
-}
+steps_option = any_number_option (codes "steps") (codes "10000000")
 
 -- the options of a search for an order
 abbrev pub searching_options : List Rule
@@ -201,9 +203,21 @@ pub record AddsOptions (before : Command) (options : List Rule) (after : Command
   pub app : app_of after ≡ with_rules (app_of before) options
   pub own : (out-Command after).has_globals ≡ (out-Command before).has_globals
 
+-- these options were added to a command, where no memory was refused
+abbrev pub GetsOptions : Result Command AllocError → List Rule → Result Command AllocError
+    → Type 0
+GetsOptions given options result =
+    IfOk result (λ after. IsOkAnd given (λ before. AddsOptions before options after))
+
 -- these subcommands were added to a command
 pub record AddsCommands (before : Command) (subs : List Shape) (after : Command) : Type 0 where
   pub app : app_of after ≡ with_commands (app_of before) subs
+
+-- these subcommands were added to a command, where no memory was refused
+abbrev pub GetsCommands : Result Command AllocError → List Shape → Result Command AllocError
+    → Type 0
+GetsCommands given subs result =
+    IfOk result (λ after. IsOkAnd given (λ before. AddsCommands before subs after))
 
 -- ---- what its words ask for
 
@@ -235,7 +249,7 @@ NamesFile rows option file = first_of option rows ≡ option_map (λ name. name.
 
 -- a search gets a number of steps, and is to write how far it is, or not
 pub record HasSearch (rows : List Row) : Type 0 where
-  pub steps : GivesIn rows (codes "steps") 0 MOST_STEPS
+  pub steps : GivesIn rows (codes "steps") 0 MOST_NUMBER
   pub progress : IsFlag rows (codes "progress")
 
 -- a search is what its options say
@@ -269,7 +283,7 @@ pub record HasSettings (rows : List Row) : Type 0 where
   pub asks : GivesIn rows (codes "asks") 1 MOST_PARTS
   pub reads : GivesIn rows (codes "reads") 0 PERCENT
   pub user : GivesIn rows (codes "user") 0 PERCENT
-  pub seed : GivesIn rows (codes "seed") 0 MOST_SEED
+  pub seed : GivesIn rows (codes "seed") 0 MOST_NUMBER
   pub blocks : GivesIn rows (codes "blocks") 1 MOST_BLOCKS
   pub tries : GivesIn rows (codes "tries") 1 MOST_TRIES
   pub rounds : GivesIn rows (codes "rounds") 1 MOST_ROUNDS

@@ -16,8 +16,9 @@ use std::alloc::Global;
 use stm_words::VERSION_LIMIT;
 use vac_draws::Settings;
 
-/// The greatest seed of a load.
-pub const MOST_SEED: u64 = u64::MAX;
+/// The greatest number that an option of any number gives: the seed of a load, or the steps of a
+/// search.
+pub const MOST_NUMBER: u64 = u64::MAX;
 
 /// What a load is to write of itself, besides its two lines.
 #[derive(Clone, Copy)]
@@ -31,9 +32,6 @@ pub struct How {
     /// Whether to write the attempts of its calls so.
     pub attempts: bool,
 }
-
-/// The most steps of a search.
-pub const MOST_STEPS: u64 = u64::MAX;
 
 /// The most words of a memory of which attempts are judged.
 pub const MOST_WORDS: u32 = 4_194_304;
@@ -109,13 +107,13 @@ fn number_of(matches: &ArgMatches, option: &str) -> u32
     }
 }
 
-/// The seed of a load that its option gives, or the default.
-fn seed_of(matches: &ArgMatches) -> u64
-    requires { GivesIn (rows_of (found_of matches.now)) (codes "seed") 0 MOST_SEED }
-    ensures { Gives (rows_of (found_of matches.now)) (codes "seed") result }
+/// The number of 64 bits that an option gives, or its default.
+fn any_number_of(matches: &ArgMatches, option: &str) -> u64
+    requires { GivesIn (rows_of (found_of matches.now)) option.now 0 MOST_NUMBER }
+    ensures { Gives (rows_of (found_of matches.now)) option.now result }
 {
-    match matches.get_one::<u64>("seed") {
-        Some(seed) => seed,
+    match matches.get_one::<u64>(option) {
+        Some(number) => number,
         None => unreachable!(),
     }
 }
@@ -157,24 +155,13 @@ fn file_of<'a>(matches: &ArgMatches<'a>) -> Option<&'a str>
     matches.get_str("tasks")
 }
 
-/// The number of steps that a search gives, or the default.
-fn steps_of(matches: &ArgMatches) -> u64
-    requires { GivesIn (rows_of (found_of matches.now)) (codes "steps") 0 MOST_STEPS }
-    ensures { Gives (rows_of (found_of matches.now)) (codes "steps") result }
-{
-    match matches.get_one::<u64>("steps") {
-        Some(steps) => steps,
-        None => unreachable!(),
-    }
-}
-
 /// How an order is searched for.
 fn search_of(matches: &ArgMatches) -> Search
     requires { HasSearch (rows_of (found_of matches.now)) }
     ensures { IsSearchOfRows (rows_of (found_of matches.now)) result }
 {
     Search {
-        steps: steps_of(matches),
+        steps: any_number_of(matches, "steps"),
         progress: flag_of(matches, "progress"),
     }
 }
@@ -213,7 +200,7 @@ fn settings_of(matches: &ArgMatches) -> Settings
         asks: number_of(matches, "asks"),
         reads: number_of(matches, "reads"),
         user: number_of(matches, "user"),
-        seed: seed_of(matches),
+        seed: any_number_of(matches, "seed"),
         blocks: number_of(matches, "blocks"),
         tries: number_of(matches, "tries"),
         last: VERSION_LIMIT - 1,

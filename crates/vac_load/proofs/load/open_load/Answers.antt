@@ -14,7 +14,7 @@ pub of-requires-clause-era : goal.of-requires-clause-era
 of-requires-clause-era g c =
     let after = c.open_kept.new.session in
     let ran = subst (λ (y : SessionShown). RanIn g.D.Draws.leads (opening c.args.settings.now) y after
-    c.args.opening.now c.open_kept.new.draws) c.of-session.ensures c.in_default-open_kept.ensures.ran in
+    c.args.opening.now c.open_kept.new.draws) c.of-session.ensures c.in_default-open_kept.ensures.opened.asked.ran in
     rw c.into_client-client.ensures.client (opened_in g.D.Draws.leads c.in-Ok.manager.renewal _ c.in-Ok.client.value
     after.client.value c.args.opening.now c.open_kept.new.draws
     (ap (λ (x : CallerShown). x.value.records) c.in-Ok.ensures.ok.client_is) ran)
@@ -28,9 +28,9 @@ returns-clause-opened g c =
       opener = c.in-Ok.client;
       opens = c.in-Ok.ensures.ok;
       ran = subst (λ (y : SessionShown). RanIn g.D.Draws.leads (opening c.args.settings.now) y after
-          c.args.opening.now c.open_kept.new.draws) same c.in_default-open_kept.ensures.ran;
+          c.args.opening.now c.open_kept.new.draws) same c.in_default-open_kept.ensures.opened.asked.ran;
       answered = subst (λ (y : SessionShown). IsAnswered y.manager after.client.value) same
-          c.in_default-open_kept.ensures.ready;
+          c.in_default-open_kept.ensures.opened.ready;
     }))
 
 pub returns-clause-kept : goal.returns-clause-kept
@@ -49,6 +49,6 @@ pub returns-in-Err-clause-stopped : goal.returns-in-Err-clause-stopped
 returns-in-Err-clause-stopped g c =
     let after = c.open_kept.new.session in
     let stopped = subst (λ (y : SessionShown). StoppedIn g.D.Draws.leads (opening c.args.settings.now) c.in-Err.fault y
-    after c.args.opening.now c.open_kept.new.draws) c.of-session.ensures c.in-Err.ensures.stopped in
+    after c.args.opening.now c.open_kept.new.draws) c.of-session.ensures c.in-Err.ensures.opened.asked.stopped in
     was_stopped g.D.Draws.leads c.args.settings.now c.in-Err.fault c.args.opening.now c.open_kept.new.draws _
     c.in-Ok.manager c.in-Ok.client after.client.value c.in-Ok.ensures.ok stopped

@@ -1,10 +1,20 @@
+use Rattle.std.proofs.Common.{Ok}
 use Rattle.std.specs.Prelude.{◌≡◌, ◌⊎◌}
 use Rattle.vac_manager.specs.Called.{HasAllGrants}
 use Rattle.vac_manager.specs.Session.{GoesOn}
+use Rattle.vac_draws.specs.Draws.{for_each}
+use Rattle.vac_draws.specs.Tasks.{stocks}
 use Rattle.vac_load.specs.Keeping.{HasKeptAdded}
-use Rattle.vac_load.specs.Opening.{IsAnswered}
+use Rattle.vac_load.specs.Opening.{IsAnswered, RanOrStopped}
 use Rattle.vac_load.proofs.Opened.{Opening}
 use Rattle.vac_load.proofs.opening.open_kept.Given as goal
+
+abbrev pub invariant-items : goal.invariant-items
+invariant-items g l = record {
+  asked : RanOrStopped g.D.Draws.leads (for_each l.place stocks) (Ok tt) l.fn.session l.session l.fn.draws l.draws;
+  kept : HasKeptAdded l.fn.session.client.value l.session.client.value (g.K.Keep.notes l.fn.keep)
+      (g.K.Keep.notes l.keep);
+}
 
 abbrev pub invariant-customers : goal.invariant-customers
 invariant-customers g l = record {

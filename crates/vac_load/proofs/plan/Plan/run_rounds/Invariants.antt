@@ -1,0 +1,13 @@
+use Rattle.std.proofs.Common.{◌≡◌, ◌+◌, ◌*◌}
+use Rattle.vac_load.specs.Load.{RoundHasRun, IsRound}
+use Rattle.vac_load.proofs.plan.Plan.run_rounds.Given as goal
+
+abbrev pub invariant-rounds : goal.invariant-rounds
+invariant-rounds g l = record {
+  renewals : l.round.alone.manager.renewal + 1 ≡ l.done;
+  size : l.round.alone.manager.size ≡ l.fn.alone.manager.size;
+  round : IsRound l.fn.self.settings l.round;
+  ran : RoundHasRun g.D.Draws.leads g.K.Keep.notes l.fn.self.settings
+      (l.done * l.fn.self.settings.tasks) l.fn.alone l.fn.seats.items
+      l.round;
+}

@@ -1,0 +1,29 @@
+//! What the clients of a load are to do.
+
+ghost use Rattle.std.specs.Prelude.{◌≡◌, true};
+ghost use Rattle.vac_draws.specs.Setting.{is_settings};
+
+use std::alloc::{AllocError, Global};
+use vac_draws::Settings;
+
+/// What the clients of a load are to do, of which each thread gets a copy: the settings, which are
+/// in their ranges, and whom to tell how far it is. The tasks are built in this memory.
+#[derive(Drop)]
+pub(crate) struct Plan<S> {
+    pub(crate) alloc: Global,
+    pub(crate) settings: Settings,
+    pub(crate) phases: S,
+    ghost in_range: { is_settings settings ≡ true },
+}
+
+impl<S: Copy> Clone for Plan<S> {
+    ghost is_clone = { λ x y. y ≡ x };
+
+    ghost is_infallible = { λ _. Unit {0} };
+
+    fn clone(&self) -> Result<Plan<S>, AllocError> {
+        Ok(*self)
+    }
+}
+
+impl<S: Copy> Copy for Plan<S> {}
