@@ -1,11 +1,11 @@
 //! What each command does to the tables, and when it is refused.
 
-ghost use Rattle.std.specs.Prelude.{◌≡◌, ◌≤◌, IfOk, OnOk, OnErr, true};
+ghost use Rattle.std.specs.Prelude.{◌≡◌, ◌≤◌, IfOk, OnOk, true};
 ghost use Rattle.std.specs.Option.{option_copied, option_map};
 ghost use Rattle.std.specs.FinMap as map;
 ghost use Rattle.vac_model.specs.declared.limits.TheConstants.{MOST_UNITS_AT_ONCE};
 ghost use Rattle.vac_model.specs.Step as rules;
-ghost use Rattle.vac_model.specs.Fits.{IsSmall, IsItemInRange, CanGiveBack};
+ghost use Rattle.vac_model.specs.Fits.{IsSmall, CanGiveBack};
 ghost use Rattle.vac_model.specs.Ranges.{is_command};
 
 use crate::items::{added, deleted, extended, given_back, new_booking, new_item, taken};
@@ -13,7 +13,7 @@ use crate::maps::BookingMap;
 use crate::tables::Tables;
 use std::alloc::AllocError;
 use vac_model::limits::{MOST_TOTAL, MOST_UNITS};
-use vac_model::{Command, Item, Kind, Reply, Why};
+use vac_model::{Command, Kind, Reply, Why};
 
 impl Tables {
     ghost use Rattle.vac_model.specs.State.{item_of, bookings_of, bill_of};
@@ -28,63 +28,34 @@ impl Tables {
         requires { IsSmall self.old }
         ensures ok { IfOk result
             (λ reply. rules.add self.old kind id num price ≡ (self.new, reply)) }
-        ensures err { OnErr result (self.new ≡ self.old) }
     {
-        match self.item(kind, id) {
-            Some(item) => self.add_more(kind, id, num, price, item),
-            None => self.add_new(kind, id, num, price),
-        }
-    }
-
-    fn add_new(
-        &mut self,
-        kind: Kind,
-        id: u32,
-        num: u32,
-        price: Option<u32>,
-    ) -> Result<Reply, AllocError>
-        requires { IsSmall self.old }
-        ensures ok { IfOk result
-            (λ reply. rules.add_new self.old kind id num price ≡ (self.new, reply)) }
-        ensures err { OnErr result (self.new ≡ self.old) }
-    {
-        let Some(price) = price else {
-            return Ok(Reply::No(Why::NeedsCountAndPrice));
+        let item = match self.item(kind, id) {
+            None => {
+                let Some(price) = price else {
+                    return Ok(Reply::No(Why::NeedsCountAndPrice));
+                };
+                if num == 0 {
+                    return Ok(Reply::No(Why::NeedsCountAndPrice));
+                }
+                if self.is_full() {
+                    return Ok(Reply::No(Why::Full));
+                }
+                new_item(num, price)
+            }
+            Some(item) => {
+                if item.total + num as u64 > MOST_TOTAL {
+                    return Ok(Reply::No(Why::TotalLimit));
+                }
+                added(item, num, price)
+            }
         };
-        if num == 0 {
-            return Ok(Reply::No(Why::NeedsCountAndPrice));
-        }
-        if self.is_full() {
-            return Ok(Reply::No(Why::Full));
-        }
-        self.insert_item(kind, id, new_item(num, price))?;
-        Ok(Reply::Done)
-    }
-
-    fn add_more(
-        &mut self,
-        kind: Kind,
-        id: u32,
-        num: u32,
-        price: Option<u32>,
-        item: Item,
-    ) -> Result<Reply, AllocError>
-        requires range { IsItemInRange item }
-        ensures ok { IfOk result
-            (λ reply. rules.add_more self.old kind id num price item ≡ (self.new, reply)) }
-        ensures err { OnErr result (self.new ≡ self.old) }
-    {
-        if item.total + num as u64 > MOST_TOTAL {
-            return Ok(Reply::No(Why::TotalLimit));
-        }
-        self.insert_item(kind, id, added(item, num, price))?;
+        self.insert_item(kind, id, item)?;
         Ok(Reply::Done)
     }
 
     pub(crate) fn delete(&mut self, kind: Kind, id: u32, num: u32) -> Result<Reply, AllocError>
         requires { IsSmall self.old }
         ensures ok { IfOk result (λ reply. rules.delete self.old kind id num ≡ (self.new, reply)) }
-        ensures err { OnErr result (self.new ≡ self.old) }
     {
         let Some(item) = self.item(kind, id) else {
             return Ok(Reply::No(Why::NoItem));
@@ -103,7 +74,6 @@ impl Tables {
     pub(crate) fn drop_flight(&mut self, id: u32) -> Result<Reply, AllocError>
         requires { IsSmall self.old }
         ensures ok { IfOk result (λ reply. rules.drop_flight self.old id ≡ (self.new, reply)) }
-        ensures err { OnErr result (self.new ≡ self.old) }
     {
         let Some(item) = self.item(Kind::Flight, id) else {
             return Ok(Reply::No(Why::NoItem));
@@ -118,7 +88,6 @@ impl Tables {
     pub(crate) fn new_customer(&mut self, id: u32) -> Result<Reply, AllocError>
         requires { IsSmall self.old }
         ensures ok { IfOk result (λ reply. rules.new_customer self.old id ≡ (self.new, reply)) }
-        ensures err { OnErr result (self.new ≡ self.old) }
     {
         if self.bookings(id).is_some() {
             return Ok(Reply::No(Why::Exists));
