@@ -4,6 +4,8 @@
 
 mod calls;
 mod checking;
+mod choices;
+mod doubts;
 mod ends;
 mod found;
 mod history;
@@ -19,6 +21,8 @@ mod path;
 mod point;
 mod quick;
 mod reading;
+mod retreat;
+mod search;
 mod sequential;
 mod sorting;
 mod stuck;
