@@ -18,7 +18,7 @@ use Rattle.vac_model.proofs.Sums.{len_inserted, len_removed}
 use Rattle.vac_sequential.specs.declared.tries.Kids.{Kids}
 use Rattle.vac_sequential.specs.declared.tries.Parts.{Parts}
 use Rattle.vac_sequential.specs.Tries.{Link, value_in, map_in, spread, first_entry, woven, weave, map_of, TellsEmpty}
-use Rattle.vac_sequential.specs.Tries.{TellsSame, IsSummedUp, EntryAdds, child_of, with_child, parts_of, depth_of}
+use Rattle.vac_sequential.specs.Tries.{TellsSame, IsSummedUp, EntryAdds, child_of, swapped, with_value, parts_of, depth_of}
 use Rattle.vac_sequential.specs.Tries.{depth_in}
 
 -- the test of two ids of one digit, and of two digits
@@ -181,86 +181,75 @@ module _ {V : Type 0} where
         ∙ find_same q 3 (fin.entries e) ∙ sym (fin.get-entries e q)
 
   pub at_digit : (p : Parts V) (d q : ℕ) → d < 4 → fin.get (map_of p) (4 * q + 1 + d) ≡ fin.get
-      (map_in (child_of p d)) q
+      (map_in (child_of p.kids d)) q
   at_digit p d q l =
-      by_digit (λ d. fin.get (map_of p) (4 * q + 1 + d) ≡ fin.get (map_in (child_of p d)) q)
-      (at_zero p.value (map_in p.zero) (map_in p.one) (map_in p.two) (map_in p.three) q)
-      (at_one p.value (map_in p.zero) (map_in p.one) (map_in p.two) (map_in p.three) q)
-      (at_two p.value (map_in p.zero) (map_in p.one) (map_in p.two) (map_in p.three) q)
-      (at_three p.value (map_in p.zero) (map_in p.one) (map_in p.two) (map_in p.three) q)
+      by_digit (λ d. fin.get (map_of p) (4 * q + 1 + d) ≡ fin.get (map_in (child_of p.kids d)) q)
+      (at_zero p.value (map_in p.kids.zero) (map_in p.kids.one) (map_in p.kids.two) (map_in p.kids.three) q)
+      (at_one p.value (map_in p.kids.zero) (map_in p.kids.one) (map_in p.kids.two) (map_in p.kids.three) q)
+      (at_two p.value (map_in p.kids.zero) (map_in p.kids.one) (map_in p.kids.two) (map_in p.kids.three) q)
+      (at_three p.value (map_in p.kids.zero) (map_in p.kids.one) (map_in p.kids.two) (map_in p.kids.three) q)
       d l
 
-  -- what a digit has after another map was put there
-  child_after : (p : Parts V) (t : Link V) (d e : ℕ) → d < 4 → e < 4 → child_of (with_child p d t) e ≡ cond (d ==
-      e) t (child_of p e)
-  child_after p t d e l m =
-      by_digit (λ d. child_of (with_child p d t) e ≡ cond (d == e) t (child_of p e))
-      (by_digit (λ e. child_of (with_child p 0 t) e ≡ cond (0 == e) t (child_of p e)) refl refl refl refl e m)
-      (by_digit (λ e. child_of (with_child p 1 t) e ≡ cond (1 == e) t (child_of p e)) refl refl refl refl e m)
-      (by_digit (λ e. child_of (with_child p 2 t) e ≡ cond (2 == e) t (child_of p e)) refl refl refl refl e m)
-      (by_digit (λ e. child_of (with_child p 3 t) e ≡ cond (3 == e) t (child_of p e)) refl refl refl refl e m)
-      d l
+  -- the maps after another one was put in the place of a digit's
+  abbrev with_child : Kids V → ℕ → Link V → Kids V
+  with_child k d t = swapped (record (swapped k d) { zero = t }) d
 
-  value_after : (p : Parts V) (t : Link V) (d : ℕ) → d < 4 → (with_child p d t).value ≡ p.value
-  value_after p t d l = by_digit (λ d. (with_child p d t).value ≡ p.value) refl refl refl refl d l
+  child_after : (k : Kids V) (t : Link V) (d e : ℕ) → d < 4 → e < 4 → child_of (with_child k d t) e ≡ cond (d == e) t
+      (child_of k e)
+  child_after k t d e l m =
+      by_digit (λ d. child_of (with_child k d t) e ≡ cond (d == e) t (child_of k e))
+      (by_digit (λ e. child_of (with_child k 0 t) e ≡ cond (0 == e) t (child_of k e)) refl refl refl refl e m)
+      (by_digit (λ e. child_of (with_child k 1 t) e ≡ cond (1 == e) t (child_of k e)) refl refl refl refl e m)
+      (by_digit (λ e. child_of (with_child k 2 t) e ≡ cond (2 == e) t (child_of k e)) refl refl refl refl e m)
+      (by_digit (λ e. child_of (with_child k 3 t) e ≡ cond (3 == e) t (child_of k e)) refl refl refl refl e m)
+      d l
 
   -- n has this at an id, and elsewhere what m has
   abbrev pub Writes : FinMap nat_cmp V → FinMap nat_cmp V → ℕ → Option V → Type 0
   Writes m n k o = (q : ℕ) → fin.get n q ≡ cond (eq_by_cmp nat_cmp q k) o (fin.get m q)
 
-  pub writes_insert : (m n : FinMap nat_cmp V) (k : ℕ) (x : V) → Writes m n k (Some x) → n ≡ fin.insert m k x
-  writes_insert m n k x h = fin.same_map nat_cmp_total nat_cmp-IsAntisymmetric n (fin.insert m k x)
+  written : (m n : FinMap nat_cmp V) (k : ℕ) (o : Option V) → Writes m n k o → n ≡ with_value m k o
+  written m n k None h = fin.same_map nat_cmp_total nat_cmp-IsAntisymmetric n (fin.remove m k)
+      (λ q. h q ∙ sym (fin.get-remove nat_cmp_total m k q))
+  written m n k (Some x) h = fin.same_map nat_cmp_total nat_cmp-IsAntisymmetric n (fin.insert m k x)
       (λ q. h q ∙ sym (fin.get-insert nat_cmp_total m k x q))
 
-  pub writes_remove : (m n : FinMap nat_cmp V) (k : ℕ) → Writes m n k None → n ≡ fin.remove m k
-  writes_remove m n k h = fin.same_map nat_cmp_total nat_cmp-IsAntisymmetric n (fin.remove m k)
-      (λ q. h q ∙ sym (fin.get-remove nat_cmp_total m k q))
-
-  pub insert_writes : (m : FinMap nat_cmp V) (k : ℕ) (x : V) → Writes m (fin.insert m k x) k (Some x)
-  insert_writes m k x q = fin.get-insert nat_cmp_total m k x q
-
-  pub remove_writes : (m : FinMap nat_cmp V) (k : ℕ) → Writes m (fin.remove m k) k None
-  remove_writes m k q = fin.get-remove nat_cmp_total m k q
+  writes : (m : FinMap nat_cmp V) (k : ℕ) (o : Option V) → Writes m (with_value m k o) k o
+  writes m k None q = fin.get-remove nat_cmp_total m k q
+  writes m k (Some x) q = fin.get-insert nat_cmp_total m k x q
 
   -- at the first id
-  pub write_first : (p : Parts V) (o : Option (Rc V Global)) →
+  write_first : (p : Parts V) (o : Option (Rc V Global)) →
       Writes (map_of p) (map_of (record p { value = o })) 0 (value_in o)
   write_first p o =
       by_id (λ k. fin.get (map_of (record p { value = o })) k ≡ cond (eq_by_cmp nat_cmp k 0) (value_in o)
       (fin.get (map_of p) k))
-      (at_none o (map_in p.zero) (map_in p.one) (map_in p.two) (map_in p.three) ∙
+      (at_none o (map_in p.kids.zero) (map_in p.kids.one) (map_in p.kids.two) (map_in p.kids.three) ∙
       ap (λ b. cond b (value_in o) (fin.get (map_of p) 0)) (sym (unsigned_tied 0 0)))
-      (λ q d l. at_digit (record p { value = o }) d q l ∙ same_child p o d l q ∙ sym (at_digit p d q l) ∙
+      (λ q d l. at_digit (record p { value = o }) d q l ∙ sym (at_digit p d q l) ∙
       ap (λ b. cond b (value_in o) (fin.get (map_of p) (4 * q + 1 + d))) (sym (first_tie' q d)))
-    where
-      same_child : (p : Parts V) (o : Option (Rc V Global)) (d : ℕ) → d < 4 → (q : ℕ) →
-          fin.get (map_in (child_of (record p { value = o }) d)) q ≡ fin.get (map_in (child_of p d)) q
-      same_child p o d l q = by_digit (λ d. fin.get (map_in (child_of (record p { value = o }) d)) q ≡ fin.get
-          (map_in (child_of p d)) q) refl refl refl refl d l
 
   -- at an id of a digit
-  pub write_child : (p : Parts V) (t : Link V) (q d : ℕ) (o : Option V) → d < 4 →
-      Writes (map_in (child_of p d)) (map_in t) q o
-      → Writes (map_of p) (map_of (with_child p d t)) (4 * q + 1 + d) o
+  write_child : (p : Parts V) (t : Link V) (q d : ℕ) (o : Option V) → d < 4 →
+      Writes (map_in (child_of p.kids d)) (map_in t) q o
+      → Writes (map_of p) (map_of (record p { kids = with_child p.kids d t })) (4 * q + 1 + d) o
   write_child p t q d o l h =
-      by_id (λ k. fin.get (map_of (with_child p d t)) k ≡ cond (eq_by_cmp nat_cmp k (4 * q + 1 + d)) o
-      (fin.get (map_of p) k))
-      (at_none (with_child p d t).value (map_in (with_child p d t).zero) (map_in (with_child p d t).one)
-      (map_in (with_child p d t).two) (map_in (with_child p d t).three)
-      ∙ ap value_in (value_after p t d l) ∙ sym (at_none p.value (map_in p.zero) (map_in p.one) (map_in p.two)
-      (map_in p.three))
+      let n : Parts V = record p { kids = with_child p.kids d t } in
+      by_id (λ k. fin.get (map_of n) k ≡ cond (eq_by_cmp nat_cmp k (4 * q + 1 + d)) o (fin.get (map_of p) k))
+      (at_none n.value (map_in n.kids.zero) (map_in n.kids.one) (map_in n.kids.two) (map_in n.kids.three)
+      ∙ sym (at_none p.value (map_in p.kids.zero) (map_in p.kids.one) (map_in p.kids.two) (map_in p.kids.three))
       ∙ ap (λ b. cond b o (fin.get (map_of p) 0)) (sym (first_tie q d)))
       (λ r e m.
-      at_digit (with_child p d t) e r m ∙ ap (λ (c : Link V). fin.get (map_in c) r) (child_after p t d e l m)
+      at_digit n e r m ∙ ap (λ (c : Link V). fin.get (map_in c) r) (child_after p.kids t d e l m)
       ∙ elim (same_or_not d e) [
         | inl s ↦
-            ap (λ b. fin.get (map_in (cond b t (child_of p e))) r) s.0 ∙ h r
-            ∙ ap (λ b. cond b o (fin.get (map_in (child_of p d)) r)) (sym (same_tie r q d))
+            ap (λ b. fin.get (map_in (cond b t (child_of p.kids e))) r) s.0 ∙ h r
+            ∙ ap (λ b. cond b o (fin.get (map_in (child_of p.kids d)) r)) (sym (same_tie r q d))
             ∙ ap (cond (eq_by_cmp nat_cmp (4 * r + 1 + d) (4 * q + 1 + d)) o) (sym (at_digit p d r l))
             ∙ ap (λ x. cond (eq_by_cmp nat_cmp (4 * r + 1 + x) (4 * q + 1 + d)) o (fin.get (map_of p) (4 * r + 1 + x)))
             s.1
         | inr s ↦
-            ap (λ b. fin.get (map_in (cond b t (child_of p e))) r) s.0
+            ap (λ b. fin.get (map_in (cond b t (child_of p.kids e))) r) s.0
             ∙ sym (at_digit p e r m)
             ∙ ap (λ b. cond b o (fin.get (map_of p) (4 * r + 1 + e))) (sym (other_tie r q e d m l (λ i. s.1 (sym i))))
       ])
@@ -278,41 +267,30 @@ module _ {V : Type 0} where
       (at_three None fin.empty fin.empty fin.empty fin.empty q) d l
       ∙ fin.get-empty nat_cmp q ∙ sym (fin.get-empty nat_cmp (4 * q + 1 + d))))
 
-  pub put_first : (m : FinMap nat_cmp V) (p : Parts V) (x : Rc V Global) (k : ℕ) → k ≡ 0 → map_of p ≡ m →
-      map_of (record p { value = Some x }) ≡ fin.insert m k x.value
-  put_first m p x k z e = writes_insert (map_of p) (map_of (record p { value = Some x })) 0 x.value
-      (write_first p (Some x)) ∙ ap (λ n. fin.insert n 0 x.value) e ∙ ap (λ n. fin.insert m n x.value) (sym z)
+  -- a value at the first id, or none
+  pub set_first : (m : FinMap nat_cmp V) (p : Parts V) (o : Option (Rc V Global)) (k : ℕ) → k ≡ 0 → map_of p ≡ m →
+      map_of (record p { value = o }) ≡ with_value m k (value_in o)
+  set_first m p o k z e = written (map_of p) (map_of (record p { value = o })) 0 (value_in o) (write_first p o) ∙
+      ap (λ n. with_value n 0 (value_in o)) e ∙ ap (λ n. with_value m n (value_in o)) (sym z)
 
-  pub cut_first : (m : FinMap nat_cmp V) (p : Parts V) (k : ℕ) → k ≡ 0 → map_of p ≡ m →
-      map_of (record p { value = None }) ≡ fin.remove m k
-  cut_first m p k z e = writes_remove (map_of p) (map_of (record p { value = None })) 0 (write_first p None) ∙
-      ap (λ n. fin.remove n 0) e ∙ ap (λ n. fin.remove m n) (sym z)
-
-  pub put_child : (m : FinMap nat_cmp V) (p : Parts V) (t : Link V) (x : V) (k : ℕ) → k ≢ 0 → map_of p ≡ m
-      → map_in t ≡ fin.insert (map_in (child_of p ((k - 1) % 4))) ((k - 1) / 4) x →
-      map_of (with_child p ((k - 1) % 4) t) ≡ fin.insert m k x
-  put_child m p t x k n e h =
+  -- a value at an id of a digit, or none
+  pub set_child : (m : FinMap nat_cmp V) (p : Parts V) (t : Link V) (o : Option V) (k : ℕ) → k ≢ 0 → map_of p ≡ m
+      → map_in t ≡ with_value (map_in (swapped p.kids ((k - 1) % 4)).zero) ((k - 1) / 4) o →
+      map_of (record p { kids = swapped (record (swapped p.kids ((k - 1) % 4)) { zero = t }) ((k - 1) % 4) })
+      ≡ with_value m k o
+  set_child m p t o k n e h =
       let d = (k - 1) % 4 in
       let q = (k - 1) / 4 in
-      writes_insert (map_of p) (map_of (with_child p d t)) (4 * q + 1 + d) x
-      (write_child p t q d (Some x) (digit_less (k - 1)) (subst (λ n. Writes (map_in (child_of p d)) n q (Some x))
-      (sym h) (insert_writes (map_in (child_of p d)) q x)))
-      ∙ ap (λ i. fin.insert (map_of p) i x) (id_parts k n) ∙ ap (λ i. fin.insert i k x) e
-
-  pub cut_child : (m : FinMap nat_cmp V) (p : Parts V) (t : Link V) (k : ℕ) → k ≢ 0 → map_of p ≡ m
-      → map_in t ≡ fin.remove (map_in (child_of p ((k - 1) % 4))) ((k - 1) / 4) →
-      map_of (with_child p ((k - 1) % 4) t) ≡ fin.remove m k
-  cut_child m p t k n e h =
-      let d = (k - 1) % 4 in
-      let q = (k - 1) / 4 in
-      writes_remove (map_of p) (map_of (with_child p d t)) (4 * q + 1 + d)
-      (write_child p t q d None (digit_less (k - 1)) (subst (λ n. Writes (map_in (child_of p d)) n q None) (sym h)
-      (remove_writes (map_in (child_of p d)) q)))
-      ∙ ap (λ i. fin.remove (map_of p) i) (id_parts k n) ∙ ap (λ i. fin.remove i k) e
+      let first : (swapped p.kids d).zero ≡ child_of p.kids d =
+      by_digit (λ d. (swapped p.kids d).zero ≡ child_of p.kids d) refl refl refl refl d (digit_less (k - 1)) in
+      written (map_of p) (map_of (record p { kids = with_child p.kids d t })) (4 * q + 1 + d) o
+      (write_child p t q d o (digit_less (k - 1)) (subst (λ n. Writes (map_in (child_of p.kids d)) n q o)
+      (sym (h ∙ ap (λ (l : Link V). with_value (map_in l) q o) first)) (writes (map_in (child_of p.kids d)) q o)))
+      ∙ ap (λ i. with_value (map_of p) i o) (id_parts k n) ∙ ap (λ i. with_value i k o) e
 
   -- a child of a map that is empty is empty
-  pub empty_child : (p : Parts V) → map_of p ≡ fin.empty → (d : ℕ) → d < 4 → map_in (child_of p d) ≡ fin.empty
-  empty_child p e d l = fin.same_map nat_cmp_total nat_cmp-IsAntisymmetric (map_in (child_of p d)) fin.empty
+  pub empty_child : (p : Parts V) → map_of p ≡ fin.empty → (d : ℕ) → d < 4 → map_in (child_of p.kids d) ≡ fin.empty
+  empty_child p e d l = fin.same_map nat_cmp_total nat_cmp-IsAntisymmetric (map_in (child_of p.kids d)) fin.empty
       (λ q. sym (at_digit p d q l) ∙ ap (λ n. fin.get n (4 * q + 1 + d)) e ∙ fin.get-empty nat_cmp (4 * q + 1 + d) ∙
       sym (fin.get-empty nat_cmp q))
 
@@ -321,23 +299,23 @@ module _ {V : Type 0} where
 
   -- a map with a value is not empty
   pub full_value : (p : Parts V) → is_some p.value ≡ true → TellsEmpty (map_of p) false
-  full_value p h e = go p.value h (sym (at_none p.value (map_in p.zero) (map_in p.one) (map_in p.two) (map_in p.three))
-      ∙ ap (λ n. fin.get n 0) e ∙ fin.get-empty nat_cmp 0)
+  full_value p h e = go p.value h (sym (at_none p.value (map_in p.kids.zero) (map_in p.kids.one) (map_in p.kids.two)
+      (map_in p.kids.three)) ∙ ap (λ n. fin.get n 0) e ∙ fin.get-empty nat_cmp 0)
     where
       go : (v : Option (Rc V Global)) → is_some v ≡ true → value_in v ≡ None → ⊥
       go None h e = let no : false ≡ true = h in cc
       go (Some rc) h e = none_some rc.value (sym e)
 
   -- a map with a child that is not empty is not empty
-  pub full_child : (p : Parts V) (d : ℕ) → d < 4 → TellsEmpty (map_in (child_of p d)) false →
+  pub full_child : (p : Parts V) (d : ℕ) → d < 4 → TellsEmpty (map_in (child_of p.kids d)) false →
       TellsEmpty (map_of p) false
   full_child p d l h e = h (empty_child p e d l)
 
   -- a map with no value, whose children are empty
-  pub empty_parts : (p : Parts V) → is_some p.value ≡ false → map_in p.zero ≡ fin.empty → map_in p.one ≡ fin.empty →
-      map_in p.two ≡ fin.empty → map_in p.three ≡ fin.empty → map_of p ≡ fin.empty
-  empty_parts p h a b c e = ap (λ v. weave v (map_in p.zero) (map_in p.one) (map_in p.two) (map_in p.three))
-      (go p.value h) ∙ rw (a, b, c, e) no_parts
+  pub empty_parts : (p : Parts V) → is_some p.value ≡ false → map_in p.kids.zero ≡ fin.empty →
+      map_in p.kids.one ≡ fin.empty → map_in p.kids.two ≡ fin.empty → map_in p.kids.three ≡ fin.empty → map_of p ≡
+      fin.empty
+  empty_parts p h a b c e = ap (λ v. map_of (record p { value = v })) (go p.value h) ∙ rw (a, b, c, e) no_parts
     where
       go : (v : Option (Rc V Global)) → is_some v ≡ false → v ≡ None
       go None h = refl
@@ -346,13 +324,14 @@ module _ {V : Type 0} where
   -- what both parts of one map have
   pub same_values : (p q : Parts V) → map_of p ≡ map_of q → value_in p.value ≡ value_in q.value
   same_values p q e =
-      sym (at_none p.value (map_in p.zero) (map_in p.one) (map_in p.two) (map_in p.three)) ∙ ap (λ n. fin.get n 0) e
-      ∙ at_none q.value (map_in q.zero) (map_in q.one) (map_in q.two) (map_in q.three)
+      sym (at_none p.value (map_in p.kids.zero) (map_in p.kids.one) (map_in p.kids.two) (map_in p.kids.three))
+      ∙ ap (λ n. fin.get n 0) e
+      ∙ at_none q.value (map_in q.kids.zero) (map_in q.kids.one) (map_in q.kids.two) (map_in q.kids.three)
 
   pub same_children : (p q : Parts V) → map_of p ≡ map_of q → (d : ℕ) → d < 4 →
-      map_in (child_of p d) ≡ map_in (child_of q d)
+      map_in (child_of p.kids d) ≡ map_in (child_of q.kids d)
   same_children p q e d l =
-      fin.same_map nat_cmp_total nat_cmp-IsAntisymmetric (map_in (child_of p d)) (map_in (child_of q d))
+      fin.same_map nat_cmp_total nat_cmp-IsAntisymmetric (map_in (child_of p.kids d)) (map_in (child_of q.kids d))
       (λ i. sym (at_digit p d i l) ∙ ap (λ n. fin.get n (4 * i + 1 + d)) e ∙ at_digit q d i l)
 
   first_by_value : (v w : Option (Rc V Global)) → value_in v ≡ value_in w → first_entry v ≡ first_entry w
@@ -362,18 +341,18 @@ module _ {V : Type 0} where
   first_by_value (Some v) (Some w) e = ap (λ o. option_map_or (λ x. (0, x) ∷ []) o []) e
 
   -- maps of the same parts
-  pub same_parts : (p q : Parts V) → value_in p.value ≡ value_in q.value → map_in p.zero ≡ map_in q.zero →
-      map_in p.one ≡ map_in q.one
-      → map_in p.two ≡ map_in q.two → map_in p.three ≡ map_in q.three → map_of p ≡ map_of q
+  pub same_parts : (p q : Parts V) → value_in p.value ≡ value_in q.value → map_in p.kids.zero ≡ map_in q.kids.zero →
+      map_in p.kids.one ≡ map_in q.kids.one
+      → map_in p.kids.two ≡ map_in q.kids.two → map_in p.kids.three ≡ map_in q.kids.three → map_of p ≡ map_of q
   same_parts p q v a b c e =
       ap (λ (f : List (ℕ × V)). fin.from_entries {R = nat_cmp}
-      (f ++ (spread 0 (fin.entries (map_in p.zero)) ++ (spread 1 (fin.entries (map_in p.one)) ++
-      (spread 2 (fin.entries (map_in p.two)) ++ spread 3 (fin.entries (map_in p.three)))))))
+      (f ++ (spread 0 (fin.entries (map_in p.kids.zero)) ++ (spread 1 (fin.entries (map_in p.kids.one)) ++
+      (spread 2 (fin.entries (map_in p.kids.two)) ++ spread 3 (fin.entries (map_in p.kids.three)))))))
       (first_by_value p.value q.value v)
-      ∙ ap (λ m. weave q.value m (map_in p.one) (map_in p.two) (map_in p.three)) a
-      ∙ ap (λ m. weave q.value (map_in q.zero) m (map_in p.two) (map_in p.three)) b
-      ∙ ap (λ m. weave q.value (map_in q.zero) (map_in q.one) m (map_in p.three)) c
-      ∙ ap (weave q.value (map_in q.zero) (map_in q.one) (map_in q.two)) e
+      ∙ ap (λ m. weave q.value m (map_in p.kids.one) (map_in p.kids.two) (map_in p.kids.three)) a
+      ∙ ap (λ m. weave q.value (map_in q.kids.zero) m (map_in p.kids.two) (map_in p.kids.three)) b
+      ∙ ap (λ m. weave q.value (map_in q.kids.zero) (map_in q.kids.one) m (map_in p.kids.three)) c
+      ∙ ap (weave q.value (map_in q.kids.zero) (map_in q.kids.one) (map_in q.kids.two)) e
 
   -- no two entries have one id
   abbrev Distinct : List (ℕ × V) → Type 0
@@ -475,17 +454,17 @@ module _ {V : Type 0} where
         )
 
   -- whether there is an entry, where the last child tells it
-  pub last_empty : (p : Parts V) → is_some p.value ≡ false → map_in p.zero ≡ fin.empty → map_in p.one ≡ fin.empty →
-      map_in p.two ≡ fin.empty
-      → (b : Bool) → TellsEmpty (map_in p.three) b → TellsEmpty (map_of p) b
+  pub last_empty : (p : Parts V) → is_some p.value ≡ false → map_in p.kids.zero ≡ fin.empty →
+      map_in p.kids.one ≡ fin.empty → map_in p.kids.two ≡ fin.empty
+      → (b : Bool) → TellsEmpty (map_in p.kids.three) b → TellsEmpty (map_of p) b
   last_empty p v a b c true h = empty_parts p v a b c h
   last_empty p v a b c false h = full_child p 3 (omega arith) h
 
   -- whether two are the same, where the last children tell it
   pub last_same : (m n : FinMap nat_cmp V) (p q : Parts V) → m ≡ map_of p → n ≡ map_of q →
-      value_in p.value ≡ value_in q.value → map_in p.zero ≡ map_in q.zero
-      → map_in p.one ≡ map_in q.one → map_in p.two ≡ map_in q.two → (b : Bool) →
-      TellsSame (map_in p.three) (map_in q.three) b → TellsSame m n b
+      value_in p.value ≡ value_in q.value → map_in p.kids.zero ≡ map_in q.kids.zero
+      → map_in p.kids.one ≡ map_in q.kids.one → map_in p.kids.two ≡ map_in q.kids.two → (b : Bool) →
+      TellsSame (map_in p.kids.three) (map_in q.kids.three) b → TellsSame m n b
   last_same m n p q l r v a b c true h = l ∙ same_parts p q v a b c h ∙ sym r
   last_same m n p q l r v a b c false h = λ e. h (same_children p q (sym l ∙ e ∙ r) 3 (omega arith))
 
@@ -543,20 +522,10 @@ module _ {V : Type 0} where
   -- the value of an id above 0, by the digit's map
   pub get_kid : (m : FinMap nat_cmp V) (v : Option (Rc V Global)) (k : Kids V) (id : ℕ) → id ≢ 0 →
       m ≡ map_of (parts_of v k)
-      → fin.get (map_in (child_of (parts_of None k) ((id - 1) % 4))) ((id - 1) / 4) ≡ fin.get m id
+      → fin.get (map_in (child_of k ((id - 1) % 4))) ((id - 1) / 4) ≡ fin.get m id
   get_kid m v k id n e =
-      sym (at_digit (parts_of None k) ((id - 1) % 4) ((id - 1) / 4) (digit_less (id - 1)))
-      ∙ ap (fin.get (map_of (parts_of None k))) (id_parts id n) ∙ other_value id n ∙ ap (λ w. fin.get w id) (sym e)
-    where
-      other_value : (id : ℕ) → id ≢ 0 → fin.get (map_of (parts_of None k)) id ≡ fin.get (map_of (parts_of v k)) id
-      other_value id n =
-          ap (fin.get (map_of (parts_of None k))) (sym (id_parts id n))
-          ∙ at_digit (parts_of None k) ((id - 1) % 4) ((id - 1) / 4) (digit_less (id - 1))
-          ∙ by_digit (λ d. fin.get (map_in (child_of (parts_of None k) d)) ((id - 1) / 4) ≡ fin.get
-          (map_in (child_of (parts_of v k) d)) ((id - 1) / 4)) refl refl refl refl ((id - 1) % 4)
-          (digit_less (id - 1))
-          ∙ sym (at_digit (parts_of v k) ((id - 1) % 4) ((id - 1) / 4) (digit_less (id - 1)))
-          ∙ ap (fin.get (map_of (parts_of v k))) (id_parts id n)
+      sym (at_digit (parts_of v k) ((id - 1) % 4) ((id - 1) / 4) (digit_less (id - 1)))
+      ∙ ap (fin.get (map_of (parts_of v k))) (id_parts id n) ∙ ap (λ w. fin.get w id) (sym e)
 
   -- the value at 0
   pub get_first : (m : FinMap nat_cmp V) (v : Option (Rc V Global)) (k : Kids V) → m ≡ map_of (parts_of v k) →

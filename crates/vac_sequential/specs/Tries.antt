@@ -59,23 +59,31 @@ module _ {V : Type 0} where
 
   -- the map with these parts
   abbrev pub map_of : Parts V → Ids V
-  map_of p = weave p.value (map_in p.zero) (map_in p.one) (map_in p.two) (map_in p.three)
+  map_of p =
+      weave p.value (map_in p.kids.zero) (map_in p.kids.one) (map_in p.kids.two)
+      (map_in p.kids.three)
 
   -- the map of a digit
-  abbrev pub child_of : Parts V → ℕ → Link V
-  child_of p d =
-      if d == 0 then p.zero else if d == 1 then p.one else if d == 2 then p.two else p.three
+  abbrev pub child_of : Kids V → ℕ → Link V
+  child_of k d =
+      if d == 0 then k.zero else if d == 1 then k.one else if d == 2 then k.two else k.three
 
-  -- the parts with another map of a digit
-  abbrev pub with_child : Parts V → ℕ → Link V → Parts V
-  with_child p d c =
-      if d == 0 then record p { zero = c }
-      else if d == 1 then record p { one = c }
-      else if d == 2 then record p { two = c } else record p { three = c }
+  -- the maps where the one of a digit and that of 0 have changed places
+  abbrev pub swapped : Kids V → ℕ → Kids V
+  swapped k d =
+      if d == 0 then k
+      else if d == 1 then record k { zero = k.one; one = k.zero }
+      else if d == 2 then record k { zero = k.two; two = k.zero }
+      else record k { zero = k.three; three = k.zero }
 
   -- the parts of a value and the maps of the digits
   abbrev pub parts_of : Option (Rc V Global) → Kids V → Parts V
-  parts_of v k = record { value = v; zero = k.zero; one = k.one; two = k.two; three = k.three }
+  parts_of v k = record { value = v; kids = k }
+
+  -- the map with this at an id: a value, or none
+  abbrev pub with_value : Ids V → ℕ → Option V → Ids V
+  with_value m id None = fin.remove m id
+  with_value m id (Some x) = fin.insert m id x
 
   -- one more than the depth of each digit's map
   abbrev pub depth_of : Kids V → ℕ

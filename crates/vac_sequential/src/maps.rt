@@ -11,6 +11,7 @@ use crate::tries::{Amount, Entry, Trie, cut, is_same, mixed, put, total};
 use std::alloc::{AllocError, Global};
 use std::collections::BTreeMap;
 use std::marker::Model;
+use std::mem::replace;
 use std::rc::Rc;
 use vac_model::{Booking, Item, Kind};
 
@@ -128,10 +129,9 @@ impl<V: Entry + Drop> IdMap<V> {
         })
     }
 
-    /// Puts a value at an id, unless memory is refused.
-    pub(crate) fn insert(&mut self, id: u32, value: V) -> Result<(), AllocError>
-        ensures ok { OnOk result (self.new ≡ map.insert self.old id value) }
-        ensures err { OnErr result (self.new ≡ self.old) }
+    /// The map with a value at an id.
+    fn with(self, id: u32, value: V) -> Result<Self, AllocError>
+        ensures { IfOk result (λ m. m ≡ map.insert self id value) }
     {
         let held = self.held(id);
         let hash = mixed(id as u64, value.hash());
@@ -142,25 +142,50 @@ impl<V: Entry + Drop> IdMap<V> {
             return Err(AllocError);
         };
         let value = Rc::new(self.alloc, value)?;
-        let root = put(self.alloc, &self.root, id, value)?;
-        self.root = root;
-        self.len = len - held.len;
-        self.weight = weight - held.weight;
-        self.hash = self.hash.wrapping_sub(held.hash).wrapping_add(hash);
+        let root = put(self.alloc, self.root, id, value)?;
+        Ok(Self {
+            alloc: self.alloc,
+            root,
+            len: len - held.len,
+            weight: weight - held.weight,
+            hash: self.hash.wrapping_sub(held.hash).wrapping_add(hash),
+        })
+    }
+
+    /// The map without the value of an id.
+    fn without(self, id: u32) -> Result<Self, AllocError>
+        ensures { IfOk result (λ m. m ≡ map.remove self id) }
+    {
+        let held = self.held(id);
+        let root = cut(self.alloc, self.root, id)?;
+        Ok(Self {
+            alloc: self.alloc,
+            root,
+            len: self.len - held.len,
+            weight: self.weight - held.weight,
+            hash: self.hash.wrapping_sub(held.hash),
+        })
+    }
+
+    /// Puts a value at an id, in place where no copy shares what is changed. Where memory is
+    /// refused, the map is left empty.
+    pub(crate) fn insert(&mut self, id: u32, value: V) -> Result<(), AllocError>
+        ensures { OnOk result (self.new ≡ map.insert self.old id value) }
+    {
+        let alloc = self.alloc;
+        let map = replace(self, Self::new(alloc));
+        *self = map.with(id, value)?;
         Ok(())
     }
 
-    /// Removes the value of an id, unless memory is refused.
+    /// Removes the value of an id, in place where no copy shares what is changed. Where memory is
+    /// refused, the map is left empty.
     pub(crate) fn remove(&mut self, id: u32) -> Result<(), AllocError>
-        ensures ok { OnOk result (self.new ≡ map.remove self.old id) }
-        ensures err { OnErr result (self.new ≡ self.old) }
+        ensures { OnOk result (self.new ≡ map.remove self.old id) }
     {
-        let held = self.held(id);
-        let root = cut(self.alloc, &self.root, id)?;
-        self.root = root;
-        self.len -= held.len;
-        self.weight -= held.weight;
-        self.hash = self.hash.wrapping_sub(held.hash);
+        let alloc = self.alloc;
+        let map = replace(self, Self::new(alloc));
+        *self = map.without(id)?;
         Ok(())
     }
 }

@@ -107,6 +107,24 @@ impl Sequential {
         Ok(reply)
     }
 
+    /// The manager after a task, and the reply. A task that cannot be asked for is refused. Of the
+    /// state, only what another manager shares is copied.
+    pub fn after(self, task: &Task) -> Result<(Sequential, Reply), SequentialFault>
+        ensures ok { IfOk result (λ made. tasks.run self task.now ≡ (made.0, made.1)) }
+        ensures arguments { (result ≡ Err SequentialFault.Arguments) ↔ (is_task task.now ≡ false) }
+        ensures was_balanced { IsBalanced self }
+        ensures balanced { IfOk result (λ made. IsBalanced made.0) }
+    {
+        if !task.is_in_range() {
+            return Err(SequentialFault::Arguments);
+        }
+        let Sequential { mut tables } = self;
+        let Ok(reply) = tables.run(task) else {
+            return Err(SequentialFault::Memory);
+        };
+        Ok((Sequential { tables }, reply))
+    }
+
     /// The report of the state.
     pub fn report(&self) -> Report
         ensures report { result ≡ report self.now }

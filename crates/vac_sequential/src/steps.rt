@@ -1,6 +1,6 @@
 //! What each command does to the tables, and when it is refused.
 
-ghost use Rattle.std.specs.Prelude.{◌≡◌, ◌≤◌, IfOk, OnOk, OnErr, true};
+ghost use Rattle.std.specs.Prelude.{◌≡◌, ◌≤◌, IfOk, OnOk, true};
 ghost use Rattle.std.specs.Option.{option_copied, option_map};
 ghost use Rattle.std.specs.FinMap as map;
 ghost use Rattle.vac_model.specs.declared.limits.TheConstants.{MOST_UNITS_AT_ONCE};
@@ -28,7 +28,6 @@ impl Tables {
         requires { IsSmall self.old }
         ensures ok { IfOk result
             (λ reply. rules.add self.old kind id num price ≡ (self.new, reply)) }
-        ensures err { OnErr result (self.new ≡ self.old) }
     {
         match self.item(kind, id) {
             Some(item) => self.add_more(kind, id, num, price, item),
@@ -46,7 +45,6 @@ impl Tables {
         requires { IsSmall self.old }
         ensures ok { IfOk result
             (λ reply. rules.add_new self.old kind id num price ≡ (self.new, reply)) }
-        ensures err { OnErr result (self.new ≡ self.old) }
     {
         let Some(price) = price else {
             return Ok(Reply::No(Why::NeedsCountAndPrice));
@@ -72,7 +70,6 @@ impl Tables {
         requires range { IsItemInRange item }
         ensures ok { IfOk result
             (λ reply. rules.add_more self.old kind id num price item ≡ (self.new, reply)) }
-        ensures err { OnErr result (self.new ≡ self.old) }
     {
         if item.total + num as u64 > MOST_TOTAL {
             return Ok(Reply::No(Why::TotalLimit));
@@ -84,7 +81,6 @@ impl Tables {
     pub(crate) fn delete(&mut self, kind: Kind, id: u32, num: u32) -> Result<Reply, AllocError>
         requires { IsSmall self.old }
         ensures ok { IfOk result (λ reply. rules.delete self.old kind id num ≡ (self.new, reply)) }
-        ensures err { OnErr result (self.new ≡ self.old) }
     {
         let Some(item) = self.item(kind, id) else {
             return Ok(Reply::No(Why::NoItem));
@@ -103,7 +99,6 @@ impl Tables {
     pub(crate) fn drop_flight(&mut self, id: u32) -> Result<Reply, AllocError>
         requires { IsSmall self.old }
         ensures ok { IfOk result (λ reply. rules.drop_flight self.old id ≡ (self.new, reply)) }
-        ensures err { OnErr result (self.new ≡ self.old) }
     {
         let Some(item) = self.item(Kind::Flight, id) else {
             return Ok(Reply::No(Why::NoItem));
@@ -118,7 +113,6 @@ impl Tables {
     pub(crate) fn new_customer(&mut self, id: u32) -> Result<Reply, AllocError>
         requires { IsSmall self.old }
         ensures ok { IfOk result (λ reply. rules.new_customer self.old id ≡ (self.new, reply)) }
-        ensures err { OnErr result (self.new ≡ self.old) }
     {
         if self.bookings(id).is_some() {
             return Ok(Reply::No(Why::Exists));

@@ -1,6 +1,6 @@
 //! The four tables, which contracts see as a state.
 
-ghost use Rattle.std.specs.Prelude.{◌≡◌, ◌<◌, ◌^◌, IfOk, OnOk, OnErr};
+ghost use Rattle.std.specs.Prelude.{◌≡◌, ◌<◌, ◌^◌, IfOk, OnOk};
 ghost use Rattle.std.specs.Option.{option_copied};
 ghost use Rattle.std.specs.FinMap as map;
 ghost use Rattle.vac_sequential.specs.Tries.{TellsSame};
@@ -136,10 +136,9 @@ impl Tables {
         }
     }
 
-    /// Puts an item, unless memory is refused.
+    /// Puts an item. Where memory is refused, its table is left empty.
     pub(crate) fn insert_item(&mut self, kind: Kind, id: u32, item: Item) -> Result<(), AllocError>
-        ensures ok { OnOk result (self.new ≡ with_item self.old kind id item) }
-        ensures err { OnErr result (self.new ≡ self.old) }
+        ensures { OnOk result (self.new ≡ with_item self.old kind id item) }
     {
         match kind {
             Kind::Car => self.cars.insert(id, item)?,
@@ -149,10 +148,9 @@ impl Tables {
         Ok(())
     }
 
-    /// Removes an item, unless memory is refused.
+    /// Removes an item. Where memory is refused, its table is left empty.
     pub(crate) fn remove_item(&mut self, kind: Kind, id: u32) -> Result<(), AllocError>
-        ensures ok { OnOk result (self.new ≡ without_item self.old kind id) }
-        ensures err { OnErr result (self.new ≡ self.old) }
+        ensures { OnOk result (self.new ≡ without_item self.old kind id) }
     {
         match kind {
             Kind::Car => self.cars.remove(id)?,
@@ -168,30 +166,27 @@ impl Tables {
         self.customers.get(customer)
     }
 
-    /// Makes a customer without bookings.
+    /// Makes a customer without bookings. Where memory is refused, there are no customers left.
     pub(crate) fn insert_customer(&mut self, customer: u32) -> Result<(), AllocError>
-        ensures ok { OnOk result (self.new ≡ with_bookings self.old customer map.empty) }
-        ensures err { OnErr result (self.new ≡ self.old) }
+        ensures { OnOk result (self.new ≡ with_bookings self.old customer map.empty) }
     {
         self.insert_bookings(customer, BookingMap::new(self.alloc))
     }
 
-    /// Puts the bookings of a customer, unless memory is refused.
+    /// Puts the bookings of a customer. Where memory is refused, there are no customers left.
     pub(crate) fn insert_bookings(
         &mut self,
         customer: u32,
         bookings: BookingMap,
     ) -> Result<(), AllocError>
-        ensures ok { OnOk result (self.new ≡ with_bookings self.old customer bookings) }
-        ensures err { OnErr result (self.new ≡ self.old) }
+        ensures { OnOk result (self.new ≡ with_bookings self.old customer bookings) }
     {
         self.customers.insert(customer, bookings)
     }
 
-    /// Removes a customer, unless memory is refused.
+    /// Removes a customer. Where memory is refused, there are no customers left.
     pub(crate) fn remove_customer(&mut self, customer: u32) -> Result<(), AllocError>
-        ensures ok { OnOk result (self.new ≡ without_customer self.old customer) }
-        ensures err { OnErr result (self.new ≡ self.old) }
+        ensures { OnOk result (self.new ≡ without_customer self.old customer) }
     {
         self.customers.remove(customer)
     }

@@ -1,12 +1,13 @@
 //! Finite maps of ids that share what they have in common: a trie of four ways, by the digits of an
-//! id from the last. A map is changed by making new nodes on the way to the id; all others stay
-//! shared with the map before. No node with maps of digits is without an entry, so the shape of a
-//! map depends on its entries alone.
+//! id from the last. A change makes the nodes on the way to the id anew, each from the parts of the
+//! old one where nothing else holds it, and else from parts that it shares; all others stay as they
+//! are. No node with maps of digits is without an entry, so the shape of a map depends on its
+//! entries alone.
 
-ghost use Rattle.std.specs.Prelude.{◌≡◌, ◌<◌, ◌^◌, ℕ, None, IfOk, MatchOption, sum_by};
+ghost use Rattle.std.specs.Prelude.{◌≡◌, ◌≢◌, ◌<◌, ◌^◌, ℕ, None, IfOk, MatchOption, sum_by};
 ghost use Rattle.std.specs.Option.{option_copied};
 ghost use Rattle.std.specs.FinMap as map;
-ghost use Rattle.vac_sequential.specs.Tries.{map_in, map_at, value_in, map_of, parts_of, child_of, with_child, Shows, TellsEmpty, TellsSame};
+ghost use Rattle.vac_sequential.specs.Tries.{map_in, map_at, value_in, map_of, parts_of, child_of, swapped, with_value, Shows, TellsEmpty, TellsSame};
 
 use std::alloc::{AllocError, Global};
 use std::marker::Model;
@@ -82,13 +83,38 @@ impl<V> Kids<V> {
     /// The map of a digit.
     fn kid(&self, digit: u32) -> &Rc<Trie<V>>
         requires { digit < 4 }
-        ensures { result.now ≡ child_of (parts_of None self.now) digit }
+        ensures { result.now ≡ child_of self.now digit }
     {
         match digit {
             0 => &self.zero,
             1 => &self.one,
             2 => &self.two,
             _ => &self.three,
+        }
+    }
+
+    /// The maps where the one of a digit and that of 0 have changed places.
+    fn swapped(self, digit: u32) -> Kids<V>
+        requires { digit < 4 }
+        ensures { result ≡ swapped self digit }
+    {
+        match digit {
+            0 => self,
+            1 => Kids {
+                zero: self.one,
+                one: self.zero,
+                ..self
+            },
+            2 => Kids {
+                zero: self.two,
+                two: self.zero,
+                ..self
+            },
+            _ => Kids {
+                zero: self.three,
+                three: self.zero,
+                ..self
+            },
         }
     }
 }
@@ -116,6 +142,21 @@ impl<V> Trie<V> {
         }
     }
 
+    /// The parts of a map that has an entry.
+    fn into_parts(self) -> Parts<V>
+        requires { self.0 ≢ map.empty }
+        ensures { map_of result ≡ self.0 }
+    {
+        match self.node {
+            Node::Empty => unreachable!(),
+            Node::Bare(kids) => Parts { value: None, kids },
+            Node::Full(value, kids) => Parts {
+                value: Some(value),
+                kids,
+            },
+        }
+    }
+
     /// The value of an id.
     pub(crate) fn get(&self, id: u32) -> Option<&V>
         ensures { option_copied result ≡ map.get self.now.0 id }
@@ -137,10 +178,7 @@ impl<V> Trie<V> {
 #[derive(Drop)]
 pub(crate) struct Parts<V> {
     value: Option<Rc<V>>,
-    zero: Rc<Trie<V>>,
-    one: Rc<Trie<V>>,
-    two: Rc<Trie<V>>,
-    three: Rc<Trie<V>>,
+    kids: Kids<V>,
 }
 
 impl<V: Drop> Parts<V> {
@@ -151,71 +189,43 @@ impl<V: Drop> Parts<V> {
         if self.value.is_some() {
             return false;
         }
-        if !self.zero.is_empty() {
+        if !self.kids.zero.is_empty() {
             return false;
         }
-        if !self.one.is_empty() {
+        if !self.kids.one.is_empty() {
             return false;
         }
-        if !self.two.is_empty() {
+        if !self.kids.two.is_empty() {
             return false;
         }
-        self.three.is_empty()
-    }
-
-    /// The map of a digit.
-    fn child(&self, digit: u32) -> &Rc<Trie<V>>
-        requires { digit < 4 }
-        ensures { result.now ≡ child_of self.now digit }
-    {
-        match digit {
-            0 => &self.zero,
-            1 => &self.one,
-            2 => &self.two,
-            _ => &self.three,
-        }
-    }
-
-    /// The parts with another map of a digit.
-    fn with_child(self, digit: u32, child: Rc<Trie<V>>) -> Parts<V>
-        requires { digit < 4 }
-        ensures { result ≡ with_child self digit child }
-    {
-        match digit {
-            0 => Parts {
-                zero: child,
-                ..self
-            },
-            1 => Parts { one: child, ..self },
-            2 => Parts { two: child, ..self },
-            _ => Parts {
-                three: child,
-                ..self
-            },
-        }
+        self.kids.three.is_empty()
     }
 }
 
 /// The parts of a map, which it shares.
-fn open<V: Drop>(link: &Rc<Trie<V>>) -> Result<Parts<V>, AllocError>
+fn share<V: Drop>(link: &Rc<Trie<V>>) -> Result<Parts<V>, AllocError>
     ensures { IfOk result (λ p. map_of p ≡ map_in link.now) }
 {
     let Some((value, kids)) = link.shown() else {
         return Ok(Parts {
             value: None,
-            zero: link.clone()?,
-            one: link.clone()?,
-            two: link.clone()?,
-            three: link.clone()?,
+            kids: Kids {
+                zero: link.clone()?,
+                one: link.clone()?,
+                two: link.clone()?,
+                three: link.clone()?,
+            },
         });
     };
     let value = shared(value)?;
     Ok(Parts {
         value,
-        zero: kids.zero.clone()?,
-        one: kids.one.clone()?,
-        two: kids.two.clone()?,
-        three: kids.three.clone()?,
+        kids: Kids {
+            zero: kids.zero.clone()?,
+            one: kids.one.clone()?,
+            two: kids.two.clone()?,
+            three: kids.three.clone()?,
+        },
     })
 }
 
@@ -229,26 +239,28 @@ fn shared<V: Drop>(value: Option<&Rc<V>>) -> Result<Option<Rc<V>>, AllocError>
     }
 }
 
+/// The parts of a map: its own where nothing else holds it, and else shared.
+fn open<V: Drop>(link: Rc<Trie<V>>) -> Result<Parts<V>, AllocError>
+    ensures { IfOk result (λ p. map_of p ≡ map_in link) }
+{
+    if link.is_empty() {
+        return share(&link);
+    }
+    match Rc::try_unwrap(link) {
+        Ok(trie) => Ok(trie.into_parts()),
+        Err(link) => share(&link),
+    }
+}
+
 /// The map of these parts.
 fn join<V: Drop>(alloc: Global, parts: Parts<V>) -> Result<Rc<Trie<V>>, AllocError>
     ensures { IfOk result (λ t. map_in t ≡ map_of parts) }
 {
     if parts.is_empty() {
-        return Ok(parts.zero);
+        let kids = parts.kids;
+        return Ok(kids.zero);
     }
-    let Parts {
-        value,
-        zero,
-        one,
-        two,
-        three,
-    } = parts;
-    let kids = Kids {
-        zero,
-        one,
-        two,
-        three,
-    };
+    let Parts { value, kids } = parts;
     let node = match value {
         None => Node::Bare(kids),
         Some(value) => Node::Full(value, kids),
@@ -256,47 +268,28 @@ fn join<V: Drop>(alloc: Global, parts: Parts<V>) -> Result<Rc<Trie<V>>, AllocErr
     Ok(Rc::new(alloc, Trie { node })?)
 }
 
-/// The map in which an id has this value.
-fn put_in<V: Drop>(
+/// The map in which an id has this value, or none.
+fn set_in<V: Drop>(
     alloc: Global,
-    link: &Rc<Trie<V>>,
+    link: Rc<Trie<V>>,
     id: u32,
-    value: Rc<V>,
+    value: Option<Rc<V>>,
 ) -> Result<Rc<Trie<V>>, AllocError>
-    ensures { IfOk result (λ t. map_in t ≡ map.insert (map_in link.now) id value.value) }
+    ensures { IfOk result (λ t. map_in t ≡ with_value (map_in link) id (value_in value)) }
 {
-    let parts = open(link)?;
+    let Parts { value: first, kids } = open(link)?;
     if id == 0 {
-        return join(
-            alloc,
-            Parts {
-                value: Some(value),
-                ..parts
-            },
-        );
+        return join(alloc, Parts { value, kids });
     }
     let digit = (id - 1) % 4;
-    let child = put_in(alloc, parts.child(digit), (id - 1) / 4, value)?;
-    join(alloc, parts.with_child(digit, child))
-}
-
-/// The map in which an id has no value.
-fn cut_in<V: Drop>(alloc: Global, link: &Rc<Trie<V>>, id: u32) -> Result<Rc<Trie<V>>, AllocError>
-    ensures { IfOk result (λ t. map_in t ≡ map.remove (map_in link.now) id) }
-{
-    let parts = open(link)?;
-    if id == 0 {
-        return join(
-            alloc,
-            Parts {
-                value: None,
-                ..parts
-            },
-        );
-    }
-    let digit = (id - 1) % 4;
-    let child = cut_in(alloc, parts.child(digit), (id - 1) / 4)?;
-    join(alloc, parts.with_child(digit, child))
+    let kids = kids.swapped(digit);
+    let zero = set_in(alloc, kids.zero, (id - 1) / 4, value)?;
+    let kids = Kids { zero, ..kids };
+    let parts = Parts {
+        value: first,
+        kids: kids.swapped(digit),
+    };
+    join(alloc, parts)
 }
 
 /// What is added up over the values of a map.
@@ -368,31 +361,29 @@ fn is_same_in<V: Entry>(a: &Rc<Trie<V>>, b: &Rc<Trie<V>>) -> bool
 /// The map at a root in which an id has this value.
 pub(crate) fn put<V: Drop>(
     alloc: Global,
-    root: &Option<Rc<Trie<V>>>,
+    root: Option<Rc<Trie<V>>>,
     id: u32,
     value: Rc<V>,
 ) -> Result<Option<Rc<Trie<V>>>, AllocError>
-    ensures { IfOk result (λ t. map_at t ≡ map.insert (map_at root.now) id value.value) }
+    ensures { IfOk result (λ t. map_at t ≡ map.insert (map_at root) id value.value) }
 {
-    match root {
-        Some(link) => Ok(Some(put_in(alloc, link, id, value)?)),
-        None => {
-            let none = Rc::new(alloc, Trie { node: Node::Empty })?;
-            Ok(Some(put_in(alloc, &none, id, value)?))
-        }
-    }
+    let link = match root {
+        Some(link) => link,
+        None => Rc::new(alloc, Trie { node: Node::Empty })?,
+    };
+    Ok(Some(set_in(alloc, link, id, Some(value))?))
 }
 
 /// The map at a root in which an id has no value.
 pub(crate) fn cut<V: Drop>(
     alloc: Global,
-    root: &Option<Rc<Trie<V>>>,
+    root: Option<Rc<Trie<V>>>,
     id: u32,
 ) -> Result<Option<Rc<Trie<V>>>, AllocError>
-    ensures { IfOk result (λ t. map_at t ≡ map.remove (map_at root.now) id) }
+    ensures { IfOk result (λ t. map_at t ≡ map.remove (map_at root) id) }
 {
     match root {
-        Some(link) => Ok(Some(cut_in(alloc, link, id)?)),
+        Some(link) => Ok(Some(set_in(alloc, link, id, None)?)),
         None => Ok(None),
     }
 }

@@ -10,5 +10,5 @@ give_back_all-requires c =
     let bookings = c.in_ok-bookings-in-Some.bookings in
     let there : bookings_of c.args.self.now c.args.id ≡ Some bookings =
     sym c.in-Some.ensures ∙ ap Some (sym c.in_ok-bookings-in-Some.ensures.cases) in
-    subst (λ s. CanGiveBack s (map.entries bookings)) (sym c.in_ok-remove_customer.ensures.ok)
+    subst (λ s. CanGiveBack s (map.entries bookings)) (sym c.in_ok-remove_customer.ensures)
     (can_depart c.args.self.now c.args.id bookings c.requires.balanced there)

@@ -16,7 +16,7 @@ loop-kind-preserved-in-Continue-1 c =
     let there : item_of s c.in-Some.kind c.in-Some.id ≡ Some c.in-Some-item.item = sym c.in-Some-item.ensures in
     let after : c.insert_item.new.self ≡ give_back s (c.in-Some.kind, c.in-Some.id) c.in-Some.booking.units
     (item_of s c.in-Some.kind c.in-Some.id) =
-    c.in_ok-insert_item.ensures.ok ∙ ap (with_item s c.in-Some.kind c.in-Some.id) c.given_back.ensures
+    c.in_ok-insert_item.ensures ∙ ap (with_item s c.in-Some.kind c.in-Some.id) c.given_back.ensures
     ∙ ap (give_back s (c.in-Some.kind, c.in-Some.id) c.in-Some.booking.units) (sym there) in
     record {
       rest = ap (λ t. give_back_all t rest) after ∙ ap (give_back_all s) (sym es) ∙ c.loop-kind.invariant.rest;

@@ -4,7 +4,7 @@ use Rattle.std.specs.FinMap as fin
 use Rattle.std.specs.FinMap.{FinMap}
 use Rattle.vac_sequential.specs.Tries.{map_in}
 use Rattle.vac_sequential.proofs.Woven.{four_empty}
-use Rattle.vac_sequential.proofs.tries.open.Goals as goal
+use Rattle.vac_sequential.proofs.tries.share.Goals as goal
 
 pub returns-in_default : goal.returns-in_default
 returns-in_default g c =

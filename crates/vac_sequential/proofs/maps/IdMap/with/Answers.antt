@@ -2,10 +2,10 @@ use Rattle.std.proofs.Common.{◌≡◌, ◌+◌, ◌-◌, ◌≤◌, sum_by, sy
 use Rattle.std.specs.FinMap as fin
 use Rattle.vac_sequential.specs.Tries.{map_at, EntryAdds}
 use Rattle.vac_sequential.proofs.Woven.{counted_put}
-use Rattle.vac_sequential.proofs.maps.IdMap.insert.Goals as goal
+use Rattle.vac_sequential.proofs.maps.IdMap.with.Goals as goal
 
-pub overflow_sub-self : goal.overflow_sub-self
-overflow_sub-self g c =
+pub overflow_sub-result : goal.overflow_sub-result
+overflow_sub-result g c =
     let m = map_at c.self.inside.root in
     let held = c.held-held.result in
     let h = subst (λ n. EntryAdds g.V.Entry.weight (fin.get n c.args.id) held.len held.weight)
@@ -14,8 +14,8 @@ overflow_sub-self g c =
     held.weight c.self.invariant h in
     subst (λ n. held.len ≤ n) (sym c.in-Some.ensures.1) r.0
 
-pub overflow_sub-self-2 : goal.overflow_sub-self-2
-overflow_sub-self-2 g c =
+pub overflow_sub-result-2 : goal.overflow_sub-result-2
+overflow_sub-result-2 g c =
     let m = map_at c.self.inside.root in
     let held = c.held-held.result in
     let h = subst (λ n. EntryAdds g.V.Entry.weight (fin.get n c.args.id) held.len held.weight)
@@ -25,8 +25,8 @@ overflow_sub-self-2 g c =
     subst (λ n. held.weight ≤ n) (sym (c.in-Some-checked_add.ensures.1 ∙
     ap (λ w. c.self.inside.weight + w) c.weight.ensures)) r.1
 
-pub invariant_of-self : goal.invariant_of-self
-invariant_of-self g c =
+pub invariant_of-result : goal.invariant_of-result
+invariant_of-result g c =
     let m = map_at c.self.inside.root in
     let held = c.held-held.result in
     let h = subst (λ n. EntryAdds g.V.Entry.weight (fin.get n c.args.id) held.len held.weight)
