@@ -3,7 +3,7 @@
 use crate::layout::Layout;
 use crate::line::Line;
 use crate::machine::Machine;
-use crate::search::{QuickSearch, led_to};
+use crate::search::{QuickSearch, led_from, led_to};
 use std::alloc::{AllocError, Global};
 
 /// How many of the next calls tell how good a choice is, at most.
@@ -13,7 +13,7 @@ const FARTHEST: u64 = 128;
 const MADE: u64 = 16;
 
 /// A call that may be made, and the machine after it.
-pub(crate) type Led<M> = Option<(usize, M)>;
+type Led<M> = Option<(usize, M)>;
 
 impl<M: Machine + Drop> QuickSearch<M> {
     /// Whether the calls of all clients may be looked at.
@@ -26,19 +26,18 @@ impl<M: Machine + Drop> QuickSearch<M> {
         true
     }
 
-    /// Whether a call that gives its reply now is to come before the one that ends first, which
-    /// leads to a machine.
+    /// Whether a call that leads to a machine now, and to another after the one that ends first,
+    /// where it gives its reply there, is to come before that one.
     fn is_first(
         &mut self,
         alloc: Global,
         lines: &[Line],
         place: usize,
         now: &M,
-        after: &M,
+        later: Option<M>,
     ) -> Result<bool, AllocError> {
         let low = self.low;
-        let later = led_to(alloc, after, lines, place)?;
-        let Some(both) = led_to(alloc, now, lines, low)? else {
+        let Some(both) = led_to(alloc, Some(now), lines, low)? else {
             return Ok(false);
         };
         let is_needed = match later {
@@ -55,57 +54,73 @@ impl<M: Machine + Drop> QuickSearch<M> {
         Ok(is_first)
     }
 
-    /// The same for one that names nothing in common with it, but that all blocks are in use.
+    /// The same for one that names nothing in common with it, but that all blocks are in use, and
+    /// that does not give its reply after it.
     fn is_full_first(
         &mut self,
         alloc: Global,
         lines: &[Line],
-        place: usize,
         now: &M,
-        after: &M,
     ) -> Result<bool, AllocError> {
-        if led_to(alloc, after, lines, place)?.is_some() {
-            return Ok(false);
-        }
-        if now.hash() == self.machine.hash() {
+        if let Some(machine) = &self.machine
+            && machine.hash() == now.hash()
+        {
             return Ok(true);
         }
-        Ok(self.strays(2) && led_to(alloc, now, lines, self.low)?.is_some())
+        Ok(self.strays(2) && led_to(alloc, Some(now), lines, self.low)?.is_some())
     }
 
-    /// Looks for a call that is to come before the one that ends first, which leads to a machine.
-    fn guard(
-        &mut self,
+    /// The next calls of clients that may have to come before the one that ends first: those that
+    /// name something in common with it, or found all blocks in use where it may leave some. None
+    /// where the calls of all clients may be looked at no more.
+    fn rivals(
+        &self,
         alloc: Global,
         lines: &[Line],
         layout: &Layout,
-        after: &M,
-    ) -> Result<Led<M>, AllocError> {
+    ) -> Result<Vec<usize>, AllocError> {
         let low = self.low;
         let is_tight = self.is_full && layout.spot(low).is_freeing;
-        if !self.may_look() {
-            return Ok(None);
+        let mut rivals = Vec::new(alloc);
+        if self.looks < self.heads.len() as u64 {
+            return Ok(rivals);
         }
         'clients: for client in 0..self.heads.len() {
             let place = self.head(client);
             if place == low || !self.is_open(lines, place) {
                 continue;
             }
-            let meets = layout.meets(low, place);
-            if !meets && !(is_tight && layout.spot(place).is_full) {
-                continue;
+            if layout.meets(low, place) || is_tight && layout.spot(place).is_full {
+                rivals.push(place)?;
             }
+        }
+        Ok(rivals)
+    }
+
+    /// Looks among these calls for one that is to come before the one that ends first, which leads
+    /// to a machine.
+    fn guard(
+        &mut self,
+        alloc: Global,
+        lines: &[Line],
+        layout: &Layout,
+        rivals: &[usize],
+        after: &M,
+    ) -> Result<Led<M>, AllocError> {
+        'rivals: for number in 0..rivals.len() {
+            let place = rivals[number];
             if self.looks < MADE {
                 return Ok(None);
             }
             self.looks -= MADE;
-            let Some(now) = led_to(alloc, &self.machine, lines, place)? else {
+            let Some(now) = led_to(alloc, self.machine.as_ref(), lines, place)? else {
                 continue;
             };
-            let is_first = if meets {
-                self.is_first(alloc, lines, place, &now, after)?
+            let later = led_to(alloc, Some(after), lines, place)?;
+            let is_first = if layout.meets(self.low, place) {
+                self.is_first(alloc, lines, place, &now, later)?
             } else {
-                self.is_full_first(alloc, lines, place, &now, after)?
+                later.is_none() && self.is_full_first(alloc, lines, &now)?
             };
             if is_first {
                 return Ok(Some((place, now)));
@@ -129,7 +144,7 @@ impl<M: Machine + Drop> QuickSearch<M> {
             if place == made || place < self.head(layout.spot(place).client) {
                 continue;
             }
-            let Some(next) = led_to(alloc, &machine, lines, place)? else {
+            let Some(next) = led_from(alloc, machine, lines, place)? else {
                 return Ok(count);
             };
             machine = next;
@@ -153,7 +168,7 @@ impl<M: Machine + Drop> QuickSearch<M> {
         if place == self.low || !self.is_open(lines, place) {
             return Ok(None);
         }
-        let Some(now) = led_to(alloc, &self.machine, lines, place)? else {
+        let Some(now) = led_to(alloc, self.machine.as_ref(), lines, place)? else {
             return Ok(None);
         };
         let copy = now.copy()?;
@@ -163,14 +178,14 @@ impl<M: Machine + Drop> QuickSearch<M> {
         }
     }
 
-    /// Looks for a call after which the one that ends first gives its reply: that after which the
-    /// most do, or as it is drawn.
+    /// Makes a call after which the one that ends first gives its reply: that after which the most
+    /// do, or as it is drawn.
     fn look_ahead(
         &mut self,
         alloc: Global,
         lines: &[Line],
         layout: &Layout,
-    ) -> Result<Led<M>, AllocError> {
+    ) -> Result<Option<usize>, AllocError> {
         let mut found: Led<M> = None;
         let mut best = (0, lines.len());
         let mut other = lines.len();
@@ -192,19 +207,23 @@ impl<M: Machine + Drop> QuickSearch<M> {
                 other = place;
             }
         }
-        if found.is_some() && other < lines.len() {
-            self.doubt(best.1, other)?;
+        let Some((place, now)) = found else {
+            return Ok(None);
+        };
+        if other < lines.len() {
+            self.doubt(place, other)?;
         }
-        Ok(found)
+        self.move_to(now)?;
+        Ok(Some(place))
     }
 
-    /// The next call that is planned. One that does not give its reply there is left out.
+    /// Makes the next call that is planned. One that does not give its reply there is left out.
     fn planned(
         &mut self,
         alloc: Global,
         lines: &[Line],
         layout: &Layout,
-    ) -> Result<Led<M>, AllocError> {
+    ) -> Result<Option<usize>, AllocError> {
         'plan: for _ in 0..self.plan.len() {
             let Some(place) = self.plan.pop() else {
                 return Ok(None);
@@ -212,13 +231,12 @@ impl<M: Machine + Drop> QuickSearch<M> {
             if self.head(layout.spot(place).client) != place {
                 continue;
             }
-            if self.is_open(lines, place)
-                && let Some(next) = led_to(alloc, &self.machine, lines, place)?
-            {
+            let is_open = self.is_open(lines, place);
+            if is_open && self.attempt(alloc, lines, place)? {
                 self.doubt_again(layout, place)?;
-                return Ok(Some((place, next)));
+                return Ok(Some(place));
             }
-            if place == self.low || !self.is_open(lines, place) {
+            if place == self.low || !is_open {
                 self.plan.push(place)?;
                 return Ok(None);
             }
@@ -226,23 +244,48 @@ impl<M: Machine + Drop> QuickSearch<M> {
         Ok(None)
     }
 
-    /// The call to make, and the machine after it.
+    /// Makes the call that ends first, or one of these that is to come before it, or after which
+    /// the call that ends first gives its reply.
+    fn decide(
+        &mut self,
+        alloc: Global,
+        lines: &[Line],
+        layout: &Layout,
+        rivals: &[usize],
+    ) -> Result<Option<usize>, AllocError> {
+        let low = self.low;
+        let Some(after) = led_to(alloc, self.machine.as_ref(), lines, low)? else {
+            return self.look_ahead(alloc, lines, layout);
+        };
+        if self.may_look()
+            && let Some((place, now)) = self.guard(alloc, lines, layout, rivals, &after)?
+        {
+            self.move_to(now)?;
+            return Ok(Some(place));
+        }
+        self.move_to(after)?;
+        Ok(Some(low))
+    }
+
+    /// Makes the next call in the machine, and returns its place.
     pub(crate) fn choose(
         &mut self,
         alloc: Global,
         lines: &[Line],
         layout: &Layout,
-    ) -> Result<Led<M>, AllocError> {
-        if let Some(led) = self.planned(alloc, lines, layout)? {
-            return Ok(Some(led));
+    ) -> Result<Option<usize>, AllocError> {
+        if let Some(place) = self.planned(alloc, lines, layout)? {
+            return Ok(Some(place));
         }
         let low = self.low;
-        let Some(after) = led_to(alloc, &self.machine, lines, low)? else {
-            return self.look_ahead(alloc, lines, layout);
-        };
-        match self.guard(alloc, lines, layout, &after)? {
-            Some(led) => Ok(Some(led)),
-            None => Ok(Some((low, after))),
+        let rivals = self.rivals(alloc, lines, layout)?;
+        if !rivals.is_empty() {
+            return self.decide(alloc, lines, layout, rivals.as_slice());
         }
+        if self.attempt(alloc, lines, low)? {
+            self.may_look();
+            return Ok(Some(low));
+        }
+        self.look_ahead(alloc, lines, layout)
     }
 }

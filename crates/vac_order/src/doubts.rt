@@ -28,7 +28,7 @@ fn meets_any(layout: &Layout, pair: Pair, places: &[usize]) -> bool {
 
 impl<M: Machine + Drop> QuickSearch<M> {
     /// Takes the last doubt about what comes after so many calls.
-    pub(crate) fn take_doubt(&mut self, length: usize) -> Option<Doubt<M>> {
+    pub(crate) fn take_doubt(&mut self, length: usize) -> Option<Doubt> {
         let count = self.doubts.len();
         if count == 0 || self.doubts[count - 1].at < length {
             return None;
@@ -41,12 +41,9 @@ impl<M: Machine + Drop> QuickSearch<M> {
         if MOST_DOUBTS <= self.doubts.len() {
             self.doubts.remove(0);
         }
-        let machine = self.machine.copy()?;
         self.doubts.push(Doubt {
             at: self.path.len(),
-            taken,
-            other,
-            machine,
+            pair: Pair { taken, other },
         })?;
         Ok(())
     }
@@ -75,14 +72,11 @@ impl<M: Machine + Drop> QuickSearch<M> {
         if self.doubts.len() <= number {
             return None;
         }
-        let doubt = &self.doubts[number];
-        if self.path.len() <= doubt.at || self.path[doubt.at].place != doubt.taken {
+        let Doubt { at, pair } = self.doubts[number];
+        if self.path.len() <= at || self.path[at].place != pair.taken {
             return None;
         }
-        Some(Pair {
-            taken: doubt.taken,
-            other: doubt.other,
-        })
+        Some(pair)
     }
 
     /// The number of the last doubt about these calls.

@@ -26,6 +26,7 @@ mod search;
 mod sequential;
 mod sorting;
 mod stuck;
+mod versions;
 mod walk;
 mod watcher;
 mod world;

@@ -26,7 +26,7 @@ impl<M: Machine + Drop> QuickSearch<M> {
         layout: &Layout,
     ) -> Result<Quick, AllocError> {
         match self.choose(alloc, lines, layout)? {
-            Some((place, next)) => self.go_on(lines, layout, place, next),
+            Some(place) => self.go_on(lines, layout, place),
             None => self.turn_back(alloc, lines, layout),
         }
     }

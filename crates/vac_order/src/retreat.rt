@@ -3,9 +3,8 @@
 use crate::layout::Layout;
 use crate::line::Line;
 use crate::machine::Machine;
-use crate::search::{Cut, Doubt, Pair, Quick, QuickSearch, Turn, led_to};
+use crate::search::{Cut, Pair, Quick, QuickSearch, led_to};
 use std::alloc::{AllocError, Global};
-use std::mem::replace;
 
 /// How often it goes back from where nothing fits, and how much farther each time.
 const MOST_FAILS: u64 = 120;
@@ -16,14 +15,15 @@ const FARTHER: u64 = 64;
 const MOST_JUMPS: u64 = 8;
 
 impl<M: Machine + Drop> QuickSearch<M> {
-    /// Takes back all but so many calls, and leaves the machine as it is.
+    /// Takes back all but so many calls, and the machine with them.
     fn cut_to(
         &mut self,
         alloc: Global,
         lines: &[Line],
         layout: &Layout,
         at: usize,
-    ) -> Result<(Vec<Turn<M>>, Vec<Doubt<M>>), AllocError> {
+    ) -> Result<Cut<M>, AllocError> {
+        let (low, is_full) = (self.low, self.is_full);
         let mut turns = Vec::new(alloc);
         let mut doubts = Vec::new(alloc);
         'doubts: for _ in 0..self.doubts.len() {
@@ -38,7 +38,16 @@ impl<M: Machine + Drop> QuickSearch<M> {
                 None => break,
             }
         }
-        Ok((turns, doubts))
+        Ok(Cut {
+            at,
+            turns,
+            doubts,
+            versions: self.versions.cut(alloc, at)?,
+            machine: self.machine.take(),
+            low,
+            is_full,
+            settled: self.settled,
+        })
     }
 
     /// Puts back what was taken back, in place of all that was made since.
@@ -47,22 +56,35 @@ impl<M: Machine + Drop> QuickSearch<M> {
         alloc: Global,
         lines: &[Line],
         layout: &Layout,
-        mut cut: Cut<M>,
+        cut: Cut<M>,
     ) -> Result<(), AllocError> {
-        self.cut_to(alloc, lines, layout, cut.at)?;
-        'turns: for _ in 0..cut.turns.len() {
-            if let Some(turn) = cut.turns.pop() {
+        let Cut {
+            at,
+            mut turns,
+            mut doubts,
+            versions,
+            machine,
+            low,
+            is_full,
+            settled,
+        } = cut;
+        self.cut_to(alloc, lines, layout, at)?;
+        'turns: for _ in 0..turns.len() {
+            if let Some(turn) = turns.pop() {
                 self.add_turn(lines, layout, turn)?;
             }
         }
-        'doubts: for _ in 0..cut.doubts.len() {
-            if let Some(doubt) = cut.doubts.pop() {
+        'doubts: for _ in 0..doubts.len() {
+            if let Some(doubt) = doubts.pop() {
                 self.doubts.push(doubt)?;
             }
         }
-        self.machine = cut.machine;
-        self.low = cut.low;
-        self.is_full = cut.is_full;
+        self.versions.put_back(versions)?;
+        self.versions.keep_more();
+        self.machine = machine;
+        self.low = low;
+        self.is_full = is_full;
+        self.settled = settled;
         self.plan = Vec::new(alloc);
         self.again = Vec::new(alloc);
         Ok(())
@@ -76,11 +98,7 @@ impl<M: Machine + Drop> QuickSearch<M> {
             plan.push(cut.turns[number].place)?;
         }
         'doubts: for number in 0..cut.doubts.len() {
-            let doubt = &cut.doubts[number];
-            again.push(Pair {
-                taken: doubt.taken,
-                other: doubt.other,
-            })?;
+            again.push(cut.doubts[number].pair)?;
         }
         self.plan = plan;
         self.again = again;
@@ -102,23 +120,18 @@ impl<M: Machine + Drop> QuickSearch<M> {
             return Ok(None);
         }
         let at = self.doubts[number].at;
-        let before = self.doubts[number].machine.copy()?;
-        let Some(next) = led_to(alloc, &before, lines, pair.other)? else {
+        let before = self.machine_after(lines, at)?;
+        let Some(next) = led_to(alloc, before.as_ref(), lines, pair.other)? else {
             return Ok(None);
         };
-        let (low, is_full) = (self.low, self.is_full);
-        let (turns, doubts) = self.cut_to(alloc, lines, layout, at)?;
-        let cut = Cut {
-            at,
-            turns,
-            doubts,
-            machine: replace(&mut self.machine, before),
-            low,
-            is_full,
-        };
+        let cut = self.cut_to(alloc, lines, layout, at)?;
+        self.settled = self.settled.min(at);
+        self.versions.keep_more();
+        self.machine = before;
         self.plan_again(alloc, &cut)?;
         self.cut = Some(cut);
-        Ok(Some(self.go_on(lines, layout, pair.other, next)?))
+        self.move_to(next)?;
+        Ok(Some(self.go_on(lines, layout, pair.other)?))
     }
 
     /// Tries the next doubt the other way.
@@ -143,9 +156,14 @@ impl<M: Machine + Drop> QuickSearch<M> {
     }
 
     /// Goes back, the farther the more often it had to.
-    fn retreat(&mut self, alloc: Global, lines: &[Line], layout: &Layout) -> Quick {
+    fn retreat(
+        &mut self,
+        alloc: Global,
+        lines: &[Line],
+        layout: &Layout,
+    ) -> Result<Quick, AllocError> {
         if MOST_FAILS <= self.fails {
-            return Quick::Missed;
+            return Ok(Quick::Missed);
         }
         self.fails += 1;
         self.plan = Vec::new(alloc);
@@ -156,7 +174,11 @@ impl<M: Machine + Drop> QuickSearch<M> {
                 break;
             }
         }
-        Quick::On
+        let length = self.path.len();
+        self.versions.cut(alloc, length)?;
+        self.versions.keep_more();
+        self.machine = self.machine_after(lines, length)?;
+        Ok(Quick::On)
     }
 
     /// Goes on from where nothing fits.
@@ -185,6 +207,6 @@ impl<M: Machine + Drop> QuickSearch<M> {
                 return Ok(quick);
             }
         }
-        Ok(self.retreat(alloc, lines, layout))
+        self.retreat(alloc, lines, layout)
     }
 }

@@ -4,8 +4,8 @@ use crate::layout::Layout;
 use crate::line::Line;
 use crate::machine::Machine;
 use crate::point::is_right;
+use crate::versions::{Version, Versions};
 use std::alloc::{AllocError, Global};
-use std::mem::replace;
 
 /// How many calls the search goes back at most.
 const MOST_BACK: usize = 8_192;
@@ -13,24 +13,13 @@ const MOST_BACK: usize = 8_192;
 /// How many calls it may look at beside the one that ends first, for each that there is.
 const LOOKS: u64 = 128;
 
-/// A call that was made: its place, the machine before it, unless that is forgotten, the first
-/// place that had no place in the order there, and whether all blocks were in use.
-#[derive(Drop)]
-pub(crate) struct Turn<M> {
+/// A call that was made: its place, the first place that had no place in the order before it, and
+/// whether all blocks were in use there.
+#[derive(Clone, Copy)]
+pub(crate) struct Turn {
     pub(crate) place: usize,
-    pub(crate) machine: Option<M>,
     pub(crate) low: usize,
     pub(crate) is_full: bool,
-}
-
-/// A choice between two calls: how many were made before it, the one that was taken, the other, and
-/// the machine there.
-#[derive(Drop)]
-pub(crate) struct Doubt<M> {
-    pub(crate) at: usize,
-    pub(crate) taken: usize,
-    pub(crate) other: usize,
-    pub(crate) machine: M,
 }
 
 /// The two calls of a doubt: the one that was taken and the other.
@@ -40,23 +29,36 @@ pub(crate) struct Pair {
     pub(crate) other: usize,
 }
 
-/// What was taken back to decide a doubt the other way: how many calls were left, the others and
-/// the doubts about them, each first one last, and where the search was.
+/// A choice between two calls, and how many were made before it.
+#[derive(Clone, Copy)]
+pub(crate) struct Doubt {
+    pub(crate) at: usize,
+    pub(crate) pair: Pair,
+}
+
+/// What was taken back: how many calls were left, the others, the doubts about them and the
+/// machines that were kept there, each first one last, and where the search was.
 #[derive(Drop)]
 pub(crate) struct Cut<M> {
     pub(crate) at: usize,
-    pub(crate) turns: Vec<Turn<M>>,
-    pub(crate) doubts: Vec<Doubt<M>>,
-    pub(crate) machine: M,
+    pub(crate) turns: Vec<Turn>,
+    pub(crate) doubts: Vec<Doubt>,
+    pub(crate) versions: Vec<Version<M>>,
+    pub(crate) machine: Option<M>,
     pub(crate) low: usize,
     pub(crate) is_full: bool,
+    pub(crate) settled: usize,
 }
 
 /// The state of a quick search.
 #[derive(Drop)]
 pub(crate) struct QuickSearch<M> {
-    /// Where it is.
-    pub(crate) machine: M,
+    /// The machine where it is, but while that is changed.
+    pub(crate) machine: Option<M>,
+    /// Machines where it was.
+    pub(crate) versions: Versions<M>,
+    /// How many of the first calls are not taken back one by one.
+    pub(crate) settled: usize,
     /// How many answered calls have a place there.
     pub(crate) placed: u64,
     /// The first place whose call has none in the order.
@@ -66,11 +68,11 @@ pub(crate) struct QuickSearch<M> {
     /// Whether all blocks are known to be in use.
     pub(crate) is_full: bool,
     /// What led there.
-    pub(crate) path: Vec<Turn<M>>,
+    pub(crate) path: Vec<Turn>,
     /// What is to be made again, the next one last.
     pub(crate) plan: Vec<usize>,
     /// Choices that may have been wrong, the first one first.
-    pub(crate) doubts: Vec<Doubt<M>>,
+    pub(crate) doubts: Vec<Doubt>,
     /// The doubts about what is planned, the next one last.
     pub(crate) again: Vec<Pair>,
     /// The doubts that are tried where nothing fits, and how many of them were.
@@ -97,21 +99,34 @@ pub(crate) enum Quick {
     Missed,
 }
 
-/// The machine after a call, where that gives its reply.
-pub(crate) fn led_to<M: Machine + Drop>(
+/// The machine after a call, where that gives its reply. It takes the place of the one before.
+pub(crate) fn led_from<M: Machine + Drop>(
     alloc: Global,
-    machine: &M,
+    machine: M,
     lines: &[Line],
     place: usize,
 ) -> Result<Option<M>, AllocError> {
     if lines.len() <= place {
         return Ok(None);
     }
-    let (next, reply) = machine.make(&lines[place].task)?;
+    let (next, reply) = machine.made(&lines[place].task)?;
     if is_right(alloc, &lines[place].reply, &reply)? {
         Ok(Some(next))
     } else {
         Ok(None)
+    }
+}
+
+/// The machine after a call, where that gives its reply and the machine before it is there.
+pub(crate) fn led_to<M: Machine + Drop>(
+    alloc: Global,
+    machine: Option<&M>,
+    lines: &[Line],
+    place: usize,
+) -> Result<Option<M>, AllocError> {
+    match machine {
+        Some(machine) => led_from(alloc, machine.copy()?, lines, place),
+        None => Ok(None),
     }
 }
 
@@ -123,7 +138,9 @@ impl<M: Machine + Drop> QuickSearch<M> {
         layout: &Layout,
     ) -> Result<QuickSearch<M>, AllocError> {
         Ok(QuickSearch {
-            machine,
+            machine: Some(machine),
+            versions: Versions::new(alloc),
+            settled: 0,
             placed: 0,
             low: 0,
             heads: layout.firsts(alloc)?,
@@ -199,26 +216,85 @@ impl<M: Machine + Drop> QuickSearch<M> {
         self.low = lines.len();
     }
 
-    /// Forgets the machine from which the search is too far.
-    fn forget(&mut self) {
+    /// Keeps the machine where it is, where it is time to.
+    fn keep(&mut self) -> Result<(), AllocError> {
         let length = self.path.len();
-        if MOST_BACK < length {
-            self.path.as_mut_slice()[length - 1 - MOST_BACK].machine = None;
+        match &self.machine {
+            Some(machine) => self.versions.keep(length, machine),
+            None => Ok(()),
         }
     }
 
-    /// Makes the call at a place, which leads to the next machine.
+    /// Forgets the machines to which the search does not go back.
+    fn forget(&mut self) {
+        let mut needed = self.path.len().saturating_sub(MOST_BACK).max(self.settled);
+        self.settled = needed;
+        if !self.doubts.is_empty() {
+            needed = needed.min(self.doubts[0].at);
+        }
+        if let Some(cut) = &self.cut {
+            needed = needed.min(cut.at).min(cut.settled);
+        }
+        self.versions.forget(needed);
+    }
+
+    /// The machine after so many of the calls that were made: they are made again from the last one
+    /// on that is kept.
+    pub(crate) fn machine_after(
+        &self,
+        lines: &[Line],
+        length: usize,
+    ) -> Result<Option<M>, AllocError> {
+        let Some(Version { at, mut machine }) = self.versions.last(length)? else {
+            return Ok(None);
+        };
+        'again: for number in at..length {
+            if self.path.len() <= number || lines.len() <= self.path[number].place {
+                return Ok(None);
+            }
+            let (next, _) = machine.made(&lines[self.path[number].place].task)?;
+            machine = next;
+        }
+        Ok(Some(machine))
+    }
+
+    /// Makes the call at a place in the machine, where it gives its reply there.
+    pub(crate) fn attempt(
+        &mut self,
+        alloc: Global,
+        lines: &[Line],
+        place: usize,
+    ) -> Result<bool, AllocError> {
+        self.keep()?;
+        let Some(machine) = self.machine.take() else {
+            return Ok(false);
+        };
+        self.machine = led_from(alloc, machine, lines, place)?;
+        if self.machine.is_some() {
+            return Ok(true);
+        }
+        self.versions.keep_more();
+        self.machine = self.machine_after(lines, self.path.len())?;
+        Ok(false)
+    }
+
+    /// Takes the machine to which a call leads.
+    pub(crate) fn move_to(&mut self, machine: M) -> Result<(), AllocError> {
+        self.keep()?;
+        self.machine = Some(machine);
+        Ok(())
+    }
+
+    /// Puts the call at a place, which was made in the machine, behind the others.
     pub(crate) fn go_on(
         &mut self,
         lines: &[Line],
         layout: &Layout,
         place: usize,
-        next: M,
     ) -> Result<Quick, AllocError> {
         let spot = layout.spot(place);
         let turn = Turn {
             place,
-            machine: Some(replace(&mut self.machine, next)),
             low: self.low,
             is_full: self.is_full,
         };
@@ -240,7 +316,7 @@ impl<M: Machine + Drop> QuickSearch<M> {
     }
 
     /// Takes the last call back, but leaves the machine and the doubts as they are.
-    pub(crate) fn take_turn(&mut self, lines: &[Line], layout: &Layout) -> Option<Turn<M>> {
+    pub(crate) fn take_turn(&mut self, lines: &[Line], layout: &Layout) -> Option<Turn> {
         let turn = self.path.pop()?;
         let place = turn.place;
         self.low = turn.low;
@@ -257,7 +333,7 @@ impl<M: Machine + Drop> QuickSearch<M> {
         &mut self,
         lines: &[Line],
         layout: &Layout,
-        turn: Turn<M>,
+        turn: Turn,
     ) -> Result<(), AllocError> {
         let place = turn.place;
         let spot = layout.spot(place);
@@ -269,13 +345,13 @@ impl<M: Machine + Drop> QuickSearch<M> {
         Ok(())
     }
 
-    /// Takes the last call back, where the machine before it is kept.
+    /// Takes the last call back, unless it is too far back, but leaves the machine as it is.
     pub(crate) fn go_back(&mut self, lines: &[Line], layout: &Layout) -> Option<()> {
         let length = self.path.len();
-        if length == 0 || self.path[length - 1].machine.is_none() {
+        if length <= self.settled {
             return None;
         }
-        self.machine = self.take_turn(lines, layout)?.machine?;
+        self.take_turn(lines, layout)?;
         'doubts: for _ in 0..self.doubts.len() {
             if self.take_doubt(length - 1).is_none() {
                 break;
