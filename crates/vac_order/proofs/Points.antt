@@ -1,7 +1,7 @@
 -- What a search among the calls of a history finds of a place.
 use Rattle.std.proofs.Common.{◌≡◌, ◌⊎◌, ℕ, ◌+◌, ◌<◌, ◌≤◌, ◌==◌, ◌||◌, ◌&&◌, suc, zero, Bool, true, false, not, is_some}
 use Rattle.std.proofs.Common.{cond, Option, Some, None, List, [], ◌∷◌, length, take, get_or, refl, sym, ap, ◌∙◌, inl}
-use Rattle.std.proofs.Common.{inr, arith, nat_lt, add-one, ◌-◌}
+use Rattle.std.proofs.Common.{inr, arith, nat_lt, add-one, ◌-◌, subst}
 use Rattle.std.specs.List.{list_any}
 use Rattle.std.specs.Prelude.{IfSome, ◌^◌}
 use Rattle.std.proofs.lemmas.List.{length-map}
@@ -16,8 +16,9 @@ use Rattle.vac_order.specs.declared.line.Line.{Line}
 use Rattle.vac_order.specs.Configurations.{Configuration, fits, after_call, without_next, answered}
 use Rattle.vac_order.specs.declared.calls.Calls.{Calls}
 use Rattle.vac_order.specs.declared.point.Point.{Point}
-use Rattle.vac_order.specs.Point.{made_of, point_views}
-use Rattle.vac_order.specs.Views.{TellsLeft, TellsNext}
+use Rattle.vac_order.specs.Marks.{is_made, MarksOneMore}
+use Rattle.vac_order.specs.Point.{made_of, point_views, RunsTo}
+use Rattle.vac_order.specs.Views.{TellsLeft, TellsNext, LedTo}
 use Rattle.vac_order.specs.Calls.{call_of, calls_of, are_sorted, given_text, rest_of, can_come, tries_from, IsTry}
 use Rattle.vac_order.specs.Calls.{TellsTry}
 use Rattle.vac_order.proofs.Tries.{at, may_begin, tries_step, tries_none, tries_skip, front_more, of_stands, stands_of}
@@ -272,3 +273,28 @@ told_next state calls point from (Some p) t s = record {
       omega arith);
   small = (let l : p < 2 ^ 64 - 1 = s in omega arith);
 }
+
+-- what making the call at a place leads to, from a point
+pub point_not : {M : Type 0} (state : M → State) (calls : Calls) (point : Point M) (p : ℕ) (line : Line) (made : M × Reply)
+    → p < length calls.lines.items → line ≡ get_or calls.lines.items p line
+    → RunsTo state calls point p made → is_right (given_text line.reply) made.1 ≡ false →
+    LedTo (point_views state calls) point p None
+point_not state calls point p line made l e ran w =
+    led_not (state point.machine) calls.lines.items p line (state made.0) made.1 l e
+    (sym (ap (λ (c : Call). run (state point.machine) c.task) (call_here calls.lines.items p line l e)) ∙ ran) w
+
+pub point_on : {M : Type 0} (state : M → State) (calls : Calls) (point next : Point M) (low : ℕ) (beyond : List ℕ) (p : ℕ)
+    (line : Line) (reply : Reply) → point.low ≡ low → point.beyond.items ≡ beyond
+    → p < length calls.lines.items → line ≡ get_or calls.lines.items p line
+    → RunsTo state calls point p (next.machine, reply) → is_right (given_text line.reply) reply ≡ true →
+    can_come (is_made low beyond) (calls_of calls.lines.items) p ≡ true
+    → MarksOneMore low beyond p (next.low, next.beyond.items) → LedTo (point_views state calls) point p (Some next)
+point_on state calls point next low beyond p line reply el eb l e ran w can m =
+    let lines = calls.lines.items in
+    let s = state point.machine in
+    let at_low = λ (P : ℕ → List ℕ → Type 0) (h : P low beyond).
+    subst (λ n. P n point.beyond.items) (sym el) (subst (P low) (sym eb) h) in
+    led_on (made_of point) (made_of next) s lines p line (state next.machine) reply l e
+    (sym (ap (λ (c : Call). run s c.task) (call_here lines p line l e)) ∙ ran) w
+    (at_low (λ n b. can_come (is_made n b) (calls_of lines) p ≡ true) can)
+    (at_low (λ n b. MarksOneMore n b p (next.low, next.beyond.items)) m)

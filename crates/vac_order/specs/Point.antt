@@ -1,6 +1,8 @@
 -- Where a search among the calls of a history is.
-use Rattle.std.specs.Prelude.{ℕ, Bool, length, get_or}
+use Rattle.std.specs.Prelude.{◌≡◌, ℕ, Bool, length, get_or}
 use Rattle.vac_model.specs.State.{State}
+use Rattle.vac_model.specs.Run.{run}
+use Rattle.vac_model.specs.declared.replies.Reply.{Reply}
 use Rattle.vac_order.specs.declared.calls.Calls.{Calls}
 use Rattle.vac_order.specs.declared.point.Point.{Point}
 use Rattle.vac_order.specs.Marks.{is_made}
@@ -29,3 +31,9 @@ point_views state calls = record {
   can = λ point. can_come (made_of point) (calls_of calls.lines.items);
   tries = λ point. tries_from (made_of point) (calls_of calls.lines.items);
 }
+
+-- the task of the call at a place leads from a point's state to a machine's, with this reply
+abbrev pub RunsTo : {M : Type 0} → (M → State) → Calls → Point M → ℕ → M × Reply → Type 0
+RunsTo state calls point place made =
+    run (state point.machine) (get_or (calls_of calls.lines.items) place no_call).task
+    ≡ (state made.0, made.1)

@@ -7,18 +7,19 @@ ghost use Rattle.vac_order.specs.Walking.{CompletesBy};
 use crate::world::World;
 use std::alloc::{AllocError, Global};
 
-/// The world after the call at a place, where that may come next and gives its reply.
+/// The world after the call at a place, where that may come next and gives its reply. It takes the
+/// place of the one before.
 fn led_by<W: World + Drop>(
     alloc: Global,
     ground: &W::Ground,
-    world: &W,
+    world: W,
     place: usize,
 ) -> Result<Option<W>, AllocError>
     ensures { IfOk result (λ led. IfSome led (λ next.
-        IsLed (W.view ground.now) world.now place next)) }
+        IsLed (W.view ground.now) world place next)) }
 {
     match world.next_try(ground, place) {
-        Some(first) if first == place => world.after(alloc, ground, place),
+        Some(first) if first == place => world.moved(alloc, ground, place),
         _ => Ok(None),
     }
 }
@@ -38,7 +39,7 @@ pub(crate) fn completes<W: World + Drop>(
 {
     let mut world = start;
     'places: for number in 0..places.len() {
-        match led_by(alloc, ground, &world, places[number])? {
+        match led_by(alloc, ground, world, places[number])? {
             Some(next) => world = next,
             None => return Ok(false),
         }

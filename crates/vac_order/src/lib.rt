@@ -4,6 +4,8 @@
 
 mod calls;
 mod checking;
+mod choices;
+mod doubts;
 mod ends;
 mod found;
 mod history;
@@ -19,9 +21,12 @@ mod path;
 mod point;
 mod quick;
 mod reading;
+mod retreat;
+mod search;
 mod sequential;
 mod sorting;
 mod stuck;
+mod versions;
 mod walk;
 mod watcher;
 mod world;

@@ -16,11 +16,20 @@ pub trait Machine: Sized {
     fn copy(&self) -> Result<Self, AllocError>
         ensures { IfOk result (λ copy. state copy ≡ state self.now) };
 
-    /// The machine after a task, and the reply.
+    /// The machine after a task, and the reply. It takes the place of the one before.
+    fn made(self, task: &Task) -> Result<(Self, Reply), AllocError>
+        requires { is_task task.now ≡ true }
+        ensures { IfOk result (λ next.
+            tasks.run (state self) task.now ≡ (state next.0, next.1)) };
+
+    /// The machine after a task, and the reply. The one before stays.
     fn make(&self, task: &Task) -> Result<(Self, Reply), AllocError>
         requires { is_task task.now ≡ true }
         ensures { IfOk result (λ next.
-            tasks.run (state self.now) task.now ≡ (state next.0, next.1)) };
+            tasks.run (state self.now) task.now ≡ (state next.0, next.1)) }
+    {
+        self.copy()?.made(task)
+    }
 
     /// Whether two machines are known to be in the same state.
     fn is_same(&self, other: &Self) -> bool

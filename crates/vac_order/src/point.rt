@@ -3,10 +3,10 @@
 ghost use Rattle.std.specs.Prelude.{◌≡◌, ◌⊎◌, ◌==◌, [], ◌≤◌, ◌<◌, ℕ, IfOk, IfSome, length, take, true};
 ghost use Rattle.std.specs.List.{list_any};
 ghost use Rattle.vac_order.specs.Marks.{is_made};
-ghost use Rattle.vac_order.specs.Calls.{calls_of, given_text, are_sorted, rest_of, TellsTry};
+ghost use Rattle.vac_order.specs.Calls.{calls_of, given_text, are_sorted, rest_of, can_come, TellsTry};
 ghost use Rattle.vac_order.specs.Configurations.{answered};
-ghost use Rattle.vac_order.specs.Views.{TellsLeft};
-ghost use Rattle.vac_order.specs.Point.{point_views};
+ghost use Rattle.vac_order.specs.Views.{TellsLeft, LedTo};
+ghost use Rattle.vac_order.specs.Point.{point_views, RunsTo};
 ghost use Rattle.vac_judge.specs.Call.{Call};
 ghost use Rattle.vac_judge.specs.Order.{is_right};
 
@@ -130,6 +130,35 @@ pub(crate) fn is_right(
     Ok(given.as_slice() == text.as_slice())
 }
 
+/// The point after the call at a place, which may come next and led to a machine and this reply,
+/// where that is the right one.
+fn point_after<M: Machine + Drop>(
+    alloc: Global,
+    calls: &Calls,
+    low: usize,
+    beyond: &[usize],
+    place: usize,
+    made: (M, Reply),
+) -> Result<Option<Point<M>>, AllocError>
+    requires within { place < length calls.now.lines.items }
+    requires can { can_come (is_made low beyond.now) (calls_of calls.now.lines.items) place ≡ true }
+    ensures { IfOk result (λ next. (point : Point M) → point.low ≡ low →
+        point.beyond.items ≡ beyond.now → RunsTo M.state calls.now point place made →
+        LedTo (point_views M.state calls.now) point place next) }
+{
+    let (machine, reply) = made;
+    let line = &calls.as_slice()[place];
+    if !is_right(alloc, &line.reply, &reply)? {
+        return Ok(None);
+    }
+    let (low, beyond) = mark(alloc, low, beyond, place)?;
+    Ok(Some(Point {
+        low,
+        beyond,
+        machine,
+    }))
+}
+
 impl<M: Machine + Drop> World for Point<M> {
     type Ground = Calls;
 
@@ -149,17 +178,20 @@ impl<M: Machine + Drop> World for Point<M> {
         calls: &Calls,
         place: usize,
     ) -> Result<Option<Self>, AllocError> {
-        let line = &calls.as_slice()[place];
-        let (machine, reply) = self.machine.make(&line.task)?;
-        if !is_right(alloc, &line.reply, &reply)? {
-            return Ok(None);
-        }
-        let (low, beyond) = mark(alloc, self.low, self.beyond.as_slice(), place)?;
-        Ok(Some(Point {
+        let made = self.machine.make(&calls.as_slice()[place].task)?;
+        let next = point_after(alloc, calls, self.low, self.beyond.as_slice(), place, made)?;
+        Ok(next)
+    }
+
+    fn moved(self, alloc: Global, calls: &Calls, place: usize) -> Result<Option<Self>, AllocError> {
+        let Point {
             low,
             beyond,
             machine,
-        }))
+        } = self;
+        let made = machine.made(&calls.as_slice()[place].task)?;
+        let next = point_after(alloc, calls, low, beyond.as_slice(), place, made)?;
+        Ok(next)
     }
 
     fn is_answered(&self, calls: &Calls, place: usize) -> bool {

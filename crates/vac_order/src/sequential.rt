@@ -12,10 +12,9 @@ impl Machine for Sequential {
         self.copy()
     }
 
-    fn make(&self, task: &Task) -> Result<(Sequential, Reply), AllocError> {
-        let mut next = self.copy()?;
-        match next.run(task) {
-            Ok(reply) => Ok((next, reply)),
+    fn made(self, task: &Task) -> Result<(Sequential, Reply), AllocError> {
+        match self.after(task) {
+            Ok(made) => Ok(made),
             Err(SequentialFault::Memory) => Err(AllocError),
             Err(SequentialFault::Arguments) => unreachable!(),
         }

@@ -1,0 +1,109 @@
+//! Machines that a quick search was at, from which it makes its calls again to go back.
+
+use crate::machine::Machine;
+use std::alloc::{AllocError, Global};
+use std::collections::VecDeque;
+
+/// After how many calls the next machine is kept, at most.
+const MOST_STRIDE: usize = 4_096;
+
+/// A machine, and how many calls were made before it.
+#[derive(Drop)]
+pub(crate) struct Version<M> {
+    pub(crate) at: usize,
+    pub(crate) machine: M,
+}
+
+/// The machines that are kept, in the order of their calls: the fewer, the longer nothing was taken
+/// back.
+#[derive(Drop)]
+pub(crate) struct Versions<M> {
+    kept: VecDeque<Version<M>>,
+    /// After how many calls the next one is kept.
+    stride: usize,
+}
+
+impl<M: Machine + Drop> Versions<M> {
+    /// No machine.
+    pub(crate) fn new(alloc: Global) -> Versions<M> {
+        Versions {
+            kept: VecDeque::new(alloc),
+            stride: 1,
+        }
+    }
+
+    /// Whether the machine after so many calls is to be kept.
+    fn is_due(&self, at: usize) -> bool {
+        match self.kept.back() {
+            Some(last) => last.at.saturating_add(self.stride) <= at,
+            None => true,
+        }
+    }
+
+    /// Keeps the machine after so many calls, where it is time to.
+    pub(crate) fn keep(&mut self, at: usize, machine: &M) -> Result<(), AllocError> {
+        if self.is_due(at) {
+            let machine = machine.copy()?;
+            self.kept.push_back(Version { at, machine })?;
+            self.stride = self.stride.saturating_mul(2).min(MOST_STRIDE);
+        }
+        Ok(())
+    }
+
+    /// Keeps the next machine after the next call, and then more and more seldom.
+    pub(crate) fn keep_more(&mut self) {
+        self.stride = 1;
+    }
+
+    /// A copy of the last machine that is kept after so many calls or fewer.
+    pub(crate) fn last(&self, at: usize) -> Result<Option<Version<M>>, AllocError> {
+        let count = self.kept.len();
+        'kept: for back in 0..count {
+            if let Some(version) = self.kept.get(count - 1 - back)
+                && version.at <= at
+            {
+                return Ok(Some(Version {
+                    at: version.at,
+                    machine: version.machine.copy()?,
+                }));
+            }
+        }
+        Ok(None)
+    }
+
+    /// Forgets the machines that are not needed to go back to so many calls or more.
+    pub(crate) fn forget(&mut self, at: usize) {
+        'kept: for _ in 0..self.kept.len() {
+            match self.kept.get(1) {
+                Some(second) if second.at <= at => {}
+                _ => return,
+            }
+            self.kept.pop_front();
+        }
+    }
+
+    /// Takes out the machines after more calls than these, the last one first.
+    pub(crate) fn cut(&mut self, alloc: Global, at: usize) -> Result<Vec<Version<M>>, AllocError> {
+        let mut cut = Vec::new(alloc);
+        'kept: for _ in 0..self.kept.len() {
+            match self.kept.back() {
+                Some(last) if at < last.at => {}
+                _ => break,
+            }
+            if let Some(last) = self.kept.pop_back() {
+                cut.push(last)?;
+            }
+        }
+        Ok(cut)
+    }
+
+    /// Puts back the machines that were taken out.
+    pub(crate) fn put_back(&mut self, mut cut: Vec<Version<M>>) -> Result<(), AllocError> {
+        'cut: for _ in 0..cut.len() {
+            if let Some(version) = cut.pop() {
+                self.kept.push_back(version)?;
+            }
+        }
+        Ok(())
+    }
+}
