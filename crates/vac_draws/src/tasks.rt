@@ -122,7 +122,7 @@ trait Part: Default + Drop {
         ensures range { is_part result ≡ true };
 }
 
-/// An ask of a trip.
+/// An ask of a trip, or the item of a question.
 impl Part for (Kind, u32) {
     ghost read = { ask };
 
@@ -149,7 +149,7 @@ impl Part for Command {
 }
 
 impl Drawing<'_> {
-    /// So many parts.
+    /// `count` parts, one after the other.
     fn draw_parts<P: Part, D: Draws>(&self, draws: &mut D, count: u32) -> ArrayVec<P, MOST_PARTS>
         requires { count ≤ MOST_PARTS }
         ensures drawn { Drawn D.leads (times_over count (P.read self.now.settings.now))
@@ -210,7 +210,7 @@ impl Drawing<'_> {
             let id = draw_up_to(draws, self.settings.items);
             return Task::One(Command::Bill { id });
         }
-        let (kind, id) = Part::draw(self, draws);
+        let (kind, id) = <(Kind, u32)>::draw(self, draws);
         if number % 3 == 1 {
             Task::One(Command::Free { kind, id })
         } else {

@@ -20,7 +20,7 @@ use Rattle.vac_manager.specs.declared.placed.Placed.{Placed}
 use Rattle.vac_manager.specs.declared.fault.Fault.{Fault}
 use Rattle.vac_load.specs.Keeping.{KeptNotes, HasKeptAdded}
 use Rattle.vac_load.specs.Opening.{as_tasks, RanDrawn, RanIn, Begun, Stopped, StoppedIn, IsAnswered, IsOpeningFault}
-use Rattle.vac_load.specs.Opening.{WasAnswered, WasRefused, RanOrStopped, RanOpening}
+use Rattle.vac_load.specs.Opening.{WasAnswered, WasRefused, RanOrStopped, OpeningEnded}
 use Rattle.vac_draws.proofs.Drawing.{plus_one, drawn_always, drawn_then_always, drawn_joined}
 use Rattle.vac_load.proofs.Answering.{answered_both, answered_quiet}
 use Rattle.vac_load.proofs.Sessions.{of_manager, went_both}
@@ -280,7 +280,7 @@ asked_handed_on leads reader (Err f) fault y y' a b is p =
 -- a load's opening stopped
 opening_stopped : {D : Type 0} (leads : D → ℕ → D → Type 0) (s : Settings) (r : Result (Unit {0}) Fault) (fault : Fault)
     (y y' : SessionShown) (a b : D) → IsErrAnd r (λ f. f ≡ fault) → GoesOn y y' → HasAllGrants y'.client.value →
-    StoppedIn leads (opening s) fault y y' a b → RanOpening leads s r y y' a b
+    StoppedIn leads (opening s) fault y y' a b → OpeningEnded leads s r y y' a b
 opening_stopped leads s (Ok x) fault y y' a b is e all p = absurd is
 opening_stopped leads s (Err f) fault y y' a b is e all p = record {
   asked = record {
@@ -296,7 +296,7 @@ opening_stopped leads s (Err f) fault y y' a b is e all p = record {
 pub opening_stopped_at_items : {D : Type 0} (leads : D → ℕ → D → Type 0) (s : Settings) (n : ℕ)
     (r : Result (Unit {0}) Fault) (fault : Fault) (y z w : SessionShown) (a b c : D) (x : Unit {0}) → n + 1 ≤ s.items →
     IsErrAnd r (λ f. f ≡ fault) → RanOrStopped leads (for_each n stocks) (Ok x) y z a b →
-    RanOrStopped leads (stocks (n + 1)) (Err fault) z w b c → RanOpening leads s r y w a c
+    RanOrStopped leads (stocks (n + 1)) (Err fault) z w b c → OpeningEnded leads s r y w a c
 opening_stopped_at_items leads s n r fault y z w a b c x less is p q = opening_stopped leads s r fault y w a c is
     (went_both y z w p.session q.session) q.grants (stopped_opening leads s fault y w a c
     (stopped_items leads n s.items fault y z w a b c less p.session p.ran q.stopped))
@@ -306,7 +306,7 @@ pub opening_stopped_at_customer : {D : Type 0} (leads : D → ℕ → D → Type
     (r : Result (Unit {0}) Fault) (fault : Fault) (y z w : SessionShown) (a b : D) → n + 1 ≤ s.items →
     IsErrAnd r (λ f. f ≡ fault) → GoesOn y z → GoesOn z w → HasAllGrants w.client.value →
     Opening leads y.manager.renewal s.items n y.client.value z.client.value a b → WasRefused fault z w →
-    RanOpening leads s r y w a b
+    OpeningEnded leads s r y w a b
 opening_stopped_at_customer leads s n r fault y z w a b less is e f all p q = opening_stopped leads s r fault y w a b is
     (went_both y z w e f) all (stopped_customers leads s n fault y z w a b less e p q)
 

@@ -103,8 +103,9 @@ pub record RanOrStopped {D : Type 0} (leads : D → ℕ → D → Type 0) (reade
   pub ran : IfOk result (λ _. RanIn leads reader y y' state last)
   pub stopped : IfErr result (λ fault. StoppedIn leads reader fault y y' state last)
 
--- so it asked for those of a load's opening; where it ran them all, its last call was answered
-pub record RanOpening {D : Type 0} (leads : D → ℕ → D → Type 0) (s : Settings)
+-- a client that is alone asked for the commands of a load's opening: its session went on and it has
+-- all grants; it ran them all and its last call was answered, or it stopped within them
+pub record OpeningEnded {D : Type 0} (leads : D → ℕ → D → Type 0) (s : Settings)
     (result : Result (Unit {0}) Fault) (y y' : SessionShown) (state last : D) : Type 0 where
   pub asked : RanOrStopped leads (opening s) result y y' state last
   pub ready : IfOk result (λ _. IsAnswered y.manager y'.client.value)

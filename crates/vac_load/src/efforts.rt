@@ -74,8 +74,20 @@ impl Efforts {
         ensures { result ≡ both_efforts self other }
     {
         added_up!(
-            Efforts, self, other, attempts, held, newer, moved, lost_lock, lost_tick, roots, heads,
-            nodes, uses, stocks
+            self + other,
+            Efforts {
+                attempts,
+                held,
+                newer,
+                moved,
+                lost_lock,
+                lost_tick,
+                roots,
+                heads,
+                nodes,
+                uses,
+                stocks
+            }
         )
     }
 }

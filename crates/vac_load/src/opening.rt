@@ -7,7 +7,7 @@ ghost use Rattle.vac_manager.specs.Session.{GoesOn};
 ghost use Rattle.vac_draws.specs.Setting.{is_settings};
 ghost use Rattle.vac_load.specs.Keeping.{HasKeptAdded};
 ghost use Rattle.vac_draws.specs.Tasks.{stock, stocks};
-ghost use Rattle.vac_load.specs.Opening.{RanOrStopped, RanOpening, WasAnswered, WasRefused};
+ghost use Rattle.vac_load.specs.Opening.{RanOrStopped, OpeningEnded, WasAnswered, WasRefused};
 
 use stm_attempt::NoGate;
 use vac_draws::{Draws, Settings, draw_stock};
@@ -93,7 +93,7 @@ pub(crate) fn open_kept<D: Draws, K: Keep>(
 ) -> Result<(), Fault>
     requires alone { HasAllGrants session.old.client.value }
     requires settings { is_settings settings.now ≡ true }
-    ensures opened { RanOpening D.leads settings.now result
+    ensures opened { OpeningEnded D.leads settings.now result
         session.old session.new draws.old draws.new }
     ensures kept { IfOk result (λ _. HasKeptAdded session.old.client.value session.new.client.value
         (K.notes keep.old) (K.notes keep.new)) }
@@ -118,7 +118,7 @@ pub fn open<D: Draws>(
 ) -> Result<(), Fault>
     requires alone { HasAllGrants session.old.client.value }
     requires settings { is_settings settings.now ≡ true }
-    ensures { RanOpening D.leads settings.now result
+    ensures { OpeningEnded D.leads settings.now result
         session.old session.new draws.old draws.new }
 {
     open_kept(session, draws, settings, &mut Unkept)

@@ -16,6 +16,7 @@ pub(crate) struct Plan<S> {
     ghost in_range: { is_settings settings ≡ true },
 }
 
+/// By hand, since a struct with a ghost field has no derive of it.
 impl<S: Copy> Clone for Plan<S> {
     ghost is_clone = { λ x y. y ≡ x };
 

@@ -1,8 +1,8 @@
 //! Sums of structs, field by field.
 
-/// A struct of this type whose fields are the sums of those of two others.
+/// The sum of two structs of a type: of each of these fields, which are all that it has.
 macro_rules! added_up {
-    ($sum:ident, $first:expr, $second:expr, $($field:ident),+) => {
+    ($first:tt + $second:tt, $sum:ident { $($field:ident),+ }) => {
         $sum { $($field: $first.$field + $second.$field),+ }
     };
 }

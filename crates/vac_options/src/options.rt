@@ -85,7 +85,7 @@ fn file_option<'a>(alloc: Global) -> Arg<'a>
         .help("A file of the tasks that were handed out, as tasks writes them: all must be done")
 }
 
-/// A flag. Where it changes nothing the help does not show it.
+/// A flag, which the help shows or not.
 fn flag<'a>(alloc: Global, name: &'a str, is_shown: bool) -> Arg<'a>
     ensures { IsOption result (flag name.now) }
 {
@@ -147,7 +147,8 @@ fn add_task_options<'a>(alloc: Global, command: Made<'a>) -> Made<'a>
     add_option(add_option(command, seed), blocks_option(alloc))
 }
 
-/// Adds the flags that say what a load writes of itself. Where no load is run they change nothing.
+/// Adds the flags that say what a load writes of itself. Where no load is run they change nothing,
+/// and the help does not show them.
 fn add_telling_options<'a>(alloc: Global, command: Made<'a>, is_run: bool) -> Made<'a>
     ensures { GetsOptions command.entry telling_options result }
 {

@@ -10,9 +10,11 @@ returns-then-number-self-clause-drawn g c =
 pub returns-then-number-eq1-clause-drawn : goal.returns-then-number-eq1-clause-drawn
 returns-then-number-eq1-clause-drawn g c =
     task_after g.D.Draws.leads c.args.self.now.settings.now _ _ _ _ _ c.draw_below-number.ensures.drawn
-    (task_leave g.D.Draws.leads c.args.self.now.settings.now _ _ _ _ (search rules) (search rules) c.draw_leave.ensures.drawn)
+    (task_leave g.D.Draws.leads c.args.self.now.settings.now _ _ _ _ (search rules)
+    (search rules) c.draw_leave.ensures.drawn)
 
 pub returns-else-number-eq1-clause-drawn : goal.returns-else-number-eq1-clause-drawn
 returns-else-number-eq1-clause-drawn g c =
     task_after g.D.Draws.leads c.args.self.now.settings.now _ _ _ _ _ c.draw_below-number.ensures.drawn
-    (task_update g.D.Draws.leads c.args.self.now.settings.now _ _ _ _ (search rules) (search rules) c.draw_update.ensures.drawn)
+    (task_update g.D.Draws.leads c.args.self.now.settings.now _ _ _ _ (search rules)
+    (search rules) c.draw_update.ensures.drawn)
