@@ -18,8 +18,8 @@ use Rattle.vac_model.proofs.Sums.{len_inserted, len_removed}
 use Rattle.vac_sequential.specs.declared.tries.Kids.{Kids}
 use Rattle.vac_sequential.specs.declared.tries.Parts.{Parts}
 use Rattle.vac_sequential.specs.Tries.{Link, value_in, map_in, spread, first_entry, woven, weave, map_of, TellsEmpty}
-use Rattle.vac_sequential.specs.Tries.{TellsSame, IsSummedUp, EntryAdds, child_of, swapped, with_value, parts_of, depth_of}
-use Rattle.vac_sequential.specs.Tries.{depth_in}
+use Rattle.vac_sequential.specs.Tries.{TellsSame, IsSummedUp, EntryAdds, child_of, swapped, with_value}
+use Rattle.vac_sequential.specs.Tries.{parts_of, depth_of, depth_in}
 
 -- the test of two ids of one digit, and of two digits
 same_ids : (q r d : ℕ) → (4 * q + 1 + d == 4 * r + 1 + d) ≡ (q == r)

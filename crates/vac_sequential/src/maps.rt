@@ -167,8 +167,7 @@ impl<V: Entry + Drop> IdMap<V> {
         })
     }
 
-    /// Puts a value at an id, in place where no copy shares what is changed. Where memory is
-    /// refused, the map is left empty.
+    /// Puts a value at an id. Nodes that no copy shares are taken over, the others shared.
     pub(crate) fn insert(&mut self, id: u32, value: V) -> Result<(), AllocError>
         ensures { OnOk result (self.new ≡ map.insert self.old id value) }
     {
@@ -178,8 +177,7 @@ impl<V: Entry + Drop> IdMap<V> {
         Ok(())
     }
 
-    /// Removes the value of an id, in place where no copy shares what is changed. Where memory is
-    /// refused, the map is left empty.
+    /// Removes the value of an id. Nodes that no copy shares are taken over, the others shared.
     pub(crate) fn remove(&mut self, id: u32) -> Result<(), AllocError>
         ensures { OnOk result (self.new ≡ map.remove self.old id) }
     {

@@ -1,4 +1,5 @@
-//! The four tables, which contracts see as a state.
+//! The four tables, which contracts see as a state. Where memory is refused the tables are not used
+//! any more: a call may be half done.
 
 ghost use Rattle.std.specs.Prelude.{◌≡◌, ◌<◌, ◌^◌, IfOk, OnOk};
 ghost use Rattle.std.specs.Option.{option_copied};
@@ -136,7 +137,6 @@ impl Tables {
         }
     }
 
-    /// Puts an item. Where memory is refused, its table is left empty.
     pub(crate) fn insert_item(&mut self, kind: Kind, id: u32, item: Item) -> Result<(), AllocError>
         ensures { OnOk result (self.new ≡ with_item self.old kind id item) }
     {
@@ -148,7 +148,6 @@ impl Tables {
         Ok(())
     }
 
-    /// Removes an item. Where memory is refused, its table is left empty.
     pub(crate) fn remove_item(&mut self, kind: Kind, id: u32) -> Result<(), AllocError>
         ensures { OnOk result (self.new ≡ without_item self.old kind id) }
     {
@@ -166,14 +165,14 @@ impl Tables {
         self.customers.get(customer)
     }
 
-    /// Makes a customer without bookings. Where memory is refused, there are no customers left.
+    /// Makes a customer without bookings.
     pub(crate) fn insert_customer(&mut self, customer: u32) -> Result<(), AllocError>
         ensures { OnOk result (self.new ≡ with_bookings self.old customer map.empty) }
     {
         self.insert_bookings(customer, BookingMap::new(self.alloc))
     }
 
-    /// Puts the bookings of a customer. Where memory is refused, there are no customers left.
+    /// Puts the bookings of a customer.
     pub(crate) fn insert_bookings(
         &mut self,
         customer: u32,
@@ -184,7 +183,6 @@ impl Tables {
         self.customers.insert(customer, bookings)
     }
 
-    /// Removes a customer. Where memory is refused, there are no customers left.
     pub(crate) fn remove_customer(&mut self, customer: u32) -> Result<(), AllocError>
         ensures { OnOk result (self.new ≡ without_customer self.old customer) }
     {

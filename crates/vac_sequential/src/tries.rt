@@ -93,7 +93,8 @@ impl<V> Kids<V> {
         }
     }
 
-    /// The maps where the one of a digit and that of 0 have changed places.
+    /// The maps where the one of a digit and that of 0 have changed places, so that the one to
+    /// change stands at 0.
     fn swapped(self, digit: u32) -> Kids<V>
         requires { digit < 4 }
         ensures { result ≡ swapped self digit }
