@@ -74,20 +74,8 @@ impl Efforts {
         ensures { result ≡ both_efforts self other }
     {
         added_up!(
-            self + other,
-            Efforts {
-                attempts,
-                held,
-                newer,
-                moved,
-                lost_lock,
-                lost_tick,
-                roots,
-                heads,
-                nodes,
-                uses,
-                stocks
-            }
+            Efforts: self + other;
+            attempts, held, newer, moved, lost_lock, lost_tick, roots, heads, nodes, uses, stocks
         )
     }
 }

@@ -2,7 +2,7 @@
 
 /// The sum of two structs of a type: of each of these fields, which are all that it has.
 macro_rules! added_up {
-    ($first:tt + $second:tt, $sum:ident { $($field:ident),+ }) => {
+    ($sum:ident: $first:tt + $second:tt; $($field:ident),+) => {
         $sum { $($field: $first.$field + $second.$field),+ }
     };
 }

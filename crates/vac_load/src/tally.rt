@@ -48,14 +48,6 @@ impl Tally {
         requires fits { total self + total other < 2 ^ 63 }
         ensures { result ≡ plus self other }
     {
-        added_up!(
-            self + other,
-            Tally {
-                answered,
-                busy,
-                memory,
-                spent
-            }
-        )
+        added_up!(Tally: self + other; answered, busy, memory, spent)
     }
 }
