@@ -49,3 +49,12 @@ judged Has Stopped Ended (Err fault) status middle holds stop ok err e = inr (e.
 pub of_any : {T E : Type 0} (P : Type 0) (r : Result T E) → OnErr r P → IfErr r (λ _. P)
 of_any P (Ok t) h = tt
 of_any P (Err e) h = h
+
+-- what follows from a success, and from an error
+pub on_ok : {T E : Type 0} (P Q : Type 0) (r : Result T E) → (P → Q) → OnOk r P → OnOk r Q
+on_ok P Q (Ok t) f h = f h
+on_ok P Q (Err e) f h = tt
+
+pub on_err : {T E : Type 0} (P Q : Type 0) (r : Result T E) → (P → Q) → OnErr r P → OnErr r Q
+on_err P Q (Ok t) f h = tt
+on_err P Q (Err e) f h = f h

@@ -23,7 +23,8 @@ use Rattle.vac_streams.specs.declared.fault.StreamFault.TheVariants as stream
 use Rattle.std.specs.Io.KnownBytes.{Appends}
 use Rattle.vac_lines.specs.Writing.{AppendsPrefix}
 use Rattle.vac_cli.specs.Ending.{load_fault_line, fault_line, CanStopWriting, EndsDone}
-use Rattle.vac_cli.specs.Load.{load_text, NamedFault, LoadEnded, HasNoted, IsFaultBySeed}
+use Rattle.vac_cli.specs.Load.{load_text, NamedFault, EndsLoad, EndsKept, HasNoted, IsFaultBySeed}
+use Rattle.vac_cli.specs.Load.{WroteCalls, WroteCallsInPart}
 use Rattle.vac_cli.specs.Program.{Loads}
 use Rattle.vac_cli.proofs.Turning.{each_ordered, each_in_turn}
 use Rattle.vac_cli.proofs.Recorded.{load_legal}
@@ -33,35 +34,52 @@ both_first : (a b : Bool) → (a && b) ≡ true → a ≡ true
 both_first true b e = refl
 both_first false b e = e
 
--- the line of a fault was written in part
-named : (history : Bool) (s : Settings) (held holds : Option (List ℕ)) → NamedFault s held holds →
-    LoadEnded history s held holds
-named true s held holds n = inl n
-named false s held holds n = inl n
-
 pub not_arguments : load.Memory ≡ load.Arguments → ⊥
 not_arguments e = absurd cc
 
 -- a load can end for want of memory
-pub named_memory : (s : Settings) (held holds : Option (List ℕ)) →
+memory_by_seed : (s : Settings) → IsFaultBySeed s load.Memory
+memory_by_seed s = inr (stream_of s.seed 0, inl refl)
+
+named_memory : (s : Settings) (held holds : Option (List ℕ)) →
     AppendsPrefix held holds (load_fault_line load.Memory) → NamedFault s held holds
-named_memory s held holds line = (load.Memory, not_arguments, inr (stream_of s.seed 0, inl refl), line)
+named_memory s held holds line = (load.Memory, not_arguments, memory_by_seed s, line)
 
 pub one_of : (status : ℕ) → 1 ≤ status → status ≤ 2 → (status ≡ 2 → ⊥) → status ≡ 1
 one_of status low high is_not = omega (arith, low, high, is_not)
 
--- a load whose settings fit each other ended for want of memory
-pub ended_for_memory : (history : Bool) (s : Settings) (status : ℕ) (held holds : Option (List ℕ)) →
-    is_settings s ≡ true → 1 ≤ status → status ≤ 2 → ((status ≡ 2) ↔ (load.Memory ≡ load.Arguments)) →
-    AppendsPrefix held holds (load_fault_line load.Memory) → Loads history status s held holds
-ended_for_memory history s status held holds fits low high refused line =
-    inl (
-      fits,
-      inr (
-        one_of status low high (λ two. not_arguments (refused.0 two)),
-        named history s held holds (named_memory s held holds line),
-      ),
-    )
+-- how a load ends whose settings fit each other
+module _ (wrote stopped : Settings → Option (List ℕ) → Option (List ℕ) → Type 0) (s : Settings)
+    (fits : is_settings s ≡ true) where
+  -- by a fault
+  pub ended_by_fault : (fault : LoadFault) (status : ℕ) (held holds : Option (List ℕ)) →
+      (fault ≡ load.Arguments → ⊥) → IsFaultBySeed s fault → 1 ≤ status → status ≤ 2
+      → ((status ≡ 2) ↔ (fault ≡ load.Arguments)) → AppendsPrefix held holds (load_fault_line fault) →
+      EndsLoad wrote stopped status s held holds
+  ended_by_fault fault status held holds is_not why low high refused line = inl (
+    fits,
+    inr (
+      one_of status low high (λ two. is_not (refused.0 two)),
+      inl (fault, is_not, why, line),
+    ),
+  )
+
+  -- for want of memory
+  pub ended_for_memory : (status : ℕ) (held holds : Option (List ℕ)) → 1 ≤ status → status ≤ 2
+      → ((status ≡ 2) ↔ (load.Memory ≡ load.Arguments)) →
+      AppendsPrefix held holds (load_fault_line load.Memory) → EndsLoad wrote stopped status s held holds
+  ended_for_memory status held holds low high refused line =
+      ended_by_fault load.Memory status held holds not_arguments (memory_by_seed s) low high refused line
+
+-- the calls of a load whose settings fit each other were written, in whole or in part, and then it ended
+pub ended_kept : (wrote in_part : Settings → Option (List ℕ) → Option (List ℕ) → Type 0) (s : Settings)
+    {T : Type 0} (r : Result T StreamFault) (status : ℕ) (held middle holds : Option (List ℕ)) → is_settings s ≡ true →
+    OnOk r (wrote s held middle) → OnErr r (in_part s held middle) → IfErr r CanStopWriting →
+    EndsDone r status middle holds → EndsKept wrote in_part status s held holds
+ended_kept wrote in_part s (Ok t) status held middle holds fits ok err can e =
+    inl (fits, inl (e.0, subst (wrote s held) (sym e.1) ok))
+ended_kept wrote in_part s (Err fault) status held middle holds fits ok err can e =
+    inl (fits, inr (e.0, inr (middle, err, (fault, can, e.1))))
 
 -- the load was run to its end, and its two lines were written, in whole or in part, or memory was refused for them
 pub ended_with_lines : (s : Settings) (load : LoadReport) (status : ℕ) (held holds : Option (List ℕ)) →
@@ -100,75 +118,33 @@ module _ {C : Type 0} (s : Settings) (opening : Journal C) (clients : List (Jour
 
   -- the history was written whole
   pub wrote_calls : (held holds : Option (List ℕ)) → WroteHistory (kept_by opening clients) held holds →
-      Loads true 0 s held holds
-  wrote_calls held holds wrote = inl (
-    fits,
-    inl (
-      refl,
-      record {
-        opening = notes_of opening;
-        clients = map notes_of clients;
-        noted = has;
-        in_turn = each_in_turn opening clients;
-        written = wrote;
-        in_order = in_order wrote.all wrote.merged;
-        legal = are_legal wrote.all wrote.merged;
-        read = wrote.read lines;
-        judged = are_judged wrote.all wrote.merged (wrote.read lines);
-      },
-    ),
-  )
+      WroteCalls s held holds
+  wrote_calls held holds wrote = record {
+    opening = notes_of opening;
+    clients = map notes_of clients;
+    noted = has;
+    in_turn = each_in_turn opening clients;
+    written = wrote;
+    in_order = in_order wrote.all wrote.merged;
+    legal = are_legal wrote.all wrote.merged;
+    read = wrote.read lines;
+    judged = are_judged wrote.all wrote.merged (wrote.read lines);
+  }
 
-  -- a prefix of it was written, and then one of the line of a fault
-  pub stopped_calls : (status : ℕ) (fault : StreamFault) (held middle holds : Option (List ℕ)) → status ≡ 1 →
-      WroteHistoryPrefix (kept_by opening clients) held middle → CanStopWriting fault →
-      AppendsPrefix middle holds (fault_line fault) → Loads true status s held holds
-  stopped_calls status fault held middle holds one wrote can_stop line = inl (
-    fits,
-    inr (
-      one,
-      inr (
-        middle,
-        record {
-          opening = notes_of opening;
-          clients = map notes_of clients;
-          noted = has;
-          in_turn = each_in_turn opening clients;
-          written = wrote;
-          in_order = in_order wrote.all wrote.merged;
-          legal = are_legal wrote.all wrote.merged;
-          read = wrote.read lines;
-          judged = are_judged wrote.all wrote.merged (wrote.read lines);
-        },
-        (fault, can_stop, line),
-      ),
-    ),
-  )
-
-  -- they were written, in whole or in part, and then the load ended
-  pub ended_calls : {T : Type 0} (r : Result T StreamFault) (status : ℕ) (held middle holds : Option (List ℕ)) →
-      OnOk r (WroteHistory (kept_by opening clients) held middle) →
-      OnErr r (WroteHistoryPrefix (kept_by opening clients) held middle) → IfErr r CanStopWriting →
-      EndsDone r status middle holds → Loads true status s held holds
-  ended_calls (Ok t) status held middle holds ok err can e =
-      subst (λ (n : ℕ). Loads true n s held holds) (sym e.0)
-      (wrote_calls held holds (subst (WroteHistory (kept_by opening clients) held) (sym e.1) ok))
-  ended_calls (Err fault) status held middle holds ok err can e =
-      stopped_calls status fault held middle holds e.0 err can e.1
-
--- a load whose settings fit each other ended by a fault
-pub ended_by_fault : (history : Bool) (s : Settings) (fault : LoadFault) (status : ℕ) (held holds : Option (List ℕ)) →
-    is_settings s ≡ true → (fault ≡ load.Arguments → ⊥) → IsFaultBySeed s fault → 1 ≤ status → status ≤ 2
-    → ((status ≡ 2) ↔ (fault ≡ load.Arguments)) → AppendsPrefix held holds (load_fault_line fault) →
-    Loads history status s held holds
-ended_by_fault history s fault status held holds fits is_not why low high refused line =
-    inl (
-      fits,
-      inr (
-        one_of status low high (λ two. is_not (refused.0 two)),
-        named history s held holds (fault, is_not, why, line),
-      ),
-    )
+  -- a prefix of it was written
+  pub wrote_calls_in_part : (held holds : Option (List ℕ)) → WroteHistoryPrefix (kept_by opening clients) held holds →
+      WroteCallsInPart s held holds
+  wrote_calls_in_part held holds wrote = record {
+    opening = notes_of opening;
+    clients = map notes_of clients;
+    noted = has;
+    in_turn = each_in_turn opening clients;
+    written = wrote;
+    in_order = in_order wrote.all wrote.merged;
+    legal = are_legal wrote.all wrote.merged;
+    read = wrote.read lines;
+    judged = are_judged wrote.all wrote.merged (wrote.read lines);
+  }
 
 -- there are few clients
 pub few_clients : (s : Settings) → is_settings s ≡ true → s.clients ≤ 64

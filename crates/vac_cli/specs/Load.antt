@@ -1,6 +1,6 @@
 -- The lines that a load writes.
-use Rattle.std.specs.Prelude.{◌≡◌, ◌≢◌, ◌↔◌, ℕ, ◌⊎◌, true, false, Bool, List, ◌∷◌, ◌++◌, map}
-use Rattle.std.specs.Prelude.{Option, codes, vec_len, Result, IfOk, IfErr, IsErrOf}
+use Rattle.std.specs.Prelude.{◌≡◌, ◌≢◌, ◌↔◌, ℕ, ◌⊎◌, true, false, List, ◌∷◌, ◌++◌, map}
+use Rattle.std.specs.Prelude.{[], Option, Some, None, codes, vec_len, Result, IfOk, IfErr, IsErrOf}
 use Rattle.std.specs.Io.KnownBytes.{Appends}
 use Rattle.vac_lines.specs.Script.{as_line}
 use Rattle.vac_lines.specs.Text.{field_text, report_text}
@@ -9,6 +9,7 @@ use Rattle.vac_load.specs.declared.load.LoadReport.{LoadReport}
 use Rattle.vac_load.specs.declared.load.LoadFault.{LoadFault}
 use Rattle.vac_load.specs.declared.load.LoadFault.TheVariants as load
 use Rattle.vac_draws.specs.declared.settings.Settings.{Settings}
+use Rattle.vac_draws.specs.Setting.{is_settings}
 use Rattle.vac_draws.specs.Streams.{gives, stream_of}
 use Rattle.vac_manager.specs.declared.note.Note.{Note}
 use Rattle.vac_manager.specs.Keeping.{IsNoted}
@@ -26,7 +27,7 @@ use Rattle.vac_load.specs.Keeping.{KeptNotes}
 use Rattle.vac_load.specs.Load.{IsLoadFault, is_load}
 use Rattle.vac_load.specs.Streams.{LoadedBySeed, KeptBySeed}
 use Rattle.vac_lines.specs.Writing.{AppendsPrefix}
-use Rattle.vac_cli.specs.Ending.{NamedAfterWriting, load_fault_line}
+use Rattle.vac_cli.specs.Ending.{EndsWithStatus, NamedAfterWriting, load_fault_line}
 
 -- how many tasks were answered, and how many met a conflict with another client in each try
 abbrev pub tried_text : Tally → List ℕ
@@ -79,9 +80,26 @@ abbrev pub NamedFault : Settings → Option (List ℕ) → Option (List ℕ) →
 NamedFault s held holds = (fault : LoadFault) × (fault ≢ load.Arguments)
     × IsFaultBySeed s fault × AppendsPrefix held holds (load_fault_line fault)
 
--- a load ended by a fault: nothing was written but a prefix of its line, or of those of the load
-abbrev pub LoadStopped : Settings → Option (List ℕ) → Option (List ℕ) → Type 0
-LoadStopped s held holds = NamedFault s held holds ⊎ WroteLoadInPart s held holds
+-- a load is run where its settings fit each other, and then this was written, or a fault ended it:
+-- it was named, or this stopped it; where they do not fit, the command line is refused
+abbrev pub EndsLoad : (wrote stopped : Settings → Option (List ℕ) → Option (List ℕ) → Type 0) → ℕ
+    → Settings → Option (List ℕ) → Option (List ℕ) → Type 0
+EndsLoad wrote stopped status s held holds =
+    ((is_settings s ≡ true)
+    × EndsWithStatus status (wrote s held holds) (NamedFault s held holds ⊎ stopped s held holds))
+    ⊎ ((is_settings s ≡ false) × (status ≡ 2)
+    × AppendsPrefix held holds (load_fault_line load.Arguments))
+
+-- the calls that a load kept were written in part, and after them a prefix of the line of a fault
+abbrev pub StoppedKept : (in_part : Settings → Option (List ℕ) → Option (List ℕ) → Type 0)
+    → Settings → Option (List ℕ) → Option (List ℕ) → Type 0
+StoppedKept in_part s held holds = NamedAfterWriting (in_part s held) holds
+
+-- how a load ends that writes the calls that it kept
+abbrev pub EndsKept : (wrote in_part : Settings → Option (List ℕ) → Option (List ℕ) → Type 0) → ℕ
+    → Settings → Option (List ℕ) → Option (List ℕ) → Type 0
+EndsKept wrote in_part status s held holds =
+    EndsLoad wrote (StoppedKept in_part) status s held holds
 
 -- the load of these settings was run to its end, and these are its answered calls: those of the
 -- opening, one for each of its records, and those of each client, one for each of its records
@@ -91,6 +109,16 @@ pub record HasNoted (s : Settings) (opening : List Note) (clients : List (List N
   pub loaded : LoadedBySeed s load.tally load.report
   pub of_opening : Paired IsNoted opening loaded.opened
   pub of_clients : Paired (λ notes x. Paired IsNoted notes x.records) clients loaded.shares
+
+-- the calls that are kept, if any
+abbrev pub calls_kept : KeptNotes → List Note
+calls_kept None = []
+calls_kept (Some calls) = calls
+
+-- the load was run to its end, and its answered calls are those that these keep
+abbrev pub AreNoted : {K : Type 0} → (K → KeptNotes) → Settings → Keepers K → Type 0
+AreNoted notes s k = HasNoted s (calls_kept (notes k.opening))
+    (map (λ x. calls_kept (notes x)) k.clients.items)
 
 -- the load was run to its end, and the history of its answered calls was written and nothing else:
 -- all in the order of their records, and readers of one version in that in which they began. In
@@ -145,19 +173,3 @@ pub record WroteTriedInPart (s : Settings) (held holds : Option (List ℕ)) : Ty
   pub clients : List Page
   pub noted : HasNoted s opening.calls (map (λ page. page.calls) clients)
   pub written : WroteAttemptsPrefix s.blocks (opening ∷ clients) held holds
-
--- a load that is to write its attempts ended by a fault
-abbrev pub TriedEnded : Settings → Option (List ℕ) → Option (List ℕ) → Type 0
-TriedEnded s held holds =
-    NamedFault s held holds ⊎ NamedAfterWriting (WroteTriedInPart s held) holds
-
--- the load was run to its end, and its history was written, or its two lines were
-abbrev pub LoadWrote : Bool → Settings → Option (List ℕ) → Option (List ℕ) → Type 0
-LoadWrote true s held holds = WroteCalls s held holds
-LoadWrote false s held holds = WroteLoad s held holds
-
--- a load that is to write the history, or the two lines, ended by a fault
-abbrev pub LoadEnded : Bool → Settings → Option (List ℕ) → Option (List ℕ) → Type 0
-LoadEnded true s held holds =
-    NamedFault s held holds ⊎ NamedAfterWriting (WroteCallsInPart s held) holds
-LoadEnded false s held holds = LoadStopped s held holds

@@ -18,28 +18,21 @@ use Rattle.vac_script.specs.Script.{WroteAll, WrotePrefix}
 use Rattle.vac_script.specs.Dump.{Dumped, DumpStopped}
 use Rattle.vac_script.specs.Check.{Checked, CheckStopped}
 use Rattle.vac_worklist.specs.Worklist.{WroteTasks, WroteTasksPrefix}
-use Rattle.vac_cli.specs.Load.{LoadWrote, LoadEnded, WroteTried, TriedEnded}
+use Rattle.vac_cli.specs.Load.{EndsLoad, WroteLoad, WroteLoadInPart}
+use Rattle.vac_cli.specs.Load.{EndsKept, WroteCalls, WroteCallsInPart, WroteTried, WroteTriedInPart}
 use Rattle.vac_cli.specs.Ending.{EndsWithStatus, NamedAfter, NamedAfterWriting, fault_line, load_fault_line}
 use Rattle.vac_cli.specs.Ordering.{Orders}
 use Rattle.vac_cli.specs.Asking.{JudgesAs, JudgesAttempts}
 use Rattle.vac_options.specs.CommandLine.{vacation, AsksFor}
 
--- a load is run where its settings fit each other, and writes its history or its two lines; where
--- they do not fit, the command line is refused
+-- a load writes its history or its two lines
 abbrev pub Loads : Bool → ℕ → Settings → Option (List ℕ) → Option (List ℕ) → Type 0
-Loads history status s held holds =
-    ((is_settings s ≡ true)
-    × EndsWithStatus status (LoadWrote history s held holds) (LoadEnded history s held holds))
-    ⊎ ((is_settings s ≡ false) × (status ≡ 2)
-    × AppendsPrefix held holds (load_fault_line Arguments))
+Loads true status s held holds = EndsKept WroteCalls WroteCallsInPart status s held holds
+Loads false status s held holds = EndsLoad WroteLoad WroteLoadInPart status s held holds
 
--- a load is run where its settings fit each other, and writes its attempts
+-- a load writes its attempts
 abbrev pub Tries : ℕ → Settings → Option (List ℕ) → Option (List ℕ) → Type 0
-Tries status s held holds =
-    ((is_settings s ≡ true)
-    × EndsWithStatus status (WroteTried s held holds) (TriedEnded s held holds))
-    ⊎ ((is_settings s ≡ false) × (status ≡ 2)
-    × AppendsPrefix held holds (load_fault_line Arguments))
+Tries status s held holds = EndsKept WroteTried WroteTriedInPart status s held holds
 
 -- a load writes its history, its attempts or its two lines; where both of the first are asked for,
 -- the command line is refused, and nothing is written

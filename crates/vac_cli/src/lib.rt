@@ -6,14 +6,13 @@
 
 mod files;
 mod judging;
+mod keeping;
 mod load;
-mod noting;
 mod program;
 mod searching;
 mod stats;
 mod status;
 mod telling;
-mod tracing;
 
 pub use files::Open;
 pub use program::{refuse_words, run_words};

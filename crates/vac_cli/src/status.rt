@@ -32,31 +32,29 @@ fn write_last<W: Write>(line: &[u8], output: &mut W)
     let _ = write_and_flush(output, line);
 }
 
-/// The last line of a program that met a fault. There is none where the output failed.
-fn fault_line(fault: StreamFault) -> &'static [u8]
-    ensures { result.now ≡ fault_line fault }
+/// Writes the last line of a program that met a fault, and returns its status.
+fn end_with<W: Write>(line: &[u8], output: &mut W) -> u8
+    ensures status { result ≡ 1 }
+    ensures line { AppendsPrefix (W.contents output.old) (W.contents output.new) line.now }
 {
-    match fault {
-        StreamFault::Read => b"fault read\n",
-        StreamFault::Write => b"",
-        StreamFault::Memory => b"fault memory\n",
-        StreamFault::Bound => b"fault bound\n",
-    }
+    write_last(line, output);
+    FAULT
 }
 
-/// Writes the last line of a program that met a fault, and returns its status. A failed write of
-/// that line changes nothing.
+/// Writes the last line of a program that met a fault, and returns its status. There is no line
+/// where the output failed. A failed write of it changes nothing.
 #[tactic(auto, using(crate::proofs::Ending::nothing))]
 pub(crate) fn end_by<W: Write>(fault: StreamFault, output: &mut W) -> u8
     ensures status { result ≡ 1 }
     ensures line { AppendsPrefix (W.contents output.old) (W.contents output.new)
         (fault_line fault) }
 {
-    let line = fault_line(fault);
-    if !line.is_empty() {
-        write_last(line, output);
+    match fault {
+        StreamFault::Read => end_with(b"fault read\n", output),
+        StreamFault::Write => FAULT,
+        StreamFault::Memory => end_with(b"fault memory\n", output),
+        StreamFault::Bound => end_with(b"fault bound\n", output),
     }
-    FAULT
 }
 
 /// Ends the program after its work, and returns the status.
@@ -86,20 +84,7 @@ pub(crate) fn end_unopened<W: Write>(output: &mut W) -> u8
     ensures line { AppendsPrefix (W.contents output.old) (W.contents output.new)
         unopened_line }
 {
-    write_last(b"fault open\n", output);
-    FAULT
-}
-
-/// The last line of a load that met a fault.
-fn load_fault_line(fault: LoadFault) -> &'static [u8]
-    ensures { result.now ≡ load_fault_line fault }
-{
-    match fault {
-        LoadFault::Arguments => b"fault arguments\n",
-        LoadFault::Memory => b"fault memory\n",
-        LoadFault::Spawn => b"fault spawn\n",
-        LoadFault::Opening(_) => b"fault opening\n",
-    }
+    end_with(b"fault open\n", output)
 }
 
 /// Writes the last line of a load that met a fault, and returns its status. Settings that do not
@@ -111,12 +96,15 @@ pub(crate) fn end_load_by<W: Write>(fault: LoadFault, output: &mut W) -> u8
     ensures line { AppendsPrefix (W.contents output.old) (W.contents output.new)
         (load_fault_line fault) }
 {
-    let status = match &fault {
-        LoadFault::Arguments => REFUSED,
-        LoadFault::Memory | LoadFault::Spawn | LoadFault::Opening(_) => FAULT,
-    };
-    write_last(load_fault_line(fault), output);
-    status
+    match fault {
+        LoadFault::Arguments => {
+            write_last(b"fault arguments\n", output);
+            REFUSED
+        }
+        LoadFault::Memory => end_with(b"fault memory\n", output),
+        LoadFault::Spawn => end_with(b"fault spawn\n", output),
+        LoadFault::Opening(_) => end_with(b"fault opening\n", output),
+    }
 }
 
 /// Writes to `errors` which numbers of a load do not fit each other: the only thing that can still
@@ -145,6 +133,5 @@ pub(crate) fn end_by_settings<W: Write, E: Write>(
         (load_fault_line LoadFault.Arguments) }
 {
     tell_settings(alloc, settings, errors);
-    write_last(load_fault_line(LoadFault::Arguments), output);
-    REFUSED
+    end_load_by(LoadFault::Arguments, output)
 }

@@ -1,6 +1,7 @@
-use Rattle.std.proofs.Common.{rules, ◌≡◌, true, false, vec_len}
+use Rattle.std.proofs.Common.{rules, ◌≡◌, true, vec_len}
 use Rattle.vac_draws.specs.Setting.{is_settings}
 use Rattle.vac_load.specs.declared.load.LoadFault.TheVariants as load
+use Rattle.vac_cli.specs.Load.{WroteLoad, WroteLoadInPart}
 use Rattle.vac_cli.proofs.LoadEnds.{ended_for_memory, ended_with_lines, ended_by_fault}
 use Rattle.vac_cli.proofs.Ledgers.{not_refused}
 use Rattle.vac_cli.proofs.load.AskedLoad.report.Goals as goal
@@ -8,8 +9,8 @@ use Rattle.vac_cli.proofs.load.AskedLoad.report.Goals as goal
 pub returns-in_default : goal.returns-in_default
 returns-in_default g c =
     let e = c.end_load_by.ensures in
-    ended_for_memory false c.args.self.now.settings.now _ (g.W.Write.contents c.args.output.now)
-    (g.W.Write.contents c.end_load_by.new.output) (search rules) e.low e.high e.refused e.line
+    ended_for_memory WroteLoad WroteLoadInPart c.args.self.now.settings.now (search rules) _
+    (g.W.Write.contents c.args.output.now) (g.W.Write.contents c.end_load_by.new.output) e.low e.high e.refused e.line
 
 pub returns-in-Ok-run_told : goal.returns-in-Ok-run_told
 returns-in-Ok-run_told g c =
@@ -25,6 +26,6 @@ returns g c =
     let fits : is_settings s ≡ true = search rules in
     let is_not : c.in-Err.fault ≡ load.Arguments → ⊥ = not_refused s
     (vec_len c.in-Ok.keepers.clients) c.in-Err.fault fits c.in-Ok.ensures c.in-Err.ensures.arguments in
-    ended_by_fault false s c.in-Err.fault c.end_load_by-in-Err.result (g.W.Write.contents c.args.output.now)
-    (g.W.Write.contents c.end_load_by-in-Err.new.output) fits is_not c.in-Err.ensures.refused e.low e.high e.refused
-    e.line
+    ended_by_fault WroteLoad WroteLoadInPart s fits c.in-Err.fault c.end_load_by-in-Err.result
+    (g.W.Write.contents c.args.output.now) (g.W.Write.contents c.end_load_by-in-Err.new.output) is_not
+    c.in-Err.ensures.refused e.low e.high e.refused e.line

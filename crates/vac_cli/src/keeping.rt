@@ -1,0 +1,210 @@
+//! Loads that keep the calls of their clients, and write them.
+
+ghost use Rattle.std.specs.Prelude.{◌≡◌, ◌<◌, ◌^◌, true, [], Some, ℕ, Bool, List, Option, length};
+ghost use Rattle.std.specs.Prelude.{vec_len, All, IfOk, OnOk, OnErr, IfErr};
+ghost use Rattle.vac_draws.specs.declared.settings.Settings.{Settings};
+ghost use Rattle.vac_draws.specs.Setting.{is_settings};
+ghost use Rattle.vac_load.specs.declared.seats.Keepers.{Keepers};
+ghost use Rattle.vac_cli.specs.Ending.{CanStopWriting};
+ghost use Rattle.vac_cli.specs.Load.{AreNoted, EndsKept};
+ghost use Rattle.vac_cli.specs.Program.{Loads, Tries};
+
+use crate::load::{AskedLoad, tell_load};
+use crate::stats::{Span, tell_stats};
+use crate::status::{end_by_settings, end_done, end_load_by};
+use crate::telling::run_told;
+use std::alloc::{AllocError, Global};
+use std::io::Write;
+use std::sync::Wait;
+use std::thread::Threads;
+use std::time::{Clock, Instant};
+use vac_attempts::{Ledger, write_attempts};
+use vac_history::{Journal, Since, Watch, write_history};
+use vac_load::{Keepers, LoadFault, Settings};
+use vac_manager::Keep;
+use vac_streams::StreamFault;
+
+/// A load that was run to its end, and what kept its calls.
+#[derive(Drop)]
+pub(crate) struct KeptLoad<'a, K> {
+    alloc: Global,
+    settings: &'a Settings,
+    keepers: Keepers<K>,
+}
+
+/// What keeps the calls of a client, by the times of a watch, and writes those of a whole load.
+pub(crate) trait Transcript<W>: Keep + Sized {
+    /// The calls of a load of these settings were written.
+    ghost wrote: { Settings → Option (List ℕ) → Option (List ℕ) → Type 0 };
+
+    /// They were written in part.
+    ghost wrote_in_part: { Settings → Option (List ℕ) → Option (List ℕ) → Type 0 };
+
+    /// There was room for all that these were to keep.
+    ghost are_whole: { Keepers Self → Bool };
+
+    /// One that keeps no call yet.
+    fn empty(alloc: Global, watch: W) -> Self
+        ensures { Self.notes result ≡ Some [] };
+
+    /// Whether there was room for all that these were to keep.
+    fn are_whole(keepers: &Keepers<Self>) -> bool
+        ensures { result ≡ are_whole keepers.now };
+
+    /// Writes the calls of a load.
+    fn write<O: Write>(load: &KeptLoad<'_, Self>, output: &mut O) -> Result<(), StreamFault>
+        requires fits { is_settings load.now.settings.now ≡ true }
+        requires noted { AreNoted Self.notes load.now.settings.now load.now.keepers }
+        requires few { length load.now.keepers.clients.items < 2 ^ 32 }
+        ensures ok { OnOk result
+            (wrote load.now.settings.now (O.contents output.old) (O.contents output.new)) }
+        ensures err { OnErr result
+            (wrote_in_part load.now.settings.now (O.contents output.old) (O.contents output.new)) }
+        ensures fault { IfErr result CanStopWriting };
+}
+
+impl<W: Watch> Transcript<W> for Journal<W> {
+    ghost use Rattle.vac_history.specs.History as history;
+    ghost use Rattle.vac_cli.specs.Load.{WroteCalls, WroteCallsInPart};
+
+    ghost wrote = { WroteCalls };
+
+    ghost wrote_in_part = { WroteCallsInPart };
+
+    ghost are_whole = { λ k. history.are_whole k.opening k.clients.items };
+
+    fn empty(alloc: Global, watch: W) -> Journal<W> {
+        Journal::new(alloc, watch)
+    }
+
+    fn are_whole(keepers: &Keepers<Journal<W>>) -> bool {
+        vac_history::are_whole(&keepers.opening, keepers.clients.as_slice())
+    }
+
+    fn write<O: Write>(load: &KeptLoad<'_, Journal<W>>, output: &mut O) -> Result<(), StreamFault> {
+        let Keepers { opening, clients } = &load.keepers;
+        write_history(load.alloc, opening, clients.as_slice(), output)
+    }
+}
+
+impl<W: Watch + Copy + Send + Drop> Transcript<W> for Ledger<W> {
+    ghost use Rattle.vac_attempts.specs.Known.{are_whole_ledgers};
+    ghost use Rattle.vac_cli.specs.Load.{WroteTried, WroteTriedInPart};
+
+    ghost wrote = { WroteTried };
+
+    ghost wrote_in_part = { WroteTriedInPart };
+
+    ghost are_whole = { λ k. are_whole_ledgers k.opening k.clients.items };
+
+    fn empty(alloc: Global, watch: W) -> Ledger<W> {
+        Ledger::new(alloc, watch)
+    }
+
+    fn are_whole(keepers: &Keepers<Ledger<W>>) -> bool {
+        vac_attempts::are_whole(&keepers.opening, keepers.clients.as_slice())
+    }
+
+    fn write<O: Write>(load: &KeptLoad<'_, Ledger<W>>, output: &mut O) -> Result<(), StreamFault> {
+        let (blocks, kept) = (load.settings.blocks, &load.keepers);
+        write_attempts(
+            load.alloc,
+            blocks,
+            &kept.opening,
+            kept.clients.as_slice(),
+            output,
+        )
+    }
+}
+
+/// The empty keepers of a load of `count` clients, with one clock and one start.
+fn empty_keepers<'a, T: Clock, K: Transcript<Since<'a, T>> + Drop>(
+    alloc: Global,
+    clock: &'a T,
+    count: u32,
+) -> Result<Keepers<K>, AllocError>
+    ensures number { IfOk result (λ keepers. vec_len keepers.clients ≡ count) }
+    ensures opening { IfOk result (λ keepers. K.notes keepers.opening ≡ Some []) }
+    ensures clients { IfOk result (λ keepers.
+        All (λ x. K.notes x ≡ Some []) keepers.clients.items) }
+{
+    let start = Instant::now(clock).ok();
+    let mut clients = Vec::with_capacity(alloc, count as usize)?;
+    for number in 0..count {
+        clients.push(K::empty(alloc, Since::new(clock, start)))?;
+    }
+    let opening = K::empty(alloc, Since::new(clock, start));
+    Ok(Keepers { opening, clients })
+}
+
+impl<'a, T: Threads + Wait + Clock + Sync + AllocGlobal> AskedLoad<'a, T> {
+    /// Runs the load, writes the history of its calls, and returns the status.
+    pub(crate) fn note<W: Write, E: Write + Send>(&self, output: &mut W, errors: &mut E) -> u8
+        ensures { Loads true result self.now.settings.now
+            (W.contents output.old) (W.contents output.new) }
+    {
+        let (clock, count) = (self.rt, self.settings.clients);
+        let keepers = empty_keepers::<T, Journal<Since<'a, T>>>(clock.alloc(), clock, count);
+        self.keep(keepers, output, errors)
+    }
+
+    /// Runs the load, writes the attempts of its calls, and returns the status.
+    pub(crate) fn trace<W: Write, E: Write + Send>(&self, output: &mut W, errors: &mut E) -> u8
+        ensures { Tries result self.now.settings.now
+            (W.contents output.old) (W.contents output.new) }
+    {
+        let (clock, count) = (self.rt, self.settings.clients);
+        let keepers = empty_keepers::<T, Ledger<Since<'a, T>>>(clock.alloc(), clock, count);
+        self.keep(keepers, output, errors)
+    }
+
+    /// Runs the load, writes its calls by what kept them, and its two lines to `errors`, and
+    /// returns the status. Where there was no room for all that was to be kept, the load ends with
+    /// the fault of refused memory.
+    fn keep<K: Transcript<Since<'a, T>> + Send + Drop, W: Write, E: Write + Send>(
+        &self,
+        keepers: Result<Keepers<K>, AllocError>,
+        output: &mut W,
+        errors: &mut E,
+    ) -> u8
+        requires number { IfOk keepers (λ k. vec_len k.clients ≡ self.now.settings.now.clients) }
+        requires opening { IfOk keepers (λ k. K.notes k.opening ≡ Some []) }
+        requires clients { IfOk keepers (λ k. All (λ x. K.notes x ≡ Some []) k.clients.items) }
+        ensures { EndsKept K.wrote K.wrote_in_part result self.now.settings.now
+            (W.contents output.old) (W.contents output.new) }
+    {
+        if !self.settings.is_in_range() {
+            return end_by_settings(self.rt.alloc(), self.settings, output, errors);
+        }
+        let alloc = self.rt.alloc();
+        let Ok(empty) = keepers else {
+            return end_load_by(LoadFault::Memory, output);
+        };
+        let span = Span::new(self.rt, self.settings.clients);
+        let (report, efforts, keepers) = match run_told(
+            self.rt,
+            self.settings,
+            self.how,
+            empty,
+            &span,
+            errors,
+        ) {
+            Ok(loaded) => loaded,
+            Err(fault) => return end_load_by(fault, output),
+        };
+        if !K::are_whole(&keepers) {
+            return end_load_by(LoadFault::Memory, output);
+        }
+        if self.how.stats {
+            tell_stats(alloc, span.nanos(), report.tally.answered, efforts, errors);
+        }
+        tell_load(alloc, &report, errors);
+        let settings = self.settings;
+        let load = KeptLoad {
+            alloc,
+            settings,
+            keepers,
+        };
+        end_done(K::write(&load, output), output)
+    }
+}
