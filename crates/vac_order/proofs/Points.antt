@@ -275,7 +275,8 @@ told_next state calls point from (Some p) t s = record {
 }
 
 -- what making the call at a place leads to, from a point
-pub point_not : {M : Type 0} (state : M → State) (calls : Calls) (point : Point M) (p : ℕ) (line : Line) (made : M × Reply)
+pub point_not : {M : Type 0} (state : M → State) (calls : Calls) (point : Point M) (p : ℕ) (line : Line)
+    (made : M × Reply)
     → p < length calls.lines.items → line ≡ get_or calls.lines.items p line
     → RunsTo state calls point p made → is_right (given_text line.reply) made.1 ≡ false →
     LedTo (point_views state calls) point p None
@@ -283,7 +284,8 @@ point_not state calls point p line made l e ran w =
     led_not (state point.machine) calls.lines.items p line (state made.0) made.1 l e
     (sym (ap (λ (c : Call). run (state point.machine) c.task) (call_here calls.lines.items p line l e)) ∙ ran) w
 
-pub point_on : {M : Type 0} (state : M → State) (calls : Calls) (point next : Point M) (low : ℕ) (beyond : List ℕ) (p : ℕ)
+pub point_on : {M : Type 0} (state : M → State) (calls : Calls) (point next : Point M) (low : ℕ) (beyond : List ℕ)
+    (p : ℕ)
     (line : Line) (reply : Reply) → point.low ≡ low → point.beyond.items ≡ beyond
     → p < length calls.lines.items → line ≡ get_or calls.lines.items p line
     → RunsTo state calls point p (next.machine, reply) → is_right (given_text line.reply) reply ≡ true →

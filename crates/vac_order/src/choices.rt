@@ -283,6 +283,7 @@ impl<M: Machine + Drop> QuickSearch<M> {
             return self.decide(alloc, lines, layout, rivals.as_slice());
         }
         if self.attempt(alloc, lines, low)? {
+            // (these looks are counted)
             self.may_look();
             return Ok(Some(low));
         }

@@ -3,7 +3,8 @@
 ghost use Rattle.std.specs.Prelude.{◌≡◌, ◌⊎◌, ◌==◌, [], ◌≤◌, ◌<◌, ℕ, IfOk, IfSome, length, take, true};
 ghost use Rattle.std.specs.List.{list_any};
 ghost use Rattle.vac_order.specs.Marks.{is_made};
-ghost use Rattle.vac_order.specs.Calls.{calls_of, given_text, are_sorted, rest_of, can_come, TellsTry};
+ghost use Rattle.vac_order.specs.Calls.{calls_of, given_text, are_sorted, rest_of};
+ghost use Rattle.vac_order.specs.Calls.{can_come, TellsTry};
 ghost use Rattle.vac_order.specs.Configurations.{answered};
 ghost use Rattle.vac_order.specs.Views.{TellsLeft, LedTo};
 ghost use Rattle.vac_order.specs.Point.{point_views, RunsTo};

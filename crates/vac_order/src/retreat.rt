@@ -120,14 +120,14 @@ impl<M: Machine + Drop> QuickSearch<M> {
             return Ok(None);
         }
         let at = self.doubts[number].at;
-        let before = self.machine_after(lines, at)?;
-        let Some(next) = led_to(alloc, before.as_ref(), lines, pair.other)? else {
-            return Ok(None);
-        };
         let cut = self.cut_to(alloc, lines, layout, at)?;
         self.settled = self.settled.min(at);
         self.versions.keep_more();
-        self.machine = before;
+        self.make_again(lines)?;
+        let Some(next) = led_to(alloc, self.machine.as_ref(), lines, pair.other)? else {
+            self.put_back(alloc, lines, layout, cut)?;
+            return Ok(None);
+        };
         self.plan_again(alloc, &cut)?;
         self.cut = Some(cut);
         self.move_to(next)?;
@@ -174,10 +174,9 @@ impl<M: Machine + Drop> QuickSearch<M> {
                 break;
             }
         }
-        let length = self.path.len();
-        self.versions.cut(alloc, length)?;
+        self.versions.cut(alloc, self.path.len())?;
         self.versions.keep_more();
-        self.machine = self.machine_after(lines, length)?;
+        self.make_again(lines)?;
         Ok(Quick::On)
     }
 

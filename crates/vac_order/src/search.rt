@@ -238,24 +238,25 @@ impl<M: Machine + Drop> QuickSearch<M> {
         self.versions.forget(needed);
     }
 
-    /// The machine after so many of the calls that were made: they are made again from the last one
-    /// on that is kept.
-    pub(crate) fn machine_after(
-        &self,
-        lines: &[Line],
-        length: usize,
-    ) -> Result<Option<M>, AllocError> {
-        let Some(Version { at, mut machine }) = self.versions.last(length)? else {
-            return Ok(None);
+    /// Takes the machine after all calls that were made: they are made again from the last one on
+    /// that is kept. Others are kept on the way, the nearer the denser. None is kept after more
+    /// calls than were made.
+    pub(crate) fn make_again(&mut self, lines: &[Line]) -> Result<(), AllocError> {
+        let length = self.path.len();
+        self.machine = None;
+        let Some(Version { at, mut machine }) = self.versions.last()? else {
+            return Ok(());
         };
         'again: for number in at..length {
+            self.versions.keep_halfway(number, length, &machine)?;
             if self.path.len() <= number || lines.len() <= self.path[number].place {
-                return Ok(None);
+                return Ok(());
             }
             let (next, _) = machine.made(&lines[self.path[number].place].task)?;
             machine = next;
         }
-        Ok(Some(machine))
+        self.machine = Some(machine);
+        Ok(())
     }
 
     /// Makes the call at a place in the machine, where it gives its reply there.
@@ -274,7 +275,7 @@ impl<M: Machine + Drop> QuickSearch<M> {
             return Ok(true);
         }
         self.versions.keep_more();
-        self.machine = self.machine_after(lines, self.path.len())?;
+        self.make_again(lines)?;
         Ok(false)
     }
 

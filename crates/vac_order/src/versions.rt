@@ -7,6 +7,9 @@ use std::collections::VecDeque;
 /// After how many calls the next machine is kept, at most.
 const MOST_STRIDE: usize = 4_096;
 
+/// How many machines are kept at most.
+const MOST_KEPT: usize = 8_192;
+
 /// A machine, and how many calls were made before it.
 #[derive(Drop)]
 pub(crate) struct Version<M> {
@@ -40,12 +43,51 @@ impl<M: Machine + Drop> Versions<M> {
         }
     }
 
+    /// Drops every second machine, but not the first.
+    fn thin(&mut self) -> Result<(), AllocError> {
+        'kept: for number in 0..self.kept.len() {
+            if let Some(version) = self.kept.pop_front()
+                && number % 2 == 0
+            {
+                self.kept.push_back(version)?;
+            }
+        }
+        Ok(())
+    }
+
+    /// Keeps the machine after so many calls.
+    fn push(&mut self, at: usize, machine: &M) -> Result<(), AllocError> {
+        let machine = machine.copy()?;
+        self.kept.push_back(Version { at, machine })?;
+        if MOST_KEPT < self.kept.len() {
+            self.thin()?;
+        }
+        Ok(())
+    }
+
     /// Keeps the machine after so many calls, where it is time to.
     pub(crate) fn keep(&mut self, at: usize, machine: &M) -> Result<(), AllocError> {
         if self.is_due(at) {
-            let machine = machine.copy()?;
-            self.kept.push_back(Version { at, machine })?;
+            self.push(at, machine)?;
             self.stride = self.stride.saturating_mul(2).min(MOST_STRIDE);
+        }
+        Ok(())
+    }
+
+    /// Keeps the machine after so many calls of `length`, where at least as many were made since
+    /// the last one that is kept as are left.
+    pub(crate) fn keep_halfway(
+        &mut self,
+        at: usize,
+        length: usize,
+        machine: &M,
+    ) -> Result<(), AllocError> {
+        let since = match self.kept.back() {
+            Some(last) => at.saturating_sub(last.at),
+            None => 0,
+        };
+        if since != 0 && length.saturating_sub(at) <= since {
+            self.push(at, machine)?;
         }
         Ok(())
     }
@@ -55,20 +97,15 @@ impl<M: Machine + Drop> Versions<M> {
         self.stride = 1;
     }
 
-    /// A copy of the last machine that is kept after so many calls or fewer.
-    pub(crate) fn last(&self, at: usize) -> Result<Option<Version<M>>, AllocError> {
-        let count = self.kept.len();
-        'kept: for back in 0..count {
-            if let Some(version) = self.kept.get(count - 1 - back)
-                && version.at <= at
-            {
-                return Ok(Some(Version {
-                    at: version.at,
-                    machine: version.machine.copy()?,
-                }));
-            }
+    /// A copy of the last machine that is kept.
+    pub(crate) fn last(&self) -> Result<Option<Version<M>>, AllocError> {
+        match self.kept.back() {
+            Some(last) => Ok(Some(Version {
+                at: last.at,
+                machine: last.machine.copy()?,
+            })),
+            None => Ok(None),
         }
-        Ok(None)
     }
 
     /// Forgets the machines that are not needed to go back to so many calls or more.

@@ -18,6 +18,7 @@ returns g c = λ point low beyond ran.
     let is : line ≡ get_or lines c.args.place line = c.index-as_slice-place.is ∙
     ap (λ ls. get_or ls c.args.place line) c.as_slice.ensures in
     point_on g.M.Machine.state c.args.calls.now point
-    (record { low = c.in_ok-low.low; beyond = c.in_ok-low.beyond; machine = c.args.made.0 }) c.args.low c.args.beyond.now c.args.place line
+    (record { low = c.in_ok-low.low; beyond = c.in_ok-low.beyond; machine = c.args.made.0 }) c.args.low
+    c.args.beyond.now c.args.place line
     c.args.made.1 low beyond c.requires.within is ran (sym c.in_ok-is_right.ensures ∙ c.if-not-branch.false)
     c.requires.can c.in_ok-low.ensures

@@ -13,5 +13,6 @@ returns g c =
     let is : line ≡ get_or lines c.args.place line = c.index-as_slice-place.is ∙
     ap (λ ls. get_or ls c.args.place line) c.as_slice.ensures in
     c.in_ok-next.ensures self refl (sym c.as_slice-2.ensures.value)
-    (ap (λ (a : Call). run (g.M.Machine.state self.machine) a.task) (call_here lines c.args.place line c.requires.within is)
+    (ap (λ (a : Call). run (g.M.Machine.state self.machine) a.task)
+    (call_here lines c.args.place line c.requires.within is)
     ∙ ap (λ (l : Line). run (g.M.Machine.state self.machine) l.task) c.index-as_slice-place.is ∙ c.in_ok-made.ensures)
