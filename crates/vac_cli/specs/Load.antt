@@ -161,6 +161,7 @@ pub record WroteCallsInPart (s : Settings) (held holds : Option (List ℕ)) : Ty
 -- at which place it is; that a stamp is a reading of the clock, and each client's are in turn.
 -- `vacation opaque` judges it.
 -- Not said: that the lines are read by it.
+-- Not said: that nothing was left out because a ledger had no room for it.
 pub record WroteTried (s : Settings) (held holds : Option (List ℕ)) : Type 0 where
   pub opening : Page
   pub clients : List Page

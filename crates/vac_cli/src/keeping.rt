@@ -138,7 +138,9 @@ fn empty_keepers<'a, T: Clock, K: Transcript<Since<'a, T>> + Drop>(
 }
 
 impl<'a, T: Threads + Wait + Clock + Sync + AllocGlobal> AskedLoad<'a, T> {
-    /// Runs the load, writes the history of its calls, and returns the status.
+    /// Runs the load, writes the history of its calls, its two lines to `errors`, and returns the
+    /// status. A call for which a journal had no room was not made, and the load then ends with the
+    /// fault of refused memory.
     pub(crate) fn note<W: Write, E: Write + Send>(&self, output: &mut W, errors: &mut E) -> u8
         ensures { Loads true result self.now.settings.now
             (W.contents output.old) (W.contents output.new) }
@@ -148,7 +150,9 @@ impl<'a, T: Threads + Wait + Clock + Sync + AllocGlobal> AskedLoad<'a, T> {
         self.keep(keepers, output, errors)
     }
 
-    /// Runs the load, writes the attempts of its calls, and returns the status.
+    /// Runs the load, writes the attempts of its calls, its two lines to `errors`, and returns the
+    /// status. Where there was no room for a call, for an attempt, or for what it read and wrote,
+    /// the load ends with the fault of refused memory.
     pub(crate) fn trace<W: Write, E: Write + Send>(&self, output: &mut W, errors: &mut E) -> u8
         ensures { Tries result self.now.settings.now
             (W.contents output.old) (W.contents output.new) }

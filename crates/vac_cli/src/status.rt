@@ -32,7 +32,7 @@ fn write_last<W: Write>(line: &[u8], output: &mut W)
     let _ = write_and_flush(output, line);
 }
 
-/// Writes the last line of a program that met a fault, and returns its status.
+/// Writes this line, the last of a program that met a fault, and returns its status.
 fn end_with<W: Write>(line: &[u8], output: &mut W) -> u8
     ensures status { result ≡ 1 }
     ensures line { AppendsPrefix (W.contents output.old) (W.contents output.new) line.now }
