@@ -5,7 +5,6 @@ ghost use Rattle.vac_attempts.specs.Noted.{all_noted};
 
 use crate::trail::Trail;
 use std::alloc::{AllocError, Global};
-use std::mem;
 use vac_history::{Journal, Watch};
 use vac_manager::{Keep, Placed};
 use vac_model::Task;
@@ -14,8 +13,6 @@ use vac_model::Task;
 /// that were given up.
 #[derive(Drop)]
 pub struct Ledger<W> {
-    alloc: Global,
-    watch: W,
     journal: Journal<W>,
     trail: Trail<W>,
     /// Whether each call that is kept has its attempt.
@@ -34,8 +31,6 @@ impl<W: Watch + Copy + Drop> Ledger<W> {
         ensures whole { is_whole_ledger result ≡ true }
     {
         Ledger {
-            alloc,
-            watch,
             journal: Journal::new(alloc, watch),
             trail: Trail::new(alloc, watch),
             is_whole: true,
@@ -81,7 +76,7 @@ impl<W: Watch + Copy + Send + Drop> Keep for Ledger<W> {
     }
 
     fn lend(&mut self) -> Trail<W> {
-        mem::replace(&mut self.trail, Trail::new(self.alloc, self.watch))
+        self.trail.take()
     }
 
     fn take_back(&mut self, tracer: Trail<W>) {

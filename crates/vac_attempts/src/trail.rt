@@ -6,6 +6,7 @@ ghost use Rattle.vac_attempts.specs.Noted.{none_committed};
 use crate::accesses::Accesses;
 use crate::places::first_place;
 use std::alloc::{AllocError, Global};
+use std::mem;
 use stm_words::Version;
 use tx_alloc::FreeList;
 use tx_memory::{TxMem, TxRead};
@@ -116,6 +117,21 @@ impl<W: Watch> Trail<W> {
             place,
             accesses,
         })
+    }
+}
+
+impl<W: Watch + Copy> Trail<W> {
+    ghost use Rattle.std.specs.Prelude.{[], Some};
+    ghost use Rattle.vac_attempts.specs.Known.{ended_by};
+
+    /// Takes the trail, and leaves an empty one with the same watch.
+    pub(crate) fn take(&mut self) -> Trail<W>
+        ensures taken { result ≡ self.old }
+        ensures empty { ended_by self.new ≡ Some [] }
+        ensures watch { self.new.watch ≡ self.old.watch }
+    {
+        let empty = Trail::new(self.alloc, self.watch);
+        mem::replace(self, empty)
     }
 }
 
