@@ -7,10 +7,10 @@ ghost use Rattle.vac_judge.specs.Parts.{shown_call, shown_end, shown_reply};
 ghost use Rattle.vac_order.specs.Calls.{calls_of, given_text};
 ghost use Rattle.vac_order.specs.Reading.{IsHeld, IsLineOf, Took};
 
-use crate::ends::Ends;
 use crate::line::Line;
 use std::alloc::{AllocError, Global};
 use vac_judge::{Answer, CallLine, NEVER};
+use vac_spans::Ends;
 
 /// The calls that were read, in the order of their lines, and when each client's last ended.
 #[derive(Drop)]

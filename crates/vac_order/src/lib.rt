@@ -6,7 +6,6 @@ mod calls;
 mod checking;
 mod choices;
 mod doubts;
-mod ends;
 mod found;
 mod history;
 mod known;

@@ -7,9 +7,10 @@ use std::alloc::{AllocError, Global};
 use std::collections::BTreeMap;
 use std::marker::Model;
 
-/// The END of the last span of each client.
+/// The END of the last span of each client, by the client's number, or a time later than all where
+/// it never ended.
 #[derive(Drop)]
-pub(crate) struct Ends {
+pub struct Ends {
     entries: BTreeMap<u32, u128>,
 }
 
@@ -30,7 +31,8 @@ impl Model for Ends {
 }
 
 impl Ends {
-    pub(crate) fn new(alloc: Global) -> Self
+    /// No client.
+    pub fn new(alloc: Global) -> Self
         ensures { result ≡ map.empty }
     {
         Self {
@@ -39,20 +41,21 @@ impl Ends {
     }
 
     /// How many clients there are.
-    pub(crate) fn len(&self) -> u64
+    pub fn len(&self) -> u64
         ensures { result ≡ map.len self.now }
     {
         self.entries.len() as u64
     }
 
-    pub(crate) fn get(&self, client: u32) -> Option<u128>
+    /// The END of a client's last span.
+    pub fn get(&self, client: u32) -> Option<u128>
         ensures { result ≡ map.get self.now client }
     {
         self.entries.get(&client).copied()
     }
 
     /// Puts the END of a client's span in place of that of the one before.
-    pub(crate) fn insert(&mut self, client: u32, end: u128) -> Result<(), AllocError>
+    pub fn insert(&mut self, client: u32, end: u128) -> Result<(), AllocError>
         ensures { OnOk result (self.new ≡ map.insert self.old client end) }
     {
         self.entries.insert(client, end)?;

@@ -9,5 +9,6 @@ mod span;
 mod spans;
 
 pub use client::{MOST_CLIENT, read_client};
+pub use ends::Ends;
 pub use span::{Misplaced, Span};
 pub use spans::Spans;
