@@ -273,6 +273,10 @@ module _ {V : Type 0} where
   set_first m p o k z e = written (map_of p) (map_of (record p { value = o })) 0 (value_in o) (write_first p o) ∙
       ap (λ n. with_value n 0 (value_in o)) e ∙ ap (λ n. with_value m n (value_in o)) (sym z)
 
+  -- the map of a digit stands at 0
+  swapped_first : (k : Kids V) (d : ℕ) → d < 4 → (swapped k d).zero ≡ child_of k d
+  swapped_first k d l = by_digit (λ d. (swapped k d).zero ≡ child_of k d) refl refl refl refl d l
+
   -- a value at an id of a digit, or none
   pub set_child : (m : FinMap nat_cmp V) (p : Parts V) (t : Link V) (o : Option V) (k : ℕ) → k ≢ 0 → map_of p ≡ m
       → map_in t ≡ with_value (map_in (swapped p.kids ((k - 1) % 4)).zero) ((k - 1) / 4) o →
@@ -281,8 +285,7 @@ module _ {V : Type 0} where
   set_child m p t o k n e h =
       let d = (k - 1) % 4 in
       let q = (k - 1) / 4 in
-      let first : (swapped p.kids d).zero ≡ child_of p.kids d =
-      by_digit (λ d. (swapped p.kids d).zero ≡ child_of p.kids d) refl refl refl refl d (digit_less (k - 1)) in
+      let first : (swapped p.kids d).zero ≡ child_of p.kids d = swapped_first p.kids d (digit_less (k - 1)) in
       written (map_of p) (map_of (record p { kids = with_child p.kids d t })) (4 * q + 1 + d) o
       (write_child p t q d o (digit_less (k - 1)) (subst (λ n. Writes (map_in (child_of p.kids d)) n q o)
       (sym (h ∙ ap (λ (l : Link V). with_value (map_in l) q o) first)) (writes (map_in (child_of p.kids d)) q o)))
@@ -475,7 +478,7 @@ module _ {V : Type 0} where
       omega (arith, here, h)
 
   -- the numbers of a map after a value was put
-  pub counted_put : (f : V → ℕ) (m : FinMap nat_cmp V) (k : ℕ) (x : V) (len weight one old : ℕ) →
+  counted_put : (f : V → ℕ) (m : FinMap nat_cmp V) (k : ℕ) (x : V) (len weight one old : ℕ) →
       IsSummedUp f m len weight → EntryAdds f (fin.get m k) one old
       → (one ≤ len + 1) × (old ≤ weight + f x) × IsSummedUp f (fin.insert m k x) (len + 1 - one) (weight + f x - old)
   counted_put f m k x len weight one old c h =
@@ -498,7 +501,7 @@ module _ {V : Type 0} where
       ] refl h
 
   -- the same after a value was removed
-  pub counted_cut : (f : V → ℕ) (m : FinMap nat_cmp V) (k : ℕ) (len weight one old : ℕ) → IsSummedUp f m len weight →
+  counted_cut : (f : V → ℕ) (m : FinMap nat_cmp V) (k : ℕ) (len weight one old : ℕ) → IsSummedUp f m len weight →
       EntryAdds f (fin.get m k) one old
       → (one ≤ len) × (old ≤ weight) × IsSummedUp f (fin.remove m k) (len - one) (weight - old)
   counted_cut f m k len weight one old c h =
@@ -519,6 +522,24 @@ module _ {V : Type 0} where
             )
       ] refl h
 
+  -- the same after a change
+  pub counted_change : (f : V → ℕ) (m : FinMap nat_cmp V) (k : ℕ) (o : Option V) (len weight one old more new : ℕ) →
+      IsSummedUp f m len weight → EntryAdds f (fin.get m k) one old → EntryAdds f o more new
+      → (one ≤ len + more) × (old ≤ weight + new) ×
+      IsSummedUp f (with_value m k o) (len + more - one) (weight + new - old)
+  counted_change f m k None len weight one old more new c h a =
+      let cut = counted_cut f m k len weight one old c h in (
+        omega (arith, cut.0, a.0),
+        omega (arith, cut.1, a.1),
+        (omega (arith, cut.2.0, a.0), omega (arith, cut.2.1, a.1)),
+      )
+  counted_change f m k (Some x) len weight one old more new c h a =
+      let put = counted_put f m k x len weight one old c h in (
+        omega (arith, put.0, a.0),
+        omega (arith, put.1, a.1),
+        (omega (arith, put.2.0, a.0), omega (arith, put.2.1, a.1)),
+      )
+
   -- the value of an id above 0, by the digit's map
   pub get_kid : (m : FinMap nat_cmp V) (v : Option (Rc V Global)) (k : Kids V) (id : ℕ) → id ≢ 0 →
       m ≡ map_of (parts_of v k)
@@ -526,6 +547,13 @@ module _ {V : Type 0} where
   get_kid m v k id n e =
       sym (at_digit (parts_of v k) ((id - 1) % 4) ((id - 1) / 4) (digit_less (id - 1)))
       ∙ ap (fin.get (map_of (parts_of v k))) (id_parts id n) ∙ ap (λ w. fin.get w id) (sym e)
+
+  -- the same, where that map stands at 0
+  pub get_swapped : (p : Parts V) (m : FinMap nat_cmp V) (id : ℕ) → id ≢ 0 → map_of p ≡ m
+      → fin.get (map_in (swapped p.kids ((id - 1) % 4)).zero) ((id - 1) / 4) ≡ fin.get m id
+  get_swapped p m id n e =
+      ap (λ (l : Link V). fin.get (map_in l) ((id - 1) / 4)) (swapped_first p.kids ((id - 1) % 4) (digit_less (id - 1)))
+      ∙ get_kid m p.value p.kids id n (sym e)
 
   -- the value at 0
   pub get_first : (m : FinMap nat_cmp V) (v : Option (Rc V Global)) (k : Kids V) → m ≡ map_of (parts_of v k) →

@@ -85,6 +85,10 @@ module _ {V : Type 0} where
   with_value m id None = fin.remove m id
   with_value m id (Some x) = fin.insert m id x
 
+  -- the map after a change of what an id has
+  abbrev pub changed_at : (Option V → Option V) → Ids V → ℕ → Ids V
+  changed_at f m id = with_value m id (f (fin.get m id))
+
   -- one more than the depth of each digit's map
   abbrev pub depth_of : Kids V → ℕ
   depth_of k =

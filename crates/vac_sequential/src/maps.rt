@@ -2,12 +2,14 @@
 
 ghost use Rattle.std.specs.Prelude.{◌≡◌, ◌<◌, ◌^◌, IfSome, IfNone, IfOk, OnOk, OnErr, sum_by, [], ◌∷◌};
 ghost use Rattle.vac_model.specs.State.{bill_of, units_booked};
-ghost use Rattle.vac_sequential.specs.Tries.{EntryAdds, TellsSame};
+ghost use Rattle.vac_sequential.specs.Tries.{changed_at, TellsSame};
 ghost use Rattle.std.specs.Option.{option_copied};
 ghost use Rattle.std.specs.FinMap as map;
 ghost use Rattle.std.specs.BTreeMap as tree;
 
-use crate::tries::{Amount, Entry, Trie, cut, is_same, mixed, put, total};
+use crate::tries::{
+    Amount, Change, Changed, Cut, Entry, Put, Trie, change_in, is_same, mixed, rooted, total,
+};
 use std::alloc::{AllocError, Global};
 use std::collections::BTreeMap;
 use std::marker::Model;
@@ -38,14 +40,6 @@ impl<V: Entry> Model for IdMap<V> {
     ghost view = { λ m. map_at m.root };
 
     ghost invariant = { λ m. IsSummedUp V.weight (map_at m.root) m.len m.weight };
-}
-
-/// What one id adds to the sums of a map.
-#[derive(Clone, Copy)]
-struct Held {
-    len: u64,
-    weight: u64,
-    hash: u64,
 }
 
 impl<V: Entry> IdMap<V> {
@@ -88,24 +82,6 @@ impl<V: Entry> IdMap<V> {
         }
     }
 
-    /// What an id adds to the numbers of the map.
-    fn held(&self, id: u32) -> Held
-        ensures { EntryAdds V.weight (map.get self.now id) result.len result.weight }
-    {
-        match self.get(id) {
-            Some(value) => Held {
-                len: 1,
-                weight: value.weight(),
-                hash: mixed(id as u64, value.hash()),
-            },
-            None => Held {
-                len: 0,
-                weight: 0,
-                hash: 0,
-            },
-        }
-    }
-
     /// Whether two maps are the same.
     pub(crate) fn is_same(&self, other: &Self) -> bool
         ensures { TellsSame self.now other.now result }
@@ -129,62 +105,58 @@ impl<V: Entry + Drop> IdMap<V> {
         })
     }
 
-    /// The map with a value at an id.
-    fn with(self, id: u32, value: V) -> Result<Self, AllocError>
-        ensures { IfOk result (λ m. m ≡ map.insert self id value) }
+    /// The map after a change at an id.
+    fn changed<C: Change<V> + Drop>(self, id: u32, change: C) -> Result<Self, AllocError>
+        ensures { IfOk result (λ m. m ≡ changed_at (C.changed change) self id) }
     {
-        let held = self.held(id);
-        let hash = mixed(id as u64, value.hash());
-        let Some(len) = self.len.checked_add(1) else {
+        let root = rooted(self.alloc, self.root)?;
+        let Changed {
+            link,
+            before,
+            after,
+        } = change_in(self.alloc, root, id, change)?;
+        let Some(len) = self.len.checked_add(after.len) else {
             return Err(AllocError);
         };
-        let Some(weight) = self.weight.checked_add(value.weight()) else {
+        let Some(weight) = self.weight.checked_add(after.weight) else {
             return Err(AllocError);
         };
-        let value = Rc::new(self.alloc, value)?;
-        let root = put(self.alloc, self.root, id, value)?;
+        let hash = self.hash.wrapping_sub(before.hash(id));
         Ok(Self {
             alloc: self.alloc,
-            root,
-            len: len - held.len,
-            weight: weight - held.weight,
-            hash: self.hash.wrapping_sub(held.hash).wrapping_add(hash),
+            root: Some(link),
+            len: len - before.len,
+            weight: weight - before.weight,
+            hash: hash.wrapping_add(after.hash(id)),
         })
     }
 
-    /// The map without the value of an id.
-    fn without(self, id: u32) -> Result<Self, AllocError>
-        ensures { IfOk result (λ m. m ≡ map.remove self id) }
+    /// Changes what an id has. Nodes that no copy shares are changed in place, the others copied.
+    pub(crate) fn change<C: Change<V> + Drop>(
+        &mut self,
+        id: u32,
+        change: C,
+    ) -> Result<(), AllocError>
+        ensures { OnOk result (self.new ≡ changed_at (C.changed change) self.old id) }
     {
-        let held = self.held(id);
-        let root = cut(self.alloc, self.root, id)?;
-        Ok(Self {
-            alloc: self.alloc,
-            root,
-            len: self.len - held.len,
-            weight: self.weight - held.weight,
-            hash: self.hash.wrapping_sub(held.hash),
-        })
+        let alloc = self.alloc;
+        let map = replace(self, Self::new(alloc));
+        *self = map.changed(id, change)?;
+        Ok(())
     }
 
-    /// Puts a value at an id. Nodes that no copy shares are taken over, the others shared.
+    /// Puts a value at an id.
     pub(crate) fn insert(&mut self, id: u32, value: V) -> Result<(), AllocError>
         ensures { OnOk result (self.new ≡ map.insert self.old id value) }
     {
-        let alloc = self.alloc;
-        let map = replace(self, Self::new(alloc));
-        *self = map.with(id, value)?;
-        Ok(())
+        self.change(id, Put { value })
     }
 
-    /// Removes the value of an id. Nodes that no copy shares are taken over, the others shared.
+    /// Removes the value of an id.
     pub(crate) fn remove(&mut self, id: u32) -> Result<(), AllocError>
         ensures { OnOk result (self.new ≡ map.remove self.old id) }
     {
-        let alloc = self.alloc;
-        let map = replace(self, Self::new(alloc));
-        *self = map.without(id)?;
-        Ok(())
+        self.change(id, Cut {})
     }
 }
 

@@ -1,16 +1,17 @@
 //! Finite maps of ids that share what they have in common: a trie of four ways, by the digits of an
-//! id from the last. A change makes the nodes on the way to the id anew, each from the parts of the
-//! old one where nothing else holds it, and else from parts that it shares; all others stay as they
-//! are. No node with maps of digits is without an entry, so the shape of a map depends on its
+//! id from the last. A change goes down once: a node on the way to the id is changed in its place
+//! where nothing else holds it, and else made anew from parts that it shares; all others stay as
+//! they are. No node with maps of digits is without an entry, so the shape of a map depends on its
 //! entries alone.
 
-ghost use Rattle.std.specs.Prelude.{◌≡◌, ◌≢◌, ◌<◌, ◌^◌, ℕ, None, IfOk, MatchOption, sum_by};
+ghost use Rattle.std.specs.Prelude.{◌≡◌, ◌≢◌, ◌<◌, ◌^◌, ℕ, Option, None, Some, IfOk, MatchOption, sum_by};
 ghost use Rattle.std.specs.Option.{option_copied};
 ghost use Rattle.std.specs.FinMap as map;
-ghost use Rattle.vac_sequential.specs.Tries.{map_in, map_at, value_in, map_of, parts_of, child_of, swapped, with_value, Shows, TellsEmpty, TellsSame};
+ghost use Rattle.vac_sequential.specs.Tries.{map_in, map_at, value_in, map_of, parts_of, child_of, swapped, changed_at, EntryAdds, Shows, TellsEmpty, TellsSame};
 
 use std::alloc::{AllocError, Global};
 use std::marker::Model;
+use std::mem::replace;
 use std::rc::Rc;
 
 /// What a map has as a value.
@@ -240,23 +241,72 @@ fn shared<V: Drop>(value: Option<&Rc<V>>) -> Result<Option<Rc<V>>, AllocError>
     }
 }
 
-/// The parts of a map: its own where nothing else holds it, and else shared.
-fn open<V: Drop>(link: Rc<Trie<V>>) -> Result<Parts<V>, AllocError>
-    ensures { IfOk result (λ p. map_of p ≡ map_in link) }
+/// Takes a map out of its place where nothing else holds it, and leaves none there.
+fn take_own<V: Drop>(link: &mut Rc<Trie<V>>) -> Option<Trie<V>>
+    ensures { MatchOption result (link.new.value ≡ link.old.value) (λ t. t ≡ link.old.value) }
 {
-    if link.is_empty() {
-        return share(&link);
-    }
-    match Rc::try_unwrap(link) {
-        Ok(trie) => Ok(trie.into_parts()),
-        Err(link) => share(&link),
+    match Rc::get_mut(link) {
+        Some(trie) => Some(replace(trie, Trie { node: Node::Empty })),
+        None => None,
     }
 }
 
-/// The map of these parts.
-fn join<V: Drop>(alloc: Global, parts: Parts<V>) -> Result<Rc<Trie<V>>, AllocError>
-    ensures { IfOk result (λ t. map_in t ≡ map_of parts) }
+/// A map that was opened: its parts, its own with the place of its node where nothing else holds
+/// it, and else shared.
+#[derive(Drop)]
+struct Opened<V> {
+    place: Option<Rc<Trie<V>>>,
+    parts: Parts<V>,
+}
+
+/// Opens a map.
+fn open<V: Drop>(link: Rc<Trie<V>>) -> Result<Opened<V>, AllocError>
+    ensures { IfOk result (λ o. map_of o.parts ≡ map_in link) }
 {
+    let mut link = link;
+    if !link.is_empty() {
+        if let Some(trie) = take_own(&mut link) {
+            return Ok(Opened {
+                place: Some(link),
+                parts: trie.into_parts(),
+            });
+        }
+    }
+    let parts = share(&link)?;
+    Ok(Opened { place: None, parts })
+}
+
+/// Writes a value where nothing else holds the place, and else gives it back.
+fn write<T: Drop>(place: &mut Rc<T>, value: T) -> Option<T>
+    ensures { MatchOption result (place.new.value ≡ value) (λ back. back ≡ value) }
+{
+    match Rc::get_mut(place) {
+        Some(old) => {
+            *old = value;
+            None
+        }
+        None => Some(value),
+    }
+}
+
+/// A place with a value: the one given where nothing else holds it, and else a new one.
+fn placed<T: Drop>(alloc: Global, place: Option<Rc<T>>, value: T) -> Result<Rc<T>, AllocError>
+    ensures { IfOk result (λ made. made.value ≡ value) }
+{
+    let Some(mut place) = place else {
+        return Ok(Rc::new(alloc, value)?);
+    };
+    match write(&mut place, value) {
+        None => Ok(place),
+        Some(value) => Ok(Rc::new(alloc, value)?),
+    }
+}
+
+/// The map of what was opened.
+fn join<V: Drop>(alloc: Global, opened: Opened<V>) -> Result<Rc<Trie<V>>, AllocError>
+    ensures { IfOk result (λ t. map_in t ≡ map_of opened.parts) }
+{
+    let Opened { place, parts } = opened;
     if parts.is_empty() {
         let kids = parts.kids;
         return Ok(kids.zero);
@@ -266,31 +316,142 @@ fn join<V: Drop>(alloc: Global, parts: Parts<V>) -> Result<Rc<Trie<V>>, AllocErr
         None => Node::Bare(kids),
         Some(value) => Node::Full(value, kids),
     };
-    Ok(Rc::new(alloc, Trie { node })?)
+    let made = placed(alloc, place, Trie { node })?;
+    Ok(made)
 }
 
-/// The map in which an id has this value, or none.
-fn set_in<V: Drop>(
+/// What one id adds to the numbers of a map.
+#[derive(Clone, Copy)]
+pub(crate) struct Held {
+    pub(crate) len: u64,
+    pub(crate) weight: u64,
+    hash: u64,
+}
+
+impl Held {
+    /// The hash of the entry of an id, or 0 where there is none.
+    pub(crate) fn hash(self, id: u32) -> u64 {
+        if self.len == 0 {
+            return 0;
+        }
+        mixed(id as u64, self.hash)
+    }
+}
+
+/// What a value adds, or none.
+fn weigh<V: Entry>(value: &Option<Rc<V>>) -> Held
+    ensures { EntryAdds V.weight (value_in value.now) result.len result.weight }
+{
+    match value {
+        Some(value) => Held {
+            len: 1,
+            weight: value.weight(),
+            hash: value.hash(),
+        },
+        None => Held {
+            len: 0,
+            weight: 0,
+            hash: 0,
+        },
+    }
+}
+
+/// What is made of the value of an id, or of none.
+pub(crate) trait Change<V>: Sized {
+    ghost changed: { Self → Option V → Option V };
+
+    fn change(self, alloc: Global, value: Option<Rc<V>>) -> Result<Option<Rc<V>>, AllocError>
+        ensures { IfOk result (λ made. value_in made ≡ changed self (value_in value)) };
+}
+
+/// A value is put.
+#[derive(Drop)]
+pub(crate) struct Put<V> {
+    pub(crate) value: V,
+}
+
+impl<V: Drop> Change<V> for Put<V> {
+    ghost changed = { λ put _. Some put.value };
+
+    fn change(self, alloc: Global, value: Option<Rc<V>>) -> Result<Option<Rc<V>>, AllocError>
+        ensures { IfOk result (λ made. value_in made ≡ Some self.value) }
+    {
+        let Put { value: made } = self;
+        let made = placed(alloc, value, made)?;
+        Ok(Some(made))
+    }
+}
+
+/// The value is removed.
+#[derive(Drop)]
+pub(crate) struct Cut {}
+
+impl<V: Drop> Change<V> for Cut {
+    ghost changed = { λ _ _. None };
+
+    fn change(self, _alloc: Global, _value: Option<Rc<V>>) -> Result<Option<Rc<V>>, AllocError>
+        ensures { IfOk result (λ made. value_in made ≡ None) }
+    {
+        Ok(None)
+    }
+}
+
+/// A map after a change, and what the id added before it and adds after it.
+#[derive(Drop)]
+pub(crate) struct Changed<V> {
+    pub(crate) link: Rc<Trie<V>>,
+    pub(crate) before: Held,
+    pub(crate) after: Held,
+}
+
+/// The map after a change at an id.
+pub(crate) fn change_in<V: Entry + Drop, C: Change<V> + Drop>(
     alloc: Global,
     link: Rc<Trie<V>>,
     id: u32,
-    value: Option<Rc<V>>,
-) -> Result<Rc<Trie<V>>, AllocError>
-    ensures { IfOk result (λ t. map_in t ≡ with_value (map_in link) id (value_in value)) }
+    change: C,
+) -> Result<Changed<V>, AllocError>
+    ensures map { IfOk result
+        (λ made. map_in made.link ≡ changed_at (C.changed change) (map_in link) id) }
+    ensures before { IfOk result (λ made.
+        EntryAdds V.weight (map.get (map_in link) id) made.before.len made.before.weight) }
+    ensures after { IfOk result (λ made.
+        EntryAdds V.weight (C.changed change (map.get (map_in link) id))
+        made.after.len made.after.weight) }
 {
-    let Parts { value: first, kids } = open(link)?;
+    let Opened { place, parts } = open(link)?;
+    let Parts { value: first, kids } = parts;
     if id == 0 {
-        return join(alloc, Parts { value, kids });
+        let before = weigh(&first);
+        let value = change.change(alloc, first)?;
+        let after = weigh(&value);
+        let parts = Parts { value, kids };
+        let link = join(alloc, Opened { place, parts })?;
+        return Ok(Changed {
+            link,
+            before,
+            after,
+        });
     }
     let digit = (id - 1) % 4;
     let kids = kids.swapped(digit);
-    let zero = set_in(alloc, kids.zero, (id - 1) / 4, value)?;
+    let child = change_in(alloc, kids.zero, (id - 1) / 4, change)?;
+    let Changed {
+        link: zero,
+        before,
+        after,
+    } = child;
     let kids = Kids { zero, ..kids };
     let parts = Parts {
         value: first,
         kids: kids.swapped(digit),
     };
-    join(alloc, parts)
+    let link = join(alloc, Opened { place, parts })?;
+    Ok(Changed {
+        link,
+        before,
+        after,
+    })
 }
 
 /// What is added up over the values of a map.
@@ -359,33 +520,16 @@ fn is_same_in<V: Entry>(a: &Rc<Trie<V>>, b: &Rc<Trie<V>>) -> bool
     is_same_in(&p.three, &q.three)
 }
 
-/// The map at a root in which an id has this value.
-pub(crate) fn put<V: Drop>(
+/// The map at a root, which is made where there is none.
+pub(crate) fn rooted<V: Drop>(
     alloc: Global,
     root: Option<Rc<Trie<V>>>,
-    id: u32,
-    value: Rc<V>,
-) -> Result<Option<Rc<Trie<V>>>, AllocError>
-    ensures { IfOk result (λ t. map_at t ≡ map.insert (map_at root) id value.value) }
-{
-    let link = match root {
-        Some(link) => link,
-        None => Rc::new(alloc, Trie { node: Node::Empty })?,
-    };
-    Ok(Some(set_in(alloc, link, id, Some(value))?))
-}
-
-/// The map at a root in which an id has no value.
-pub(crate) fn cut<V: Drop>(
-    alloc: Global,
-    root: Option<Rc<Trie<V>>>,
-    id: u32,
-) -> Result<Option<Rc<Trie<V>>>, AllocError>
-    ensures { IfOk result (λ t. map_at t ≡ map.remove (map_at root) id) }
+) -> Result<Rc<Trie<V>>, AllocError>
+    ensures { IfOk result (λ t. map_in t ≡ map_at root) }
 {
     match root {
-        Some(link) => Ok(Some(set_in(alloc, link, id, None)?)),
-        None => Ok(None),
+        Some(link) => Ok(link),
+        None => Ok(Rc::new(alloc, Trie { node: Node::Empty })?),
     }
 }
 
