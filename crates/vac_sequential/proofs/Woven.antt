@@ -1,10 +1,10 @@
 -- A map by its parts.
 use Rattle.std.proofs.Common.{◌≡◌, ◌≢◌, ◌⊎◌, inl, inr, ℕ, zero, suc, ◌+◌, ◌-◌, ◌*◌, ◌/◌, ◌%◌, ◌==◌, ◌<◌, ◌≤◌, Bool}
-use Rattle.std.proofs.Common.{true, false, cond, List, [], ◌∷◌, ◌++◌, Option, Some, None, Result, Ok, Err, IfOk}
+use Rattle.std.proofs.Common.{true, false, cond, List, [], ◌∷◌, ◌++◌, Option, Some, None, Result, Ok, Err, IfOk, IfSome}
 use Rattle.std.proofs.Common.{is_some, refl, ap, sym, subst, ◌∙◌, arith}
 use Rattle.std.proofs.lemmas.Bool.Decides.{nat_tests}
 use Rattle.std.specs.Prelude.{T, sum_by, map}
-use Rattle.std.specs.Option.{option_map_or}
+use Rattle.std.specs.Option.{option_map_or, option_map}
 use Rattle.std.specs.Ordering.{nat_cmp, eq_by_cmp}
 use Rattle.std.specs.Cmp.{nat_cmp_total, unsigned_tied, unsigned_ties}
 use Rattle.std.specs.FinMap as fin
@@ -571,6 +571,11 @@ module _ {V : Type 0} where
       (depth_in k.two < depth_of k) × (depth_in k.three < depth_of k)
   kid_depths k = (grind arith, grind arith, grind arith, grind arith)
 
-  -- what is not there is not removed
-  pub none_removed : (k : ℕ) → fin.empty ≡ fin.remove (fin.empty {X = V} {R = nat_cmp}) k
-  none_removed k = sym (remove_missing nat_cmp_total nat_cmp-IsAntisymmetric fin.empty k (fin.get-empty nat_cmp k))
+  -- a change of a value that is there
+  pub changed_there : (m n : FinMap nat_cmp V) (k : ℕ) (f : V → V) → n ≡ with_value m k (option_map f (fin.get m k))
+      → IfSome (fin.get m k) (λ x. n ≡ fin.insert m k (f x))
+  changed_there m n k f =
+      elim (fin.get m k) as (λ o. n ≡ with_value m k (option_map f o) → IfSome o (λ x. n ≡ fin.insert m k (f x))) [
+        | None ↦ λ e. tt
+        | Some x ↦ λ e. e
+      ]

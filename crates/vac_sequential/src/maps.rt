@@ -1,9 +1,9 @@
 //! Maps of the plain manager, which contracts see as finite maps.
 
-ghost use Rattle.std.specs.Prelude.{◌≡◌, ◌<◌, ◌^◌, IfSome, IfNone, IfOk, OnOk, OnErr, sum_by, [], ◌∷◌};
+ghost use Rattle.std.specs.Prelude.{◌≡◌, ◌<◌, ◌^◌, IfSome, IfNone, IfOk, OnOk, OnErr, MatchOption, sum_by, [], ◌∷◌};
 ghost use Rattle.vac_model.specs.State.{bill_of, units_booked};
-ghost use Rattle.vac_sequential.specs.Tries.{changed_at, TellsSame};
-ghost use Rattle.std.specs.Option.{option_copied};
+ghost use Rattle.vac_sequential.specs.Tries.{changed_at, value_in, TellsSame};
+ghost use Rattle.std.specs.Option.{option_copied, option_map};
 ghost use Rattle.std.specs.FinMap as map;
 ghost use Rattle.std.specs.BTreeMap as tree;
 
@@ -76,8 +76,18 @@ impl<V: Entry> IdMap<V> {
     pub(crate) fn get(&self, id: u32) -> Option<&V>
         ensures { option_copied result ≡ map.get self.now id }
     {
+        match self.find(id) {
+            Some(value) => Some(value),
+            None => None,
+        }
+    }
+
+    /// The value of an id, where it stands.
+    fn find(&self, id: u32) -> Option<&Rc<V>>
+        ensures { value_in (option_copied result) ≡ map.get self.now id }
+    {
         match &self.root {
-            Some(trie) => trie.get(id),
+            Some(trie) => trie.find(id),
             None => None,
         }
     }
@@ -164,6 +174,7 @@ impl<V: Entry + Drop> IdMap<V> {
 #[derive(Drop)]
 pub(crate) struct BookingMap {
     entries: BTreeMap<(Kind, u32), Booking>,
+    hash: u64,
 }
 
 impl Model for BookingMap {
@@ -187,6 +198,7 @@ impl BookingMap {
     {
         Self {
             entries: BTreeMap::new(alloc),
+            hash: 0,
         }
     }
 
@@ -207,14 +219,17 @@ impl BookingMap {
         ensures ok { OnOk result (self.new ≡ map.insert self.old (kind, id) booking) }
         ensures err { OnErr result (self.new ≡ self.old) }
     {
-        self.entries.insert((kind, id), booking)?;
+        let old = self.entries.insert((kind, id), booking)?;
+        let rest = self.hash.wrapping_sub(booking_hash(kind, id, old));
+        self.hash = rest.wrapping_add(booking_hash(kind, id, Some(booking)));
         Ok(())
     }
 
     pub(crate) fn remove(&mut self, kind: Kind, id: u32)
         ensures { self.new ≡ map.remove self.old (kind, id) }
     {
-        self.entries.remove(&(kind, id));
+        let old = self.entries.remove(&(kind, id));
+        self.hash = self.hash.wrapping_sub(booking_hash(kind, id, old));
     }
 
     /// Takes the first booking out.
@@ -222,7 +237,9 @@ impl BookingMap {
         ensures some { IfSome result (λ b. map.entries self.old ≡ b ∷ map.entries self.new) }
         ensures none { IfNone result (map.entries self.old ≡ []) }
     {
-        self.entries.pop_first()
+        let first = self.entries.pop_first();
+        self.hash = self.hash.wrapping_sub(entry_hash(first));
+        first
     }
 }
 
@@ -230,8 +247,10 @@ impl Clone for BookingMap {
     ghost is_clone = { λ m n. n ≡ m };
 
     fn clone(&self) -> Result<Self, AllocError> {
-        let entries = self.entries.clone()?;
-        Ok(Self { entries })
+        Ok(Self {
+            entries: self.entries.clone()?,
+            hash: self.hash,
+        })
     }
 }
 
@@ -337,12 +356,24 @@ impl Entry for BookingMap {
     }
 
     fn hash(&self) -> u64 {
-        let mut hash = 0;
-        for ((kind, id), booking) in &self.entries {
-            let place = mixed(kind_code(*kind), *id as u64);
-            hash = mixed(hash, mixed(place, mixed(booking.units, booking.sum)));
-        }
-        hash
+        self.hash
+    }
+}
+
+/// What a booking adds to the hash of its map, or none.
+fn booking_hash(kind: Kind, id: u32, booking: Option<Booking>) -> u64 {
+    let Some(booking) = booking else {
+        return 0;
+    };
+    let place = mixed(kind_code(kind), id as u64);
+    mixed(place, mixed(booking.units, booking.sum))
+}
+
+/// What an entry adds to the hash of its map, or none.
+fn entry_hash(entry: Option<((Kind, u32), Booking)>) -> u64 {
+    match entry {
+        Some(((kind, id), booking)) => booking_hash(kind, id, Some(booking)),
+        None => 0,
     }
 }
 
@@ -377,7 +408,103 @@ impl Amount<BookingMap> for Bill {
     }
 }
 
+/// A booking is put among those that are there.
+#[derive(Drop)]
+struct Book {
+    kind: Kind,
+    id: u32,
+    booking: Booking,
+}
+
+impl Change<BookingMap> for Book {
+    ghost changed = { λ b o. option_map (λ m. map.insert m (b.kind, b.id) b.booking) o };
+
+    fn change(
+        self,
+        _alloc: Global,
+        value: Option<Rc<BookingMap>>,
+    ) -> Result<Option<Rc<BookingMap>>, AllocError>
+        ensures { IfOk result (λ made. value_in made ≡ option_map
+            (λ m. map.insert m (self.kind, self.id) self.booking) (value_in value)) }
+    {
+        let Some(mut place) = value else {
+            return Ok(None);
+        };
+        let bookings = Rc::make_mut(&mut place)?;
+        bookings.insert(self.kind, self.id, self.booking)?;
+        Ok(Some(place))
+    }
+}
+
+/// A booking is removed from those that are there.
+#[derive(Drop)]
+struct Unbook {
+    kind: Kind,
+    id: u32,
+}
+
+impl Change<BookingMap> for Unbook {
+    ghost changed = { λ u o. option_map (λ m. map.remove m (u.kind, u.id)) o };
+
+    fn change(
+        self,
+        _alloc: Global,
+        value: Option<Rc<BookingMap>>,
+    ) -> Result<Option<Rc<BookingMap>>, AllocError>
+        ensures { IfOk result (λ made. value_in made ≡ option_map
+            (λ m. map.remove m (self.kind, self.id)) (value_in value)) }
+    {
+        let Some(mut place) = value else {
+            return Ok(None);
+        };
+        let bookings = Rc::make_mut(&mut place)?;
+        bookings.remove(self.kind, self.id);
+        Ok(Some(place))
+    }
+}
+
 impl IdMap<BookingMap> {
+    /// Puts a booking among those of a customer who is there. They are copied only where another
+    /// map shares them.
+    pub(crate) fn book(
+        &mut self,
+        customer: u32,
+        kind: Kind,
+        id: u32,
+        booking: Booking,
+    ) -> Result<(), AllocError>
+        ensures { OnOk result (IfSome (map.get self.old customer)
+            (λ m. self.new ≡ map.insert self.old customer (map.insert m (kind, id) booking))) }
+    {
+        self.change(customer, Book { kind, id, booking })?;
+        Ok(())
+    }
+
+    /// Removes a booking of a customer who is there. The others are copied only where another map
+    /// shares them.
+    pub(crate) fn unbook(&mut self, customer: u32, kind: Kind, id: u32) -> Result<(), AllocError>
+        ensures { OnOk result (IfSome (map.get self.old customer)
+            (λ m. self.new ≡ map.insert self.old customer (map.remove m (kind, id)))) }
+    {
+        self.change(customer, Unbook { kind, id })?;
+        Ok(())
+    }
+
+    /// Takes the bookings of a customer out, which are copied only where another map shares them.
+    pub(crate) fn take(&mut self, customer: u32) -> Result<Option<BookingMap>, AllocError>
+        ensures taken { IfOk result (λ taken. taken ≡ map.get self.old customer) }
+        ensures left { IfOk result (λ taken. MatchOption taken (self.new ≡ self.old)
+            (λ _. self.new ≡ map.remove self.old customer)) }
+    {
+        let bookings = match self.find(customer) {
+            None => return Ok(None),
+            Some(bookings) => bookings.clone()?,
+        };
+        self.remove(customer)?;
+        let bookings = Rc::unwrap_or_clone(bookings)?;
+        Ok(Some(bookings))
+    }
+
     /// How many bookings all customers have.
     pub(crate) fn bookings(&self) -> u64
         ensures { result ≡ sum_by map.len (map.values self.now) }

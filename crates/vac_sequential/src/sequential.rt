@@ -110,8 +110,8 @@ impl Sequential {
     /// The manager after a task, and the reply. A task that cannot be asked for is refused before
     /// anything else. A refusal leaves no manager: one that is needed after it is copied before.
     ///
-    /// Not said: what is copied. Nodes of a table that no other manager shares are taken over; the
-    /// bookings of the task's customer are copied all the same.
+    /// Not said: what is copied. Nodes of a table, items and bookings that no other manager shares
+    /// are changed where they stand.
     pub fn after(self, task: &Task) -> Result<(Sequential, Reply), SequentialFault>
         ensures ok { IfOk result (λ made. tasks.run self task.now ≡ (made.0, made.1)) }
         ensures arguments { (result ≡ Err SequentialFault.Arguments) ↔ (is_task task.now ≡ false) }

@@ -135,9 +135,7 @@ impl Tables {
                 extended(booking, num, item.price)
             }
         };
-        let mut bookings = bookings.clone()?;
-        bookings.insert(kind, id, booking)?;
-        self.insert_bookings(customer, bookings)?;
+        self.insert_booking(customer, kind, id, booking)?;
         self.insert_item(kind, id, taken(item, num))?;
         Ok(Reply::Done)
     }
@@ -157,9 +155,7 @@ impl Tables {
         let Some(booking) = booked else {
             return Ok(Reply::No(Why::NotBooked));
         };
-        let mut bookings = bookings.clone()?;
-        bookings.remove(kind, id);
-        self.insert_bookings(customer, bookings)?;
+        self.remove_booking(customer, kind, id)?;
         self.insert_item(kind, id, given_back(item, booking.units))?;
         Ok(Reply::Done)
     }
@@ -168,11 +164,10 @@ impl Tables {
         requires { IsSmall self.old }
         ensures { IfOk result (λ reply. rules.drop_customer self.old id ≡ (self.new, reply)) }
     {
-        let bookings = match self.bookings(id) {
-            None => return Ok(Reply::No(Why::NoCustomer)),
-            Some(bookings) => bookings.clone()?,
+        let taken = self.take_customer(id)?;
+        let Some(bookings) = taken else {
+            return Ok(Reply::No(Why::NoCustomer));
         };
-        self.remove_customer(id)?;
         self.give_back_all(bookings)?;
         Ok(Reply::Done)
     }

@@ -1,7 +1,7 @@
 //! The four tables, which contracts see as a state. Where memory is refused the tables are not used
 //! any more: a call may be half done.
 
-ghost use Rattle.std.specs.Prelude.{◌≡◌, ◌<◌, ◌^◌, IfOk, OnOk};
+ghost use Rattle.std.specs.Prelude.{◌≡◌, ◌<◌, ◌^◌, IfOk, IfSome, OnOk, MatchOption};
 ghost use Rattle.std.specs.Option.{option_copied};
 ghost use Rattle.std.specs.FinMap as map;
 ghost use Rattle.vac_sequential.specs.Tries.{TellsSame};
@@ -10,7 +10,7 @@ use crate::maps::{BookingMap, IdMap};
 use crate::tries::mixed;
 use std::alloc::{AllocError, Global};
 use std::marker::Model;
-use vac_model::{Item, Kind, Report};
+use vac_model::{Booking, Item, Kind, Report};
 
 #[derive(Drop)]
 pub(crate) struct Tables {
@@ -169,23 +169,44 @@ impl Tables {
     pub(crate) fn insert_customer(&mut self, customer: u32) -> Result<(), AllocError>
         ensures { OnOk result (self.new ≡ with_bookings self.old customer map.empty) }
     {
-        self.insert_bookings(customer, BookingMap::new(self.alloc))
+        self.customers.insert(customer, BookingMap::new(self.alloc))
     }
 
-    /// Puts the bookings of a customer.
-    pub(crate) fn insert_bookings(
+    /// Puts a booking of a customer who is there.
+    pub(crate) fn insert_booking(
         &mut self,
         customer: u32,
-        bookings: BookingMap,
+        kind: Kind,
+        id: u32,
+        booking: Booking,
     ) -> Result<(), AllocError>
-        ensures { OnOk result (self.new ≡ with_bookings self.old customer bookings) }
+        ensures { OnOk result (IfSome (bookings_of self.old customer)
+            (λ m. self.new ≡ with_bookings self.old customer (map.insert m (kind, id) booking))) }
     {
-        self.customers.insert(customer, bookings)
+        self.customers.book(customer, kind, id, booking)?;
+        Ok(())
     }
 
-    pub(crate) fn remove_customer(&mut self, customer: u32) -> Result<(), AllocError>
-        ensures { OnOk result (self.new ≡ without_customer self.old customer) }
+    /// Removes a booking of a customer who is there.
+    pub(crate) fn remove_booking(
+        &mut self,
+        customer: u32,
+        kind: Kind,
+        id: u32,
+    ) -> Result<(), AllocError>
+        ensures { OnOk result (IfSome (bookings_of self.old customer)
+            (λ m. self.new ≡ with_bookings self.old customer (map.remove m (kind, id)))) }
     {
-        self.customers.remove(customer)
+        self.customers.unbook(customer, kind, id)?;
+        Ok(())
+    }
+
+    /// Removes a customer, and gives the bookings that there were.
+    pub(crate) fn take_customer(&mut self, customer: u32) -> Result<Option<BookingMap>, AllocError>
+        ensures taken { IfOk result (λ taken. taken ≡ bookings_of self.old customer) }
+        ensures left { IfOk result (λ taken. MatchOption taken (self.new ≡ self.old)
+            (λ _. self.new ≡ without_customer self.old customer)) }
+    {
+        self.customers.take(customer)
     }
 }

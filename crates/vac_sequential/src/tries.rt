@@ -159,20 +159,23 @@ impl<V> Trie<V> {
         }
     }
 
-    /// The value of an id.
-    pub(crate) fn get(&self, id: u32) -> Option<&V>
-        ensures { option_copied result ≡ map.get self.now.0 id }
+    /// The value of an id, where it stands.
+    pub(crate) fn find(&self, id: u32) -> Option<&Rc<V>>
+        ensures { value_in (option_copied result) ≡ map.get self.now.0 id }
     {
-        let Some((value, kids)) = self.shown() else {
+        let mut trie = self;
+        let mut rest = id;
+        while rest != 0 {
+            let Some((_, kids)) = trie.shown() else {
+                return None;
+            };
+            trie = kids.kid((rest - 1) % 4);
+            rest = (rest - 1) / 4;
+        }
+        let Some((value, _)) = trie.shown() else {
             return None;
         };
-        if id == 0 {
-            return match value {
-                Some(value) => Some(value),
-                None => None,
-            };
-        }
-        kids.kid((id - 1) % 4).get((id - 1) / 4)
+        value
     }
 }
 

@@ -12,5 +12,5 @@ returns-clause-ok c =
       c.args.id,
     ) c.args.booking
     (subst (λ R. tree.Updates R c.self.inside.entries c.insert.new.self (c.args.kind, c.args.id) (Some c.args.booking))
-    pair_cmp c.in_ok-insert.ensures.updates)
+    pair_cmp c.in_ok-old.ensures.updates)
     ∙ ap (λ m. map.insert m (c.args.kind, c.args.id) c.args.booking) c.self.view_is

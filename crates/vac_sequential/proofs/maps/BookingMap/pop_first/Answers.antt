@@ -21,20 +21,20 @@ none_along None (x ∷ es) es' e h = absurd (not_some {X = Place × Booking} Non
 none_along (Some b) es es' e h = tt
 
 pub invariant_of-self : goal.invariant_of-self
-invariant_of-self c = subst (λ R. tree.IsOrdered R c.pop_first.new.self) pair_cmp c.pop_first.ensures.ordered
+invariant_of-self c = subst (λ R. tree.IsOrdered R c.pop_first-first.new.self) pair_cmp c.pop_first-first.ensures.ordered
 
 pub returns-clause-some : goal.returns-clause-some
 returns-clause-some c =
-    some_along c.pop_first.result c.self.inside.entries.entries c.pop_first.new.self.entries _ _
+    some_along c.pop_first-first.result c.self.inside.entries.entries c.pop_first-first.new.self.entries _ _
     (ap map.entries (sym c.self.view_is) ∙ entries_of_sorted place_cmp_total c.self.inside.entries.entries
     c.self.invariant)
-    (entries_of_sorted place_cmp_total c.pop_first.new.self.entries
-    (subst (λ R. tree.IsOrdered R c.pop_first.new.self) pair_cmp c.pop_first.ensures.ordered))
-    c.pop_first.ensures.removal
+    (entries_of_sorted place_cmp_total c.pop_first-first.new.self.entries
+    (subst (λ R. tree.IsOrdered R c.pop_first-first.new.self) pair_cmp c.pop_first-first.ensures.ordered))
+    c.pop_first-first.ensures.removal
 
 pub returns-clause-none : goal.returns-clause-none
 returns-clause-none c =
-    none_along c.pop_first.result c.self.inside.entries.entries _
+    none_along c.pop_first-first.result c.self.inside.entries.entries _
     (ap map.entries (sym c.self.view_is) ∙ entries_of_sorted place_cmp_total c.self.inside.entries.entries
     c.self.invariant)
-    c.pop_first.ensures.variant
+    c.pop_first-first.ensures.variant

@@ -1,4 +1,4 @@
-use Rattle.std.proofs.Common.{◌≡◌, ◌+◌, ◌-◌, ◌≤◌, sum_by, sym, ap, subst, ◌∙◌}
+use Rattle.std.proofs.Common.{◌≡◌, ◌-◌, ◌≤◌, sum_by, sym, ap, subst, ◌∙◌}
 use Rattle.std.specs.FinMap as fin
 use Rattle.vac_sequential.specs.Tries.{map_at, map_in, changed_at, EntryAdds}
 use Rattle.vac_sequential.proofs.Woven.{counted_change}

@@ -2,7 +2,7 @@ use Rattle.std.proofs.Common.{sym, ap, ◌∙◌}
 use Rattle.std.specs.Ordering.{nat_cmp}
 use Rattle.std.specs.FinMap as fin
 use Rattle.vac_sequential.specs.Tries.{map_at}
-use Rattle.vac_sequential.proofs.maps.IdMap.get.Goals as goal
+use Rattle.vac_sequential.proofs.maps.IdMap.find.Goals as goal
 
 pub returns-in-None : goal.returns-in-None
 returns-in-None g c =
