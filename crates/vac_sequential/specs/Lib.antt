@@ -1,2 +1,3 @@
+pub mod Bookings
 pub mod Tries
 pub mod TrieFalls

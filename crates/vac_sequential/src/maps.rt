@@ -2,6 +2,7 @@
 
 ghost use Rattle.std.specs.Prelude.{◌≡◌, ◌<◌, ◌^◌, IfSome, IfNone, IfOk, OnOk, OnErr, MatchOption, sum_by, [], ◌∷◌};
 ghost use Rattle.vac_model.specs.State.{bill_of, units_booked};
+ghost use Rattle.vac_sequential.specs.Bookings.{with_booking};
 ghost use Rattle.vac_sequential.specs.Tries.{changed_at, value_in, TellsSame};
 ghost use Rattle.std.specs.Option.{option_copied, option_map};
 ghost use Rattle.std.specs.FinMap as map;
@@ -232,6 +233,17 @@ impl BookingMap {
         self.hash = self.hash.wrapping_sub(booking_hash(kind, id, old));
     }
 
+    /// Puts a booking, or removes the one that is there.
+    fn set(&mut self, kind: Kind, id: u32, booking: Option<Booking>) -> Result<(), AllocError>
+        ensures { OnOk result (self.new ≡ with_booking self.old (kind, id) booking) }
+    {
+        match booking {
+            Some(booking) => self.insert(kind, id, booking)?,
+            None => self.remove(kind, id),
+        }
+        Ok(())
+    }
+
     /// Takes the first booking out.
     pub(crate) fn pop_first(&mut self) -> Option<((Kind, u32), Booking)>
         ensures some { IfSome result (λ b. map.entries self.old ≡ b ∷ map.entries self.new) }
@@ -408,16 +420,16 @@ impl Amount<BookingMap> for Bill {
     }
 }
 
-/// A booking is put among those that are there.
+/// The booking of an item is put among those that are there, or removed from them.
 #[derive(Drop)]
-struct Book {
-    kind: Kind,
-    id: u32,
-    booking: Booking,
+pub(crate) struct Rebook {
+    pub(crate) kind: Kind,
+    pub(crate) id: u32,
+    pub(crate) booking: Option<Booking>,
 }
 
-impl Change<BookingMap> for Book {
-    ghost changed = { λ b o. option_map (λ m. map.insert m (b.kind, b.id) b.booking) o };
+impl Change<BookingMap> for Rebook {
+    ghost changed = { λ r o. option_map (λ m. with_booking m (r.kind, r.id) r.booking) o };
 
     fn change(
         self,
@@ -425,68 +437,26 @@ impl Change<BookingMap> for Book {
         value: Option<Rc<BookingMap>>,
     ) -> Result<Option<Rc<BookingMap>>, AllocError>
         ensures { IfOk result (λ made. value_in made ≡ option_map
-            (λ m. map.insert m (self.kind, self.id) self.booking) (value_in value)) }
+            (λ m. with_booking m (self.kind, self.id) self.booking) (value_in value)) }
     {
         let Some(mut place) = value else {
             return Ok(None);
         };
         let bookings = Rc::make_mut(&mut place)?;
-        bookings.insert(self.kind, self.id, self.booking)?;
-        Ok(Some(place))
-    }
-}
-
-/// A booking is removed from those that are there.
-#[derive(Drop)]
-struct Unbook {
-    kind: Kind,
-    id: u32,
-}
-
-impl Change<BookingMap> for Unbook {
-    ghost changed = { λ u o. option_map (λ m. map.remove m (u.kind, u.id)) o };
-
-    fn change(
-        self,
-        _alloc: Global,
-        value: Option<Rc<BookingMap>>,
-    ) -> Result<Option<Rc<BookingMap>>, AllocError>
-        ensures { IfOk result (λ made. value_in made ≡ option_map
-            (λ m. map.remove m (self.kind, self.id)) (value_in value)) }
-    {
-        let Some(mut place) = value else {
-            return Ok(None);
-        };
-        let bookings = Rc::make_mut(&mut place)?;
-        bookings.remove(self.kind, self.id);
+        bookings.set(self.kind, self.id, self.booking)?;
         Ok(Some(place))
     }
 }
 
 impl IdMap<BookingMap> {
-    /// Puts a booking among those of a customer who is there. They are copied only where another
-    /// map shares them.
-    pub(crate) fn book(
-        &mut self,
-        customer: u32,
-        kind: Kind,
-        id: u32,
-        booking: Booking,
-    ) -> Result<(), AllocError>
-        ensures { OnOk result (IfSome (map.get self.old customer)
-            (λ m. self.new ≡ map.insert self.old customer (map.insert m (kind, id) booking))) }
-    {
-        self.change(customer, Book { kind, id, booking })?;
-        Ok(())
-    }
-
-    /// Removes a booking of a customer who is there. The others are copied only where another map
+    /// Changes a booking of a customer who is there. The others are copied only where another map
     /// shares them.
-    pub(crate) fn unbook(&mut self, customer: u32, kind: Kind, id: u32) -> Result<(), AllocError>
+    pub(crate) fn rebook(&mut self, customer: u32, change: Rebook) -> Result<(), AllocError>
         ensures { OnOk result (IfSome (map.get self.old customer)
-            (λ m. self.new ≡ map.insert self.old customer (map.remove m (kind, id)))) }
+            (λ m. self.new ≡ map.insert self.old customer
+            (with_booking m (change.kind, change.id) change.booking))) }
     {
-        self.change(customer, Unbook { kind, id })?;
+        self.change(customer, change)?;
         Ok(())
     }
 

@@ -9,7 +9,7 @@ ghost use Rattle.vac_model.specs.Fits.{IsSmall, CanGiveBack};
 ghost use Rattle.vac_model.specs.Ranges.{is_command};
 
 use crate::items::{added, deleted, extended, given_back, new_booking, new_item, taken};
-use crate::maps::BookingMap;
+use crate::maps::{BookingMap, Rebook};
 use crate::tables::Tables;
 use std::alloc::AllocError;
 use vac_model::limits::{MOST_TOTAL, MOST_UNITS};
@@ -135,7 +135,8 @@ impl Tables {
                 extended(booking, num, item.price)
             }
         };
-        self.insert_booking(customer, kind, id, booking)?;
+        let booking = Some(booking);
+        self.rebook(customer, Rebook { kind, id, booking })?;
         self.insert_item(kind, id, taken(item, num))?;
         Ok(Reply::Done)
     }
@@ -155,7 +156,12 @@ impl Tables {
         let Some(booking) = booked else {
             return Ok(Reply::No(Why::NotBooked));
         };
-        self.remove_booking(customer, kind, id)?;
+        let change = Rebook {
+            kind,
+            id,
+            booking: None,
+        };
+        self.rebook(customer, change)?;
         self.insert_item(kind, id, given_back(item, booking.units))?;
         Ok(Reply::Done)
     }

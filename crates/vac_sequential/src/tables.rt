@@ -4,13 +4,14 @@
 ghost use Rattle.std.specs.Prelude.{◌≡◌, ◌<◌, ◌^◌, IfOk, IfSome, OnOk, MatchOption};
 ghost use Rattle.std.specs.Option.{option_copied};
 ghost use Rattle.std.specs.FinMap as map;
+ghost use Rattle.vac_sequential.specs.Bookings.{with_booking};
 ghost use Rattle.vac_sequential.specs.Tries.{TellsSame};
 
-use crate::maps::{BookingMap, IdMap};
+use crate::maps::{BookingMap, IdMap, Rebook};
 use crate::tries::mixed;
 use std::alloc::{AllocError, Global};
 use std::marker::Model;
-use vac_model::{Booking, Item, Kind, Report};
+use vac_model::{Item, Kind, Report};
 
 #[derive(Drop)]
 pub(crate) struct Tables {
@@ -172,32 +173,13 @@ impl Tables {
         self.customers.insert(customer, BookingMap::new(self.alloc))
     }
 
-    /// Puts a booking of a customer who is there.
-    pub(crate) fn insert_booking(
-        &mut self,
-        customer: u32,
-        kind: Kind,
-        id: u32,
-        booking: Booking,
-    ) -> Result<(), AllocError>
+    /// Changes a booking of a customer who is there.
+    pub(crate) fn rebook(&mut self, customer: u32, change: Rebook) -> Result<(), AllocError>
         ensures { OnOk result (IfSome (bookings_of self.old customer)
-            (λ m. self.new ≡ with_bookings self.old customer (map.insert m (kind, id) booking))) }
+            (λ m. self.new ≡ with_bookings self.old customer
+            (with_booking m (change.kind, change.id) change.booking))) }
     {
-        self.customers.book(customer, kind, id, booking)?;
-        Ok(())
-    }
-
-    /// Removes a booking of a customer who is there.
-    pub(crate) fn remove_booking(
-        &mut self,
-        customer: u32,
-        kind: Kind,
-        id: u32,
-    ) -> Result<(), AllocError>
-        ensures { OnOk result (IfSome (bookings_of self.old customer)
-            (λ m. self.new ≡ with_bookings self.old customer (map.remove m (kind, id)))) }
-    {
-        self.customers.unbook(customer, kind, id)?;
+        self.customers.rebook(customer, change)?;
         Ok(())
     }
 
