@@ -28,7 +28,8 @@ none_made made i (c ∷ cs) h =
     ap (λ b. cond b (rest_of made (suc i) cs) (c ∷ rest_of made (suc i) cs)) (h i)
     ∙ ap (λ l. c ∷ l) (none_made made (suc i) cs h)
 
-none_low : (p : ℕ) → is_made 0 [] p ≡ false
+-- and none has one
+pub none_low : (p : ℕ) → is_made 0 [] p ≡ false
 none_low p = let t : nat_lt p 0 ≡ false = grind (arith, nat_tests) in rw t refl
 
 -- where no call has a place all are left

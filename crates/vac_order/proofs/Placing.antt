@@ -83,6 +83,13 @@ swap a b = go (a == b) refl
     go true e = grind (arith, nat_tests)
     go false e = grind (arith, nat_tests)
 
+-- a number is in a list with one more where it is in the list or is that one
+pub any_more : (places : List ℕ) (place p : ℕ) →
+    list_any (λ o. o == p) (places ++ place ∷ []) ≡ (list_any (λ o. o == p) places || p == place)
+any_more places place p =
+    list_any-append (λ o. o == p) places (place ∷ [])
+    ∙ ap (λ b. list_any (λ o. o == p) places || b) (or_false (place == p) ∙ swap place p)
+
 -- one call more
 pub made_one : {W : Type 0} (views : Views W) (first : ℕ → Bool) (places : List ℕ) (world next : W) (place : ℕ) →
     AreMade views first places world
@@ -92,8 +99,7 @@ pub made_one : {W : Type 0} (views : Views W) (first : ℕ → Bool) (places : L
 made_one views first places world next place h left within more = record {
   made = λ p.
       more p ∙ ap (λ b. b || p == place) (h.made p) ∙ or_assoc (first p) (list_any (λ o. o == p) places) (p == place)
-      ∙ ap (λ b. first p || (list_any (λ o. o == p) places || b)) (swap p place ∙ sym (or_false (place == p)))
-      ∙ ap (λ b. first p || b) (sym (list_any-append (λ o. o == p) places (place ∷ [])));
+      ∙ ap (λ b. first p || b) (sym (any_more places place p));
   distinct = distinct_more places place h.distinct (or_none (first place) (list_any (λ o. o == place) places)
       (sym (h.made place) ∙ left));
   within = All-append (λ p. p < views.count) places (place ∷ []) h.within

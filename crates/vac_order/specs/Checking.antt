@@ -1,20 +1,25 @@
--- How an order that was found is checked, call by call.
-use Rattle.std.specs.Prelude.{◌≡◌, ◌<◌, ◌==◌, ◌||◌, ℕ, false, List, map}
-use Rattle.vac_order.specs.Configurations.{Goes, CallsReach, after_call}
-use Rattle.vac_order.specs.Views.{Views}
-use Rattle.vac_order.specs.Walking.{AreMade}
+-- How an order that was found is checked, call by call, over plain memory.
+use Rattle.std.specs.Prelude.{◌≡◌, ◌<◌, ◌==◌, ℕ, All, List, length}
+use Rattle.std.specs.List.{list_any}
+use Rattle.vac_model.specs.State.{State}
+use Rattle.vac_plain.specs.PlainState.{IsStateOf}
+use Rattle.vac_judge.specs.Call.{Call}
+use Rattle.vac_order.specs.declared.point.Point.{Point}
+use Rattle.vac_order.specs.Configurations.{start, CallsReach}
+use Rattle.vac_order.specs.Calls.{rest_of}
+use Rattle.vac_order.specs.Walking.{AreDistinct}
+use Rattle.vac_order.specs.Point.{made_of}
+use Rattle.vac_order.specs.Judging.{calls_at}
 
--- the call at a place, which had none in the order, may come next and gives its reply, and leads
--- from one world to another
-pub record IsLed {W : Type 0} (views : Views W) (world : W) (place : ℕ) (next : W) : Type 0 where
-  pub goes : Goes (views.at world) (views.call place)
-  pub left : views.made world place ≡ false
-  pub within : place < views.count
-  pub at : views.at next ≡ after_call (views.at world) (views.call place)
-  pub made : (p : ℕ) → views.made next p ≡ (views.made world p || p == place)
-
--- the calls at these places, each once, lead from one world to another
-pub record AreLed {W : Type 0} (views : Views W) (start : W) (places : List ℕ) (world : W) :
+-- for a system of n blocks, the calls at these places, each once, may come next one after the other
+-- and give their replies; they are those that have a place at a point, whose memory holds the state
+-- that they leave
+pub record HavePlaces (n : ℕ) (calls : List Call) (places : List ℕ) (point : Point (List ℕ)) :
     Type 0 where
-  pub reaches : CallsReach (views.at start) (map views.call places) (views.at world)
-  pub made : AreMade views (views.made start) places world
+  pub state : State
+  pub holds : IsStateOf point.machine state
+  pub reaches : CallsReach (start n calls) (calls_at calls places)
+      (record { rest = rest_of (made_of point) 0 calls; state = state })
+  pub made : (p : ℕ) → made_of point p ≡ list_any (λ other. other == p) places
+  pub distinct : AreDistinct places
+  pub within : All (λ place. place < length calls) places

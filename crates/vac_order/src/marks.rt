@@ -3,7 +3,7 @@
 ghost use Rattle.std.specs.Prelude.{◌≡◌, ◌≤◌, ◌<◌, ℕ, IfOk, true, false};
 ghost use Rattle.vac_order.specs.Marks.{is_made, MarksOneMore};
 
-use std::alloc::{AllocError, Global};
+use std::alloc::AllocError;
 
 /// Whether the call at a place has a place in the order.
 pub(crate) fn is_made(low: usize, beyond: &[usize], place: usize) -> bool
@@ -27,45 +27,42 @@ pub(crate) fn first_left(low: usize, beyond: &[usize], count: usize) -> usize
 }
 
 /// The marks with one more, where it is the first place that had none.
-fn mark_low(alloc: Global, low: usize, beyond: &[usize]) -> Result<(usize, Vec<usize>), AllocError>
+fn mark_low(low: usize, mut beyond: Vec<usize>) -> (usize, Vec<usize>)
     requires { low < usize.MAX }
-    ensures { IfOk result (λ marks. MarksOneMore low beyond.now low (marks.0, marks.1.items)) }
+    ensures { MarksOneMore low beyond.items low (result.0, result.1.items) }
 {
     let mut next = low + 1;
-    let mut taken = 0;
-    'marks: while taken < beyond.len() && beyond[taken] == next && next < usize::MAX {
+    'marks: while !beyond.is_empty() && beyond[0] == next && next < usize::MAX {
         next += 1;
-        taken += 1;
+        beyond.remove(0);
     }
-    Ok((next, Vec::from_slice(alloc, &beyond[taken..])?))
+    (next, beyond)
 }
 
 /// The marks with one more beyond the first place that has none.
-fn mark_beyond(alloc: Global, beyond: &[usize], place: usize) -> Result<Vec<usize>, AllocError>
+fn mark_beyond(mut beyond: Vec<usize>, place: usize) -> Result<Vec<usize>, AllocError>
     ensures { IfOk result (λ marks. (low : ℕ) →
-        MarksOneMore low beyond.now place (low, marks.items)) }
+        MarksOneMore low beyond.items place (low, marks.items)) }
 {
     let mut number = 0;
     'marks: while number < beyond.len() && beyond[number] < place {
         number += 1;
     }
-    let mut marks = Vec::from_slice(alloc, beyond)?;
-    marks.insert(number, place)?;
-    Ok(marks)
+    beyond.insert(number, place)?;
+    Ok(beyond)
 }
 
 /// The marks with one more.
 pub(crate) fn mark(
-    alloc: Global,
     low: usize,
-    beyond: &[usize],
+    beyond: Vec<usize>,
     place: usize,
 ) -> Result<(usize, Vec<usize>), AllocError>
     requires { place < usize.MAX }
-    ensures { IfOk result (λ marks. MarksOneMore low beyond.now place (marks.0, marks.1.items)) }
+    ensures { IfOk result (λ marks. MarksOneMore low beyond.items place (marks.0, marks.1.items)) }
 {
     if place == low {
-        return mark_low(alloc, low, beyond);
+        return Ok(mark_low(low, beyond));
     }
-    Ok((low, mark_beyond(alloc, beyond, place)?))
+    Ok((low, mark_beyond(beyond, place)?))
 }

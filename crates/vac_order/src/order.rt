@@ -1,6 +1,6 @@
 //! Whether some order of the calls of several clients is a linearization.
 
-ghost use Rattle.std.specs.Prelude.{◌≡◌, ℕ, IfOk, IfSome};
+ghost use Rattle.std.specs.Prelude.{◌≡◌, ◌≤◌, IfOk, IfSome};
 ghost use Rattle.vac_model.specs.State.{empty_state};
 ghost use Rattle.vac_order.specs.Calls.{calls_of};
 ghost use Rattle.vac_order.specs.Judging.{IsLinearizedBy, IsFoundOfCalls};
@@ -9,7 +9,7 @@ ghost use Rattle.vac_order.specs.Walk.{IsWhole};
 ghost use Rattle.vac_order.specs.Reading.{IsHeld, AreKeptLines};
 
 use crate::calls::Calls;
-use crate::checking::completes;
+use crate::checking::is_linearization;
 use crate::history::History;
 use crate::machine::Machine;
 use crate::point::Point;
@@ -17,47 +17,54 @@ use crate::quick::find_quickly;
 use crate::walk::{Finding, find_order};
 use crate::watcher::Watcher;
 use std::alloc::{AllocError, Global};
+use vac_model::limits::MOST_BLOCKS;
 
-/// A linearization of these calls, from the state of a machine on, where one is found quickly.
+/// A linearization of these calls, for a system of `blocks` blocks, where one is found quickly from
+/// a machine on. It is right wherever the machine begins.
 ///
 /// Not said: that one is found where there is one.
 fn quick_order<M: Machine + Drop, P: Watcher>(
     alloc: Global,
+    blocks: u32,
     calls: &Calls,
-    machine: &M,
+    machine: M,
     steps: u64,
     watcher: &mut P,
 ) -> Result<Option<Vec<usize>>, AllocError>
-    requires { IsWhole (calls_of calls.now.lines.items) }
-    ensures { IfOk result (λ found. IfSome found (λ places. (n : ℕ)
-        → M.state machine.now ≡ empty_state n
-        → IsLinearizedBy n (calls_of calls.now.lines.items) places.items)) }
+    requires some { 1 ≤ blocks }
+    requires most { blocks ≤ MOST_BLOCKS }
+    requires whole { IsWhole (calls_of calls.now.lines.items) }
+    ensures { IfOk result (λ found. IfSome found (λ places.
+        IsLinearizedBy blocks (calls_of calls.now.lines.items) places.items)) }
 {
-    let Some(places) = find_quickly(alloc, calls, machine.copy()?, steps, watcher)? else {
+    let Some(places) = find_quickly(alloc, calls, machine, steps, watcher)? else {
         return Ok(None);
     };
-    let start = Point::new(alloc, machine.copy()?);
-    if completes(alloc, calls, start, places.as_slice())? {
+    if is_linearization(alloc, blocks, calls, places.as_slice())? {
         return Ok(Some(places));
     }
     Ok(None)
 }
 
-/// Looks for a linearization of these calls, from the state of a machine on: quickly, and where
-/// that finds none that is right, by the search that misses none. Each makes at most `steps` steps.
+/// Looks for a linearization of these calls, for a system of `blocks` blocks, from its machine
+/// without entries on: quickly, and where that finds none that is right, by the search that misses
+/// none. Each makes at most `steps` steps.
 pub(crate) fn judge_order<M: Machine + Drop, P: Watcher>(
     alloc: Global,
+    blocks: u32,
     calls: &Calls,
     machine: M,
     steps: u64,
     watcher: &mut P,
 ) -> Result<Finding<Point<M>>, AllocError>
-    requires { IsWhole (calls_of calls.now.lines.items) }
-    ensures { IfOk result (λ found. (n : ℕ) → M.state machine ≡ empty_state n →
-        IsFoundOfCalls (point_at M.state calls.now) n (calls_of calls.now.lines.items)
+    requires some { 1 ≤ blocks }
+    requires most { blocks ≤ MOST_BLOCKS }
+    requires whole { IsWhole (calls_of calls.now.lines.items) }
+    ensures { IfOk result (λ found. M.state machine ≡ empty_state blocks →
+        IsFoundOfCalls (point_at M.state calls.now) blocks (calls_of calls.now.lines.items)
         steps found) }
 {
-    if let Some(places) = quick_order(alloc, calls, &machine, steps, watcher)? {
+    if let Some(places) = quick_order(alloc, blocks, calls, machine.copy()?, steps, watcher)? {
         return Ok(Finding::Order(places));
     }
     find_order(alloc, calls, Point::new(alloc, machine), steps, watcher)
@@ -72,23 +79,26 @@ pub(crate) struct Ordered<M> {
     pub finding: Finding<Point<M>>,
 }
 
-/// Looks for a linearization of the calls of a history, from the state of a machine on, in at most
-/// `steps` steps.
+/// Looks for a linearization of the calls of a history, for a system of `blocks` blocks, from its
+/// machine without entries on, in at most `steps` steps.
 pub(crate) fn judge_lines<M: Machine + Drop, P: Watcher>(
     alloc: Global,
+    blocks: u32,
     history: History,
     machine: M,
     steps: u64,
     watcher: &mut P,
 ) -> Result<Ordered<M>, AllocError>
-    requires { IsHeld history }
+    requires some { 1 ≤ blocks }
+    requires most { blocks ≤ MOST_BLOCKS }
+    requires held { IsHeld history }
     ensures kept { IfOk result (λ ordered.
         AreKeptLines history.lines.items ordered.calls.lines.items) }
-    ensures judged { IfOk result (λ ordered. (n : ℕ) → M.state machine ≡ empty_state n →
-        IsFoundOfCalls (point_at M.state ordered.calls) n (calls_of ordered.calls.lines.items) steps
-        ordered.finding) }
+    ensures judged { IfOk result (λ ordered. M.state machine ≡ empty_state blocks →
+        IsFoundOfCalls (point_at M.state ordered.calls) blocks
+        (calls_of ordered.calls.lines.items) steps ordered.finding) }
 {
     let calls = Calls::new(history)?;
-    let finding = judge_order(alloc, &calls, machine, steps, watcher)?;
+    let finding = judge_order(alloc, blocks, &calls, machine, steps, watcher)?;
     Ok(Ordered { calls, finding })
 }

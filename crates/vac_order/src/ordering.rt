@@ -104,7 +104,7 @@ fn order_calls<P: Watcher>(
         FindsText blocks steps bytes found.0 found.1.items) }
 {
     let manager = open(alloc, blocks)?;
-    let ordered = judge_lines(alloc, history, manager, steps, watcher)?;
+    let ordered = judge_lines(alloc, blocks, history, manager, steps, watcher)?;
     let mut text = Vec::new(alloc);
     let outcome = print_finding(alloc, &ordered, &mut text)?;
     Ok((outcome, text))

@@ -68,7 +68,7 @@ fn has_earlier(
 }
 
 /// Whether no answered call is left.
-fn is_finished(low: usize, beyond: &[usize], lines: &[Line]) -> bool
+pub(crate) fn is_finished(low: usize, beyond: &[usize], lines: &[Line]) -> bool
     requires { are_sorted lines.now ≡ true }
     ensures { TellsLeft
         (answered (rest_of (is_made low beyond.now) 0 (calls_of lines.now))) result }
@@ -115,9 +115,10 @@ pub(crate) fn next_call(low: usize, beyond: &[usize], lines: &[Line], from: usiz
     None
 }
 
-/// Whether this reply may have been given, which is so where the call was never answered.
+/// Whether this reply may have been given, which is so where the call was never answered. The
+/// reply's text is written over another.
 pub(crate) fn is_right(
-    alloc: Global,
+    text: &mut Vec<u8>,
     given: &Option<Vec<u8>>,
     reply: &Reply,
 ) -> Result<bool, AllocError>
@@ -126,8 +127,8 @@ pub(crate) fn is_right(
     let Some(given) = given else {
         return Ok(true);
     };
-    let mut text = Vec::new(alloc);
-    print_reply(reply, &mut text)?;
+    text.clear();
+    print_reply(reply, text)?;
     Ok(given.as_slice() == text.as_slice())
 }
 
@@ -149,10 +150,10 @@ fn point_after<M: Machine + Drop>(
 {
     let (machine, reply) = made;
     let line = &calls.as_slice()[place];
-    if !is_right(alloc, &line.reply, &reply)? {
+    if !is_right(&mut Vec::new(alloc), &line.reply, &reply)? {
         return Ok(None);
     }
-    let (low, beyond) = mark(alloc, low, beyond, place)?;
+    let (low, beyond) = mark(low, Vec::from_slice(alloc, beyond)?, place)?;
     Ok(Some(Point {
         low,
         beyond,
@@ -181,17 +182,6 @@ impl<M: Machine + Drop> World for Point<M> {
     ) -> Result<Option<Self>, AllocError> {
         let made = self.machine.make(&calls.as_slice()[place].task)?;
         let next = point_after(alloc, calls, self.low, self.beyond.as_slice(), place, made)?;
-        Ok(next)
-    }
-
-    fn moved(self, alloc: Global, calls: &Calls, place: usize) -> Result<Option<Self>, AllocError> {
-        let Point {
-            low,
-            beyond,
-            machine,
-        } = self;
-        let made = machine.made(&calls.as_slice()[place].task)?;
-        let next = point_after(alloc, calls, low, beyond.as_slice(), place, made)?;
         Ok(next)
     }
 

@@ -110,7 +110,7 @@ pub(crate) fn led_from<M: Machine + Drop>(
         return Ok(None);
     }
     let (next, reply) = machine.made(&lines[place].task)?;
-    if is_right(alloc, &lines[place].reply, &reply)? {
+    if is_right(&mut Vec::new(alloc), &lines[place].reply, &reply)? {
         Ok(Some(next))
     } else {
         Ok(None)

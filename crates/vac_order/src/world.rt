@@ -38,17 +38,6 @@ pub trait World: Sized {
         requires within { place < (view ground.now).count }
         ensures { IfOk result (λ next. LedTo (view ground.now) self.now place next) };
 
-    /// The same, where the world after the call takes the place of this one.
-    fn moved(
-        self,
-        alloc: Global,
-        ground: &Self::Ground,
-        place: usize,
-    ) -> Result<Option<Self>, AllocError>
-        requires can { (view ground.now).can self place ≡ true }
-        requires within { place < (view ground.now).count }
-        ensures { IfOk result (λ next. LedTo (view ground.now) self place next) };
-
     /// Whether a call was answered.
     fn is_answered(&self, ground: &Self::Ground, place: usize) -> bool
         requires { place < (view ground.now).count }

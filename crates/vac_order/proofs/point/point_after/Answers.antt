@@ -1,4 +1,5 @@
-use Rattle.std.proofs.Common.{◌≡◌, sym, ap, ◌∙◌, get_or}
+use Rattle.std.proofs.Common.{◌≡◌, sym, ap, ◌∙◌, get_or, subst}
+use Rattle.vac_order.specs.Marks.{MarksOneMore}
 use Rattle.vac_order.proofs.Points.{point_not, point_on}
 use Rattle.vac_order.proofs.point.point_after.Goals as goal
 
@@ -21,4 +22,6 @@ returns g c = λ point low beyond ran.
     (record { low = c.in_ok-low.low; beyond = c.in_ok-low.beyond; machine = c.args.made.0 }) c.args.low
     c.args.beyond.now c.args.place line
     c.args.made.1 low beyond c.requires.within is ran (sym c.in_ok-is_right.ensures ∙ c.if-not-branch.false)
-    c.requires.can c.in_ok-low.ensures
+    c.requires.can
+    (subst (λ b. MarksOneMore c.args.low b c.args.place (c.in_ok-low.low, c.in_ok-low.beyond.items))
+    c.in_ok-from_slice.ensures.items c.in_ok-low.ensures)
