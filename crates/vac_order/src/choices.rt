@@ -16,7 +16,7 @@ const MADE: u64 = 16;
 type Led<M> = Option<(usize, M)>;
 
 impl<M: Machine + Drop> QuickSearch<M> {
-    /// Whether the calls of all clients may be looked at.
+    /// Whether the calls of all clients may be looked at. Where they may, they are counted.
     fn may_look(&mut self) -> bool {
         let count = self.heads.len() as u64;
         if self.looks < count {
@@ -26,21 +26,20 @@ impl<M: Machine + Drop> QuickSearch<M> {
         true
     }
 
-    /// Whether a call that leads to a machine now, and to another after the one that ends first,
-    /// where it gives its reply there, is to come before that one.
+    /// Whether a call that leads to a machine now is to come before the one that ends first, which
+    /// leads to another.
     fn is_first(
         &mut self,
-        alloc: Global,
         lines: &[Line],
         place: usize,
         now: &M,
-        later: Option<M>,
+        after: &M,
     ) -> Result<bool, AllocError> {
         let low = self.low;
-        let Some(both) = led_to(alloc, Some(now), lines, low)? else {
+        let Some(both) = led_to(&mut self.text, Some(now), lines, low)? else {
             return Ok(false);
         };
-        let is_needed = match later {
+        let is_needed = match led_to(&mut self.text, Some(after), lines, place)? {
             None => true,
             Some(later) if later.hash() == both.hash() => return Ok(false),
             Some(_) => false,
@@ -54,25 +53,27 @@ impl<M: Machine + Drop> QuickSearch<M> {
         Ok(is_first)
     }
 
-    /// The same for one that names nothing in common with it, but that all blocks are in use, and
-    /// that does not give its reply after it.
+    /// The same for one that names nothing in common with it, but that all blocks are in use.
     fn is_full_first(
         &mut self,
-        alloc: Global,
         lines: &[Line],
+        place: usize,
         now: &M,
+        after: &M,
     ) -> Result<bool, AllocError> {
+        if led_to(&mut self.text, Some(after), lines, place)?.is_some() {
+            return Ok(false);
+        }
         if let Some(machine) = &self.machine
             && machine.hash() == now.hash()
         {
             return Ok(true);
         }
-        Ok(self.strays(2) && led_to(alloc, Some(now), lines, self.low)?.is_some())
+        Ok(self.strays(2) && led_to(&mut self.text, Some(now), lines, self.low)?.is_some())
     }
 
     /// The next calls of clients that may have to come before the one that ends first: those that
-    /// name something in common with it, or found all blocks in use where it may leave some. None
-    /// where the calls of all clients may be looked at no more.
+    /// name something in common with it, or found all blocks in use where it may leave some.
     fn rivals(
         &self,
         alloc: Global,
@@ -82,9 +83,6 @@ impl<M: Machine + Drop> QuickSearch<M> {
         let low = self.low;
         let is_tight = self.is_full && layout.spot(low).is_freeing;
         let mut rivals = Vec::new(alloc);
-        if self.looks < self.heads.len() as u64 {
-            return Ok(rivals);
-        }
         'clients: for client in 0..self.heads.len() {
             let place = self.head(client);
             if place == low || !self.is_open(lines, place) {
@@ -101,7 +99,6 @@ impl<M: Machine + Drop> QuickSearch<M> {
     /// to a machine.
     fn guard(
         &mut self,
-        alloc: Global,
         lines: &[Line],
         layout: &Layout,
         rivals: &[usize],
@@ -113,14 +110,13 @@ impl<M: Machine + Drop> QuickSearch<M> {
                 return Ok(None);
             }
             self.looks -= MADE;
-            let Some(now) = led_to(alloc, self.machine.as_ref(), lines, place)? else {
+            let Some(now) = led_to(&mut self.text, self.machine.as_ref(), lines, place)? else {
                 continue;
             };
-            let later = led_to(alloc, Some(after), lines, place)?;
             let is_first = if layout.meets(self.low, place) {
-                self.is_first(alloc, lines, place, &now, later)?
+                self.is_first(lines, place, &now, after)?
             } else {
-                later.is_none() && self.is_full_first(alloc, lines, &now)?
+                self.is_full_first(lines, place, &now, after)?
             };
             if is_first {
                 return Ok(Some((place, now)));
@@ -132,8 +128,7 @@ impl<M: Machine + Drop> QuickSearch<M> {
     /// How many calls give their replies in the order in which they end, after a machine in which
     /// one more call than here was made. It counts no farther than it must.
     fn reach(
-        &self,
-        alloc: Global,
+        &mut self,
         lines: &[Line],
         layout: &Layout,
         made: usize,
@@ -144,7 +139,7 @@ impl<M: Machine + Drop> QuickSearch<M> {
             if place == made || place < self.head(layout.spot(place).client) {
                 continue;
             }
-            let Some(next) = led_from(alloc, machine, lines, place)? else {
+            let Some(next) = led_from(&mut self.text, machine, lines, place)? else {
                 return Ok(count);
             };
             machine = next;
@@ -159,8 +154,7 @@ impl<M: Machine + Drop> QuickSearch<M> {
     /// The machine after a call that may be made, where the one that ends first gives its reply
     /// after that, and how far the next calls give theirs.
     fn helps(
-        &self,
-        alloc: Global,
+        &mut self,
         lines: &[Line],
         layout: &Layout,
         place: usize,
@@ -168,34 +162,34 @@ impl<M: Machine + Drop> QuickSearch<M> {
         if place == self.low || !self.is_open(lines, place) {
             return Ok(None);
         }
-        let Some(now) = led_to(alloc, self.machine.as_ref(), lines, place)? else {
+        let Some(now) = led_to(&mut self.text, self.machine.as_ref(), lines, place)? else {
             return Ok(None);
         };
         let copy = now.copy()?;
-        match self.reach(alloc, lines, layout, place, copy)? {
+        match self.reach(lines, layout, place, copy)? {
             0 => Ok(None),
             reach => Ok(Some((reach, now))),
         }
     }
 
     /// Makes a call after which the one that ends first gives its reply: that after which the most
-    /// do, or as it is drawn.
+    /// do, or as it is drawn. None where the calls of all clients may not be looked at.
     fn look_ahead(
         &mut self,
-        alloc: Global,
         lines: &[Line],
         layout: &Layout,
+        may_look: bool,
     ) -> Result<Option<usize>, AllocError> {
         let mut found: Led<M> = None;
         let mut best = (0, lines.len());
         let mut other = lines.len();
         let is_drawn = self.strays(2);
-        if !self.may_look() {
+        if !may_look {
             return Ok(None);
         }
         'clients: for client in 0..self.heads.len() {
             let place = self.head(client);
-            let Some((reach, now)) = self.helps(alloc, lines, layout, place)? else {
+            let Some((reach, now)) = self.helps(lines, layout, place)? else {
                 continue;
             };
             let reach = if is_drawn { self.draw(FARTHEST) } else { reach };
@@ -218,12 +212,7 @@ impl<M: Machine + Drop> QuickSearch<M> {
     }
 
     /// Makes the next call that is planned. One that does not give its reply there is left out.
-    fn planned(
-        &mut self,
-        alloc: Global,
-        lines: &[Line],
-        layout: &Layout,
-    ) -> Result<Option<usize>, AllocError> {
+    fn planned(&mut self, lines: &[Line], layout: &Layout) -> Result<Option<usize>, AllocError> {
         'plan: for _ in 0..self.plan.len() {
             let Some(place) = self.plan.pop() else {
                 return Ok(None);
@@ -232,7 +221,7 @@ impl<M: Machine + Drop> QuickSearch<M> {
                 continue;
             }
             let is_open = self.is_open(lines, place);
-            if is_open && self.attempt(alloc, lines, place)? {
+            if is_open && self.attempt(lines, place)? {
                 self.doubt_again(layout, place)?;
                 return Ok(Some(place));
             }
@@ -248,18 +237,15 @@ impl<M: Machine + Drop> QuickSearch<M> {
     /// the call that ends first gives its reply.
     fn decide(
         &mut self,
-        alloc: Global,
         lines: &[Line],
         layout: &Layout,
         rivals: &[usize],
     ) -> Result<Option<usize>, AllocError> {
         let low = self.low;
-        let Some(after) = led_to(alloc, self.machine.as_ref(), lines, low)? else {
-            return self.look_ahead(alloc, lines, layout);
+        let Some(after) = led_to(&mut self.text, self.machine.as_ref(), lines, low)? else {
+            return self.look_ahead(lines, layout, true);
         };
-        if self.may_look()
-            && let Some((place, now)) = self.guard(alloc, lines, layout, rivals, &after)?
-        {
+        if let Some((place, now)) = self.guard(lines, layout, rivals, &after)? {
             self.move_to(now)?;
             return Ok(Some(place));
         }
@@ -274,19 +260,20 @@ impl<M: Machine + Drop> QuickSearch<M> {
         lines: &[Line],
         layout: &Layout,
     ) -> Result<Option<usize>, AllocError> {
-        if let Some(place) = self.planned(alloc, lines, layout)? {
+        if let Some(place) = self.planned(lines, layout)? {
             return Ok(Some(place));
         }
         let low = self.low;
-        let rivals = self.rivals(alloc, lines, layout)?;
-        if !rivals.is_empty() {
-            return self.decide(alloc, lines, layout, rivals.as_slice());
+        let may_look = self.may_look();
+        if may_look {
+            let rivals = self.rivals(alloc, lines, layout)?;
+            if !rivals.is_empty() {
+                return self.decide(lines, layout, rivals.as_slice());
+            }
         }
-        if self.attempt(alloc, lines, low)? {
-            // (these looks are counted)
-            self.may_look();
+        if self.attempt(lines, low)? {
             return Ok(Some(low));
         }
-        self.look_ahead(alloc, lines, layout)
+        self.look_ahead(lines, layout, may_look)
     }
 }

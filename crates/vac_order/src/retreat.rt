@@ -124,7 +124,7 @@ impl<M: Machine + Drop> QuickSearch<M> {
         self.settled = self.settled.min(at);
         self.versions.keep_more();
         self.make_again(lines)?;
-        let Some(next) = led_to(alloc, self.machine.as_ref(), lines, pair.other)? else {
+        let Some(next) = led_to(&mut self.text, self.machine.as_ref(), lines, pair.other)? else {
             self.put_back(alloc, lines, layout, cut)?;
             return Ok(None);
         };

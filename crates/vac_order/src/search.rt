@@ -87,6 +87,8 @@ pub(crate) struct QuickSearch<M> {
     pub(crate) jumps: u64,
     /// How many calls may still be looked at beside those that end first.
     pub(crate) looks: u64,
+    /// The text of the last reply that was compared.
+    pub(crate) text: Vec<u8>,
     /// What is drawn next.
     pub(crate) drawn: u64,
 }
@@ -99,9 +101,10 @@ pub(crate) enum Quick {
     Missed,
 }
 
-/// The machine after a call, where that gives its reply. It takes the place of the one before.
+/// The machine after a call, where that gives its reply. It takes the place of the one before, and
+/// the reply's text is written over another.
 pub(crate) fn led_from<M: Machine + Drop>(
-    alloc: Global,
+    text: &mut Vec<u8>,
     machine: M,
     lines: &[Line],
     place: usize,
@@ -110,7 +113,7 @@ pub(crate) fn led_from<M: Machine + Drop>(
         return Ok(None);
     }
     let (next, reply) = machine.made(&lines[place].task)?;
-    if is_right(&mut Vec::new(alloc), &lines[place].reply, &reply)? {
+    if is_right(text, &lines[place].reply, &reply)? {
         Ok(Some(next))
     } else {
         Ok(None)
@@ -119,13 +122,13 @@ pub(crate) fn led_from<M: Machine + Drop>(
 
 /// The machine after a call, where that gives its reply and the machine before it is there.
 pub(crate) fn led_to<M: Machine + Drop>(
-    alloc: Global,
+    text: &mut Vec<u8>,
     machine: Option<&M>,
     lines: &[Line],
     place: usize,
 ) -> Result<Option<M>, AllocError> {
     match machine {
-        Some(machine) => led_from(alloc, machine.copy()?, lines, place),
+        Some(machine) => led_from(text, machine.copy()?, lines, place),
         None => Ok(None),
     }
 }
@@ -156,6 +159,7 @@ impl<M: Machine + Drop> QuickSearch<M> {
             fails: 0,
             jumps: 0,
             looks: layout.answered.wrapping_mul(LOOKS),
+            text: Vec::new(alloc),
             drawn: 1,
         })
     }
@@ -260,17 +264,12 @@ impl<M: Machine + Drop> QuickSearch<M> {
     }
 
     /// Makes the call at a place in the machine, where it gives its reply there.
-    pub(crate) fn attempt(
-        &mut self,
-        alloc: Global,
-        lines: &[Line],
-        place: usize,
-    ) -> Result<bool, AllocError> {
+    pub(crate) fn attempt(&mut self, lines: &[Line], place: usize) -> Result<bool, AllocError> {
         self.keep()?;
         let Some(machine) = self.machine.take() else {
             return Ok(false);
         };
-        self.machine = led_from(alloc, machine, lines, place)?;
+        self.machine = led_from(&mut self.text, machine, lines, place)?;
         if self.machine.is_some() {
             return Ok(true);
         }

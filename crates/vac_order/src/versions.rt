@@ -7,7 +7,7 @@ use std::collections::VecDeque;
 /// After how many calls the next machine is kept, at most.
 const MOST_STRIDE: usize = 4_096;
 
-/// How many machines are kept at most.
+/// How many machines are kept before some are dropped.
 const MOST_KEPT: usize = 8_192;
 
 /// A machine, and how many calls were made before it.
@@ -24,6 +24,8 @@ pub(crate) struct Versions<M> {
     kept: VecDeque<Version<M>>,
     /// After how many calls the next one is kept.
     stride: usize,
+    /// How many are kept before some are dropped.
+    most: usize,
 }
 
 impl<M: Machine + Drop> Versions<M> {
@@ -32,6 +34,7 @@ impl<M: Machine + Drop> Versions<M> {
         Versions {
             kept: VecDeque::new(alloc),
             stride: 1,
+            most: MOST_KEPT,
         }
     }
 
@@ -43,12 +46,23 @@ impl<M: Machine + Drop> Versions<M> {
         }
     }
 
-    /// Drops every second machine, but not the first.
+    /// Drops every second machine, but none without which more than `MOST_STRIDE` calls lie between
+    /// two. The first and the last stay.
     fn thin(&mut self) -> Result<(), AllocError> {
-        'kept: for number in 0..self.kept.len() {
-            if let Some(version) = self.kept.pop_front()
-                && number % 2 == 0
-            {
+        let count = self.kept.len();
+        let mut last = 0;
+        let mut stays = false;
+        'kept: for number in 0..count {
+            let Some(version) = self.kept.pop_front() else {
+                return Ok(());
+            };
+            let next = match self.kept.front() {
+                Some(next) if number + 1 < count => next.at,
+                _ => usize::MAX,
+            };
+            stays = !stays || MOST_STRIDE < next.saturating_sub(last);
+            if stays {
+                last = version.at;
                 self.kept.push_back(version)?;
             }
         }
@@ -59,8 +73,9 @@ impl<M: Machine + Drop> Versions<M> {
     fn push(&mut self, at: usize, machine: &M) -> Result<(), AllocError> {
         let machine = machine.copy()?;
         self.kept.push_back(Version { at, machine })?;
-        if MOST_KEPT < self.kept.len() {
+        if self.most < self.kept.len() {
             self.thin()?;
+            self.most = self.kept.len().saturating_mul(2).max(MOST_KEPT);
         }
         Ok(())
     }
