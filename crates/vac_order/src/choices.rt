@@ -53,17 +53,9 @@ impl<M: Machine + Drop> QuickSearch<M> {
         Ok(is_first)
     }
 
-    /// The same for one that names nothing in common with it, but that all blocks are in use.
-    fn is_full_first(
-        &mut self,
-        lines: &[Line],
-        place: usize,
-        now: &M,
-        after: &M,
-    ) -> Result<bool, AllocError> {
-        if led_to(&mut self.text, Some(after), lines, place)?.is_some() {
-            return Ok(false);
-        }
+    /// The same for one that names nothing in common with it, but that all blocks are in use, and
+    /// that does not give its reply after it.
+    fn is_full_first(&mut self, lines: &[Line], now: &M) -> Result<bool, AllocError> {
         if let Some(machine) = &self.machine
             && machine.hash() == now.hash()
         {
@@ -116,7 +108,8 @@ impl<M: Machine + Drop> QuickSearch<M> {
             let is_first = if layout.meets(self.low, place) {
                 self.is_first(lines, place, &now, after)?
             } else {
-                self.is_full_first(lines, place, &now, after)?
+                led_to(&mut self.text, Some(after), lines, place)?.is_none()
+                    && self.is_full_first(lines, &now)?
             };
             if is_first {
                 return Ok(Some((place, now)));
