@@ -4,8 +4,9 @@ use crate::machine::Machine;
 use std::alloc::{AllocError, Global};
 use std::collections::VecDeque;
 
-/// After how many calls the next machine is kept, at most.
-const MOST_STRIDE: usize = 4_096;
+/// After how many calls the next machine is kept, at most. The calls after it copy what they change,
+/// since it shares that; going back to it makes fewer calls again than were made since.
+const MOST_STRIDE: usize = 131_072;
 
 /// How many machines are kept before some are dropped.
 const MOST_KEPT: usize = 8_192;
