@@ -11,6 +11,5 @@ mod trail;
 mod writing;
 
 pub use ledger::Ledger;
-pub use lines::append_field;
 pub use trail::Trail;
 pub use writing::{are_whole, write_attempts};

@@ -7,23 +7,14 @@ ghost use Rattle.vac_attempts.specs.Lines.{head_text, line_text, line_entry};
 
 use std::alloc::AllocError;
 use tx_observed::Access;
-use vac_lines::print_reply;
+use vac_lines::append_field;
 use vac_manager::AttemptNote;
-use vac_model::Reply;
 
 /// An attempt that is to be written, and the number of its client.
 #[derive(Clone, Copy, Drop)]
 pub(crate) struct Line<'a> {
     pub(crate) client: u32,
     pub(crate) attempt: &'a AttemptNote,
-}
-
-/// Appends a text and a number in decimal.
-pub fn append_field(out: &mut Vec<u8>, text: &[u8], number: u64) -> Result<(), AllocError>
-    ensures { OnOk result (out.new.items ≡ out.old.items ++ field_text text.now number) }
-{
-    out.extend_from_slice(text)?;
-    print_reply(&Reply::Number(Some(number)), out)
 }
 
 /// Appends an access, after a space.

@@ -1,18 +1,18 @@
 //! Judging a history that is held against the work that was handed out.
 
-ghost use Rattle.std.specs.Prelude.{◌≡◌, ◌≢◌, ◌≤◌, ◌++◌, IfOk, OnOk, IfErr};
-ghost use Rattle.vac_lines.specs.Text.{field_text};
+ghost use Rattle.std.specs.Prelude.{◌≡◌, ◌≢◌, ◌≤◌, ◌++◌, IfOk, OnOk, OnErr, IfErr};
+ghost use Rattle.vac_lines.specs.Text.{Extends, field_text};
 ghost use Rattle.vac_lines.specs.Script.{as_line};
 ghost use Rattle.vac_judge.specs.Work.{comes_first, held_verdict, held_text, is_whole};
 ghost use Rattle.vac_judge.specs.HeldReading.{IsReadWhole, HasHeld, HasHeldStopped};
 
 use crate::holding::{first_missing, hold_calls};
 use crate::reading::judge_input;
-use crate::verdict::{Verdict, append_counted, print_verdict};
+use crate::verdict::{Verdict, print_verdict};
 use crate::work::read_work;
 use std::alloc::{AllocError, Global};
 use std::io::{ErrorKind, Read, Write};
-use vac_lines::write_and_flush;
+use vac_lines::{append_field, keep_whole, write_and_flush};
 use vac_model::limits::MOST_BLOCKS;
 use vac_streams::StreamFault;
 
@@ -76,24 +76,38 @@ fn hold(
 
 /// Appends a line of a text and a number.
 fn append_line(out: &mut Vec<u8>, text: &[u8], number: u64) -> Result<(), AllocError>
-    ensures { OnOk result (out.new.items ≡ out.old.items ++ as_line (field_text text.now number)) }
+    ensures ok { OnOk result
+        (out.new.items ≡ out.old.items ++ as_line (field_text text.now number)) }
+    ensures err { OnErr result (Extends out.old.items out.new.items) }
 {
-    append_counted(out, text, number)?;
+    append_field(out, text, number)?;
     out.extend_from_slice(b"\n")
 }
 
 /// Appends that a client's task with this number is missing.
 fn append_missing(out: &mut Vec<u8>, client: u32, number: u64) -> Result<(), AllocError>
-    ensures { OnOk result
+    ensures ok { OnOk result
         (out.new.items ≡ out.old.items ++ held_text (HeldVerdict.Missing client number)) }
+    ensures err { OnErr result (Extends out.old.items out.new.items) }
 {
-    append_counted(out, b"illegal missing ", u64::from(client))?;
+    append_field(out, b"illegal missing ", u64::from(client))?;
     append_line(out, b" ", number)
 }
 
-/// Appends the text of a verdict.
+/// Appends the text of a verdict. Where memory is refused, nothing is appended.
 pub fn print_held(verdict: &HeldVerdict, out: &mut Vec<u8>) -> Result<(), AllocError>
-    ensures { OnOk result (out.new.items ≡ out.old.items ++ held_text verdict.now) }
+    ensures ok { OnOk result (out.new.items ≡ out.old.items ++ held_text verdict.now) }
+    ensures err { OnErr result (out.new.items ≡ out.old.items) }
+{
+    let start = out.len();
+    let printed = append_held(verdict, out);
+    keep_whole(out, start, printed)
+}
+
+/// Appends the text of a verdict. Where memory is refused, a part of it may stand.
+fn append_held(verdict: &HeldVerdict, out: &mut Vec<u8>) -> Result<(), AllocError>
+    ensures ok { OnOk result (out.new.items ≡ out.old.items ++ held_text verdict.now) }
+    ensures err { OnErr result (Extends out.old.items out.new.items) }
 {
     match verdict {
         HeldVerdict::Judged(verdict) => print_verdict(verdict, out),

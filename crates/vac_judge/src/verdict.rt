@@ -1,12 +1,12 @@
 //! What is said of a history, and its text.
 
-ghost use Rattle.std.specs.Prelude.{◌≡◌, ◌++◌, OnOk, codes, decimal};
-ghost use Rattle.vac_lines.specs.Text.{reply_text, field_text};
+ghost use Rattle.std.specs.Prelude.{◌≡◌, ◌++◌, OnOk, OnErr, codes, decimal};
+ghost use Rattle.vac_lines.specs.Text.{Extends, reply_text, field_text};
 ghost use Rattle.vac_judge.specs.Verdict.{counts_text, wrong_text, call_fault_text, verdict_text};
 
 use crate::fault::CallFault;
 use std::alloc::AllocError;
-use vac_lines::{print_fault, print_reply};
+use vac_lines::{append_field, keep_whole, print_fault, print_reply};
 use vac_model::{Reply, Report};
 
 /// What is wrong with a call, after the calls that come before it.
@@ -42,26 +42,20 @@ pub enum Verdict {
     Illegal { line: u64, wrong: Wrong },
 }
 
-/// Appends a text and a number in decimal.
-pub(crate) fn append_counted(out: &mut Vec<u8>, text: &[u8], number: u64) -> Result<(), AllocError>
-    ensures { OnOk result (out.new.items ≡ out.old.items ++ field_text text.now number) }
-{
-    out.extend_from_slice(text)?;
-    print_reply(&Reply::Number(Some(number)), out)
-}
-
 /// Appends the counts of a legal history.
 fn append_counts(out: &mut Vec<u8>, found: &Summary) -> Result<(), AllocError>
-    ensures { OnOk result (out.new.items ≡ out.old.items ++ counts_text found.now) }
+    ensures ok { OnOk result (out.new.items ≡ out.old.items ++ counts_text found.now) }
+    ensures err { OnErr result (Extends out.old.items out.new.items) }
 {
-    append_counted(out, b"legal calls=", found.calls)?;
-    append_counted(out, b" clients=", found.clients)
+    append_field(out, b"legal calls=", found.calls)?;
+    append_field(out, b" clients=", found.clients)
 }
 
 /// Appends what is said of a legal history.
 fn append_summary(out: &mut Vec<u8>, found: &Summary) -> Result<(), AllocError>
-    ensures { OnOk result
+    ensures ok { OnOk result
         (out.new.items ≡ out.old.items ++ verdict_text (Verdict.Legal found.now)) }
+    ensures err { OnErr result (Extends out.old.items out.new.items) }
 {
     append_counts(out, found)?;
     out.extend_from_slice(b"\n")?;
@@ -71,7 +65,8 @@ fn append_summary(out: &mut Vec<u8>, found: &Summary) -> Result<(), AllocError>
 
 /// Appends the fault of a line, without its number.
 fn append_fault(out: &mut Vec<u8>, fault: CallFault) -> Result<(), AllocError>
-    ensures { OnOk result (out.new.items ≡ out.old.items ++ call_fault_text fault) }
+    ensures ok { OnOk result (out.new.items ≡ out.old.items ++ call_fault_text fault) }
+    ensures err { OnErr result (Extends out.old.items out.new.items) }
 {
     match fault {
         CallFault::BadCall => out.extend_from_slice(b"fault bad-call"),
@@ -81,28 +76,41 @@ fn append_fault(out: &mut Vec<u8>, fault: CallFault) -> Result<(), AllocError>
 
 /// Appends what is wrong with the call of a line.
 fn append_wrong(out: &mut Vec<u8>, wrong: &Wrong, line: u64) -> Result<(), AllocError>
-    ensures { OnOk result (out.new.items ≡ out.old.items ++ wrong_text wrong.now line) }
+    ensures ok { OnOk result (out.new.items ≡ out.old.items ++ wrong_text wrong.now line) }
+    ensures err { OnErr result (Extends out.old.items out.new.items) }
 {
     match wrong {
-        Wrong::Client => append_counted(out, b"illegal client ", line),
-        Wrong::Time => append_counted(out, b"illegal time ", line),
+        Wrong::Client => append_field(out, b"illegal client ", line),
+        Wrong::Time => append_field(out, b"illegal time ", line),
         Wrong::Reply(expected) => {
-            append_counted(out, b"illegal reply ", line)?;
+            append_field(out, b"illegal reply ", line)?;
             out.extend_from_slice(b" ")?;
             print_reply(expected, out)
         }
     }
 }
 
-/// Appends the text of a verdict: two lines for a legal history, and one for any other.
+/// Appends the text of a verdict: two lines for a legal history, and one for any other. Where
+/// memory is refused, nothing is appended.
 pub fn print_verdict(verdict: &Verdict, out: &mut Vec<u8>) -> Result<(), AllocError>
-    ensures { OnOk result (out.new.items ≡ out.old.items ++ verdict_text verdict.now) }
+    ensures ok { OnOk result (out.new.items ≡ out.old.items ++ verdict_text verdict.now) }
+    ensures err { OnErr result (out.new.items ≡ out.old.items) }
+{
+    let start = out.len();
+    let printed = append_verdict(verdict, out);
+    keep_whole(out, start, printed)
+}
+
+/// Appends the text of a verdict. Where memory is refused, a part of it may stand.
+fn append_verdict(verdict: &Verdict, out: &mut Vec<u8>) -> Result<(), AllocError>
+    ensures ok { OnOk result (out.new.items ≡ out.old.items ++ verdict_text verdict.now) }
+    ensures err { OnErr result (Extends out.old.items out.new.items) }
 {
     match verdict {
         Verdict::Legal(found) => append_summary(out, found),
         Verdict::Fault { line, fault } => {
             append_fault(out, *fault)?;
-            append_counted(out, b" ", *line)?;
+            append_field(out, b" ", *line)?;
             out.extend_from_slice(b"\n")
         }
         Verdict::Illegal { line, wrong } => {

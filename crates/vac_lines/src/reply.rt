@@ -59,7 +59,7 @@ pub fn print_word(word: u64, out: &mut Vec<u8>) -> Result<(), AllocError>
 }
 
 /// Takes back what was appended after `start`, where not all of it could be.
-pub(crate) fn keep_whole(
+pub fn keep_whole(
     out: &mut Vec<u8>,
     start: usize,
     printed: Result<(), AllocError>,
@@ -119,8 +119,8 @@ fn append_done(out: &mut Vec<u8>, refused: Option<Why>) -> Result<(), AllocError
     }
 }
 
-/// Appends a field of a report: its name and its number.
-pub(crate) fn append_field(out: &mut Vec<u8>, name: &[u8], number: u64) -> Result<(), AllocError>
+/// Appends a name and a number in decimal. Where memory is refused, a part of them may stand.
+pub fn append_field(out: &mut Vec<u8>, name: &[u8], number: u64) -> Result<(), AllocError>
     ensures ok { OnOk result (out.new.items ≡ out.old.items ++ field_text name.now number) }
     ensures err { OnErr result (Extends out.old.items out.new.items) }
 {

@@ -1,13 +1,12 @@
 //! What is said of a text of attempts, and its text.
 
-ghost use Rattle.std.specs.Prelude.{◌≡◌, ◌++◌, OnOk, codes, decimal};
-ghost use Rattle.vac_lines.specs.Text.{reply_text, field_text};
+ghost use Rattle.std.specs.Prelude.{◌≡◌, ◌++◌, OnOk, OnErr, codes, decimal};
+ghost use Rattle.vac_lines.specs.Text.{Extends, reply_text, field_text};
 ghost use Rattle.vac_opaque.specs.Verdict.{attempts_counts_text, read_text, breach_text, finding_text};
 ghost use Rattle.vac_opaque.specs.Verdict.{is_opaque};
 
 use std::alloc::AllocError;
-use vac_lines::{LineFault, print_fault, print_reply};
-use vac_model::Reply;
+use vac_lines::{LineFault, append_field, keep_whole, print_fault};
 use vac_spans::Misplaced;
 
 /// What is wrong with an attempt, after those that come before it.
@@ -42,17 +41,10 @@ pub enum Finding {
     Illegal { line: u64, breach: Breach },
 }
 
-/// Appends a text and a number in decimal.
-fn append_field(out: &mut Vec<u8>, text: &[u8], number: u64) -> Result<(), AllocError>
-    ensures { OnOk result (out.new.items ≡ out.old.items ++ field_text text.now number) }
-{
-    out.extend_from_slice(text)?;
-    print_reply(&Reply::Number(Some(number)), out)
-}
-
 /// Appends what is said of attempts that are opaque.
 fn append_counts(out: &mut Vec<u8>, counts: &Counts) -> Result<(), AllocError>
-    ensures { OnOk result (out.new.items ≡ out.old.items ++ attempts_counts_text counts.now) }
+    ensures ok { OnOk result (out.new.items ≡ out.old.items ++ attempts_counts_text counts.now) }
+    ensures err { OnErr result (Extends out.old.items out.new.items) }
 {
     append_field(out, b"opaque attempts=", counts.attempts)?;
     append_field(out, b" committed=", counts.committed)?;
@@ -61,7 +53,8 @@ fn append_counts(out: &mut Vec<u8>, counts: &Counts) -> Result<(), AllocError>
 
 /// Appends what is said of a read.
 fn append_read(out: &mut Vec<u8>, line: u64, word: u32, expected: u64) -> Result<(), AllocError>
-    ensures { OnOk result (out.new.items ≡ out.old.items ++ read_text line word expected) }
+    ensures ok { OnOk result (out.new.items ≡ out.old.items ++ read_text line word expected) }
+    ensures err { OnErr result (Extends out.old.items out.new.items) }
 {
     append_field(out, b"illegal read ", line)?;
     append_field(out, b" ", u64::from(word))?;
@@ -70,7 +63,8 @@ fn append_read(out: &mut Vec<u8>, line: u64, word: u32, expected: u64) -> Result
 
 /// Appends what is wrong with the attempt of a line.
 fn append_breach(out: &mut Vec<u8>, breach: &Breach, line: u64) -> Result<(), AllocError>
-    ensures { OnOk result (out.new.items ≡ out.old.items ++ breach_text breach.now line) }
+    ensures ok { OnOk result (out.new.items ≡ out.old.items ++ breach_text breach.now line) }
+    ensures err { OnErr result (Extends out.old.items out.new.items) }
 {
     match breach {
         Breach::Place(Misplaced::Client) => append_field(out, b"illegal client ", line),
@@ -79,9 +73,20 @@ fn append_breach(out: &mut Vec<u8>, breach: &Breach, line: u64) -> Result<(), Al
     }
 }
 
-/// Appends the text of a verdict, which is one line.
+/// Appends the text of a verdict, which is one line. Where memory is refused, nothing is appended.
 pub fn print_finding(finding: &Finding, out: &mut Vec<u8>) -> Result<(), AllocError>
-    ensures { OnOk result (out.new.items ≡ out.old.items ++ finding_text finding.now) }
+    ensures ok { OnOk result (out.new.items ≡ out.old.items ++ finding_text finding.now) }
+    ensures err { OnErr result (out.new.items ≡ out.old.items) }
+{
+    let start = out.len();
+    let printed = append_finding(finding, out);
+    keep_whole(out, start, printed)
+}
+
+/// Appends the text of a verdict. Where memory is refused, a part of it may stand.
+fn append_finding(finding: &Finding, out: &mut Vec<u8>) -> Result<(), AllocError>
+    ensures ok { OnOk result (out.new.items ≡ out.old.items ++ finding_text finding.now) }
+    ensures err { OnErr result (Extends out.old.items out.new.items) }
 {
     match finding {
         Finding::Opaque(counts) => append_counts(out, counts)?,

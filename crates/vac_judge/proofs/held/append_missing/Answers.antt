@@ -4,12 +4,12 @@ use Rattle.vac_lines.specs.Script.{as_line}
 use Rattle.vac_judge.proofs.Handed.{missing_text}
 use Rattle.vac_judge.proofs.held.append_missing.Goals as goal
 
-pub returns : goal.returns
-returns c =
+pub returns-clause-ok : goal.returns-clause-ok
+returns-clause-ok c =
     let out = c.args.out.now.items in
     let last = as_line (field_text (codes " ") c.args.number) in
     let same =
-    ap (λ t. t ++ last) (c.in_ok-append_counted.ensures ∙ ap (λ n. out ++ field_text (codes "illegal missing ") n)
+    ap (λ t. t ++ last) (c.in_ok-append_field.ensures.ok ∙ ap (λ n. out ++ field_text (codes "illegal missing ") n)
     c.from.ensures)
     ∙ missing_text out (decimal c.args.client) (decimal c.args.number) in
-    subst (λ t. OnOk c.append_line.result (c.append_line.new.out.items ≡ t)) same c.append_line.ensures
+    subst (λ t. OnOk c.append_line.result (c.append_line.new.out.items ≡ t)) same c.append_line.ensures.ok
