@@ -45,7 +45,7 @@ const ROWS: [Row; 3] = [
 ];
 
 /// Command lines that read nothing.
-const WRITING: [&[&str]; 2] = [
+const WRITING: [&[&str]; 3] = [
     &[
         "vacation",
         "tasks",
@@ -67,6 +67,18 @@ const WRITING: [&[&str]; 2] = [
         "1",
         "--history",
     ],
+    LONG_HISTORY,
+];
+
+/// A load whose history is longer than a chunk of text.
+const LONG_HISTORY: &[&str] = &[
+    "vacation",
+    "load",
+    "--clients",
+    "1",
+    "--tasks",
+    "4000",
+    "--history",
 ];
 
 #[test]
