@@ -4,7 +4,7 @@ ghost use Rattle.stm_logs.specs.Log.{IsStriped};
 
 use crate::same::{holds, same};
 use linked_list_allocator::LocalHeap;
-use std::alloc::{AllocError, Allocator};
+use std::alloc::{AllocError, Allocator, Global};
 use std::process::Abort;
 use std::test::Fail;
 use stm_logs::{ReadLog, WriteLog};
@@ -36,38 +36,56 @@ fn put<A: Allocator + Copy>(
     log.put(Addr(addr), addr % stripes, value)
 }
 
-#[test]
-fn a_value_is_replaced(rt: HostRuntime) -> Result<(), Fail> {
-    let mut log = new_log(rt.alloc());
-    same(&rt, &log.get(Addr(9)), &None);
+/// How many words and locks a log has, and what it has at the address 9.
+fn sizes_and_nine(log: &WriteLog) -> (usize, usize, Option<u64>) {
+    (log.len(), log.lock_count(), log.get(Addr(9)))
+}
+
+/// The locks of a log that has two.
+fn two_locks(rt: &impl Abort, log: &WriteLog) -> [u32; 2] {
+    assert_eq!(rt; log.lock_count(), 2);
+    [log.nth_lock(0), log.nth_lock(1)]
+}
+
+/// The words of a lock.
+fn words_of(rt: &impl Abort, alloc: Global, log: &WriteLog, lock: u32) -> Vec<(Addr, u64)> {
+    let Ok(words) = log.words_of(lock).collect(alloc) else {
+        panic!(rt; "there is no memory")
+    };
+    words
+}
+
+/// A log in which three values were put, two of them at the address 9.
+fn replaced(alloc: Global) -> Result<WriteLog, AllocError> {
+    let mut log = new_log(alloc);
     put(&mut log, 10, 9, 1)?;
     put(&mut log, 10, 4, 2)?;
     put(&mut log, 10, 9, 3)?;
-    same(&rt, &log.len(), &2);
-    same(&rt, &log.get(Addr(9)), &Some(3));
+    Ok(log)
+}
+
+#[test]
+fn a_value_is_replaced(rt: HostRuntime) -> Result<(), Fail> {
+    same(&rt, &sizes_and_nine(&new_log(rt.alloc())), &(0, 0, None));
+    let mut log = replaced(rt.alloc())?;
+    same(&rt, &sizes_and_nine(&log), &(2, 2, Some(3)));
     same(&rt, &log.get(Addr(5)), &None);
     holds(&rt, log.has_lock(4) && log.has_lock(9) && !log.has_lock(5));
-    assert_eq!(rt; log.lock_count(), 2);
-    same(&rt, &log.nth_lock(0), &4);
-    same(&rt, &log.nth_lock(1), &9);
-    let words: Vec<(Addr, u64)> = log.words_of(9).collect(rt.alloc())?;
-    same(&rt, &words.as_slice(), &[(Addr(9), 3)].as_slice());
-    let mut none = log.words_of(5);
-    same(&rt, &none.next(), &None);
+    same(&rt, &two_locks(&rt, &log), &[4, 9]);
+    let nine = words_of(&rt, rt.alloc(), &log, 9);
+    same(&rt, &nine.as_slice(), &[(Addr(9), 3)].as_slice());
+    same(&rt, &words_of(&rt, rt.alloc(), &log, 5).len(), &0);
     log.clear();
-    same(&rt, &log.len(), &0);
-    same(&rt, &log.get(Addr(9)), &None);
-    same(&rt, &log.lock_count(), &0);
+    same(&rt, &sizes_and_nine(&log), &(0, 0, None));
     Ok(())
 }
 
 #[test]
 fn two_words_share_a_lock(rt: HostRuntime) -> Result<(), Fail> {
     let mut log = new_log(rt.alloc());
-    put(&mut log, 4, 9, 1)?;
-    put(&mut log, 4, 5, 2)?;
+    put_two(&mut log, 4, (9, 1), (5, 2))?;
     same(&rt, &log.lock_count(), &1);
-    let words: Vec<(Addr, u64)> = log.words_of(1).collect(rt.alloc())?;
+    let words = words_of(&rt, rt.alloc(), &log, 1);
     same(
         &rt,
         &words.as_slice(),
@@ -78,19 +96,44 @@ fn two_words_share_a_lock(rt: HostRuntime) -> Result<(), Fail> {
     Ok(())
 }
 
-#[test]
-fn locks_come_with_their_words(rt: HostRuntime) -> Result<(), Fail> {
-    let mut log = new_log(rt.alloc());
-    put(&mut log, 4, 9, 1)?;
-    put(&mut log, 4, 6, 2)?;
-    put(&mut log, 4, 5, 3)?;
-    put(&mut log, 4, 9, 4)?;
-    let mut found = Vec::new(rt.alloc());
+/// Puts two values, each at its address.
+fn put_two(
+    log: &mut WriteLog,
+    stripes: u32,
+    first: (u32, u64),
+    second: (u32, u64),
+) -> Result<(), AllocError>
+    requires some { 0 < stripes }
+    requires striped { IsStriped log.old stripes }
+    ensures { IsStriped log.new stripes }
+{
+    put(log, stripes, first.0, first.1)?;
+    put(log, stripes, second.0, second.1)
+}
+
+/// A log whose words have two locks.
+fn of_two_locks(alloc: Global) -> Result<WriteLog, AllocError> {
+    let mut log = new_log(alloc);
+    put_two(&mut log, 4, (9, 1), (6, 2))?;
+    put_two(&mut log, 4, (5, 3), (9, 4))?;
+    Ok(log)
+}
+
+/// The words of a log, each with its lock, as they come by lock.
+fn by_lock(alloc: Global, log: &WriteLog) -> Result<Vec<(u32, Addr, u64)>, AllocError> {
+    let mut found = Vec::new(alloc);
     for (lock, words) in log.by_lock() {
         for (addr, value) in words {
             found.push((lock, addr, value))?;
         }
     }
+    Ok(found)
+}
+
+#[test]
+fn locks_come_with_their_words(rt: HostRuntime) -> Result<(), Fail> {
+    let mut log = of_two_locks(rt.alloc())?;
+    let found = by_lock(rt.alloc(), &log)?;
     let wanted = [(1, Addr(5), 3), (1, Addr(9), 4), (2, Addr(6), 2)];
     same(&rt, &found.as_slice(), &wanted.as_slice());
     let pairs: Vec<(Addr, u64)> = log.pairs_by_lock().collect(rt.alloc())?;
@@ -105,6 +148,23 @@ fn locks_come_with_their_words(rt: HostRuntime) -> Result<(), Fail> {
     Ok(())
 }
 
+/// Pushes the addresses from 0 on until memory is refused.
+fn push_all<A: Allocator + Copy>(log: &mut ReadLog<A>, count: u32) {
+    for addr in 0..count {
+        if log.push(Addr(addr)).is_err() {
+            return;
+        }
+    }
+}
+
+/// A log has so many addresses, which are those from 0 on, in this order.
+fn expect_rising<A: Allocator + Copy>(rt: &impl Abort, log: &ReadLog<A>, count: usize) {
+    same(rt, &log.len(), &count);
+    for i in 0..log.len() {
+        holds(rt, log.get(i).0 as usize == i);
+    }
+}
+
 #[test]
 fn a_read_log_is_a_list(rt: HostRuntime) -> Result<(), Fail> {
     let mut log = ReadLog::new(rt.alloc());
@@ -112,18 +172,12 @@ fn a_read_log_is_a_list(rt: HostRuntime) -> Result<(), Fail> {
         log.push(Addr(addr))?;
     }
     assert_eq!(rt; log.len(), 3);
-    same(&rt, &log.get(1), &Addr(9));
-    same(&rt, &log.get(2), &Addr(4));
+    same(&rt, &[log.get(1), log.get(2)], &[Addr(9), Addr(4)]);
     log.clear();
     same(&rt, &log.len(), &0);
     for _ in 0..2 {
-        for addr in 0..100_000 {
-            log.push(Addr(addr))?;
-        }
-        for i in 0..log.len() {
-            holds(&rt, log.get(i).0 as usize == i);
-        }
-        assert_eq!(rt; log.len(), 100_000);
+        push_all(&mut log, 100_000);
+        expect_rising(&rt, &log, 100_000);
         log.clear();
     }
     Ok(())
@@ -147,34 +201,41 @@ fn put_all<A: Allocator + Copy>(
     Ok(())
 }
 
-/// The log has the addresses below count and no others, each below its lock, all of them ascending.
-fn expect_all<A: Allocator + Copy, R: Abort>(
-    rt: &R,
+/// The words of a lock are ascending, each with its own number for a value. Returns how many there
+/// are.
+fn expect_words<A: Allocator + Copy>(
+    rt: &impl Abort,
     log: &WriteLog<A>,
     stripes: u32,
-    count: u32,
-) -> Result<(), Fail>
+    lock: u32,
+) -> u64
+    requires { 0 < stripes }
+{
+    let mut least = 0u64;
+    let mut words = 0u64;
+    for (addr, value) in log.words_of(lock) {
+        holds(rt, least <= value && value < 1_000_000);
+        holds(rt, addr.0 % stripes == lock && addr.0 as u64 == value);
+        least = value.wrapping_add(1);
+        words = words.wrapping_add(1);
+    }
+    words
+}
+
+/// The log has the addresses below count and no others, each below its lock, all of them ascending.
+fn expect_all<A: Allocator + Copy>(rt: &impl Abort, log: &WriteLog<A>, stripes: u32, count: u32)
     requires { 0 < stripes }
 {
     same(rt, &log.len(), &(count as usize));
     same(rt, &log.lock_count(), &(count.min(stripes) as usize));
-    let mut next_lock = 0;
-    let mut words = 0;
+    let mut next_lock = 0u32;
+    let mut words = 0u64;
     for lock in log.locks() {
         same(rt, &lock, &next_lock);
-        assert!(rt; next_lock < 1_000_000);
-        next_lock += 1;
-        let mut least = 0;
-        for (addr, value) in log.words_of(lock) {
-            assert!(rt; least <= addr.0 && addr.0 < 1_000_000);
-            least = addr.0 + 1;
-            holds(rt, addr.0 % stripes == lock && addr.0 as u64 == value);
-            assert!(rt; words < 1_000_000);
-            words += 1;
-        }
+        next_lock = next_lock.wrapping_add(1);
+        words = words.wrapping_add(expect_words(rt, log, stripes, lock));
     }
-    same(rt, &words, &count);
-    Ok(())
+    same(rt, &words, &u64::from(count));
 }
 
 #[test]
@@ -188,7 +249,7 @@ fn many_addresses(rt: HostRuntime) -> Result<(), Fail> {
     ] {
         clear(&mut log);
         put_all(&mut log, stripes, 100_000, is_down)?;
-        expect_all(&rt, &log, stripes, 100_000)?;
+        expect_all(&rt, &log, stripes, 100_000);
     }
     Ok(())
 }
@@ -207,6 +268,21 @@ fn put_some<A: Allocator + Copy>(log: &mut WriteLog<A>, count: u32) -> u32
     count
 }
 
+/// Fills a log up to so many addresses, puts one of them again, and fills it anew.
+fn fill_twice<A: Allocator + Copy>(rt: &impl Abort, heap: A, most: u32) {
+    let mut log = new_log(heap);
+    let count = put_some(&mut log, 200);
+    same(rt, &count, &most);
+    expect_all(rt, &log, 1_000_000, count);
+    if count > 0 {
+        holds(rt, put(&mut log, 1_000_000, 0, 0).is_ok());
+        expect_all(rt, &log, 1_000_000, count);
+    }
+    clear(&mut log);
+    let again = put_some(&mut log, 200);
+    same(rt, &again, &count);
+}
+
 /// In heaps of these sizes no growth, the first, and so on up to all of them have room.
 #[test]
 fn each_growth_of_the_write_log_is_refused(rt: HostRuntime) -> Result<(), Fail> {
@@ -218,22 +294,19 @@ fn each_growth_of_the_write_log_is_refused(rt: HostRuntime) -> Result<(), Fail> 
         (40_000, 200),
     ] {
         let heap = LocalHeap::new(rt.alloc(), size)?;
-        {
-            let mut log = new_log(&heap);
-            let count = put_some(&mut log, 200);
-            same(&rt, &count, &most);
-            expect_all(&rt, &log, 1_000_000, count)?;
-            if count > 0 {
-                put(&mut log, 1_000_000, 0, 0)?;
-                expect_all(&rt, &log, 1_000_000, count)?;
-            }
-            clear(&mut log);
-            let again = put_some(&mut log, 200);
-            same(&rt, &again, &count);
-        }
+        fill_twice(&rt, &heap, most);
         same(&rt, &heap.used(), &0);
     }
     Ok(())
+}
+
+/// Fills a read log up to so many addresses, and then begins anew.
+fn fill_list<A: Allocator + Copy>(rt: &impl Abort, heap: A, most: usize) {
+    let mut log = ReadLog::new(heap);
+    push_all(&mut log, 5_000);
+    expect_rising(rt, &log, most);
+    log.clear();
+    same(rt, &log.push(Addr(7)).is_ok(), &(most > 0));
 }
 
 #[test]
@@ -248,20 +321,7 @@ fn each_growth_of_the_read_log_is_refused(rt: HostRuntime) -> Result<(), Fail> {
         (100_000, 5_000),
     ] {
         let heap = LocalHeap::new(rt.alloc(), size)?;
-        {
-            let mut log = ReadLog::new(&heap);
-            for addr in 0..5_000 {
-                if log.push(Addr(addr)).is_err() {
-                    break;
-                }
-            }
-            same(&rt, &log.len(), &most);
-            for i in 0..log.len() {
-                holds(&rt, log.get(i).0 as usize == i);
-            }
-            log.clear();
-            same(&rt, &log.push(Addr(7)).is_ok(), &(most > 0));
-        }
+        fill_list(&rt, &heap, most);
         same(&rt, &heap.used(), &0);
     }
     Ok(())

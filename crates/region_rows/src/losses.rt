@@ -2,8 +2,8 @@
 ghost use Rattle.std.specs.Prelude.{◌≡◌, ◌<◌};
 ghost use Rattle.stm_core.specs.Core.{IsFreeHanded};
 
-use crate::regions::write_at;
-use crate::same::same;
+use crate::regions::{write_at, writes};
+use crate::same::{close, open, same, split};
 use std::alloc::{AllocError, Global};
 use std::test::Fail;
 use stm_logs::WriteLog;
@@ -115,21 +115,20 @@ fn tick_across(
 #[test]
 fn steps_find_what_another_client_left(rt: HostRuntime) -> Result<(), Fail> {
     let alloc = rt.alloc();
-    let (region, mut a) = Region::<FreeLaw>::new(alloc, &[0; 32], 100, 32)?;
-    let mut b = region.split(&mut a)?;
+    let (region, mut a) = open(&rt, alloc, &[0; 32], 100, 32);
+    let mut b = split(&rt, &region, &mut a);
     let checked = read_across(alloc, &region, &mut a, &mut b, Addr(9))?;
     let locked = lock_across(alloc, &region, &mut a, &mut b, Addr(9))?;
     let ticked = tick_across(alloc, &region, &mut a, &mut b, Addr(10), Addr(9))?;
-    let after = write_at(alloc, &region, &mut a, Addr(10), 8)?;
+    let after = writes(&rt, alloc, &region, &mut a, Addr(10), 8);
     region.gather(&mut a, b);
-    let Ok((words, version)) = region.close(alloc, a) else {
-        panic!(rt; "it stayed open")
-    };
+    let (words, version) = close(&rt, alloc, region, a);
     same(&rt, &checked, &Some((0, 2)));
     same(&rt, &locked, &Some(Err(4)));
     same(&rt, &ticked, &Some(3));
     same(&rt, &after, &true);
-    same(&rt, &(words.as_slice()[9], words.as_slice()[10]), &(5, 8));
-    same(&rt, &version.get(), &4);
+    same(&rt, &words.get(9).copied(), &Some(5));
+    same(&rt, &words.get(10).copied(), &Some(8));
+    same(&rt, &version, &4);
     Ok(())
 }

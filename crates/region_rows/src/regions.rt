@@ -2,8 +2,9 @@
 ghost use Rattle.std.specs.Prelude.{◌≡◌, ℕ, ◌<◌, IfOk, false, []};
 ghost use Rattle.stm_core.specs.Core.{IsFreeHanded};
 
-use crate::same::{holds, same};
+use crate::same::{close, open, same, split, stays_open};
 use std::alloc::{AllocError, Global};
+use std::process::Abort;
 use std::test::Fail;
 use std::thread;
 use stm_logs::WriteLog;
@@ -78,6 +79,35 @@ pub(crate) fn write_at(
     Ok(true)
 }
 
+/// The same, where there is memory for it.
+pub(crate) fn writes(
+    rt: &impl Abort,
+    alloc: Global,
+    region: &Region<FreeLaw>,
+    client: &mut Client<FreeLaw>,
+    addr: Addr,
+    value: u64,
+) -> bool
+    requires own { client.old.table ≡ region.now.table }
+    requires free { IsFreeHanded client.old.value }
+    requires range { addr.0 < region.now.size }
+    ensures own { client.new.table ≡ client.old.table }
+    ensures free { IsFreeHanded client.new.value }
+{
+    let Ok(written) = write_at(alloc, region, client, addr, value) else {
+        panic!(rt; "there is no memory")
+    };
+    written
+}
+
+/// Why a region does not open.
+fn refused(alloc: Global, image: &[u64], last: u64, stripes: u32) -> Option<RegionFault> {
+    match Region::<FreeLaw>::new(alloc, image, last, stripes) {
+        Ok(_) => None,
+        Err(fault) => Some(fault),
+    }
+}
+
 #[test]
 fn refuses_an_opening_in_order(rt: HostRuntime) -> Result<(), Fail> {
     let zeros = [0u64; 32];
@@ -88,27 +118,34 @@ fn refuses_an_opening_in_order(rt: HostRuntime) -> Result<(), Fail> {
         (32, 100, 0, RegionFault::Stripes),
         (32, 100, 1_048_577, RegionFault::Stripes),
     ] {
-        match Region::<FreeLaw>::new(rt.alloc(), &zeros[..words], last, stripes) {
-            Ok(_) => panic!(rt; "it opened"),
-            Err(fault) => same(&rt, &fault, &want),
-        }
+        let fault = refused(rt.alloc(), &zeros[..words], last, stripes);
+        same(&rt, &fault, &Some(want));
     }
     Ok(())
 }
 
+/// Why no client splits off.
+fn stays_whole(region: &Region<FreeLaw>, client: &mut Client<FreeLaw>) -> Option<RegionFault>
+    requires own { client.old.table ≡ region.now.table }
+    requires free { IsFreeHanded client.old.value }
+    ensures own { client.new.table ≡ client.old.table }
+    ensures free { IsFreeHanded client.new.value }
+{
+    match region.split(client) {
+        Ok(_) => None,
+        Err(fault) => Some(fault),
+    }
+}
+
 #[test]
 fn sixty_three_clients_split_off(rt: HostRuntime) -> Result<(), Fail> {
-    let (region, mut client) = Region::<FreeLaw>::new(rt.alloc(), &[0; 32], 100, 32)?;
+    let (region, mut client) = open(&rt, rt.alloc(), &[0; 32], 100, 32);
     for _ in 0..63 {
-        holds(&rt, region.split(&mut client).is_ok());
+        let _ = split(&rt, &region, &mut client);
     }
-    holds(
-        &rt,
-        matches!(region.split(&mut client), Err(RegionFault::Clients)),
-    );
-    let Err((_, _, fault)) = region.close(rt.alloc(), client) else {
-        panic!(rt; "it closed with clients out")
-    };
+    let refused = stays_whole(&region, &mut client);
+    let (_, _, fault) = stays_open(&rt, rt.alloc(), region, client);
+    same(&rt, &refused, &Some(RegionFault::Clients));
     same(&rt, &fault, &RegionFault::StillOut { out: 63 });
     Ok(())
 }
@@ -119,40 +156,36 @@ fn closes_once_all_are_gathered(rt: HostRuntime) -> Result<(), Fail> {
     reads_are_of_one_version::<FreeLaw>();
     gathering_keeps_all_grants::<FreeLaw>();
     running_threads_are_a_list::<FreeLaw>();
-    let (region, mut client) = Region::<FreeLaw>::new(rt.alloc(), &[0; 32], 100, 32)?;
-    same(&rt, &region.last().get(), &100);
-    same(&rt, &region.lock_of(Addr(9)), &9);
-    same(&rt, &read_at(&region, &mut client, Addr(9)), &Some(0));
-    let other = region.split(&mut client)?;
-    let Err((region, mut client, fault)) = region.close(rt.alloc(), client) else {
-        panic!(rt; "it closed with a client out")
-    };
-    same(&rt, &fault, &RegionFault::StillOut { out: 1 });
+    let (region, mut client) = open(&rt, rt.alloc(), &[0; 32], 100, 32);
+    let (last, lock) = (region.last().get(), region.lock_of(Addr(9)));
+    let nine = read_at(&region, &mut client, Addr(9));
+    let other = split(&rt, &region, &mut client);
+    let (region, mut client, fault) = stays_open(&rt, rt.alloc(), region, client);
     region.gather(&mut client, other);
-    same(&rt, &read_at(&region, &mut client, Addr(31)), &Some(0));
-    let Ok((words, version)) = region.close(rt.alloc(), client) else {
-        panic!(rt; "it stayed open")
-    };
+    let end = read_at(&region, &mut client, Addr(31));
+    let (words, version) = close(&rt, rt.alloc(), region, client);
+    same(&rt, &last, &100);
+    same(&rt, &lock, &9);
+    same(&rt, &[nine, end], &[Some(0); 2]);
+    same(&rt, &fault, &RegionFault::StillOut { out: 1 });
     same(&rt, &words.as_slice(), &[0u64; 32].as_slice());
-    same(&rt, &version.get(), &0);
+    same(&rt, &version, &0);
     Ok(())
 }
 
 #[test]
 fn a_spent_clock_ticks_no_more(rt: HostRuntime) -> Result<(), Fail> {
-    let (region, mut client) = Region::<FreeLaw>::new(rt.alloc(), &[0; 32], 1, 32)?;
-    holds(&rt, write_at(rt.alloc(), &region, &mut client, Addr(9), 5)?);
-    same(&rt, &region.begin(&mut client).get(), &region.last().get());
-    same(&rt, &read_at(&region, &mut client, Addr(9)), &Some(5));
-    holds(
-        &rt,
-        !write_at(rt.alloc(), &region, &mut client, Addr(9), 6)?,
-    );
-    let Ok((words, version)) = region.close(rt.alloc(), client) else {
-        panic!(rt; "it stayed open")
-    };
-    same(&rt, &words.as_slice()[9], &5);
-    same(&rt, &version.get(), &1);
+    let (region, mut client) = open(&rt, rt.alloc(), &[0; 32], 1, 32);
+    let first = writes(&rt, rt.alloc(), &region, &mut client, Addr(9), 5);
+    let (begun, last) = (region.begin(&mut client).get(), region.last().get());
+    let read = read_at(&region, &mut client, Addr(9));
+    let spent = writes(&rt, rt.alloc(), &region, &mut client, Addr(9), 6);
+    let (words, version) = close(&rt, rt.alloc(), region, client);
+    same(&rt, &[first, spent], &[true, false]);
+    same(&rt, &begun, &last);
+    same(&rt, &read, &Some(5));
+    same(&rt, &words.get(9).copied(), &Some(5));
+    same(&rt, &version, &1);
     Ok(())
 }
 
@@ -180,8 +213,8 @@ fn write_until_done(
 #[test]
 fn two_threads_write_one_memory(rt: HostRuntime) -> Result<(), Fail> {
     let alloc = rt.alloc();
-    let (region, mut client) = Region::<FreeLaw>::new(alloc, &[0; 8], 100, 4)?;
-    let other = region.split(&mut client)?;
+    let (region, mut client) = open(&rt, alloc, &[0; 8], 100, 4);
+    let other = split(&rt, &region, &mut client);
     let shared = &region;
     let (first, second) = thread::join(
         &rt,
@@ -200,14 +233,12 @@ fn two_threads_write_one_memory(rt: HostRuntime) -> Result<(), Fail> {
     );
     let mut client = first?;
     region.gather(&mut client, second?);
-    let Ok((words, version)) = region.close(alloc, client) else {
-        panic!(rt; "it stayed open")
-    };
+    let (words, version) = close(&rt, alloc, region, client);
     same(
         &rt,
         &words.as_slice(),
         &[0u64, 10, 0, 0, 0, 50, 0, 0].as_slice(),
     );
-    same(&rt, &version.get(), &2);
+    same(&rt, &version, &2);
     Ok(())
 }

@@ -1,75 +1,68 @@
 //! Regions whose clock is renewed.
-ghost use Rattle.std.specs.Prelude.{◌≡◌, IfOk};
+ghost use Rattle.std.specs.Prelude.{◌≡◌};
 ghost use Rattle.stm_core.specs.Core.{IsFreeHanded};
 
-use crate::regions::{read_at, write_at};
-use crate::same::{holds, same};
+use crate::regions::{read_at, write_at, writes};
+use crate::same::{close, holds, open, renewed, same, split, stays_old};
 use linked_list_allocator::LocalHeap;
-use std::alloc::{Allocator, Global};
+use std::alloc::{AllocError, Allocator, Global};
+use std::process::Abort;
 use std::test::Fail;
 use stm_region::{Client, Region, RegionFault, RenewFault};
 use stm_words::FreeLaw;
 use tx_memory::Addr;
 
-type Renewed = (Region<FreeLaw>, Client<FreeLaw>);
-
-/// Renews `times` times, or as often as it can.
+/// Renews `times` times.
 fn renew_times(
+    rt: &impl Abort,
     alloc: Global,
     mut region: Region<FreeLaw>,
     mut client: Client<FreeLaw>,
     times: u32,
-) -> Result<Renewed, RenewFault<FreeLaw>>
+) -> (Region<FreeLaw>, Client<FreeLaw>)
     requires own { client.table ≡ region.table }
     requires free { IsFreeHanded client.value }
-    ensures { IfOk result (λ r. (r.1.table ≡ r.0.table) × IsFreeHanded r.1.value) }
+    ensures own { result.1.table ≡ result.0.table }
+    ensures free { IsFreeHanded result.1.value }
 {
     for _ in 0..times {
-        (region, client) = region.renew(alloc, client, 1)?;
+        (region, client) = renewed(rt, alloc, region, client, 1);
     }
-    Ok((region, client))
+    (region, client)
 }
 
 #[test]
 fn a_region_is_renewed_65535_times(rt: HostRuntime) -> Result<(), Fail> {
-    let (region, client) = Region::<FreeLaw>::new(rt.alloc(), &[7], 1, 1)?;
-    let Ok((region, client)) = renew_times(rt.alloc(), region, client, 65_535) else {
-        panic!(rt; "a renewal was refused")
-    };
-    let Err(RenewFault::Kept(region, client, fault)) = region.renew(rt.alloc(), client, 1) else {
-        panic!(rt; "it was renewed once more")
-    };
+    let (region, client) = open(&rt, rt.alloc(), &[7], 1, 1);
+    let (region, client) = renew_times(&rt, rt.alloc(), region, client, 65_535);
+    let (region, client, fault) = stays_old(&rt, rt.alloc(), region, client, 1);
+    let (words, version) = close(&rt, rt.alloc(), region, client);
     same(&rt, &fault, &RegionFault::Renewals);
-    let Ok((words, version)) = region.close(rt.alloc(), client) else {
-        panic!(rt; "it stayed open")
-    };
     same(&rt, &words.as_slice(), &[7u64].as_slice());
-    same(&rt, &version.get(), &0);
+    same(&rt, &version, &0);
     Ok(())
 }
 
 #[test]
 fn a_spent_clock_goes_on(rt: HostRuntime) -> Result<(), Fail> {
     let alloc = rt.alloc();
-    let (region, mut client) = Region::<FreeLaw>::new(alloc, &[0; 32], 1, 32)?;
-    let first = write_at(alloc, &region, &mut client, Addr(9), 5)?;
-    let spent = write_at(alloc, &region, &mut client, Addr(9), 6)?;
-    let Ok((region, mut client)) = region.renew(alloc, client, 2) else {
-        panic!(rt; "it was not renewed")
-    };
-    same(&rt, &region.last().get(), &2);
+    let (region, mut client) = open(&rt, alloc, &[0; 32], 1, 32);
+    let first = writes(&rt, alloc, &region, &mut client, Addr(9), 5);
+    let spent = writes(&rt, alloc, &region, &mut client, Addr(9), 6);
+    let (region, mut client) = renewed(&rt, alloc, region, client, 2);
+    let last = region.last().get();
     let read = read_at(&region, &mut client, Addr(9));
-    let second = write_at(alloc, &region, &mut client, Addr(9), 7)?;
-    let third = write_at(alloc, &region, &mut client, Addr(31), 8)?;
-    let spent_again = write_at(alloc, &region, &mut client, Addr(9), 9)?;
-    let Ok((words, version)) = region.close(alloc, client) else {
-        panic!(rt; "it stayed open")
-    };
-    same(&rt, &(first, spent), &(true, false));
+    let second = writes(&rt, alloc, &region, &mut client, Addr(9), 7);
+    let third = writes(&rt, alloc, &region, &mut client, Addr(31), 8);
+    let spent_again = writes(&rt, alloc, &region, &mut client, Addr(9), 9);
+    let (words, version) = close(&rt, alloc, region, client);
+    same(&rt, &last, &2);
+    same(&rt, &[first, spent], &[true, false]);
     same(&rt, &read, &Some(5));
-    same(&rt, &(second, third, spent_again), &(true, true, false));
-    same(&rt, &(words.as_slice()[9], words.as_slice()[31]), &(7, 8));
-    same(&rt, &version.get(), &2);
+    same(&rt, &[second, third, spent_again], &[true, true, false]);
+    same(&rt, &words.get(9).copied(), &Some(7));
+    same(&rt, &words.get(31).copied(), &Some(8));
+    same(&rt, &version, &2);
     Ok(())
 }
 
@@ -90,45 +83,50 @@ fn a_new_and_a_renewed_region_begin_at_version_0(rt: HostRuntime) -> Result<(), 
     Ok(())
 }
 
+/// Renews a region with last version 0, past the last version, with a client out, without memory,
+/// and then as far as it goes. Returns the refusals, the last versions before and after, whether
+/// the words are those of the opening, and the clock.
+fn refused_and_renewed<A: Allocator + Copy>(
+    rt: &impl Abort,
+    heap: A,
+    none: A,
+) -> ([RegionFault; 4], [u64; 2], bool, u64) {
+    let (region, mut client) = open(rt, heap, &[3; 512], 100, 32);
+    let other = split(rt, &region, &mut client);
+    let (region, client, zero) = stays_old(rt, none, region, client, 0);
+    let (region, client, high) = stays_old(rt, none, region, client, 1 << 62);
+    let (region, mut client, out) = stays_old(rt, none, region, client, 1);
+    region.gather(&mut client, other);
+    let (region, client, memory) = stays_old(rt, none, region, client, 1);
+    let before = region.last().get();
+    let (region, client) = renewed(rt, heap, region, client, (1 << 62) - 1);
+    let after = region.last().get();
+    let (words, version) = close(rt, heap, region, client);
+    let kept_alike = words.as_slice() == [3u64; 512].as_slice();
+    (
+        [zero, high, out, memory],
+        [before, after],
+        kept_alike,
+        version,
+    )
+}
+
 /// Each refusal keeps the region, so that the next one meets it as it was.
 #[test]
 fn refuses_a_renewal_in_order(rt: HostRuntime) -> Result<(), Fail> {
     let none = LocalHeap::new(rt.alloc(), 1_000)?;
     let heap = LocalHeap::new(rt.alloc(), 100_000)?;
-    {
-        let (region, mut client) = Region::<FreeLaw, _>::new(&heap, &[3; 512], 100, 32)?;
-        let other = region.split(&mut client)?;
-        let Err(RenewFault::Kept(region, client, zero)) = region.renew(&none, client, 0) else {
-            panic!(rt; "it was renewed with last 0")
-        };
-        let Err(RenewFault::Kept(region, client, high)) = region.renew(&none, client, 1 << 62)
-        else {
-            panic!(rt; "it was renewed past the last version")
-        };
-        let Err(RenewFault::Kept(region, mut client, out)) = region.renew(&none, client, 1) else {
-            panic!(rt; "it was renewed with a client out")
-        };
-        region.gather(&mut client, other);
-        let Err(RenewFault::Kept(region, client, memory)) = region.renew(&none, client, 1) else {
-            panic!(rt; "it was renewed without memory")
-        };
-        same(&rt, &region.last().get(), &100);
-        let Ok((region, client)) = region.renew(&heap, client, (1 << 62) - 1) else {
-            panic!(rt; "it was not renewed")
-        };
-        same(&rt, &region.last().get(), &((1 << 62) - 1));
-        let Ok((words, version)) = region.close(&heap, client) else {
-            panic!(rt; "it stayed open")
-        };
-        same(&rt, &(zero, high), &(RegionFault::Last, RegionFault::Last));
-        same(
-            &rt,
-            &(out, memory),
-            &(RegionFault::StillOut { out: 1 }, RegionFault::Memory),
-        );
-        same(&rt, &words.as_slice(), &[3u64; 512].as_slice());
-        same(&rt, &version.get(), &0);
-    }
+    let (faults, lasts, kept_alike, version) = refused_and_renewed(&rt, &heap, &none);
+    let wanted = [
+        RegionFault::Last,
+        RegionFault::Last,
+        RegionFault::StillOut { out: 1 },
+        RegionFault::Memory,
+    ];
+    same(&rt, &faults, &wanted);
+    same(&rt, &lasts, &[100, (1 << 62) - 1]);
+    holds(&rt, kept_alike);
+    same(&rt, &version, &0);
     same(&rt, &heap.used(), &0);
     Ok(())
 }
@@ -141,41 +139,64 @@ enum Outcome {
     Closed,
 }
 
+/// Whether these are the words of the opening.
+fn are_threes(words: &[u64]) -> bool {
+    words == [3u64; 512].as_slice()
+}
+
+/// Ends a region. Returns whether the words are those of the opening.
+fn closes_alike<A: Allocator + Copy>(
+    rt: &impl Abort,
+    heap: A,
+    region: Region<FreeLaw, A>,
+    client: Client<FreeLaw>,
+) -> bool
+    requires own { client.table ≡ region.table }
+    requires free { IsFreeHanded client.value }
+{
+    let (words, _) = close(rt, heap, region, client);
+    are_threes(words.as_slice())
+}
+
 /// Opens a region in a heap, renews it in another one, and ends it. Returns how the renewal came
 /// out, and whether the words are those of the opening.
-fn renew_in<A: Allocator + Copy>(heap: A, small: A) -> Result<(Outcome, bool), RegionFault> {
-    let (region, client) = Region::<FreeLaw, A>::new(heap, &[3; 512], 100, 32)?;
-    let (outcome, closed) = match region.renew(small, client, 1) {
-        Ok((region, client)) => (Outcome::Renewed, region.close(heap, client)),
-        Err(RenewFault::Kept(region, client, RegionFault::Memory)) => {
-            (Outcome::Kept, region.close(heap, client))
+fn renew_in<A: Allocator + Copy>(rt: &impl Abort, heap: A, small: A) -> (Outcome, bool) {
+    let (region, client) = open(rt, heap, &[3; 512], 100, 32);
+    match region.renew(small, client, 1) {
+        Ok((region, client)) => (Outcome::Renewed, closes_alike(rt, heap, region, client)),
+        Err(RenewFault::Kept(region, client, fault)) => {
+            same(rt, &fault, &RegionFault::Memory);
+            (Outcome::Kept, closes_alike(rt, heap, region, client))
         }
-        Err(RenewFault::Kept(_, _, fault)) => return Err(fault),
-        Err(RenewFault::Closed(words, version)) => (Outcome::Closed, Ok((words, version))),
-    };
-    match closed {
-        Ok((words, _)) => Ok((outcome, words.as_slice() == [3u64; 512].as_slice())),
-        Err((_, _, fault)) => Err(fault),
+        Err(RenewFault::Closed(words, _)) => (Outcome::Closed, are_threes(words.as_slice())),
     }
+}
+
+/// How a renewal in a heap of this size comes out.
+fn renewal_in(
+    rt: &impl Abort,
+    alloc: Global,
+    heap: &LocalHeap,
+    size: usize,
+) -> Result<Outcome, AllocError> {
+    let small = LocalHeap::new(alloc, size)?;
+    let (outcome, kept_alike) = renew_in(rt, heap, &small);
+    holds(rt, kept_alike);
+    same(rt, &[heap.used(), small.used()], &[0, 0]);
+    Ok(outcome)
 }
 
 /// The first growth is made before any word moves; after it the region can only be closed.
 #[test]
 fn each_growth_of_a_renewal_is_refused(rt: HostRuntime) -> Result<(), Fail> {
     let heap = LocalHeap::new(rt.alloc(), 100_000)?;
-    let (mut kept, mut closed, mut renewed) = (false, false, false);
+    let mut seen = Vec::new(rt.alloc());
     for k in 0..200 {
-        let small = LocalHeap::new(rt.alloc(), 1_000 + 100 * k)?;
-        let (outcome, kept_alike) = renew_in(&heap, &small)?;
-        holds(&rt, kept_alike);
-        same(&rt, &(heap.used(), small.used()), &(0, 0));
-        match outcome {
-            Outcome::Kept => kept = true,
-            Outcome::Closed => closed = true,
-            Outcome::Renewed => renewed = true,
-        }
+        seen.push(renewal_in(&rt, rt.alloc(), &heap, 1_000 + 100 * k)?)?;
     }
-    holds(&rt, kept && closed && renewed);
+    holds(&rt, seen.contains(&Outcome::Kept));
+    holds(&rt, seen.contains(&Outcome::Closed));
+    holds(&rt, seen.contains(&Outcome::Renewed));
     Ok(())
 }
 
@@ -184,9 +205,26 @@ fn each_growth_of_a_renewal_is_refused(rt: HostRuntime) -> Result<(), Fail> {
 fn open_in<A: Allocator + Copy>(small: A, heap: A) -> Result<bool, RegionFault> {
     let (region, client) = Region::<FreeLaw, A>::new(small, &[3; 512], 100, 32)?;
     match region.close(heap, client) {
-        Ok((words, _)) => Ok(words.as_slice() == [3u64; 512].as_slice()),
+        Ok((words, _)) => Ok(are_threes(words.as_slice())),
         Err((_, _, fault)) => Err(fault),
     }
+}
+
+/// Whether a heap of this size is one in which the region opens; else it has no room.
+fn opening_in(
+    rt: &impl Abort,
+    alloc: Global,
+    heap: &LocalHeap,
+    size: usize,
+) -> Result<bool, AllocError> {
+    let small = LocalHeap::new(alloc, size)?;
+    let found = open_in(&small, heap);
+    same(rt, &[heap.used(), small.used()], &[0, 0]);
+    if found == Err(RegionFault::Memory) {
+        return Ok(false);
+    }
+    same(rt, &found, &Ok(true));
+    Ok(true)
 }
 
 /// In each heap that is too small the region is not opened, and in those that follow it is.
@@ -195,15 +233,11 @@ fn each_growth_of_an_opening_is_refused(rt: HostRuntime) -> Result<(), Fail> {
     let heap = LocalHeap::new(rt.alloc(), 100_000)?;
     let (mut refused, mut opened) = (false, false);
     for k in 0..200 {
-        let small = LocalHeap::new(rt.alloc(), 1_000 + 100 * k)?;
-        let found = open_in(&small, &heap);
-        same(&rt, &(heap.used(), small.used()), &(0, 0));
-        if found == Err(RegionFault::Memory) {
+        if opening_in(&rt, rt.alloc(), &heap, 1_000 + 100 * k)? {
+            opened = true;
+        } else {
             holds(&rt, !opened);
             refused = true;
-        } else {
-            same(&rt, &found, &Ok(true));
-            opened = true;
         }
     }
     holds(&rt, refused && opened);

@@ -3,4 +3,4 @@ use Rattle.stm_core.specs.Core.{IsFreeHanded}
 use Rattle.region_rows.proofs.renewals.renew_times.Given as goal
 
 abbrev pub invariant-loop : goal.invariant-loop
-invariant-loop l = (l.client.table ≡ l.region.table) × IsFreeHanded l.client.value
+invariant-loop g l = (l.client.table ≡ l.region.table) × IsFreeHanded l.client.value
