@@ -1,5 +1,5 @@
-//! What tests ask of their answers, and of regions that open and close, in functions of their own: a
-//! test has no way out where it asks.
+//! What tests ask of their answers, and of regions that open and close, in functions of their own:
+//! a test has no way out where it asks.
 ghost use Rattle.std.specs.Prelude.{◌≡◌, length};
 ghost use Rattle.stm_core.specs.Core.{IsFreeHanded};
 
