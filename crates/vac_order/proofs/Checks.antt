@@ -66,7 +66,8 @@ placed_more n lines places point next place line reply l e can right more holds 
           (subst (CallsReach (start n cs) (calls_at cs places ++ at cs place ∷ [])) (sym led.1)
           (reaches_more (start n cs) (left_at lines point h.state) (calls_at cs places) (at cs place) h.reaches goes));
       made = λ p. more p ∙ ap (λ b. b || p == place) (h.made p) ∙ sym (any_more places place p);
-      distinct = distinct_more places place h.distinct (sym (h.made place) ∙ (stands_of (made_of point) cs place can).free);
+      distinct = distinct_more places place h.distinct (sym (h.made place) ∙
+          (stands_of (made_of point) cs place can).free);
       within = All-append (λ p. p < length cs) places (place ∷ []) h.within
           (All-cons (λ p. p < length cs) place [] within (All-nil (λ p. p < length cs)));
     }

@@ -4,8 +4,8 @@ use crate::machine::Machine;
 use std::alloc::{AllocError, Global};
 use std::collections::VecDeque;
 
-/// After how many calls the next machine is kept, at most. The calls after it copy what they change,
-/// since it shares that; going back to it makes fewer calls again than were made since.
+/// After how many calls the next machine is kept, at most. The calls after one copy what they
+/// change, since it shares that; to go back makes fewer calls again than were made since.
 const MOST_STRIDE: usize = 131_072;
 
 /// How many machines are kept before some are dropped.

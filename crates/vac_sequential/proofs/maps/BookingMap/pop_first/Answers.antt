@@ -21,7 +21,8 @@ none_along None (x ∷ es) es' e h = absurd (not_some {X = Place × Booking} Non
 none_along (Some b) es es' e h = tt
 
 pub invariant_of-self : goal.invariant_of-self
-invariant_of-self c = subst (λ R. tree.IsOrdered R c.pop_first-first.new.self) pair_cmp c.pop_first-first.ensures.ordered
+invariant_of-self c = subst (λ R. tree.IsOrdered R c.pop_first-first.new.self) pair_cmp
+    c.pop_first-first.ensures.ordered
 
 pub returns-clause-some : goal.returns-clause-some
 returns-clause-some c =
