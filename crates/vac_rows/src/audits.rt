@@ -2,6 +2,7 @@
 ghost use Rattle.std.specs.Prelude.{◌≡◌, ◌*◌};
 
 use crate::draws::{BLOCKS, draw_task};
+use crate::managers::open;
 use crate::same::{holds, same};
 use crate::scripts::LAST;
 use rand_pcg::Pcg32;
@@ -166,7 +167,7 @@ fn four_and_another<R: Threads + Sync + Abort>(
 #[test]
 fn reports_amid_random_tasks(rt: HostRuntime) {
     let alloc = rt.alloc();
-    let (manager, client) = Manager::new(alloc, BLOCKS, LAST).expect(&rt, "it opens");
+    let (manager, client) = open(&rt, alloc, BLOCKS, LAST);
     let (client, reports) = four_and_another(&rt, alloc, &manager, client);
     let Ok((words, _)) = manager.close(client) else {
         panic!(rt; "it stayed open")

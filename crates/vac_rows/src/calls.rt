@@ -9,6 +9,9 @@ use vac_model::Reply;
 
 pub(crate) type Answer = Result<Reply, Fault>;
 
+/// A line of a script, and the answer to it.
+pub(crate) type Called = (Line<'static>, Answer);
+
 /// Calls the task of each line, by `tries` tries, and compares the answers.
 pub(crate) fn expect(
     rt: &impl Abort,

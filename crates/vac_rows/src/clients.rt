@@ -1,7 +1,8 @@
 //! Clients of a manager over a region that come and go.
 ghost use Rattle.std.specs.Prelude.{◌≡◌, ◌*◌, All};
 
-use crate::calls::expect;
+use crate::calls::{Called, expect};
+use crate::managers::open;
 use crate::same::{holds, same};
 use crate::scripts::{
     LAST, Line, add, add_command, audit, cancel, delete, delete_command, drop_customer,
@@ -52,10 +53,17 @@ fn gather_all(manager: &Manager, client: &mut Client, others: Vec<Client>)
     }
 }
 
+const SIXTY_FIFTH: [Called; 2] = [
+    (new_customer!(1), Ok(Done)),
+    (new_customer!(65), Ok(No(Full))),
+];
+
+const SIXTY_FOUR: [Called; 1] = [(audit!(), Ok(report!([0, 0, 0, 64], 0, 0, 0)))];
+
 #[test]
 fn sixty_four_clients(rt: HostRuntime) {
     let alloc = rt.alloc();
-    let (manager, mut client) = Manager::new(alloc, 64, LAST).expect(&rt, "it opens");
+    let (manager, mut client) = open(&rt, alloc, 64, LAST);
     let others = crowd(&rt, alloc, &manager, &mut client);
     same(
         &rt,
@@ -63,16 +71,11 @@ fn sixty_four_clients(rt: HostRuntime) {
         &Some(RegionFault::Clients),
     );
     let mut session = Session::of(&manager, client);
-    let script = [
-        (new_customer!(1), Ok(Done)),
-        (new_customer!(65), Ok(No(Full))),
-    ];
-    expect(&rt, alloc, &mut session, 1, &script);
+    expect(&rt, alloc, &mut session, 1, &SIXTY_FIFTH);
     let mut client = session.into_client();
     gather_all(&manager, &mut client, others);
     let mut session = Session::of(&manager, client);
-    let counts = report([0, 0, 0, 64], 0, 0, 0);
-    expect(&rt, alloc, &mut session, 1, &[(audit!(), Ok(counts))]);
+    expect(&rt, alloc, &mut session, 1, &SIXTY_FOUR);
     let client = session.into_client();
     holds(&rt, manager.close(client).is_ok());
 }
@@ -93,20 +96,23 @@ fn close_late(rt: &impl Abort, manager: Manager, client: Client, other: Client) 
     (words, version.get())
 }
 
+const ONE_BLOCK_OF_THE_OTHER: [Called; 3] = [
+    (new_customer!(3), Ok(Done)),
+    (new_customer!(4), Ok(No(Full))),
+    (drop_customer!(3), Ok(Done)),
+];
+
+const ONE_BLOCK_OF_THE_FIRST: [Called; 1] = [(new_customer!(4), Ok(Done))];
+
 /// The one block is in the list of the first client, and serves both.
 #[test]
 fn one_block_and_two_clients(rt: HostRuntime) {
     let alloc = rt.alloc();
-    let (manager, client) = Manager::new(alloc, 1, LAST).expect(&rt, "it opens");
+    let (manager, client) = open(&rt, alloc, 1, LAST);
     let mut a = Session::of(&manager, client);
     let mut b = a.split().expect(&rt, "there are grants");
-    let script = [
-        (new_customer!(3), Ok(Done)),
-        (new_customer!(4), Ok(No(Full))),
-        (drop_customer!(3), Ok(Done)),
-    ];
-    expect(&rt, alloc, &mut b, 1, &script);
-    expect(&rt, alloc, &mut a, 1, &[(new_customer!(4), Ok(Done))]);
+    expect(&rt, alloc, &mut b, 1, &ONE_BLOCK_OF_THE_OTHER);
+    expect(&rt, alloc, &mut a, 1, &ONE_BLOCK_OF_THE_FIRST);
     let first = a.into_client();
     let second = b.into_client();
     let (words, version) = close_late(&rt, manager, first, second);
@@ -126,36 +132,65 @@ fn closed_words(rt: &impl Abort, manager: Manager, client: Client) -> Vec<u64>
     words
 }
 
+const BY_THE_SECOND: [Called; 10] = [
+    (add!(Car, 5, 1, Some(10)), Ok(Done)),
+    (new_customer!(6), Ok(Done)),
+    (reserve!(6, Car, 5, 1), Ok(Done)),
+    (cancel!(6, Car, 5), Ok(Done)),
+    (new_customer!(8), Ok(Done)),
+    (drop_customer!(8), Ok(Done)),
+    (delete!(Car, 5, 1), Ok(Done)),
+    (drop_customer!(6), Ok(Done)),
+    (add!(Flight, 9, 1, Some(30)), Ok(Done)),
+    (drop_flight!(9), Ok(Done)),
+];
+
+const BY_THE_FIRST: [Called; 1] = [(new_customer!(7), Ok(Done))];
+
+/// Calls by the second of two clients of a new manager of sixteen blocks, and then by the first.
+/// Returns the words.
+fn words_after(rt: &impl Abort, alloc: Global, second: &[Called], first: &[Called]) -> Vec<u64> {
+    let (manager, client) = open(rt, alloc, 16, LAST);
+    let mut a = Session::of(&manager, client);
+    let mut b = a.split().expect(rt, "there are grants");
+    expect(rt, alloc, &mut b, 1, second);
+    expect(rt, alloc, &mut a, 1, first);
+    a.gather(b);
+    let client = a.into_client();
+    closed_words(rt, manager, client)
+}
+
 /// The second client's entries take their blocks from the second list, blocks 2 and 3, and then
 /// from the next one, which begins with block 4: what comes after it, block 5, is then the second
 /// list. All that it frees goes there, a flight's block too, so that in the end the list is blocks
 /// 3, 2, 4 and 5. Block 0, of the first list, is the first client's.
 #[test]
 fn each_client_has_a_list_of_its_own(rt: HostRuntime) {
-    let alloc = rt.alloc();
-    let (manager, client) = Manager::new(alloc, 16, LAST).expect(&rt, "it opens");
-    let mut a = Session::of(&manager, client);
-    let mut b = a.split().expect(&rt, "there are grants");
-    let script = [
-        (add!(Car, 5, 1, Some(10)), Ok(Done)),
-        (new_customer!(6), Ok(Done)),
-        (reserve!(6, Car, 5, 1), Ok(Done)),
-        (cancel!(6, Car, 5), Ok(Done)),
-        (new_customer!(8), Ok(Done)),
-        (drop_customer!(8), Ok(Done)),
-        (delete!(Car, 5, 1), Ok(Done)),
-        (drop_customer!(6), Ok(Done)),
-        (add!(Flight, 9, 1, Some(30)), Ok(Done)),
-        (drop_flight!(9), Ok(Done)),
-    ];
-    expect(&rt, alloc, &mut b, 1, &script);
-    expect(&rt, alloc, &mut a, 1, &[(new_customer!(7), Ok(Done))]);
-    a.gather(b);
-    let client = a.into_client();
-    let words = closed_words(&rt, manager, client);
+    let words = words_after(&rt, rt.alloc(), &BY_THE_SECOND, &BY_THE_FIRST);
     let found = [1, 2, 4, 8, 9, 40, 32, 48, 56, 10].map(|place| words.get(place).copied());
     same(&rt, &found, &[0, 0, 16, 24, 40, 32, 48, 56, 0, 0].map(Some));
 }
+
+const TASKS_OF_THE_SECOND: [Called; 5] = [
+    (
+        Line::Update(&[
+            add_command!(Car, 5, 1, Some(10)),
+            add_command!(Room, 5, 1, Some(20)),
+            delete_command!(Room, 5, 1),
+        ]),
+        Ok(update!(None, None, None)),
+    ),
+    (add!(Flight, 5, 1, Some(30)), Ok(Done)),
+    (add!(Room, 5, 1, Some(20)), Ok(Done)),
+    (
+        Line::Trip(6, &[(Car, 5), (Flight, 5), (Room, 5)]),
+        Ok(trip!(
+            Joined::Added,
+            [pick!(5, 10, None), pick!(5, 30, None), pick!(5, 20, None)],
+        )),
+    ),
+    (Line::Leave(6), Ok(number!(60))),
+];
 
 /// Tasks of several commands keep to the list of their client, too: an update, a trip and a leave
 /// of the second client. What it asks for takes blocks 2 to 8. Blocks 2, 3 and 4 are a car, a
@@ -164,30 +199,7 @@ fn each_client_has_a_list_of_its_own(rt: HostRuntime) {
 /// two blocks.
 #[test]
 fn tasks_keep_to_the_list_of_their_client(rt: HostRuntime) {
-    let alloc = rt.alloc();
-    let (manager, client) = Manager::new(alloc, 16, LAST).expect(&rt, "it opens");
-    let mut a = Session::of(&manager, client);
-    let mut b = a.split().expect(&rt, "there are grants");
-    let changes = [
-        add_command!(Car, 5, 1, Some(10)),
-        add_command!(Room, 5, 1, Some(20)),
-        delete_command!(Room, 5, 1),
-    ];
-    let picks = [pick!(5, 10, None), pick!(5, 30, None), pick!(5, 20, None)];
-    let script = [
-        (Line::Update(&changes), Ok(update(None, None, None))),
-        (add!(Flight, 5, 1, Some(30)), Ok(Done)),
-        (add!(Room, 5, 1, Some(20)), Ok(Done)),
-        (
-            Line::Trip(6, &[(Car, 5), (Flight, 5), (Room, 5)]),
-            Ok(trip!(Joined::Added, picks)),
-        ),
-        (Line::Leave(6), Ok(number!(60))),
-    ];
-    expect(&rt, alloc, &mut b, 1, &script);
-    a.gather(b);
-    let client = a.into_client();
-    let words = closed_words(&rt, manager, client);
+    let words = words_after(&rt, rt.alloc(), &TASKS_OF_THE_SECOND, &[]);
     let places = [1, 2, 3, 8, 16, 9, 56, 80, 72, 64, 88, 10, 13];
     let found = places.map(|place| words.get(place).copied());
     let expected = [32, 40, 48, 16, 24, 56, 80, 72, 64, 88, 0, 0, 96];
@@ -197,7 +209,7 @@ fn tasks_keep_to_the_list_of_their_client(rt: HostRuntime) {
 /// A client that is taken in gives a grant back, to the one that takes it in.
 #[test]
 fn grants_go_with_clients(rt: HostRuntime) {
-    let (manager, client) = Manager::new(rt.alloc(), 8, LAST).expect(&rt, "it opens");
+    let (manager, client) = open(&rt, rt.alloc(), 8, LAST);
     let mut a = Session::of(&manager, client);
     let mut b = a.split().expect(&rt, "there are grants");
     let c = a.split().expect(&rt, "there are grants");

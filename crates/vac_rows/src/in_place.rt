@@ -18,9 +18,30 @@ fn open(rt: &impl Abort, alloc: Global) -> Sequential {
     Sequential::new(alloc, BLOCKS).expect(rt, "the blocks are in range")
 }
 
-/// Gives the manager a task in place, and the reply.
-fn change(rt: &impl Abort, manager: Sequential, task: &Task) -> (Sequential, Reply) {
-    manager.after(task).expect(rt, "the task is in range")
+fn copy_of(rt: &impl Abort, manager: &Sequential) -> Sequential {
+    manager.copy().expect(rt, "there is memory")
+}
+
+fn draw(rt: &impl Abort, alloc: Global, draws: &mut Pcg32) -> Task {
+    draw_task(alloc, draws).expect(rt, "there is memory")
+}
+
+/// Gives the manager a task, which copies what it changes.
+fn run(rt: &impl Abort, manager: &mut Sequential, task: &Task) -> Reply {
+    manager.run(task).expect(rt, "the task is in range")
+}
+
+/// Gives the manager a task in place, and compares the reply.
+fn change(rt: &impl Abort, manager: Sequential, task: &Task, wanted: Reply) -> Sequential {
+    let (manager, reply) = manager.after(task).expect(rt, "the task is in range");
+    same(rt, &reply, &wanted);
+    manager
+}
+
+/// Two managers have one state, and one report.
+fn same_states(rt: &impl Abort, one: &Sequential, other: &Sequential) {
+    same(rt, &one.report(), &other.report());
+    holds(rt, one.is_same(other));
 }
 
 /// A copy, the report of that time, and another manager's copy of the same state.
@@ -34,9 +55,9 @@ struct Kept {
 impl Kept {
     fn of(rt: &impl Abort, manager: &Sequential, plain: &Sequential) -> Kept {
         Kept {
-            copy: manager.copy().expect(rt, "there is memory"),
+            copy: copy_of(rt, manager),
             report: plain.report(),
-            other: plain.copy().expect(rt, "there is memory"),
+            other: copy_of(rt, plain),
         }
     }
 
@@ -46,83 +67,57 @@ impl Kept {
     }
 }
 
-/// A manager that no copy shares, one beside a copy, and one that copies what it changes.
-#[derive(Drop)]
-struct Trial {
-    alone: Sequential,
-    beside: Sequential,
-    kept: Kept,
-    plain: Sequential,
+/// One task of both managers, the one of which is changed in place.
+fn both(rt: &impl Abort, manager: Sequential, plain: &mut Sequential, task: &Task) -> Sequential {
+    let wanted = run(rt, plain, task);
+    change(rt, manager, task, wanted)
 }
 
-impl Trial {
-    fn new(rt: &impl Abort, alloc: Global) -> Trial {
-        let (beside, plain) = (open(rt, alloc), open(rt, alloc));
-        Trial {
-            alone: open(rt, alloc),
-            kept: Kept::of(rt, &beside, &plain),
-            beside,
-            plain,
-        }
-    }
-
-    /// The trial with a new copy.
-    fn renewed(self, rt: &impl Abort) -> Trial {
-        let kept = Kept::of(rt, &self.beside, &self.plain);
-        Trial { kept, ..self }
-    }
-
-    /// The trial after a task, with the same reply of all, and with the copy unchanged.
-    fn after(self, rt: &impl Abort, task: &Task) -> Trial {
-        let Trial {
-            alone,
-            beside,
-            kept,
-            mut plain,
-        } = self;
-        let wanted = plain.run(task).expect(rt, "the task is in range");
-        let (alone, first) = change(rt, alone, task);
-        let (beside, second) = change(rt, beside, task);
-        same(rt, &[first, second], &[wanted, wanted]);
-        holds(rt, kept.is_unchanged());
-        Trial {
-            alone,
-            beside,
-            kept,
-            plain,
-        }
-    }
-
-    /// Ends the trial, with one state of all.
-    fn end(self, rt: &impl Abort) {
-        let report = self.plain.report();
-        same(
-            rt,
-            &[self.alone.report(), self.beside.report()],
-            &[report, report],
-        );
-        holds(rt, self.alone.is_same(&self.plain));
-        holds(rt, self.beside.is_same(&self.plain));
-    }
-}
-
-/// Random tasks drawn from a seed.
-fn compare(rt: &impl Abort, alloc: Global, seed: u64) {
+/// Random tasks of a manager that no copy shares, beside one that copies what it changes.
+fn alone(rt: &impl Abort, alloc: Global, seed: u64) {
     let mut draws = Pcg32::new(seed, 4);
-    let mut trial = Trial::new(rt, alloc);
-    for at in 0..TASKS {
-        if at % KEPT == 0 {
-            trial = trial.renewed(rt);
-        }
-        let task = draw_task(alloc, &mut draws).expect(rt, "there is memory");
-        trial = trial.after(rt, &task);
+    let mut plain = open(rt, alloc);
+    let mut manager = open(rt, alloc);
+    for _ in 0..TASKS {
+        let task = draw(rt, alloc, &mut draws);
+        manager = both(rt, manager, &mut plain, &task);
     }
-    trial.end(rt);
+    same_states(rt, &manager, &plain);
+}
+
+/// Some tasks beside a copy, which stays as it was.
+fn with_copy(
+    rt: &impl Abort,
+    alloc: Global,
+    draws: &mut Pcg32,
+    manager: Sequential,
+    plain: &mut Sequential,
+) -> Sequential {
+    let kept = Kept::of(rt, &manager, plain);
+    let mut manager = manager;
+    for _ in 0..KEPT {
+        let task = draw(rt, alloc, draws);
+        manager = both(rt, manager, plain, &task);
+        holds(rt, kept.is_unchanged());
+    }
+    manager
+}
+
+/// Random tasks of a manager of which a copy is kept, beside one that copies what it changes.
+fn beside_copies(rt: &impl Abort, alloc: Global, seed: u64) {
+    let mut draws = Pcg32::new(seed, 4);
+    let mut plain = open(rt, alloc);
+    let mut manager = open(rt, alloc);
+    for _ in 0..TASKS / KEPT {
+        manager = with_copy(rt, alloc, &mut draws, manager, &mut plain);
+    }
+    same_states(rt, &manager, &plain);
 }
 
 #[test]
 fn random_tasks_in_place(rt: HostRuntime) {
     for seed in 0..SEEDS {
-        compare(&rt, rt.alloc(), seed);
+        alone(&rt, rt.alloc(), seed);
+        beside_copies(&rt, rt.alloc(), seed);
     }
 }

@@ -17,6 +17,8 @@ mod in_place;
 #[cfg(test)]
 mod lines;
 #[cfg(test)]
+mod managers;
+#[cfg(test)]
 mod meetings;
 #[cfg(test)]
 mod openings;

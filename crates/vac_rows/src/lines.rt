@@ -15,40 +15,43 @@ fn line_of(rt: &impl Abort, alloc: Global, task: &Task) -> Vec<u8> {
     line
 }
 
+/// Lines, and what their tasks are printed as.
+const PRINTED: &[(&str, &str)] = &[
+    ("add car 1 100 -", "add car 1 100 -"),
+    ("add flight 0000000007 0005 007", "add flight 7 5 7"),
+    (
+        "add room 4294967295 1000000 0",
+        "add room 4294967295 1000000 0",
+    ),
+    ("del car 3 0", "del car 3 0"),
+    ("del room 03 0001", "del room 3 1"),
+    ("del flight 9", "del flight 9"),
+    ("newcust 10", "newcust 10"),
+    ("dropcust 4294967295", "dropcust 4294967295"),
+    ("free car 1", "free car 1"),
+    ("price flight 02", "price flight 2"),
+    ("bill 3", "bill 3"),
+    ("reserve 3 car 7", "reserve 3 car 7"),
+    ("reserve 3 flight 7 01", "reserve 3 flight 7"),
+    ("reserve 3 room 7 100", "reserve 3 room 7 100"),
+    ("cancel 3 room 7", "cancel 3 room 7"),
+    ("audit", "audit"),
+    ("trip 3 car 1", "trip 3 car 1"),
+    (
+        "trip 3 room 01 car 20 flight 300",
+        "trip 3 room 1 car 20 flight 300",
+    ),
+    ("leave 005", "leave 5"),
+    ("update del flight 2", "update del flight 2"),
+    (
+        "update add car 01 100 - ; del flight 2 ; del room 3 0100",
+        "update add car 1 100 - ; del flight 2 ; del room 3 100",
+    ),
+];
+
 #[test]
 fn tasks_are_printed_plainly(rt: HostRuntime) {
-    for (line, plain) in [
-        ("add car 1 100 -", "add car 1 100 -"),
-        ("add flight 0000000007 0005 007", "add flight 7 5 7"),
-        (
-            "add room 4294967295 1000000 0",
-            "add room 4294967295 1000000 0",
-        ),
-        ("del car 3 0", "del car 3 0"),
-        ("del room 03 0001", "del room 3 1"),
-        ("del flight 9", "del flight 9"),
-        ("newcust 10", "newcust 10"),
-        ("dropcust 4294967295", "dropcust 4294967295"),
-        ("free car 1", "free car 1"),
-        ("price flight 02", "price flight 2"),
-        ("bill 3", "bill 3"),
-        ("reserve 3 car 7", "reserve 3 car 7"),
-        ("reserve 3 flight 7 01", "reserve 3 flight 7"),
-        ("reserve 3 room 7 100", "reserve 3 room 7 100"),
-        ("cancel 3 room 7", "cancel 3 room 7"),
-        ("audit", "audit"),
-        ("trip 3 car 1", "trip 3 car 1"),
-        (
-            "trip 3 room 01 car 20 flight 300",
-            "trip 3 room 1 car 20 flight 300",
-        ),
-        ("leave 005", "leave 5"),
-        ("update del flight 2", "update del flight 2"),
-        (
-            "update add car 01 100 - ; del flight 2 ; del room 3 0100",
-            "update add car 1 100 - ; del flight 2 ; del room 3 100",
-        ),
-    ] {
+    for (line, plain) in PRINTED.iter() {
         let task = read_line(rt.alloc(), line.as_bytes()).expect(&rt, "the line is a task");
         let printed = line_of(&rt, rt.alloc(), &task);
         assert!(rt; printed.as_slice() == plain.as_bytes(), "at {line}");

@@ -2,6 +2,7 @@
 //! gate is told, while the other one calls.
 ghost use Rattle.std.specs.Prelude.{◌≡◌};
 
+use crate::managers::{open, open_striped};
 use crate::outcome::Outcome;
 use crate::same::same;
 use crate::scripts::{LAST, add_command};
@@ -119,29 +120,28 @@ fn lost_it(mine: Outcome) -> Met {
 
 #[test]
 fn the_last_car_by_two_tries(rt: HostRuntime) {
-    let (manager, client) = Manager::new(rt.alloc(), 8, LAST).expect(&rt, "it opens");
+    let (manager, client) = open(&rt, rt.alloc(), 8, LAST);
     let met = last_car(&rt, &manager, client, 2);
     same(&rt, &met, &lost_it(Outcome::Replied(No(SoldOut))));
 }
 
 #[test]
 fn the_last_car_by_one_try(rt: HostRuntime) {
-    let (manager, client) = Manager::new(rt.alloc(), 8, LAST).expect(&rt, "it opens");
+    let (manager, client) = open(&rt, rt.alloc(), 8, LAST);
     let met = last_car(&rt, &manager, client, 1);
     same(&rt, &met, &lost_it(Outcome::Newer { version: 4, rv: 3 }));
 }
 
 #[test]
 fn the_last_car_with_one_lock_word(rt: HostRuntime) {
-    let opened = Manager::with_stripes(rt.alloc(), 8, LAST, 1);
-    let (manager, client) = opened.expect(&rt, "it opens");
+    let (manager, client) = open_striped(&rt, rt.alloc(), 8, LAST, 1);
     let met = last_car(&rt, &manager, client, 2);
     same(&rt, &met, &lost_it(Outcome::Replied(No(SoldOut))));
 }
 
 #[test]
 fn the_last_car_takes_the_last_version(rt: HostRuntime) {
-    let (manager, client) = Manager::new(rt.alloc(), 8, 4).expect(&rt, "it opens");
+    let (manager, client) = open(&rt, rt.alloc(), 8, 4);
     let met = last_car(&rt, &manager, client, 2);
     same(&rt, &met, &lost_it(Outcome::Spent(4)));
 }
@@ -162,18 +162,21 @@ fn two_cars(rt: &impl Abort, manager: &Manager, client: Client, when: Point) -> 
     (met, Outcome::of(again))
 }
 
+/// A point, the answer to the first client, and that to the other one about the car.
+const POINTS: [(Point, Outcome, Outcome); 5] = [
+    (Point::ReadsDone, Outcome::Newer { version: 4, rv: 3 }, DONE),
+    (Point::Locked, DONE, Outcome::Held),
+    (Point::Ticked, DONE, Outcome::Held),
+    (Point::Decided, DONE, Outcome::Held),
+    (Point::Written, DONE, Outcome::Held),
+];
+
+const DONE: Outcome = Outcome::Replied(Done);
+
 #[test]
 fn at_each_point_one_of_two_clients_is_busy(rt: HostRuntime) {
-    let done = Outcome::Replied(Done);
-    let newer = Outcome::Newer { version: 4, rv: 3 };
-    for (when, mine, car) in [
-        (Point::ReadsDone, newer, done),
-        (Point::Locked, done, Outcome::Held),
-        (Point::Ticked, done, Outcome::Held),
-        (Point::Decided, done, Outcome::Held),
-        (Point::Written, done, Outcome::Held),
-    ] {
-        let (manager, client) = Manager::new(rt.alloc(), 8, LAST).expect(&rt, "it opens");
+    for (when, mine, car) in POINTS {
+        let (manager, client) = open(&rt, rt.alloc(), 8, LAST);
         let (met, again) = two_cars(&rt, &manager, client, when);
         let told = Answers {
             room: Outcome::Replied(Number(None)),
@@ -185,6 +188,6 @@ fn at_each_point_one_of_two_clients_is_busy(rt: HostRuntime) {
             free: Outcome::Replied(Number(Some(1))),
         };
         assert_eq!(rt; met, want, "at {when:?}");
-        assert_eq!(rt; again, done, "at {when:?}");
+        assert_eq!(rt; again, DONE, "at {when:?}");
     }
 }

@@ -2,6 +2,7 @@
 ghost use Rattle.std.specs.Prelude.{◌≡◌};
 
 use crate::calls::Answer;
+use crate::managers::open;
 use crate::same::{holds, same};
 use crate::scripts::{
     LAST, Line, add, add_command, audit, bill, cancel, delete, delete_command, drop_customer, free,
@@ -10,7 +11,7 @@ use crate::scripts::{
 use std::alloc::Global;
 use std::process::Abort;
 use stm_attempt::{Gate, Point};
-use vac_manager::{Manager, Session};
+use vac_manager::Session;
 use vac_model::Kind::{Car, Room};
 
 /// How many points are kept; later ones are only counted.
@@ -94,59 +95,65 @@ fn expect_points(
     }
 }
 
+const QUESTIONS: &[(Line<'static>, &[Point])] = &[
+    (add!(Car, 7, 2, Some(50)), &WRITTEN),
+    (new_customer!(3), &WRITTEN),
+    (free!(Car, 7), &READ),
+    (price!(Car, 7), &READ),
+    (bill!(3), &READ),
+    (audit!(), &READ),
+    (free!(Room, 7), &READ),
+    (bill!(4), &READ),
+];
+
 #[test]
 fn questions_tell_that_their_reads_are_done(rt: HostRuntime) {
     let alloc = rt.alloc();
-    let (manager, client) = Manager::new(alloc, 8, LAST).expect(&rt, "it opens");
-    let script: [(Line<'_>, &[Point]); 8] = [
-        (add!(Car, 7, 2, Some(50)), &WRITTEN),
-        (new_customer!(3), &WRITTEN),
-        (free!(Car, 7), &READ),
-        (price!(Car, 7), &READ),
-        (bill!(3), &READ),
-        (audit!(), &READ),
-        (free!(Room, 7), &READ),
-        (bill!(4), &READ),
-    ];
-    expect_points(&rt, alloc, &mut Session::of(&manager, client), &script);
+    let (manager, client) = open(&rt, alloc, 8, LAST);
+    expect_points(&rt, alloc, &mut Session::of(&manager, client), QUESTIONS);
 }
+
+const OTHER_CALLS: &[(Line<'static>, &[Point])] = &[
+    (add!(Car, 7, 2, Some(50)), &WRITTEN),
+    (add!(Car, 7, 0, None), &READ),
+    (new_customer!(3), &WRITTEN),
+    (new_customer!(3), &READ),
+    (reserve!(3, Car, 7, 1), &WRITTEN),
+    (reserve!(3, Car, 7, 2), &READ),
+    (cancel!(3, Car, 7), &WRITTEN),
+    (delete!(Car, 7, 1), &WRITTEN),
+    (Line::Trip(4, &[(Car, 7)]), &WRITTEN),
+    (Line::Leave(5), &READ),
+    (
+        Line::Update(&[
+            add_command!(Room, 9, 1, Some(5)),
+            delete_command!(Car, 1, 1),
+        ]),
+        &WRITTEN,
+    ),
+    (Line::Update(&[delete_command!(Car, 1, 1)]), &READ),
+];
 
 #[test]
 fn other_calls_tell_each_point_where_they_write(rt: HostRuntime) {
     let alloc = rt.alloc();
-    let (manager, client) = Manager::new(alloc, 8, LAST).expect(&rt, "it opens");
-    let changes = [
-        add_command!(Room, 9, 1, Some(5)),
-        delete_command!(Car, 1, 1),
-    ];
-    let refused = [delete_command!(Car, 1, 1)];
-    let script: [(Line<'_>, &[Point]); 12] = [
-        (add!(Car, 7, 2, Some(50)), &WRITTEN),
-        (add!(Car, 7, 0, None), &READ),
-        (new_customer!(3), &WRITTEN),
-        (new_customer!(3), &READ),
-        (reserve!(3, Car, 7, 1), &WRITTEN),
-        (reserve!(3, Car, 7, 2), &READ),
-        (cancel!(3, Car, 7), &WRITTEN),
-        (delete!(Car, 7, 1), &WRITTEN),
-        (Line::Trip(4, &[(Car, 7)]), &WRITTEN),
-        (Line::Leave(5), &READ),
-        (Line::Update(&changes), &WRITTEN),
-        (Line::Update(&refused), &READ),
-    ];
-    expect_points(&rt, alloc, &mut Session::of(&manager, client), &script);
+    let (manager, client) = open(&rt, alloc, 8, LAST);
+    expect_points(&rt, alloc, &mut Session::of(&manager, client), OTHER_CALLS);
 }
+
+/// How many tries there are for a line.
+const NOT_MADE: [(u32, Line<'static>); 3] = [
+    (0, free!(Car, 7)),
+    (0, new_customer!(3)),
+    (1, drop_customer!(0)),
+];
 
 #[test]
 fn a_call_that_is_not_made_tells_nothing(rt: HostRuntime) {
     let alloc = rt.alloc();
-    let (manager, client) = Manager::new(alloc, 8, LAST).expect(&rt, "it opens");
+    let (manager, client) = open(&rt, alloc, 8, LAST);
     let mut session = Session::of(&manager, client);
-    for (tries, line) in [
-        (0, free!(Car, 7)),
-        (0, new_customer!(3)),
-        (1, drop_customer!(0)),
-    ] {
+    for (tries, line) in NOT_MADE {
         let (answer, told) = call_with_points(&rt, alloc, &mut session, tries, &line);
         holds(&rt, answer.is_err());
         same(&rt, &told, &Points::none());

@@ -2,13 +2,14 @@
 ghost use Rattle.std.specs.Prelude.{◌≡◌};
 
 use crate::draws::{BLOCKS, TASKS, draw_task};
+use crate::managers::{open, open_striped};
 use crate::same::{holds, same};
 use crate::scripts::LAST;
 use rand_core::Rng;
 use rand_pcg::Pcg32;
 use std::alloc::Global;
 use std::process::Abort;
-use vac_manager::{Manager, Session};
+use vac_manager::Session;
 use vac_sequential::Sequential;
 
 /// What draws the tasks, and the plain manager that runs them.
@@ -34,6 +35,27 @@ impl Plain {
         let wanted = self.manager.run(&task).expect(rt, "the task is in range");
         same(rt, &session.call(&task, 1), &Ok(wanted));
     }
+
+    /// Compares a reply to the client whose turn it is.
+    fn compare_one(
+        &mut self,
+        rt: &impl Abort,
+        alloc: Global,
+        turn: u32,
+        a: &mut Session<'_>,
+        b: &mut Session<'_>,
+        c: &mut Session<'_>,
+    )
+        ensures a { a.new.manager ≡ a.old.manager }
+        ensures b { b.new.manager ≡ b.old.manager }
+        ensures c { c.new.manager ≡ c.old.manager }
+    {
+        match turn {
+            0 => self.compare(rt, alloc, a),
+            1 => self.compare(rt, alloc, b),
+            _ => self.compare(rt, alloc, c),
+        }
+    }
 }
 
 /// Random tasks of one client, which is alone: each call is answered by its one try.
@@ -47,7 +69,7 @@ fn alone(rt: &impl Abort, alloc: Global, session: &mut Session<'_>) {
 #[test]
 fn random_tasks_of_one_client(rt: HostRuntime) {
     let alloc = rt.alloc();
-    let (manager, client) = Manager::new(alloc, BLOCKS, LAST).expect(&rt, "it opens");
+    let (manager, client) = open(&rt, alloc, BLOCKS, LAST);
     alone(&rt, alloc, &mut Session::of(&manager, client));
 }
 
@@ -55,8 +77,7 @@ fn random_tasks_of_one_client(rt: HostRuntime) {
 #[test]
 fn random_tasks_of_one_client_with_four_lock_words(rt: HostRuntime) {
     let alloc = rt.alloc();
-    let opened = Manager::with_stripes(alloc, BLOCKS, LAST, 4);
-    let (manager, client) = opened.expect(&rt, "it opens");
+    let (manager, client) = open_striped(&rt, alloc, BLOCKS, LAST, 4);
     alone(&rt, alloc, &mut Session::of(&manager, client));
 }
 
@@ -75,19 +96,14 @@ fn in_turns(
     let mut plain = Plain::new(rt, alloc, 11);
     let mut turns = Pcg32::new(11, 2);
     for _ in 0..TASKS {
-        match turns.next_u32() % 3 {
-            0 => plain.compare(rt, alloc, a),
-            1 => plain.compare(rt, alloc, b),
-            _ => plain.compare(rt, alloc, c),
-        }
+        plain.compare_one(rt, alloc, turns.next_u32() % 3, a, b, c);
     }
 }
 
 #[test]
 fn random_tasks_of_three_clients_in_turns(rt: HostRuntime) {
     let alloc = rt.alloc();
-    let opened = Manager::with_stripes(alloc, BLOCKS, LAST, 16);
-    let (manager, client) = opened.expect(&rt, "it opens");
+    let (manager, client) = open_striped(&rt, alloc, BLOCKS, LAST, 16);
     let mut a = Session::of(&manager, client);
     let mut b = a.split().expect(&rt, "there are grants");
     let mut c = a.split().expect(&rt, "there are grants");

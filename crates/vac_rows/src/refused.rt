@@ -9,8 +9,8 @@ use crate::calls::Answer;
 use crate::points::Points;
 use crate::same::{holds, same};
 use crate::scripts::{
-    LAST, Line, add, add_command, audit, cancel, free, new_customer, number, pick, report, reserve,
-    task_of, trip,
+    Answered, LAST, Line, add, add_command, audit, cancel, free, new_customer, number, pick,
+    report, reserve, task_of, trip,
 };
 use std::alloc::Global;
 use std::process::Abort;
@@ -130,41 +130,41 @@ fn ask_for_rooms(rt: &(impl Abort + Print), alloc: Global, session: &mut Session
     expect(rt, alloc, session, &script);
 }
 
+const A_CAR: [Answered; 4] = [
+    (add!(Car, 1, 5, Some(10)), Done),
+    (new_customer!(3), Done),
+    (reserve!(3, Car, 1, 2), Done),
+    (free!(Car, 1), number!(3)),
+];
+
+/// The report of what was entered.
+const COUNTS: Reply = report!([1, 0, 96, 1], 3, 98, 52);
+
 /// Enters rooms and a car, and reserves some.
 fn fill(rt: &(impl Abort + Print), alloc: Global, session: &mut Session<'_>)
     ensures { session.new.manager ≡ session.old.manager }
 {
-    let script = [
-        (add!(Car, 1, 5, Some(10)), Done),
-        (new_customer!(3), Done),
-        (reserve!(3, Car, 1, 2), Done),
-        (free!(Car, 1), number!(3)),
-    ];
-    expect(rt, alloc, session, &script);
+    expect(rt, alloc, session, &A_CAR);
     enter_rooms(rt, alloc, session, 0);
     enter_rooms(rt, alloc, session, 32);
     enter_rooms(rt, alloc, session, 64);
     ask_for_rooms(rt, alloc, session);
-    expect(rt, alloc, session, &[(audit!(), counts())]);
+    expect(rt, alloc, session, &[(audit!(), COUNTS)]);
 }
 
-/// The report of what was entered.
-fn counts() -> Reply {
-    report([1, 0, 96, 1], 3, 98, 52)
-}
+const COME_AND_GO: [Answered; 5] = [
+    (new_customer!(4), Done),
+    (reserve!(4, Room, 96, 1), Done),
+    (cancel!(4, Room, 96), Done),
+    (Line::Leave(4), number!(0)),
+    (audit!(), COUNTS),
+];
 
 /// Another client reserves and cancels, and enters a customer who leaves.
 fn come_and_go(rt: &(impl Abort + Print), alloc: Global, session: &mut Session<'_>)
     ensures { session.new.manager ≡ session.old.manager }
 {
-    let script = [
-        (new_customer!(4), Done),
-        (reserve!(4, Room, 96, 1), Done),
-        (cancel!(4, Room, 96), Done),
-        (Line::Leave(4), number!(0)),
-        (audit!(), counts()),
-    ];
-    expect(rt, alloc, session, &script);
+    expect(rt, alloc, session, &COME_AND_GO);
 }
 
 /// A first client fills the manager, while a second one is out, which then comes and goes.
@@ -183,7 +183,7 @@ fn unchanged(rt: &impl Abort, manager: &Manager, client: Client) -> Client
     ensures { result.table ≡ manager.now.table }
 {
     let mut session = Session::of(manager, client);
-    same(rt, &session.call(&AUDIT, 1), &Ok(counts()));
+    same(rt, &session.call(&AUDIT, 1), &Ok(COUNTS));
     session.into_client()
 }
 
@@ -261,8 +261,5 @@ fn refused_calls_are_made_again(rt: HostRuntime) {
         }
     };
     let found = audited(&rt, alloc, words.as_slice());
-    holds(
-        &rt,
-        found.is_ok_and(|found| Reply::Report(found) == counts()),
-    );
+    holds(&rt, found.is_ok_and(|found| Reply::Report(found) == COUNTS));
 }

@@ -1,7 +1,8 @@
 //! A manager that goes on with its entries on a new clock.
 ghost use Rattle.std.specs.Prelude.{◌≡◌, ◌*◌};
 
-use crate::calls::expect;
+use crate::calls::{Called, expect};
+use crate::managers::open;
 use crate::outcome::Outcome;
 use crate::same::same;
 use crate::scripts::{add, cancel, free, new_customer, number, report, reserve, reserve_command};
@@ -22,20 +23,27 @@ fn expect_spent(rt: &impl Abort, session: &mut Session<'_>)
     same(rt, &Outcome::of(session.call(&task, 1)), &Outcome::Spent(2));
 }
 
+const SPENDING: [Called; 2] = [
+    (add!(Car, 1, 1, Some(10)), Ok(Done)),
+    (new_customer!(3), Ok(Done)),
+];
+
 /// Two calls take both versions of the clock.
 fn spend(rt: &impl Abort, alloc: Global, manager: &Manager, client: Client) -> Client
     requires { client.table ≡ manager.now.table }
     ensures { result.table ≡ manager.now.table }
 {
     let mut session = Session::of(manager, client);
-    let script = [
-        (add!(Car, 1, 1, Some(10)), Ok(Done)),
-        (new_customer!(3), Ok(Done)),
-    ];
-    expect(rt, alloc, &mut session, 1, &script);
+    expect(rt, alloc, &mut session, 1, &SPENDING);
     expect_spent(rt, &mut session);
     session.into_client()
 }
+
+const GOING_ON: [Called; 3] = [
+    (reserve!(3, Car, 1, 1), Ok(Done)),
+    (free!(Car, 1), Ok(number!(0))),
+    (cancel!(3, Car, 1), Ok(Done)),
+];
 
 /// Two more calls on the entries from before take both versions of the new clock.
 fn go_on(rt: &impl Abort, alloc: Global, manager: &Manager, client: Client) -> Client
@@ -43,12 +51,7 @@ fn go_on(rt: &impl Abort, alloc: Global, manager: &Manager, client: Client) -> C
     ensures { result.table ≡ manager.now.table }
 {
     let mut session = Session::of(manager, client);
-    let script = [
-        (reserve!(3, Car, 1, 1), Ok(Done)),
-        (free!(Car, 1), Ok(number!(0))),
-        (cancel!(3, Car, 1), Ok(Done)),
-    ];
-    expect(rt, alloc, &mut session, 1, &script);
+    expect(rt, alloc, &mut session, 1, &GOING_ON);
     expect_spent(rt, &mut session);
     session.into_client()
 }
@@ -72,7 +75,7 @@ fn refused(
 #[test]
 fn a_spent_clock_is_renewed(rt: HostRuntime) {
     let alloc = rt.alloc();
-    let (manager, client) = Manager::new(alloc, 8, 2).expect(&rt, "it opens");
+    let (manager, client) = open(&rt, alloc, 8, 2);
     let client = spend(&rt, alloc, &manager, client);
     let (manager, mut client, fault) = refused(&rt, manager, client, 0);
     same(&rt, &fault, &RegionFault::Last);
@@ -91,5 +94,5 @@ fn a_spent_clock_is_renewed(rt: HostRuntime) {
     let Ok(found) = audit_words(alloc, words.as_slice()) else {
         panic!(rt; "the words have a flaw")
     };
-    same(&rt, &Reply::Report(found), &report([1, 0, 0, 1], 0, 1, 0));
+    same(&rt, &Reply::Report(found), &report!([1, 0, 0, 1], 0, 1, 0));
 }

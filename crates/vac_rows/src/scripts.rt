@@ -4,7 +4,7 @@ ghost use Rattle.std.specs.Prelude.{◌≡◌};
 use std::alloc::{AllocError, Global};
 use std::process::Abort;
 use vac_manager::Manager;
-use vac_model::{Command, Kind, Reply, Report, Task, UpdateReply, Why};
+use vac_model::{Command, Kind, Reply, Task};
 use vac_sequential::Sequential;
 
 /// One line of a script.
@@ -17,6 +17,9 @@ pub(crate) enum Line<'a> {
     Leave(u32),
     Update(&'a [Command]),
 }
+
+/// A line of a script, and the reply to it.
+pub(crate) type Answered = (Line<'static>, Reply);
 
 pub(crate) fn task_of(alloc: Global, line: &Line<'_>) -> Result<Task, AllocError> {
     match line {
@@ -185,6 +188,42 @@ macro_rules! trip {
     };
 }
 
+// A report: the entries of the four tables; the units booked; free and total units; the bills.
+macro_rules! report {
+    (
+        [$cars:expr, $flights:expr, $rooms:expr, $customers:expr $(,)?],
+        $booked:expr,
+        $free:expr,
+        $billed:expr $(,)?
+    ) => {
+        vac_model::Reply::Report(vac_model::Report {
+            cars: $cars,
+            flights: $flights,
+            rooms: $rooms,
+            customers: $customers,
+            bookings: $booked,
+            used: $booked,
+            free: $free,
+            total: $booked + $free,
+            billed: $billed,
+        })
+    };
+}
+
+// The reply to an update of three changes.
+macro_rules! update {
+    ($first:expr, $second:expr, $third:expr $(,)?) => {
+        vac_model::Reply::Update(vac_model::UpdateReply {
+            len: 3,
+            refused: [
+                $first, $second, $third, None, None, None, None, None, None, None, None, None, None,
+                None, None, None, None, None, None, None, None, None, None, None, None, None, None,
+                None, None, None, None, None,
+            ],
+        })
+    };
+}
+
 pub(crate) use add;
 pub(crate) use add_command;
 pub(crate) use audit;
@@ -199,31 +238,8 @@ pub(crate) use new_customer;
 pub(crate) use number;
 pub(crate) use pick;
 pub(crate) use price;
+pub(crate) use report;
 pub(crate) use reserve;
 pub(crate) use reserve_command;
 pub(crate) use trip;
-
-/// A report: the entries of the four tables; the units booked; free and total units; the bills.
-pub(crate) fn report(entries: [u64; 4], booked: u64, free: u64, billed: u64) -> Reply {
-    let [cars, flights, rooms, customers] = entries;
-    Reply::Report(Report {
-        cars,
-        flights,
-        rooms,
-        customers,
-        bookings: booked,
-        used: booked,
-        free,
-        total: booked.wrapping_add(free),
-        billed,
-    })
-}
-
-/// The reply to an update of three changes.
-pub(crate) fn update(first: Option<Why>, second: Option<Why>, third: Option<Why>) -> Reply {
-    let mut refused = [None; 32];
-    refused[0] = first;
-    refused[1] = second;
-    refused[2] = third;
-    Reply::Update(UpdateReply { len: 3, refused })
-}
+pub(crate) use update;

@@ -24,34 +24,40 @@ fn run_all(rt: &impl Abort, alloc: Global, manager: &mut Sequential, script: &[L
     }
 }
 
+type Script = &'static [Line<'static>];
+
+const CARS: Line<'static> = add!(Car, 7, 2, Some(50));
+
+const CUSTOMER: Line<'static> = new_customer!(3);
+
+const RESERVED: Line<'static> = reserve!(3, Car, 7, 1);
+
 /// One of two cars at 50 is reserved by customer 3.
+const ONE_CAR_OF_TWO: Script = &[CARS, CUSTOMER, RESERVED];
+
 fn one_car_of_two(rt: &impl Abort, alloc: Global) -> Sequential {
-    let script = [
-        add!(Car, 7, 2, Some(50)),
-        new_customer!(3),
-        reserve!(3, Car, 7, 1),
-    ];
-    after(rt, alloc, 8, &script)
+    after(rt, alloc, 8, ONE_CAR_OF_TWO)
 }
+
+const ANOTHER_HISTORY: Script = &[
+    new_customer!(4),
+    new_customer!(3),
+    add!(Room, 9, 1, Some(10)),
+    add!(Car, 7, 1, Some(40)),
+    reserve!(3, Car, 7, 1),
+    reserve!(4, Room, 9, 1),
+    cancel!(3, Car, 7),
+    add!(Car, 7, 1, Some(50)),
+    drop_customer!(4),
+    reserve!(3, Car, 7, 1),
+    delete!(Room, 9, 1),
+];
 
 /// Another history leads to the same state, with a customer and a room that came and went.
 #[test]
 fn two_histories_of_one_state(rt: HostRuntime) {
     let one = one_car_of_two(&rt, rt.alloc());
-    let script = [
-        new_customer!(4),
-        new_customer!(3),
-        add!(Room, 9, 1, Some(10)),
-        add!(Car, 7, 1, Some(40)),
-        reserve!(3, Car, 7, 1),
-        reserve!(4, Room, 9, 1),
-        cancel!(3, Car, 7),
-        add!(Car, 7, 1, Some(50)),
-        drop_customer!(4),
-        reserve!(3, Car, 7, 1),
-        delete!(Room, 9, 1),
-    ];
-    let other = after(&rt, rt.alloc(), 8, &script);
+    let other = after(&rt, rt.alloc(), 8, ANOTHER_HISTORY);
     holds(&rt, one.is_same(&other) && other.is_same(&one));
     same(&rt, &other.hash(), &one.hash());
 }
@@ -64,33 +70,42 @@ fn is_one_car_of_two(rt: &impl Abort, alloc: Global, blocks: u32, script: &[Line
     one.is_same(&other)
 }
 
+/// Scripts with their blocks.
+const IN_ONE_NUMBER: [(u32, Script); 7] = [
+    (9, ONE_CAR_OF_TWO),
+    (8, &[CARS, CUSTOMER, RESERVED, add!(Car, 7, 0, Some(51))]),
+    (8, &[CARS, CUSTOMER, RESERVED, add!(Car, 7, 1, None)]),
+    (8, &[CARS, CUSTOMER, reserve!(3, Car, 7, 2)]),
+    (
+        8,
+        &[
+            add!(Car, 7, 2, Some(40)),
+            CUSTOMER,
+            RESERVED,
+            add!(Car, 7, 0, Some(50)),
+        ],
+    ),
+    (8, &[CARS, new_customer!(4), reserve!(4, Car, 7, 1)]),
+    (
+        8,
+        &[add!(Car, 8, 2, Some(50)), CUSTOMER, reserve!(3, Car, 8, 1)],
+    ),
+];
+
 /// Each differs in one number from one car of two: the capacity, the price, the units in all, the
 /// units that are booked, what they cost, the customer's id, the item's id.
 #[test]
 fn states_that_differ_in_one_number(rt: HostRuntime) {
-    let alloc = rt.alloc();
-    let (car, customer) = (add!(Car, 7, 2, Some(50)), new_customer!(3));
-    let reserved = reserve!(3, Car, 7, 1);
-    let dearer = [car, customer, reserved, add!(Car, 7, 0, Some(51))];
-    let more_units = [car, customer, reserved, add!(Car, 7, 1, None)];
-    let two_booked = [car, customer, reserve!(3, Car, 7, 2)];
-    let cheaper = add!(Car, 7, 2, Some(40));
-    let booked_for_less = [cheaper, customer, reserved, add!(Car, 7, 0, Some(50))];
-    let other_customer = [car, new_customer!(4), reserve!(4, Car, 7, 1)];
-    let other_item = [add!(Car, 8, 2, Some(50)), customer, reserve!(3, Car, 8, 1)];
-    let found = [
-        is_one_car_of_two(&rt, alloc, 8, &[car, customer, reserved]),
-        is_one_car_of_two(&rt, alloc, 9, &[car, customer, reserved]),
-        is_one_car_of_two(&rt, alloc, 8, &dearer),
-        is_one_car_of_two(&rt, alloc, 8, &more_units),
-        is_one_car_of_two(&rt, alloc, 8, &two_booked),
-        is_one_car_of_two(&rt, alloc, 8, &booked_for_less),
-        is_one_car_of_two(&rt, alloc, 8, &other_customer),
-        is_one_car_of_two(&rt, alloc, 8, &other_item),
-    ];
-    let wanted = [true, false, false, false, false, false, false, false];
-    same(&rt, &found, &wanted);
+    holds(&rt, is_one_car_of_two(&rt, rt.alloc(), 8, ONE_CAR_OF_TWO));
+    for (at, (blocks, script)) in IN_ONE_NUMBER.iter().enumerate() {
+        let is_same = is_one_car_of_two(&rt, rt.alloc(), *blocks, script);
+        assert!(rt; !is_same, "at {at}");
+    }
 }
+
+const CANCELLED: Script = &[cancel!(3, Car, 7), new_customer!(4)];
+
+const RESERVED_AGAIN: Script = &[drop_customer!(4), RESERVED];
 
 /// A copy stays as it was, whatever happens to the other one.
 #[test]
@@ -98,21 +113,11 @@ fn a_copy_keeps_its_state(rt: HostRuntime) {
     let mut one = one_car_of_two(&rt, rt.alloc());
     let copy = one.copy().expect(&rt, "there is memory");
     let was_same = copy.is_same(&one);
-    run_all(
-        &rt,
-        rt.alloc(),
-        &mut one,
-        &[cancel!(3, Car, 7), new_customer!(4)],
-    );
+    run_all(&rt, rt.alloc(), &mut one, CANCELLED);
     let again = one.copy().expect(&rt, "there is memory");
-    run_all(
-        &rt,
-        rt.alloc(),
-        &mut one,
-        &[drop_customer!(4), reserve!(3, Car, 7, 1)],
-    );
+    run_all(&rt, rt.alloc(), &mut one, RESERVED_AGAIN);
     let found = [was_same, copy.is_same(&again), copy.is_same(&one)];
     same(&rt, &found, &[true, false, true]);
     let report_of_copy = Reply::Report(copy.report());
-    same(&rt, &report_of_copy, &report([1, 0, 0, 1], 1, 1, 50));
+    same(&rt, &report_of_copy, &report!([1, 0, 0, 1], 1, 1, 50));
 }

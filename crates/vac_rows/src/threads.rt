@@ -1,6 +1,7 @@
 //! Clients in threads.
 ghost use Rattle.std.specs.Prelude.{◌≡◌};
 
+use crate::managers::open;
 use crate::same::{holds, same};
 use crate::scripts::LAST;
 use std::process::Abort;
@@ -148,7 +149,7 @@ fn units(session: &mut Session<'_>) -> u64
 
 #[test]
 fn four_clients_add_units(rt: HostRuntime) {
-    let (manager, client) = Manager::new(rt.alloc(), 16, LAST).expect(&rt, "it opens");
+    let (manager, client) = open(&rt, rt.alloc(), 16, LAST);
     let (client, added) = four_clients(&rt, &manager, client);
     let mut session = Session::of(&manager, client);
     let units = units(&mut session);
