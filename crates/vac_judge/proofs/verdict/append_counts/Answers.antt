@@ -7,4 +7,4 @@ pub returns-clause-ok : goal.returns-clause-ok
 returns-clause-ok c =
     two_appended c.append_field-2.result _ _ _ (field_text (codes "legal calls=") c.args.found.now.calls) _
     (field_text (codes " clients=") c.args.found.now.clients) c.in_ok-append_field.ensures.ok refl
-        c.append_field-2.ensures.ok
+    c.append_field-2.ensures.ok

@@ -11,4 +11,4 @@ returns-in_ok-print_verdict-in-Wrong-clause-found g c =
     (subst (WasReadAs (g.R.Read.remaining c.args.input.now) (g.R.Read.remaining c.read_history.new.input)) c.in-Wrong.is
     c.in_ok-history.ensures.read)
     (c.in_ok-print_verdict-in-Wrong.ensures.ok ∙ ap (λ t. t ++ verdict_text c.in-Wrong.verdict)
-        c.new-text.ensures.items)
+    c.new-text.ensures.items)
