@@ -38,9 +38,10 @@ fn change(rt: &impl Abort, manager: Sequential, task: &Task, wanted: Reply) -> S
     manager
 }
 
-/// Two managers have one state, and one report.
+/// Two managers have one state, one report and one hash.
 fn same_states(rt: &impl Abort, one: &Sequential, other: &Sequential) {
     same(rt, &one.report(), &other.report());
+    same(rt, &one.hash(), &other.hash());
     holds(rt, one.is_same(other));
 }
 
