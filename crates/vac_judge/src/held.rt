@@ -100,21 +100,13 @@ pub fn print_held(verdict: &HeldVerdict, out: &mut Vec<u8>) -> Result<(), AllocE
     ensures err { OnErr result (out.new.items ≡ out.old.items) }
 {
     let start = out.len();
-    let printed = append_held(verdict, out);
-    keep_whole(out, start, printed)
-}
-
-/// Appends the text of a verdict. Where memory is refused, a part of it may stand.
-fn append_held(verdict: &HeldVerdict, out: &mut Vec<u8>) -> Result<(), AllocError>
-    ensures ok { OnOk result (out.new.items ≡ out.old.items ++ held_text verdict.now) }
-    ensures err { OnErr result (Extends out.old.items out.new.items) }
-{
-    match verdict {
+    let printed = match verdict {
         HeldVerdict::Judged(verdict) => print_verdict(verdict, out),
         HeldVerdict::BadTasks { line } => append_line(out, b"fault bad-tasks ", *line),
         HeldVerdict::Foreign { line } => append_line(out, b"illegal task ", *line),
         HeldVerdict::Missing { client, number } => append_missing(out, *client, *number),
-    }
+    };
+    keep_whole(out, start, printed)
 }
 
 /// Whether a verdict is that a history is legal, and of all the work, but for what comes after a

@@ -74,6 +74,17 @@ fn append_fault(out: &mut Vec<u8>, fault: CallFault) -> Result<(), AllocError>
     }
 }
 
+/// Appends the fault of a line, as a line.
+fn append_fault_line(out: &mut Vec<u8>, fault: CallFault, line: u64) -> Result<(), AllocError>
+    ensures ok { OnOk result
+        (out.new.items ≡ out.old.items ++ verdict_text (Verdict.Fault line fault)) }
+    ensures err { OnErr result (Extends out.old.items out.new.items) }
+{
+    append_fault(out, fault)?;
+    append_field(out, b" ", line)?;
+    out.extend_from_slice(b"\n")
+}
+
 /// Appends what is wrong with the call of a line.
 fn append_wrong(out: &mut Vec<u8>, wrong: &Wrong, line: u64) -> Result<(), AllocError>
     ensures ok { OnOk result (out.new.items ≡ out.old.items ++ wrong_text wrong.now line) }
@@ -90,6 +101,16 @@ fn append_wrong(out: &mut Vec<u8>, wrong: &Wrong, line: u64) -> Result<(), Alloc
     }
 }
 
+/// Appends what is wrong with the call of a line, as a line.
+fn append_wrong_line(out: &mut Vec<u8>, wrong: &Wrong, line: u64) -> Result<(), AllocError>
+    ensures ok { OnOk result
+        (out.new.items ≡ out.old.items ++ verdict_text (Verdict.Illegal line wrong.now)) }
+    ensures err { OnErr result (Extends out.old.items out.new.items) }
+{
+    append_wrong(out, wrong, line)?;
+    out.extend_from_slice(b"\n")
+}
+
 /// Appends the text of a verdict: two lines for a legal history, and one for any other. Where
 /// memory is refused, nothing is appended.
 pub fn print_verdict(verdict: &Verdict, out: &mut Vec<u8>) -> Result<(), AllocError>
@@ -97,25 +118,10 @@ pub fn print_verdict(verdict: &Verdict, out: &mut Vec<u8>) -> Result<(), AllocEr
     ensures err { OnErr result (out.new.items ≡ out.old.items) }
 {
     let start = out.len();
-    let printed = append_verdict(verdict, out);
-    keep_whole(out, start, printed)
-}
-
-/// Appends the text of a verdict. Where memory is refused, a part of it may stand.
-fn append_verdict(verdict: &Verdict, out: &mut Vec<u8>) -> Result<(), AllocError>
-    ensures ok { OnOk result (out.new.items ≡ out.old.items ++ verdict_text verdict.now) }
-    ensures err { OnErr result (Extends out.old.items out.new.items) }
-{
-    match verdict {
+    let printed = match verdict {
         Verdict::Legal(found) => append_summary(out, found),
-        Verdict::Fault { line, fault } => {
-            append_fault(out, *fault)?;
-            append_field(out, b" ", *line)?;
-            out.extend_from_slice(b"\n")
-        }
-        Verdict::Illegal { line, wrong } => {
-            append_wrong(out, wrong, *line)?;
-            out.extend_from_slice(b"\n")
-        }
-    }
+        Verdict::Fault { line, fault } => append_fault_line(out, *fault, *line),
+        Verdict::Illegal { line, wrong } => append_wrong_line(out, wrong, *line),
+    };
+    keep_whole(out, start, printed)
 }

@@ -43,12 +43,25 @@ pub enum Finding {
 
 /// Appends what is said of attempts that are opaque.
 fn append_counts(out: &mut Vec<u8>, counts: &Counts) -> Result<(), AllocError>
-    ensures ok { OnOk result (out.new.items ≡ out.old.items ++ attempts_counts_text counts.now) }
+    ensures ok { OnOk result
+        (out.new.items ≡ out.old.items ++ finding_text (Finding.Opaque counts.now)) }
     ensures err { OnErr result (Extends out.old.items out.new.items) }
 {
     append_field(out, b"opaque attempts=", counts.attempts)?;
     append_field(out, b" committed=", counts.committed)?;
-    append_field(out, b" clients=", counts.clients)
+    append_field(out, b" clients=", counts.clients)?;
+    out.extend_from_slice(b"\n")
+}
+
+/// Appends that a line is no attempt, and why.
+fn append_fault(out: &mut Vec<u8>, fault: LineFault, line: u64) -> Result<(), AllocError>
+    ensures ok { OnOk result
+        (out.new.items ≡ out.old.items ++ finding_text (Finding.Fault line fault)) }
+    ensures err { OnErr result (Extends out.old.items out.new.items) }
+{
+    print_fault(fault, out)?;
+    append_field(out, b" ", line)?;
+    out.extend_from_slice(b"\n")
 }
 
 /// Appends what is said of a read.
@@ -63,14 +76,16 @@ fn append_read(out: &mut Vec<u8>, line: u64, word: u32, expected: u64) -> Result
 
 /// Appends what is wrong with the attempt of a line.
 fn append_breach(out: &mut Vec<u8>, breach: &Breach, line: u64) -> Result<(), AllocError>
-    ensures ok { OnOk result (out.new.items ≡ out.old.items ++ breach_text breach.now line) }
+    ensures ok { OnOk result
+        (out.new.items ≡ out.old.items ++ finding_text (Finding.Illegal line breach.now)) }
     ensures err { OnErr result (Extends out.old.items out.new.items) }
 {
     match breach {
-        Breach::Place(Misplaced::Client) => append_field(out, b"illegal client ", line),
-        Breach::Place(Misplaced::Time) => append_field(out, b"illegal time ", line),
-        Breach::Read { word, expected } => append_read(out, line, *word, *expected),
+        Breach::Place(Misplaced::Client) => append_field(out, b"illegal client ", line)?,
+        Breach::Place(Misplaced::Time) => append_field(out, b"illegal time ", line)?,
+        Breach::Read { word, expected } => append_read(out, line, *word, *expected)?,
     }
+    out.extend_from_slice(b"\n")
 }
 
 /// Appends the text of a verdict, which is one line. Where memory is refused, nothing is appended.
@@ -79,24 +94,12 @@ pub fn print_finding(finding: &Finding, out: &mut Vec<u8>) -> Result<(), AllocEr
     ensures err { OnErr result (out.new.items ≡ out.old.items) }
 {
     let start = out.len();
-    let printed = append_finding(finding, out);
+    let printed = match finding {
+        Finding::Opaque(counts) => append_counts(out, counts),
+        Finding::Fault { line, fault } => append_fault(out, *fault, *line),
+        Finding::Illegal { line, breach } => append_breach(out, breach, *line),
+    };
     keep_whole(out, start, printed)
-}
-
-/// Appends the text of a verdict. Where memory is refused, a part of it may stand.
-fn append_finding(finding: &Finding, out: &mut Vec<u8>) -> Result<(), AllocError>
-    ensures ok { OnOk result (out.new.items ≡ out.old.items ++ finding_text finding.now) }
-    ensures err { OnErr result (Extends out.old.items out.new.items) }
-{
-    match finding {
-        Finding::Opaque(counts) => append_counts(out, counts)?,
-        Finding::Fault { line, fault } => {
-            print_fault(*fault, out)?;
-            append_field(out, b" ", *line)?;
-        }
-        Finding::Illegal { line, breach } => append_breach(out, breach, *line)?,
-    }
-    out.extend_from_slice(b"\n")
 }
 
 /// Whether a verdict is that the attempts are opaque.

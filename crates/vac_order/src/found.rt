@@ -8,23 +8,15 @@ ghost use Rattle.vac_order.specs.Reading.{texts_of, numbers_of};
 use crate::line::Line;
 use crate::stuck::Stuck;
 use std::alloc::AllocError;
-use vac_lines::print_reply;
+use vac_lines::{append_field, print_reply};
 use vac_model::Reply;
-
-/// Appends a text and a number in decimal.
-fn append_counted(out: &mut Vec<u8>, text: &[u8], number: u64) -> Result<(), AllocError>
-    ensures { OnOk result (out.new.items ≡ out.old.items ++ (text.now ++ decimal number)) }
-{
-    out.extend_from_slice(text)?;
-    print_reply(&Reply::Number(Some(number)), out)
-}
 
 /// Appends a line of a text and a number.
 fn append_count(out: &mut Vec<u8>, text: &[u8], number: u64) -> Result<(), AllocError>
     ensures { OnOk result
         (out.new.items ≡ out.old.items ++ as_line (text.now ++ decimal number)) }
 {
-    append_counted(out, text, number)?;
+    append_field(out, text, number)?;
     out.extend_from_slice(b"\n")
 }
 
@@ -59,7 +51,7 @@ fn print_stuck(number: u64, expected: &Reply, out: &mut Vec<u8>) -> Result<(), A
     ensures { OnOk result
         (out.new.items ≡ out.old.items ++ stuck_text (number, expected.now)) }
 {
-    append_counted(out, b"stuck ", number)?;
+    append_field(out, b"stuck ", number)?;
     out.extend_from_slice(b" ")?;
     print_reply(expected, out)?;
     out.extend_from_slice(b"\n")

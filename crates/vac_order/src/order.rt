@@ -19,17 +19,15 @@ use crate::watcher::Watcher;
 use std::alloc::{AllocError, Global};
 use vac_model::limits::MOST_BLOCKS;
 
-/// A linearization of these calls, for a system of `blocks` blocks, where one is found quickly from
-/// a machine on. It is right wherever the machine begins.
+/// The places that were found quickly, where they are an order of these calls that is a
+/// linearization, for a system of `blocks` blocks.
 ///
-/// Not said: that one is found where there is one.
-fn quick_order<M: Machine + Drop, P: Watcher>(
+/// Not said: that they are kept wherever they are one.
+fn checked_order(
     alloc: Global,
     blocks: u32,
     calls: &Calls,
-    machine: M,
-    steps: u64,
-    watcher: &mut P,
+    found: Option<Vec<usize>>,
 ) -> Result<Option<Vec<usize>>, AllocError>
     requires some { 1 ≤ blocks }
     requires most { blocks ≤ MOST_BLOCKS }
@@ -37,7 +35,7 @@ fn quick_order<M: Machine + Drop, P: Watcher>(
     ensures { IfOk result (λ found. IfSome found (λ places.
         IsLinearizedBy blocks (calls_of calls.now.lines.items) places.items)) }
 {
-    let Some(places) = find_quickly(alloc, calls, machine, steps, watcher)? else {
+    let Some(places) = found else {
         return Ok(None);
     };
     if is_linearization(alloc, blocks, calls, places.as_slice())? {
@@ -64,7 +62,8 @@ pub(crate) fn judge_order<M: Machine + Drop, P: Watcher>(
         IsFoundOfCalls (point_at M.state calls.now) blocks (calls_of calls.now.lines.items)
         steps found) }
 {
-    if let Some(places) = quick_order(alloc, blocks, calls, machine.copy()?, steps, watcher)? {
+    let found = find_quickly(alloc, calls, machine.copy()?, steps, watcher)?;
+    if let Some(places) = checked_order(alloc, blocks, calls, found)? {
         return Ok(Finding::Order(places));
     }
     find_order(alloc, calls, Point::new(alloc, machine), steps, watcher)
