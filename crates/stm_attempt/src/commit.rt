@@ -1,6 +1,6 @@
 //! The commit of an attempt: its locks in ascending order, one tick of the clock, the validation of
 //! each read word's lock, the write back, and the releases.
-ghost use Rattle.std.specs.Prelude.{◌≡◌, ◌≢◌, ℕ, ◌+◌, ◌*◌, ◌<◌, ◌≤◌, ◌||◌, eqb, true, false, [], length, Ok, Err, Some, None, IfOk, IfErr};
+ghost use Rattle.std.specs.Prelude.{◌≡◌, ◌+◌, ◌<◌, ◌≤◌, ◌||◌, eqb, true, false, [], Ok, Err, Some, None, IfOk, IfErr};
 ghost use Rattle.std.specs.FinMap.{len};
 ghost use Rattle.stm_core.specs.Core.{IsFreeHanded};
 ghost use Rattle.stm_logs.specs.Log.{SameAddresses, log_pairs, log_locks};

@@ -1,5 +1,5 @@
 //! The locks of a commit: taken in ascending order, and given back.
-ghost use Rattle.std.specs.Prelude.{◌≡◌, ◌+◌, ◌<◌, ◌≤◌, ◌*◌, ◌⊎◌, [], true, false, length, take, IfOk, IfErr, IsOk};
+ghost use Rattle.std.specs.Prelude.{◌≡◌, ◌+◌, ◌<◌, ◌≤◌, ◌*◌, [], true, length, take, IfOk, IfErr, IsOk};
 ghost use Rattle.stm_logs.specs.Log.{log_locks};
 ghost use Rattle.stm_core.specs.Guards.{stripe_of};
 ghost use Rattle.stm_attempt.specs.Begun.{IsPlaced, addresses};

@@ -1,5 +1,5 @@
 //! The validation of a commit: the locks of the words that it read.
-ghost use Rattle.std.specs.Prelude.{◌≡◌, ℕ, ◌<◌, ◌≤◌, true, false, IfOk, IfErr};
+ghost use Rattle.std.specs.Prelude.{◌≡◌, ℕ, ◌<◌, true, false, IfOk, IfErr};
 ghost use Rattle.stm_core.specs.Client.{decided};
 ghost use Rattle.stm_core.specs.Event.{validate as validates};
 ghost use Rattle.stm_logs.specs.Log.{log_locks};

@@ -1,7 +1,6 @@
 //! The line of an attempt.
 
 ghost use Rattle.std.specs.Prelude.{◌≡◌, ◌++◌, OnOk};
-ghost use Rattle.vac_lines.specs.Text.{field_text};
 ghost use Rattle.vac_attempts.specs.Lines.{access_text, accesses_text, outcome_text};
 ghost use Rattle.vac_attempts.specs.Lines.{head_text, line_text, line_entry};
 

@@ -4,7 +4,6 @@ ghost use Rattle.std.specs.Prelude.{◌≡◌, ◌+◌, ◌*◌, ◌≤◌, IfOk
 ghost use Rattle.vac_audit.specs.Marks.{IsMarked};
 ghost use Rattle.vac_audit.specs.Ran.{Blank, ItemsRan, Inside, UsedRan, HeapRan, IsHeapSize, Audited, fault_answer};
 ghost use Rattle.vac_audit.specs.Represented.{StateOf, Recognised};
-ghost use Rattle.vac_audit.specs.TreeRan.{Summed};
 ghost use Rattle.tx_alloc.specs.declared.place.TheConstants.{MOST_BLOCKS};
 ghost use Rattle.tx_alloc.specs.Pool.{heap_words};
 ghost use Rattle.vac_audit.specs.declared.audit.AuditFault.TheVariants.{Size};

@@ -1,8 +1,6 @@
 //! A load from the command line, and the lines that it writes.
 
-ghost use Rattle.std.specs.Prelude.{◌≡◌, ◌≤◌, ◌++◌, ◌↔◌, ◌⊎◌, false, vec_len, IfOk, OnOk};
-ghost use Rattle.vac_draws.specs.Setting.{is_settings};
-ghost use Rattle.vac_load.specs.Streams.{LoadedBySeed};
+ghost use Rattle.std.specs.Prelude.{◌≡◌, ◌≤◌, ◌++◌, ◌⊎◌, false, OnOk};
 ghost use Rattle.vac_cli.specs.Load.{tried_text, wanting_text};
 ghost use Rattle.vac_cli.specs.Load.{tally_text, load_text};
 ghost use Rattle.vac_cli.specs.Program.{Loads, LoadsAs};

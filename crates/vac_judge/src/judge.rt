@@ -1,13 +1,13 @@
 //! Judging one call after another.
 
-ghost use Rattle.std.specs.Prelude.{◌≡◌, ◌≢◌, ◌≤◌, ◌<◌, ◌^◌, ◌+◌, IfOk, OnOk, IfErr, MatchOption, List, [], ◌∷◌, true, Err};
+ghost use Rattle.std.specs.Prelude.{◌≡◌, ◌≢◌, ◌≤◌, ◌<◌, ◌^◌, ◌+◌, IfOk, IfErr, MatchOption, List, [], true, Err};
 ghost use Rattle.std.specs.Str.{bytes_eq};
 ghost use Rattle.vac_model.specs.Ranges.{is_task};
 ghost use Rattle.vac_model.specs.State.{State, empty_state};
 ghost use Rattle.vac_lines.specs.Text.{reply_text};
 ghost use Rattle.vac_judge.specs.Call.{Call, line_call};
 ghost use Rattle.vac_judge.specs.Parts.{shown_call, shown_reply};
-ghost use Rattle.vac_judge.specs.Order.{wrong_of, is_right};
+ghost use Rattle.vac_judge.specs.Order.{is_right};
 ghost use Rattle.vac_judge.specs.Judging.{Follows, JudgesTimes, JudgesCall, Takes, DecidesVerdict as IsEnd};
 ghost use Rattle.vac_judge.specs.Judging.{IsJudgeStop};
 ghost use Rattle.vac_judge.specs.Verdict.{summary_of};

@@ -1,7 +1,7 @@
 //! What is said of a history, and its text.
 
-ghost use Rattle.std.specs.Prelude.{◌≡◌, ◌++◌, OnOk, OnErr, codes, decimal};
-ghost use Rattle.vac_lines.specs.Text.{Extends, reply_text, field_text};
+ghost use Rattle.std.specs.Prelude.{◌≡◌, ◌++◌, OnOk, OnErr};
+ghost use Rattle.vac_lines.specs.Text.{Extends};
 ghost use Rattle.vac_judge.specs.Verdict.{counts_text, wrong_text, call_fault_text, verdict_text};
 
 use crate::fault::CallFault;

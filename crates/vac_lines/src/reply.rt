@@ -2,7 +2,7 @@
 
 ghost use Rattle.std.specs.Prelude.{◌≡◌, ◌++◌, OnOk, OnErr, decimal, codes, take};
 ghost use Rattle.std.specs.List.{flat_map};
-ghost use Rattle.vac_lines.specs.Text.{Extends, why_name, done_text, number_text, report_text, field_text, entries_text, booked_text, sums_text, joined_text, pick_text, trip_text, update_text, change_text, reply_text, fault_name, fault_text};
+ghost use Rattle.vac_lines.specs.Text.{Extends, why_name, done_text, report_text, field_text, entries_text, booked_text, sums_text, joined_text, pick_text, trip_text, update_text, change_text, reply_text, fault_name, fault_text};
 ghost use Rattle.vac_lines.specs.Memory.{word_line};
 
 use crate::fault::LineFault;

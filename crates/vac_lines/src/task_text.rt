@@ -5,7 +5,7 @@ ghost use Rattle.std.specs.List.{flat_map};
 ghost use Rattle.vac_lines.specs.Text.{Extends};
 ghost use Rattle.vac_lines.specs.TaskText.{TaskTextsAreRead, TaskTextsFit, task_text, words_text};
 ghost use Rattle.vac_lines.specs.TaskText.{spaced, kind_word, item_words, price_word, units_words};
-ghost use Rattle.vac_lines.specs.TaskText.{command_words, further_words, changes_words};
+ghost use Rattle.vac_lines.specs.TaskText.{command_words, further_words};
 
 use crate::reply::{append, append_field, append_pair, keep_whole};
 use std::alloc::AllocError;

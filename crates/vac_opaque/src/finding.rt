@@ -1,8 +1,8 @@
 //! What is said of a text of attempts, and its text.
 
-ghost use Rattle.std.specs.Prelude.{◌≡◌, ◌++◌, OnOk, OnErr, codes, decimal};
-ghost use Rattle.vac_lines.specs.Text.{Extends, reply_text, field_text};
-ghost use Rattle.vac_opaque.specs.Verdict.{attempts_counts_text, read_text, breach_text, finding_text};
+ghost use Rattle.std.specs.Prelude.{◌≡◌, ◌++◌, OnOk, OnErr};
+ghost use Rattle.vac_lines.specs.Text.{Extends};
+ghost use Rattle.vac_opaque.specs.Verdict.{read_text, finding_text};
 ghost use Rattle.vac_opaque.specs.Verdict.{is_opaque};
 
 use std::alloc::AllocError;

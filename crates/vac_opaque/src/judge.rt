@@ -1,6 +1,6 @@
 //! Judging one attempt after another.
 
-ghost use Rattle.std.specs.Prelude.{◌≡◌, ◌≢◌, ℕ, ◌+◌, ◌<◌, ◌^◌, length, IfOk, OnOk, IfErr, MatchOption, List, [], if◌then◌else◌, Err};
+ghost use Rattle.std.specs.Prelude.{◌≡◌, ◌≢◌, ℕ, ◌+◌, ◌<◌, ◌^◌, length, IfOk, IfErr, MatchOption, List, [], if◌then◌else◌, Err};
 ghost use Rattle.vac_streams.specs.declared.fault.StreamFault.TheVariants.{Write};
 ghost use Rattle.vac_opaque.specs.Attempt.{Attempt, text_attempt};
 ghost use Rattle.vac_opaque.specs.Parts.{AllAmong, attempt_of};

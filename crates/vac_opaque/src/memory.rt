@@ -1,6 +1,6 @@
 //! The words, and what an attempt does to them.
 
-ghost use Rattle.std.specs.Prelude.{◌≡◌, ◌≢◌, ◌<◌, ℕ, length, IfOk, OnOk, None, List, [], slice_set, get_or};
+ghost use Rattle.std.specs.Prelude.{◌≡◌, ◌<◌, length, IfOk, OnOk, None, [], slice_set};
 ghost use Rattle.vac_opaque.specs.Words.{zeros, words_after, wrong_read};
 ghost use Rattle.vac_opaque.specs.Parts.{AllAmong};
 ghost use Rattle.vac_opaque.specs.Covered.{image_of, uncovered};

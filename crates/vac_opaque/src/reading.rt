@@ -1,8 +1,7 @@
 //! Reading a text of attempts, and writing the verdict on it.
 
-ghost use Rattle.std.specs.Prelude.{◌≡◌, ◌≢◌, IfOk, IfErr, [], MatchOption};
+ghost use Rattle.std.specs.Prelude.{◌≢◌, IfOk, IfErr};
 ghost use Rattle.vac_streams.specs.declared.fault.StreamFault.TheVariants.{Write};
-ghost use Rattle.vac_opaque.specs.Judging.{FollowsAttempts};
 ghost use Rattle.vac_opaque.specs.Reading.{HasFinding, HasJudgedAttempts, HasStoppedOnAttempts};
 
 use crate::attempt::ATTEMPT_BYTES;

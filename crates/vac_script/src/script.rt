@@ -1,6 +1,6 @@
 //! Running a script: lines in, output lines out.
 
-ghost use Rattle.std.specs.Prelude.{◌≡◌, ◌≤◌, true, OnOk, OnErr, IfOk, IfErr, IsErr, []};
+ghost use Rattle.std.specs.Prelude.{◌≡◌, true, OnOk, OnErr, IfOk, IfErr, IsErr, []};
 ghost use Rattle.vac_model.specs.Ranges.{is_block_count, is_task};
 ghost use Rattle.vac_manager.specs.Called.{HasAllGrants};
 ghost use Rattle.vac_manager.specs.Legal.{capacity_of};

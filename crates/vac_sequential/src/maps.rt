@@ -69,7 +69,7 @@ impl<V: Entry> IdMap<V> {
         self.weight
     }
 
-    /// A number of which nothing is promised; maps with the same entries have the same number.
+    /// A number. Not said: that maps with the same entries have the same, as is meant.
     pub(crate) fn hash(&self) -> u64 {
         self.hash
     }
@@ -142,7 +142,9 @@ impl<V: Entry + Drop> IdMap<V> {
         })
     }
 
-    /// Changes what an id has. Nodes that no copy shares are changed in place, the others copied.
+    /// Changes what an id has. (Nodes that no copy shares are meant to be changed in place.)
+    ///
+    /// Not said: what the map is where memory is refused.
     pub(crate) fn change<C: Change<V> + Drop>(
         &mut self,
         id: u32,
@@ -215,8 +217,8 @@ impl BookingMap {
         self.entries.get(&(kind, id)).copied()
     }
 
-    /// Puts a booking. It fails only where memory for a new one is refused.
-    pub(crate) fn insert(&mut self, kind: Kind, id: u32, booking: Booking) -> Result<(), AllocError>
+    /// Puts a booking. Where memory for a new one is refused, nothing changes.
+    fn insert(&mut self, kind: Kind, id: u32, booking: Booking) -> Result<(), AllocError>
         ensures ok { OnOk result (self.new ≡ map.insert self.old (kind, id) booking) }
         ensures err { OnErr result (self.new ≡ self.old) }
     {
@@ -226,7 +228,8 @@ impl BookingMap {
         Ok(())
     }
 
-    pub(crate) fn remove(&mut self, kind: Kind, id: u32)
+    /// Removes the booking of an item.
+    fn remove(&mut self, kind: Kind, id: u32)
         ensures { self.new ≡ map.remove self.old (kind, id) }
     {
         let old = self.entries.remove(&(kind, id));

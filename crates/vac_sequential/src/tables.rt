@@ -41,7 +41,7 @@ impl Model for Tables {
 }
 
 impl Tables {
-    ghost use Rattle.vac_model.specs.State.{empty_state, table_of, item_of, with_item, without_item, bookings_of, with_bookings, without_customer, size, is_full, report};
+    ghost use Rattle.vac_model.specs.State.{empty_state, item_of, with_item, without_item, bookings_of, with_bookings, without_customer, size, is_full, report};
     ghost use Rattle.vac_model.specs.Fits.{IsSmall};
 
     pub(crate) fn new(alloc: Global, capacity: u64) -> Self
@@ -83,7 +83,7 @@ impl Tables {
         self.customers.is_same(&other.customers)
     }
 
-    /// A number of which nothing is promised; equal states have the same number.
+    /// A number. Not said: that equal states have the same, as is meant.
     pub(crate) fn hash(&self) -> u64 {
         let items = mixed(
             self.cars.hash(),

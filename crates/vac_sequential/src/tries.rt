@@ -7,7 +7,7 @@
 ghost use Rattle.std.specs.Prelude.{◌≡◌, ◌≢◌, ◌<◌, ◌^◌, ℕ, Option, None, Some, IfOk, MatchOption, sum_by};
 ghost use Rattle.std.specs.Option.{option_copied};
 ghost use Rattle.std.specs.FinMap as map;
-ghost use Rattle.vac_sequential.specs.Tries.{map_in, map_at, value_in, map_of, parts_of, child_of, swapped, changed_at, EntryAdds, Shows, TellsEmpty, TellsSame};
+ghost use Rattle.vac_sequential.specs.Tries.{map_in, map_at, value_in, map_of, child_of, swapped, changed_at, EntryAdds, Shows, TellsEmpty, TellsSame};
 
 use std::alloc::{AllocError, Global};
 use std::marker::Model;
@@ -244,7 +244,9 @@ fn shared<V: Drop>(value: Option<&Rc<V>>) -> Result<Option<Rc<V>>, AllocError>
     }
 }
 
-/// Takes a map out of its place where nothing else holds it, and leaves none there.
+/// Takes a map out of its place, if nothing else holds that.
+///
+/// Not said: what is left there, and which of the two it is.
 fn take_own<V: Drop>(link: &mut Rc<Trie<V>>) -> Option<Trie<V>>
     ensures { MatchOption result (link.new.value ≡ link.old.value) (λ t. t ≡ link.old.value) }
 {

@@ -1,6 +1,6 @@
 //! The lines of the opening.
 
-ghost use Rattle.std.specs.Prelude.{◌≡◌, ◌≢◌, ◌<◌, ◌≤◌, ◌++◌, ◌^◌, true, OnOk, OnErr, IfErr, flat_map};
+ghost use Rattle.std.specs.Prelude.{◌≡◌, ◌≢◌, ◌<◌, ◌++◌, ◌^◌, true, OnOk, OnErr, IfErr, flat_map};
 ghost use Rattle.vac_model.specs.Amounts.{is_id};
 ghost use Rattle.vac_draws.specs.Draws.{for_each};
 ghost use Rattle.vac_draws.specs.Setting.{is_settings};
