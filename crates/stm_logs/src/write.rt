@@ -9,6 +9,7 @@ use crate::chain::{ByLock, Locks, Pairs, Words};
 use crate::table::Table;
 use std::alloc::{AllocError, Allocator, Global};
 use std::marker::Model;
+use stm_words::Writes;
 use tx_memory::Addr;
 
 /// How many marks a write log has, one for each remainder of the addresses.
@@ -31,6 +32,12 @@ fn mark_of(addr: Addr) -> usize
     ensures inside { result < MARKS }
 {
     addr.0 as usize % MARKS
+}
+
+impl<A: Allocator + Copy> Writes for WriteLog<A> {
+    ghost use Rattle.stm_logs.specs.Log.{log_pairs};
+
+    ghost pairs = { λ w. log_pairs w };
 }
 
 impl<A: Allocator + Copy> Model for WriteLog<A> {

@@ -3,7 +3,6 @@
 ghost use Rattle.std.specs.Prelude.{◌≡◌, ℕ, ◌+◌, ◌-◌, ◌<◌, ◌^◌};
 ghost use Rattle.stm_core.specs.Core.{left};
 ghost use Rattle.stm_core.specs.Event.{tick as ticks, give_back as gives_back, finish as finishes};
-ghost use Rattle.stm_logs.specs.Log.{log_pairs};
 ghost use Rattle.stm_region.specs.Shown.{MayStep, value_after};
 ghost use Rattle.stm_region.specs.Layout.{MayStepAt, Exchanges, Stores};
 ghost use Rattle.stm_region.specs.Findings.{IsOneEvent, HasActed};
@@ -14,8 +13,7 @@ use crate::region::Region;
 use crate::view::View;
 use atomic_table::Seat;
 use std::alloc::Allocator;
-use stm_logs::WriteLog;
-use stm_words::{Law, Tag, Version};
+use stm_words::{Law, Tag, Version, Writes};
 
 impl<L: Law, A: Allocator> Region<L, A> {
     /// A load. The number, a lock or an address, is for the proof alone.
@@ -106,15 +104,15 @@ impl<L: Law, A: Allocator> Region<L, A> {
 
     /// The tick of a record with this tag and these writes.
     #[inline]
-    pub(crate) fn tick_as<S: Acting, T: Tag, B: Allocator + Copy>(
+    pub(crate) fn tick_as<S: Acting, T: Tag, W: Writes>(
         &self,
         seat: &mut Seat<(), View>,
         from: Version,
         tag: &T,
-        writes: &WriteLog<B>,
+        writes: &W,
     ) -> u64
         requires told { S.region ≡ self.now }
-        requires ticks { S.action ≡ ticks from (T.numbers tag.now) (log_pairs writes.now) }
+        requires ticks { S.action ≡ ticks from (T.numbers tag.now) (W.pairs writes.now) }
         requires own { seat.old.table_id ≡ self.now.table }
         requires allowed { MayStep L.lawful self.now S.action seat.old.me.0 }
         ensures acted { HasActed L.fits L.lawful self.now S.action result

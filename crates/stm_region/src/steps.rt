@@ -2,7 +2,6 @@
 ghost use Rattle.std.specs.Prelude.{◌≡◌, ℕ, ◌+◌, ◌<◌, ◌≤◌, ◌==◌, true, [], MatchResult, IfErr, IsOk};
 ghost use Rattle.stm_core.specs.Client.{word_before, decided};
 ghost use Rattle.stm_core.specs.Event.{begin as begins, probe as probes, fetch as fetches, check as checks, lock as locks, tick as ticks, validate as validates, put as puts, release as releases, give_back as gives_back, finish as finishes};
-ghost use Rattle.stm_logs.specs.Log.{log_pairs};
 ghost use Rattle.stm_region.specs.Shown.{Exchanged, IsAllowed, acted};
 ghost use Rattle.stm_region.specs.declared.limits.TheConstants.{MOST_GRANTS};
 ghost use Rattle.stm_region.specs.Findings.{IsLockWord, IsLoneOpen, StandsOn, IsOneEvent, IsOfOneVersion, IsOfOneVersionAt};
@@ -17,8 +16,7 @@ use crate::region::Region;
 use crate::version::as_version;
 use std::alloc::Allocator;
 use std::marker::Brand;
-use stm_logs::WriteLog;
-use stm_words::{Law, LockWord, Tag, Version};
+use stm_words::{Law, LockWord, Tag, Version, Writes};
 use tx_memory::Addr;
 
 impl<L: Law, A: Allocator> Region<L, A> {
@@ -130,25 +128,25 @@ impl<L: Law, A: Allocator> Region<L, A> {
     /// read, or the write version is the next after the read version, the attempt is decided.
     /// Returns the write version, or, where the exchange loses, the version found.
     #[inline]
-    pub fn tick<T: Tag, B: Allocator + Copy>(
+    pub fn tick<T: Tag, W: Writes>(
         &self,
         client: &mut Client<L>,
         from: Version,
         tag: &T,
-        writes: &WriteLog<B>,
+        writes: &W,
     ) -> Result<Version, Version>
         requires own { client.old.table ≡ self.now.table }
         requires allowed { IsAllowed L.lawful self.now
-            (ticks from (T.numbers tag.now) (log_pairs writes.now)) client.old }
+            (ticks from (T.numbers tag.now) (W.pairs writes.now)) client.old }
         ensures client { Exchanged self.now
-            (ticks from (T.numbers tag.now) (log_pairs writes.now)) from result
+            (ticks from (T.numbers tag.now) (W.pairs writes.now)) from result
             client.old client.new }
         ensures event { MatchResult result
             (λ _. IsOneEvent L.lawful self.now
-            (ticks from (T.numbers tag.now) (log_pairs writes.now)) from
+            (ticks from (T.numbers tag.now) (W.pairs writes.now)) from
             client.old.value client.new.value)
             (λ found. IsOneEvent L.lawful self.now
-            (ticks from (T.numbers tag.now) (log_pairs writes.now)) found
+            (ticks from (T.numbers tag.now) (W.pairs writes.now)) found
             client.old.value client.new.value) }
         ensures version { MatchResult result
             (λ version. (version ≡ from + 1) × (version ≤ self.now.last))
@@ -161,11 +159,11 @@ impl<L: Law, A: Allocator> Region<L, A> {
             Decides L.fits L.lawful self.now client.new.value }
         ensures after { decided client.new.value ≡ true →
             DecidesAt L.fits L.lawful self.now
-            (ticks from (T.numbers tag.now) (log_pairs writes.now)) from
+            (ticks from (T.numbers tag.now) (W.pairs writes.now)) from
             client.old.value client.new.value }
     {
         prove!(from < self.last);
-        let found = self.tick_as::<Brand, T, B>(&mut client.seat, from, tag, writes);
+        let found = self.tick_as::<Brand, T, W>(&mut client.seat, from, tag, writes);
         if found == from.get() {
             let version = as_version(found + 1);
             client.version = version;

@@ -13,6 +13,11 @@ impl Tag for u64 {
     ghost numbers = { λ n. n ∷ [] };
 }
 
+/// The words that a record writes, seen as a list of their addresses and values.
+pub trait Writes {
+    ghost pairs: { Self → List (ℕ × ℕ) };
+}
+
 /// Which images a region may have, and which records (tag, reads, writes) may be made on it.
 ///
 /// Reads and writes are finite maps from addresses to values, given as lists of their pairs. The

@@ -8,5 +8,5 @@
 mod law;
 mod version;
 
-pub use law::{FreeLaw, Law, Tag, law_keeps_fitting};
+pub use law::{FreeLaw, Law, Tag, Writes, law_keeps_fitting};
 pub use version::{LockWord, VERSION_LIMIT, Version};
