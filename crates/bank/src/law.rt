@@ -1,5 +1,6 @@
 //! The bank as an object.
 
+ghost use Rattle.std.specs.Prelude.{◌≡◌, List, ℕ, sum};
 ghost use Rattle.bank.specs.Accounts.{KeepsSum};
 
 use crate::entry::Entry;

@@ -1,6 +1,6 @@
 //! Rounds of all desks: each gets a client and a thread of its own, and the clients are gathered.
 
-ghost use Rattle.std.specs.Prelude.{◌≡◌, ◌<◌, ◌+◌, true, IfOk, IfErr};
+ghost use Rattle.std.specs.Prelude.{◌≡◌, ◌≤◌, ◌<◌, ◌+◌, true, IfOk, IfErr};
 ghost use Rattle.booking_desk.specs.Setting.{is_desk_settings};
 ghost use Rattle.booking_desk.specs.Desks.{session_of, HasServed, MayServe};
 ghost use Rattle.booking_desk.specs.Rounds.{HasRunRound, MayRun};

@@ -1,9 +1,9 @@
 //! The written words of a log with their locks and values, in one block of nodes with its index.
 ghost use Rattle.std.specs.Prelude.{◌≡◌, ◌≢◌, ◌↔◌, ℕ, ◌+◌, ◌*◌, ◌<◌, ◌≤◌, true, false, None, Some, Ok, length, IsOk, IfOk};
 ghost use Rattle.std.specs.FinMap.{get, len};
-ghost use Rattle.stm_logs.specs.Nodes.{at};
+ghost use Rattle.stm_logs.specs.Nodes.{Block, at};
 ghost use Rattle.stm_logs.specs.Index.{HasNoNumber, Answers};
-ghost use Rattle.stm_logs.specs.Order.{block_log};
+ghost use Rattle.stm_logs.specs.Order.{OnlyFingers, block_log};
 ghost use Rattle.stm_logs.specs.Held.{IsLog, HasOneMoreWord, with_word};
 ghost use Rattle.stm_logs.specs.Chain.{EndsWithin, words_from};
 ghost use Rattle.stm_logs.specs.Log.{LogValue, empty_log, log_groups, log_locks, pairs_by_lock, pairs_of, SameAddresses};

@@ -1,5 +1,5 @@
 //! The write log: the addresses that a transaction has written, with their values and locks.
-ghost use Rattle.std.specs.Prelude.{◌≡◌, ◌≢◌, ◌↔◌, ℕ, ◌%◌, ◌<◌, ◌≤◌, IsOk, None, Some, length, slice_index, true};
+ghost use Rattle.std.specs.Prelude.{◌≡◌, ◌≢◌, ◌↔◌, ℕ, ◌%◌, ◌<◌, ◌≤◌, IsOk, None, Some, length, slice_index, IfOk, true};
 ghost use Rattle.std.specs.FinMap.{get, len};
 ghost use Rattle.stm_logs.specs.Refusals.{Becomes};
 ghost use Rattle.stm_logs.specs.Held.{with_word};

@@ -1,5 +1,5 @@
 //! The region: its opening, and the splitting and gathering of its clients.
-ghost use Rattle.std.specs.Prelude.{◌≡◌, ◌+◌, ◌<◌, length, IfOk, IfErr};
+ghost use Rattle.std.specs.Prelude.{◌≡◌, ◌+◌, ◌<◌, ◌≤◌, length, IfOk, IfErr};
 ghost use Rattle.stm_region.specs.declared.fault.RegionFault.TheVariants.{Clients};
 ghost use Rattle.std.specs.Prelude.{◌⊎◌};
 ghost use Rattle.tx_memory.specs.Image.{In};

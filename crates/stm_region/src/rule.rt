@@ -1,5 +1,5 @@
 //! What the rule of a region's table says, as laws.
-ghost use Rattle.std.specs.Prelude.{◌≡◌, false, map};
+ghost use Rattle.std.specs.Prelude.{◌≡◌, ℕ, ◌≤◌, false, map};
 ghost use Rattle.tx_memory.specs.Image.{In, Agrees};
 ghost use Rattle.stm_core.specs.Client.{Record, shed};
 ghost use Rattle.stm_core.specs.Event.{taking};
