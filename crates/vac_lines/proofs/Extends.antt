@@ -60,3 +60,15 @@ pub extends_longer : (xs ys zs : List ℕ) → Extends xs ys → Extends xs (ys 
 extends_longer xs ys zs h = extends_front xs ys (drop (length xs) ys) (ys ++ zs)
     (sym (ap (λ t. t ++ drop (length xs) ys) (sym h) ∙ take-append-drop (length xs) ys))
     (extends_more ys (ys ++ zs) zs refl)
+
+-- a call that fails after a text was appended leaves what stood before that text
+pub err_behind : {T E : Type 0} (r : Result T E) (old a new x : List ℕ) → a ≡ old ++ x → OnErr r (Extends a new) →
+    OnErr r (Extends old new)
+err_behind (Ok t) old a new x e h = tt
+err_behind (Err f) old a new x e h = extends_front old a x new e h
+
+-- a head and three texts, appended one after another
+pub four_appended : {T E : Type 0} (r : Result T E) (old a b d new h x y z p : List ℕ) → a ≡ old ++ h → b ≡ a ++ x →
+    d ≡ b ++ y → p ≡ x ++ (y ++ z) → OnOk r (new ≡ d ++ z) → OnOk r (new ≡ old ++ (h ++ p))
+four_appended (Ok t) old a b d new h x y z p e f k q g = simp (g, k, f, e, q, append_assoc)
+four_appended (Err t) old a b d new h x y z p e f k q g = tt

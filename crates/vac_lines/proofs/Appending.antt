@@ -1,0 +1,51 @@
+-- Words that are appended one after another.
+use Rattle.std.proofs.Common.{◌≡◌, ℕ, List, [], ◌∷◌, ◌++◌, refl, ap, sym, ◌∙◌, append_assoc, append-nil, codes}
+use Rattle.std.proofs.Common.{Option, length, get_or, Result, Ok, Err, OnOk, arith}
+use Rattle.std.proofs.lemmas.List.Concat.{flat_map-append}
+use Rattle.vac_model.specs.declared.commands.Command.{Command}
+use Rattle.vac_model.specs.declared.commands.Command.TheVariants as command
+use Rattle.vac_model.specs.declared.replies.Pick.{Pick}
+use Rattle.vac_lines.specs.Text.{pick_text, picks_text}
+use Rattle.vac_lines.specs.TaskText.{spaced, words_text, command_words}
+
+spaced_both : (ws vs : List (List ℕ)) → spaced (ws ++ vs) ≡ spaced ws ++ spaced vs
+spaced_both ws vs = flat_map-append (λ word. codes " " ++ word) ws vs
+
+-- words behind those of a text
+pub words_more : (old a new first : List ℕ) (ws vs : List (List ℕ)) → a ≡ old ++ words_text (first ∷ ws) →
+    new ≡ a ++ spaced vs → new ≡ old ++ words_text (first ∷ (ws ++ vs))
+words_more old a new first ws vs e f =
+    f ∙ ap (λ t. t ++ spaced vs) e ∙ append_assoc old (first ++ spaced ws) (spaced vs)
+    ∙ ap (λ t. old ++ t) (append_assoc first (spaced ws) (spaced vs))
+    ∙ ap (λ t. old ++ (first ++ t)) (sym (spaced_both ws vs))
+
+-- the same, where the last call may have failed
+pub words_appended : {T E : Type 0} (r : Result T E) (old a new first : List ℕ) (ws vs : List (List ℕ)) →
+    a ≡ old ++ words_text (first ∷ ws) → OnOk r (new ≡ a ++ spaced vs) →
+    OnOk r (new ≡ old ++ words_text (first ∷ (ws ++ vs)))
+words_appended (Ok t) old a new first ws vs e f = words_more old a new first ws vs e f
+words_appended (Err g) old a new first ws vs e f = tt
+
+-- the words of a command behind a space are those words, each behind a space
+pub command_spaced : (c : Command) → codes " " ++ words_text (command_words c) ≡ spaced (command_words c)
+command_spaced (command.Add kind id num price) = refl
+command_spaced (command.Delete kind id num) = refl
+command_spaced (command.DropFlight id) = refl
+command_spaced (command.NewCustomer id) = refl
+command_spaced (command.DropCustomer id) = refl
+command_spaced (command.Free kind id) = refl
+command_spaced (command.Price kind id) = refl
+command_spaced (command.Bill id) = refl
+command_spaced (command.Reserve customer kind id units) = refl
+command_spaced (command.Cancel customer kind id) = refl
+command_spaced command.Audit = refl
+
+-- the picks of a trip, one after another
+pub three_picks : (picks : List (Option Pick)) (d : Option Pick) → length picks ≡ 3 →
+    picks_text picks ≡ (codes " car=" ++ pick_text (get_or picks 0 d))
+    ++ ((codes " flight=" ++ pick_text (get_or picks 1 d)) ++ (codes " room=" ++ pick_text (get_or picks 2 d)))
+three_picks [] d n = absurd (omega arith)
+three_picks (x ∷ []) d n = absurd (omega arith)
+three_picks (x ∷ y ∷ []) d n = absurd (omega arith)
+three_picks (x ∷ y ∷ z ∷ []) d n = rw append-nil refl
+three_picks (x ∷ y ∷ z ∷ w ∷ ws) d n = absurd (omega arith)

@@ -1,0 +1,16 @@
+use Rattle.std.proofs.Common.{codes, refl}
+use Rattle.vac_lines.specs.Text.{done_text}
+use Rattle.vac_lines.proofs.Extends.{two_appended, err_behind, on_err}
+use Rattle.vac_lines.proofs.reply.append_change.Goals as goal
+
+pub returns-in_err-append-clause-err : goal.returns-in_err-append-clause-err
+returns-in_err-append-clause-err c = on_err c.from_residual.result c.in_err-append.ensures.err
+
+pub returns-clause-ok : goal.returns-clause-ok
+returns-clause-ok c =
+    two_appended c.append_done.result _ _ _ (codes " ") _ (done_text c.args.refused) c.in_ok-append.ensures.ok
+    refl c.append_done.ensures.ok
+
+pub returns-clause-err : goal.returns-clause-err
+returns-clause-err c =
+    err_behind c.append_done.result _ _ _ (codes " ") c.in_ok-append.ensures.ok c.append_done.ensures.err
