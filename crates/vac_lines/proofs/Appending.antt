@@ -1,6 +1,8 @@
 -- Words that are appended one after another.
 use Rattle.std.proofs.Common.{◌≡◌, ℕ, List, [], ◌∷◌, ◌++◌, refl, ap, sym, ◌∙◌, append_assoc, append-nil, codes}
-use Rattle.std.proofs.Common.{Option, length, get_or, Result, Ok, Err, OnOk, arith}
+use Rattle.std.proofs.Common.{◌+◌, ◌<◌, Option, length, get_or, take, Result, Ok, Err, OnOk, arith}
+use Rattle.std.specs.List.{flat_map}
+use Rattle.std.proofs.lemmas.List.{take_more}
 use Rattle.std.proofs.lemmas.List.Concat.{flat_map-append}
 use Rattle.vac_model.specs.declared.commands.Command.{Command}
 use Rattle.vac_model.specs.declared.commands.Command.TheVariants as command
@@ -49,3 +51,26 @@ three_picks (x ∷ []) d n = absurd (omega arith)
 three_picks (x ∷ y ∷ []) d n = absurd (omega arith)
 three_picks (x ∷ y ∷ z ∷ []) d n = rw append-nil refl
 three_picks (x ∷ y ∷ z ∷ w ∷ ws) d n = absurd (omega arith)
+
+flat_more : {X A : Type 0} (f : X → List A) (xs : List X) (i : ℕ) (d : X) → i < length xs →
+    flat_map f (take i xs) ++ f (get_or xs i d) ≡ flat_map f (take (i + 1) xs)
+flat_more f xs i d h =
+    ap (λ t. flat_map f (take i xs) ++ t) (sym (append-nil (f (get_or xs i d))))
+    ∙ sym (flat_map-append f (take i xs) (get_or xs i d ∷ [])) ∙ ap (flat_map f) (sym (take_more xs i d h))
+
+-- the text of one item more
+pub text_more : {X : Type 0} (f : X → List ℕ) (old out new : List ℕ) (xs : List X) (i : ℕ) (d : X) → i < length xs →
+    out ≡ old ++ flat_map f (take i xs) → new ≡ out ++ f (get_or xs i d) → new ≡ old ++ flat_map f (take (i + 1) xs)
+text_more f old out new xs i d h e g =
+    g ∙ ap (λ t. t ++ f (get_or xs i d)) e ∙ append_assoc old (flat_map f (take i xs)) (f (get_or xs i d))
+    ∙ ap (λ t. old ++ t) (flat_more f xs i d h)
+
+-- the words of one item more
+pub item_more : {X : Type 0} (words : X → List (List ℕ)) (old out new : List ℕ) (xs : List X) (i : ℕ) (d : X) →
+    i < length xs → out ≡ old ++ spaced (flat_map words (take i xs)) → new ≡ out ++ spaced (words (get_or xs i d)) →
+    new ≡ old ++ spaced (flat_map words (take (i + 1) xs))
+item_more words old out new xs i d h e g =
+    g ∙ ap (λ t. t ++ spaced (words (get_or xs i d))) e
+    ∙ append_assoc old (spaced (flat_map words (take i xs))) (spaced (words (get_or xs i d)))
+    ∙ ap (λ t. old ++ t) (sym (spaced_both (flat_map words (take i xs)) (words (get_or xs i d))))
+    ∙ ap (λ ws. old ++ spaced ws) (flat_more words xs i d h)
