@@ -1,5 +1,5 @@
 use Rattle.std.proofs.Common.{codes, ◌++◌, None, rules}
-use Rattle.vac_lines.specs.Text.{joined_text, pick_text, picks_text}
+use Rattle.vac_lines.specs.Text.{joined_text, picks_text}
 use Rattle.vac_lines.proofs.Extends.{four_appended, extends_front, err_behind, on_err}
 use Rattle.vac_lines.proofs.Appending.{three_picks}
 use Rattle.vac_lines.proofs.reply.append_trip.Goals as goal

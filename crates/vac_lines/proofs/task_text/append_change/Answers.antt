@@ -1,4 +1,4 @@
-use Rattle.std.proofs.Common.{◌≡◌, ◌++◌, codes, refl, subst}
+use Rattle.std.proofs.Common.{codes, refl}
 use Rattle.vac_lines.specs.TaskText.{words_text, command_words}
 use Rattle.vac_lines.proofs.Extends.{two_appended, err_behind, on_err}
 use Rattle.vac_lines.proofs.Appending.{command_spaced}
