@@ -1,15 +1,12 @@
 -- What a client that is alone makes of its clock.
-use Rattle.std.proofs.Common.{◌≡◌, ◌+◌, ◌≤◌, ◌<◌, ℕ, zero, suc, Result, Ok, Err, refl, subst, arith}
+use Rattle.std.proofs.Common.{◌≡◌, ◌+◌, ◌≤◌, ◌<◌, ℕ, zero, suc, Result, Ok, Err, refl, arith}
 use Rattle.stm_core.specs.Client.{Client}
 use Rattle.vac_model.specs.declared.replies.Reply.{Reply}
 use Rattle.vac_manager.specs.declared.fault.Fault.{Fault}
 use Rattle.vac_manager.specs.declared.fault.Fault.TheVariants as fault
-use Rattle.vac_manager.specs.declared.placed.Placed.{Placed}
 use Rattle.vac_manager.specs.Called.{IsNext}
-use Rattle.vac_manager.specs.Placed.{replied}
 use Rattle.vac_load.specs.declared.tally.Tally.{Tally}
 use Rattle.vac_load.specs.Looping.{Clocked, nothing, counted, total}
-use Rattle.vac_load.proofs.Attempting.{counted_same}
 
 pub clocked_none : (last : ℕ) (v : Client) → Clocked last v v nothing
 clocked_none last v = record { near = λ e. omega arith; spent = λ h. absurd (omega (arith, h)) }
@@ -19,37 +16,27 @@ pub clocked_quiet : (last : ℕ) (v v' : Client) → v' ≡ v → Clocked last v
     (counted {R = Unit {0}} (Err fault.Memory) nothing)
 clocked_quiet last v v' same = rw same (record { near = λ e. omega arith; spent = λ h. absurd (omega (arith, h)) })
 
--- a task that was asked for
-clocked_call : (last : ℕ) (end : Result Reply Fault) (v v' : Client) → IsNext last v.floor v'.floor end →
-    Clocked last v v' (counted end nothing)
-clocked_call last (Ok reply) v v' n = record { near = λ e. omega (arith, n); spent = λ h. absurd (omega (arith, h)) }
-clocked_call last (Err fault.Arguments) v v' n = record {
+-- a task that was answered
+pub clocked_answered : (last : ℕ) (reply : Reply) (v v' : Client) → IsNext last v.floor v'.floor (Ok reply) →
+    Clocked last v v' (counted {R = Unit {0}} (Ok tt) nothing)
+clocked_answered last reply v v' n = record { near = λ e. omega (arith, n); spent = λ h. absurd (omega (arith, h)) }
+
+-- one that was refused
+pub clocked_refused : (last : ℕ) (f : Fault) (v v' : Client) → IsNext last v.floor v'.floor (Err f) →
+    Clocked last v v' (counted {R = Unit {0}} (Err f) nothing)
+clocked_refused last fault.Arguments v v' n = record {
   near = λ e. omega (arith, n);
   spent = λ h. absurd (omega (arith, h));
 }
-clocked_call last (Err fault.Memory) v v' n = record {
+clocked_refused last fault.Memory v v' n = record {
   near = λ e. omega (arith, n);
   spent = λ h. absurd (omega (arith, h));
 }
-clocked_call last (Err (fault.Busy conflict)) v v' n = absurd n
-clocked_call last (Err (fault.Spent version)) v v' n = record {
+clocked_refused last (fault.Busy conflict) v v' n = absurd n
+clocked_refused last (fault.Spent version) v v' n = record {
   near = λ e. absurd (omega (arith, e));
   spent = λ h. omega (arith, n);
 }
-
--- the same whatever is told of the answer
-pub clocked_answered : (last : ℕ) (end : Result Placed Fault) (placed : Placed) (v v' : Client) → end ≡ Ok placed →
-    IsNext last v.floor v'.floor (replied end) → Clocked last v v' (counted {R = Unit {0}} (Ok tt) nothing)
-clocked_answered last end placed v v' is n =
-    subst (λ (r : Result Placed Fault). Clocked last v v' (counted (replied r) nothing)) is
-    (clocked_call last (replied end) v v' n)
-
-pub clocked_refused : (last : ℕ) (end : Result Placed Fault) (f : Fault) (v v' : Client) → end ≡ Err f →
-    IsNext last v.floor v'.floor (replied end) → Clocked last v v' (counted {R = Unit {0}} (Err f) nothing)
-clocked_refused last end f v v' is n =
-    subst (λ (t : Tally). Clocked last v v' t) (counted_same Reply (Unit {0}) f)
-    (subst (λ (r : Result Placed Fault). Clocked last v v' (counted (replied r) nothing)) is
-    (clocked_call last (replied end) v v' n))
 
 -- the first task that finds the clock at its end, or one behind it
 spent_on : (last first now answered spent : ℕ) → (spent ≡ 0 → now ≤ first + answered) →

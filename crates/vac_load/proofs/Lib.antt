@@ -1,4 +1,5 @@
 mod Order
+mod Asked
 mod Sessions
 mod Attempting
 mod Clocking

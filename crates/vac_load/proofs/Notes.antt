@@ -8,9 +8,8 @@ use Rattle.vac_model.specs.declared.tasks.Task.{Task}
 use Rattle.vac_model.specs.Code.{code}
 use Rattle.vac_manager.specs.declared.placed.Placed.{Placed}
 use Rattle.vac_model.specs.declared.replies.Reply.{Reply}
-use Rattle.vac_manager.specs.Placed.{AddsAt, IsAddedAtPlace, replied}
+use Rattle.vac_manager.specs.Placed.{AddsAt}
 use Rattle.vac_manager.specs.declared.fault.Fault.{Fault}
-use Rattle.stm_region.specs.Shown.{RegionShown}
 use Rattle.vac_manager.specs.declared.note.Note.{Note}
 use Rattle.vac_manager.specs.declared.note.AttemptNote.{AttemptNote}
 use Rattle.vac_manager.specs.Tracing.{Trace, trace_of, IsLastTraced, IsTraceOf, IsOfAdded, HasTraced}
@@ -132,22 +131,6 @@ pub kept_added : (v v' : Client) (rs : List Record) (a b : KeptNotes) → v'.rec
     HasKeptAdded v v' a b → AreKept rs a b
 kept_added v v' rs a b e h = subst (λ (l : List Record). AreKept l a b)
     (same_rest v.records h.added rs (sym h.records ∙ e)) h.kept
-
--- a call that was answered was kept
-pub kept_answered : (region : RegionShown) (t : Task) (end : Result Placed Fault) (p : Placed) (v v' : Client)
-    (a b c : KeptNotes) (before traced noted : Option (List Trace)) → end ≡ Ok p → IsAddedAtPlace region t end v v' →
-    HasTraced (replied end) v v' before traced → b ≡ a → noted ≡ traced → HasKept t p noted b c → HasKeptAdded v v' a c
-kept_answered region t end p v v' a b c before traced noted is placed attempts same taken h =
-    kept_one region.renewal t p v v' a b c before traced (subst
-    (λ (r : Result Placed Fault). IsAddedAtPlace region t r v v') is placed)
-    (subst (λ (r : Result Placed Fault). HasTraced (replied r) v v' before traced) is attempts) same
-    (subst (λ (o : Option (List Trace)). HasKept t p o b c) taken h)
-
--- a call that was refused was not
-pub kept_refused : (region : RegionShown) (t : Task) (end : Result Placed Fault) (e : Fault) (v v' : Client)
-    (a b : KeptNotes) → end ≡ Err e → IsAddedAtPlace region t end v v' → b ≡ a → HasKeptAdded v v' a b
-kept_refused region t end e v v' a b is placed same =
-    kept_none v v' a b (subst (λ (r : Result Placed Fault). IsAddedAtPlace region t r v v') is placed) same
 
 -- where the last of two was answered, both were kept
 pub kept_then : {X E : Type 0} (v w u : Client) (a b c : KeptNotes) (result : Result X E) → HasKeptAdded v w a b →

@@ -12,11 +12,8 @@ use Rattle.vac_draws.specs.Tasks.{stocks, customers, opening}
 use Rattle.vac_draws.specs.declared.settings.Settings.{Settings}
 use Rattle.vac_load.specs.Looping.{Answered}
 use Rattle.stm_region.specs.Shown.{RegionShown}
-use Rattle.vac_manager.specs.Called.{HasAllGrants, HasWholeHistory}
-use Rattle.vac_manager.specs.Legal.{WasLegal}
+use Rattle.vac_manager.specs.Called.{HasAllGrants}
 use Rattle.vac_manager.specs.Session.{SessionShown, GoesOn}
-use Rattle.vac_manager.specs.Placed.{replied}
-use Rattle.vac_manager.specs.declared.placed.Placed.{Placed}
 use Rattle.vac_manager.specs.declared.fault.Fault.{Fault}
 use Rattle.vac_load.specs.Keeping.{KeptNotes, HasKeptAdded}
 use Rattle.vac_load.specs.Opening.{as_tasks, RanDrawn, RanIn, Begun, Stopped, StoppedIn, IsAnswered, IsOpeningFault}
@@ -309,13 +306,6 @@ pub opening_stopped_at_customer : {D : Type 0} (leads : D → ℕ → D → Type
     OpeningEnded leads s r y w a b
 opening_stopped_at_customer leads s n r fault y z w a b less is e f all p q = opening_stopped leads s r fault y w a b is
     (went_both y z w e f) all (stopped_customers leads s n fault y z w a b less e p q)
-
--- a call of a client that is alone was answered
-pub is_answered : {E : Type 0} (region : RegionShown) (end : Result Placed E) (p : Placed) (v : Client) → end ≡ Ok p →
-    IfOk (replied end) (λ _. WasLegal region v) → IfOk (replied end) (λ _. HasWholeHistory region v) →
-    IsAnswered region v
-is_answered region (Ok x) p v is legal whole = record { whole = whole; legal = legal }
-is_answered region (Err e) p v is legal whole = absurd (let k : Err e ≡ Ok p = is in cc)
 
 -- of at least one customer that was made the last one was answered
 pub last_answered : (region : RegionShown) (n items : ℕ) (v : Client) → n ≡ items → 1 ≤ items →

@@ -135,6 +135,17 @@ room_left n k l l' room room' e f same empty less = omega arith
 pub room_taken : (l l' k k' room room' : ℕ) → k' + 1 ≡ k → l' ≡ l + 1 → room' ≡ room → l + k ≤ room → l' + k' ≤ room'
 room_taken l l' k k' room room' less e same has = omega arith
 
+-- at the beginning all is left
+pub room_first : (l k n room : ℕ) → l ≡ 0 → k ≡ n → n ≤ room → l + k ≤ room
+room_first l k n room empty all fits = omega arith
+
+pub count_first : (l k n : ℕ) → l ≡ 0 → k ≡ n → l + k ≡ n
+count_first l k n empty all = omega arith
+
+-- one goes over to those that were counted
+pub count_kept : (l l' k k' n : ℕ) → k' + 1 ≡ k → l' ≡ l + 1 → l + k ≡ n → l' + k' ≡ n
+count_kept l l' k k' n less e all = omega arith
+
 -- the grants of one that is taken in come back with its own
 pub held_back : (a b a' k k' : ℕ) → k' + 1 ≡ k → b ≡ 0 → a' ≡ min (a + b + 1) 63 → a + k ≡ 63 → a' + k' ≡ 63
 held_back a b a' k k' less alone e all = omega arith

@@ -1,4 +1,5 @@
 pub mod Alone
+pub mod Asking
 pub mod Attempted
 pub mod Lists
 pub mod Looping

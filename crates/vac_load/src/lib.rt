@@ -5,6 +5,7 @@
 #![tactic(auto)]
 
 mod alone;
+mod asking;
 mod counts;
 mod efforts;
 mod gathering;

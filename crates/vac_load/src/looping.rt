@@ -9,17 +9,17 @@ ghost use Rattle.vac_load.specs.Looping.{Looped, RanOne, Clocked, nothing, count
 ghost use Rattle.vac_load.specs.Keeping.{HasKeptAdded};
 ghost use Rattle.vac_load.specs.Attempted.{IsEffort, no_effort, with_call};
 
+use crate::asking::ask_kept;
 use crate::counts::Counts;
 use crate::tally::Tally;
 use std::alloc::{AllocError, Global};
-use stm_attempt::{Gate, Point};
+use stm_attempt::Gate;
 use vac_draws::{Draws, Settings, draw_task};
 use vac_manager::{Effort, Fault, Keep, Session, Unkept};
 use vac_model::Task;
 
-/// Asks for a task that was drawn, keeps the call where it is answered, and tells the gate then.
-/// Where there is no room to keep it, the task is not asked for. Besides how it ended, returns what
-/// its call took.
+/// Asks for a task that was drawn, as `ask_kept` does. One that was not built ends for refused
+/// memory, and took nothing.
 fn ask_for<G: Gate, K: Keep>(
     session: &mut Session<'_>,
     task: Result<Task, AllocError>,
@@ -39,22 +39,9 @@ fn ask_for<G: Gate, K: Keep>(
     ensures kept { HasKeptAdded session.old.client.value session.new.client.value
         (K.notes keep.old) (K.notes keep.new) }
 {
-    let Ok(task) = task else {
-        return (Err(Fault::Memory), Effort::new());
-    };
-    if keep.begin().is_err() {
-        return (Err(Fault::Memory), Effort::new());
-    }
-    let mut tracer = keep.lend();
-    let (end, effort) = session.trace_call(&task, tries, gate, &mut tracer);
-    keep.take_back(tracer);
-    match end {
-        Ok(placed) => {
-            keep.keep(task, placed);
-            gate.at(Point::Answered);
-            (Ok(()), effort)
-        }
-        Err(fault) => (Err(fault), effort),
+    match task {
+        Ok(task) => ask_kept(session, task, tries, gate, keep),
+        Err(_refused) => (Err(Fault::Memory), Effort::new()),
     }
 }
 

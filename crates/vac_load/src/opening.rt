@@ -9,6 +9,7 @@ ghost use Rattle.vac_load.specs.Keeping.{HasKeptAdded};
 ghost use Rattle.vac_draws.specs.Tasks.{stock, stocks};
 ghost use Rattle.vac_load.specs.Opening.{RanOrStopped, OpeningEnded, WasAnswered, WasRefused};
 
+use crate::asking::ask_kept;
 use stm_attempt::NoGate;
 use vac_draws::{Draws, Settings, draw_stock};
 use vac_manager::{Fault, Keep, Session, Unkept};
@@ -28,20 +29,9 @@ fn ask_for<K: Keep>(session: &mut Session<'_>, command: Command, keep: &mut K) -
         (K.notes keep.old) (K.notes keep.new)) }
     ensures refused { IfErr result (λ fault. WasRefused fault session.old session.new) }
 {
-    if keep.begin().is_err() {
-        return Err(Fault::Memory);
-    }
     let task = Task::One(command);
-    let mut tracer = keep.lend();
-    let (end, _) = session.trace_call(&task, TRIES, &mut NoGate, &mut tracer);
-    keep.take_back(tracer);
-    match end {
-        Ok(placed) => {
-            keep.keep(task, placed);
-            Ok(())
-        }
-        Err(fault) => Err(fault),
-    }
+    let (end, _effort) = ask_kept(session, task, TRIES, &mut NoGate, keep);
+    end
 }
 
 /// Adds an item of this kind.

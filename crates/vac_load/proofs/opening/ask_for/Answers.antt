@@ -1,17 +1,23 @@
-use Rattle.std.proofs.Common.{rules, ◌∙◌}
-use Rattle.vac_model.specs.declared.tasks.Task.TheVariants.{One}
-use Rattle.vac_load.proofs.Notes.{kept_answered}
-use Rattle.vac_load.proofs.Opened.{is_answered}
+use Rattle.std.proofs.Common.{refl, ◌∙◌}
+use Rattle.vac_load.proofs.Asked.{command_answered, command_refused}
 use Rattle.vac_load.proofs.opening.ask_for.Goals as goal
 
-pub returns-in-Ok-clause-answered : goal.returns-in-Ok-clause-answered
-returns-in-Ok-clause-answered g c = record {
-  answered = search rules;
-  near = search rules;
-  ready = is_answered c.args.session.now.manager c.trace_call-end.result.0 c.in-Ok.placed _ c.in-Ok.is
-      c.trace_call-end.ensures.called.call.legal (c.trace_call-end.ensures.called.call.whole c.requires.alone);
-  kept = kept_answered c.args.session.now.manager (One c.args.command) c.trace_call-end.result.0 c.in-Ok.placed
-      _ _ _ _ _ _ _ _ c.in-Ok.is c.trace_call-end.ensures.called.place c.trace_call-end.ensures.traced
-      (c.take_back.ensures.same ∙ c.lend-tracer.ensures.same ∙ c.begin.ensures.same) c.take_back.ensures.traced
-      c.keep.ensures.kept;
-}
+pub returns-clause-session : goal.returns-clause-session
+returns-clause-session g c = c.ask_kept-end.ensures.session
+
+pub returns-clause-grants : goal.returns-clause-grants
+returns-clause-grants g c = c.ask_kept-end.ensures.asked.answered.grants ∙ c.requires.alone
+
+pub returns-clause-answered : goal.returns-clause-answered
+returns-clause-answered g c = command_answered c.args.command _ c.args.session.now c.ask_kept-end.new.session _ _ _
+    c.requires.alone c.ask_kept-end.ensures.asked
+
+pub returns-clause-refused : goal.returns-clause-refused
+returns-clause-refused g c = command_refused c.args.command _ c.args.session.now c.ask_kept-end.new.session _ _ _
+    c.requires.alone c.ask_kept-end.ensures.asked
+
+pub ask_kept-end-requires-clause-range : goal.ask_kept-end-requires-clause-range
+ask_kept-end-requires-clause-range g c = λ _ _. c.requires.range
+
+pub ask_kept-end-requires-clause-tries : goal.ask_kept-end-requires-clause-tries
+ask_kept-end-requires-clause-tries g c = λ _ _. refl

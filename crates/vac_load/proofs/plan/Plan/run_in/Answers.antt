@@ -1,9 +1,8 @@
-use Rattle.std.proofs.Common.{rules}
-use Rattle.vac_load.proofs.Pairs.{worked_through}
+use Rattle.vac_load.proofs.Pairs.{kept_promise, worked_through}
 use Rattle.vac_load.proofs.plan.Plan.run_in.Goals as goal
 
 pub returns-clause-worked : goal.returns-clause-worked
 returns-clause-worked g c = record {
-  first = search rules;
+  first = kept_promise _ _ _ _ _ _ c.in_ok-first.ensures.promise c.join-first.ensures;
   others = worked_through _ _ _ (λ h. h.promise) _ _ _ c.in_ok-started.ensures.promises c.join_all-others.ensures;
 }
