@@ -1,7 +1,7 @@
 -- The rows of what clap finds: where no step fails, each has a value that its rule accepts.
 use Rattle.std.proofs.Common.{◌≡◌, ◌<◌, ◌++◌, ◌||◌, ◌&&◌, ◌∙◌, ℕ, Bool, cond, true, false, List, [], ◌∷◌, length, Some}
-use Rattle.std.proofs.Common.{None, refl, sym, ap, subst, nat_lt, arith}
-use Rattle.std.specs.Prelude.{⊤, find, slice_get}
+use Rattle.std.proofs.Common.{None, Option, ◌↔◌, refl, sym, ap, ap₂, subst, nat_lt, arith}
+use Rattle.std.specs.Prelude.{⊤, find, slice_get, option_map, IfSome, IsSome}
 use Rattle.std.specs.Str.{bytes_eq}
 use Rattle.std.proofs.lemmas.Bool.{ltb-true}
 use Rattle.clap.specs.Kinds.{Kinds, or_else, range_kinds}
@@ -35,6 +35,25 @@ same_some x y e = cc
 
 pub no_some : {X : Type 0} (x : X) → None ≡ Some x → ⊥
 no_some x e = cc
+
+-- the rows of a subcommand that is looked for by its name
+pub named_some : {X M : Type 0} (sub : Option X) (name_of : X → Text) (rows_of : X → List Row) (o : Option M)
+    (rows : M → List Row) (name : Text) → (IsSome o ↔ (option_map name_of sub ≡ Some name)) →
+    IfSome o (λ m. option_map (λ (p : Text × List Row). p.1) (option_map {U = Text × List Row}
+    (λ b. (name_of b, rows_of b)) sub) ≡ Some (rows m)) →
+    IfSome o (λ m. option_map {U = Text × List Row} (λ b. (name_of b, rows_of b)) sub ≡ Some (name, rows m))
+named_some sub name_of rows_of None rows name h k = tt
+named_some None name_of rows_of (Some m) rows name h k = absurd (no_some _ k)
+named_some (Some b) name_of rows_of (Some m) rows name h k =
+    ap₂ (λ (n : Text) (r : List Row). let q : Text × List Row = (n, r) in
+    Some q) (same_some _ _ (h.0 refl)) (same_some _ _ k)
+
+-- one of that name is found
+pub named_found : {X M : Type 0} (sub : Option X) (name_of : X → Text) (rows_of : X → List Row) (o : Option M)
+    (name : Text) (rows : List Row) → (IsSome o ↔ (option_map name_of sub ≡ Some name)) →
+    option_map {U = Text × List Row} (λ b. (name_of b, rows_of b)) sub ≡ Some (name, rows) → IsSome o
+named_found None name_of rows_of o name rows h e = absurd (no_some _ e)
+named_found (Some b) name_of rows_of o name rows h e = h.1 (ap (λ (p : Text × List Row). Some p.0) (same_some _ _ e))
 
 -- what a search finds has the property
 pub found_each : {X : Type 0} (P : X → Type 0) (test : X → Bool) (xs : List X) (x : X) → Each P xs →

@@ -1,8 +1,9 @@
 -- Commands with options more.
-use Rattle.std.proofs.Common.{◌≡◌, ◌∙◌, ◌++◌, ℕ, List, [], ◌∷◌, Bool, Some, false, refl, sym, ap, ap₂}
+use Rattle.std.proofs.Common.{◌≡◌, ◌∙◌, ◌++◌, ℕ, List, [], ◌∷◌, Bool, Some, true, false, refl, sym, ap, ap₂}
 use Rattle.std.specs.Prelude.{◌||◌, Option, Result, Ok, Err, IfOk, IsOkAnd}
 use Rattle.std.specs.declared.alloc.AllocError.{AllocError}
-use Rattle.clap.specs.Simple.{app_of_fields, new_app}
+use Rattle.std.specs.Borrow.{Bor}
+use Rattle.clap.specs.Simple.{app_of_fields, new_app, new_shape}
 use Rattle.clap.specs.Words.{App, Shape, Rule, Text, AddsArg, AddsSubcommand, app_of, rule_of, with_rule}
 use Rattle.clap.specs.Words.{with_subcommand}
 use Rattle.clap.specs.declared.builder.command.Command.TheViews.{out-Command}
@@ -131,6 +132,21 @@ new_command first told result name about example app own e f = record {
   app = ap app_of_fields f ∙ ap app_of_fields e ∙ app;
   own = ap (λ w. w.has_globals) f ∙ ap (λ w. w.has_globals) e ∙ own;
 }
+
+-- a command with these texts, of whose subcommands one must be named
+pub top_made : (first versioned told result : Command) (name : Text) (version about : Bor Text) →
+    app_of first ≡ new_app name →
+    out-Command versioned ≡ record (out-Command first) { version = Some version } →
+    out-Command told ≡ record (out-Command versioned) { about = Some about } →
+    out-Command result ≡ record (out-Command told) { subcommand_required = true } →
+    app_of result ≡ record {
+      top = record (new_shape name) { has_version = true; subcommand_required = true };
+      subs = [];
+    }
+top_made first versioned told result name version about app e f g =
+    ap app_of_fields g ∙ ap (λ w. app_of_fields (record w { subcommand_required = true })) f ∙
+    ap (λ w. app_of_fields (record w { subcommand_required = true })) e ∙
+    ap (λ (a : App). record a { top = record a.top { has_version = true; subcommand_required = true } }) app
 
 -- ---- subcommands
 

@@ -7,14 +7,15 @@ use Rattle.std.specs.Str.Parse.{IsNumeral, digits_value, without_leading_plus}
 use Rattle.clap.specs.Simple.{new_shape}
 use Rattle.clap.specs.Values.{bool_text}
 use Rattle.clap.specs.Walk.{first_of, one_of}
-use Rattle.clap.specs.Words.{App, Shape, Rule, Row, Text, app_of, new_rule, rule_of, subcommand_of}
-use Rattle.clap.specs.Words.{with_rule, with_subcommand}
+use Rattle.clap.specs.Words.{App, Shape, Rule, Row, Text, app_of, fault_of, new_rule, rule_of}
+use Rattle.clap.specs.Words.{subcommand_of, subcommand_rows_of, with_rule, with_subcommand}
 use Rattle.clap.specs.declared.builder.action.ArgAction.TheVariants.{SetTrue}
 use Rattle.clap.specs.declared.builder.arg.Arg.{Arg}
 use Rattle.clap.specs.declared.builder.command.Command.{Command}
 use Rattle.clap.specs.declared.builder.command.Command.TheViews.{out-Command}
 use Rattle.clap.specs.declared.builder.value_parser.ValueParser.{ValueParser}
 use Rattle.clap.specs.declared.builder.value_parser.ValueParser.TheVariants as parser
+use Rattle.clap.specs.declared.parser.matches.ArgMatches.{ArgMatches}
 use Rattle.vac_model.specs.Ranges.{is_block_count}
 use Rattle.vac_model.specs.declared.limits.TheConstants.{MOST_BLOCKS, MOST_PARTS}
 use Rattle.vac_draws.specs.declared.settings.TheConstants.{MOST_CLIENTS, MOST_TASKS, MOST_ITEMS}
@@ -309,6 +310,11 @@ pub record IsTold (rows : List Row) (how : How) : Type 0 where
   pub stats : Says rows (codes "stats") how.stats
   pub history : Says rows (codes "history") how.history
   pub attempts : Says rows (codes "attempts") how.attempts
+
+-- clap takes the words, and found this in them
+pub record IsFoundIn (words : List Text) (m : ArgMatches) : Type 0 where
+  pub taken : fault_of vacation words ≡ []
+  pub found : subcommand_rows_of m ≡ subcommand_of vacation words
 
 -- the words name this subcommand, and clap found this for its options
 abbrev pub Names : List Text → Text → List Row → Type 0

@@ -2,12 +2,13 @@
 
 ghost use Rattle.std.specs.Prelude.{◌≡◌, ◌<◌, ◌≤◌, ◌^◌, ℕ, true, Some, List, map};
 ghost use Rattle.std.specs.Prelude.{string_bytes, codes, IfOk, IfSome, IsSome};
-ghost use Rattle.clap.specs.Words.{FailsBy, Row, fault_of, found_of, rows_of};
+ghost use Rattle.clap.specs.Words.{FailsBy, Row, Text, fault_of, found_of, rows_of};
 ghost use Rattle.clap.specs.Words.{subcommand_of, subcommand_rows_of};
 ghost use Rattle.vac_model.specs.declared.limits.TheConstants.{MOST_BLOCKS};
 ghost use Rattle.vac_model.specs.Ranges.{is_block_count};
 ghost use Rattle.vac_options.specs.CommandLine.{vacation, Gives, GivesIn, HasSettings, AreGiven};
 ghost use Rattle.vac_options.specs.CommandLine.{Says, IsFlag, HasFlags, IsTold, NamesFile, AsksFor};
+ghost use Rattle.vac_options.specs.CommandLine.{IsFoundIn};
 ghost use Rattle.vac_options.specs.CommandLine.{HasSearch, IsSearchOfRows, HasJudging, IsJudging};
 
 use crate::options::command_line;
@@ -208,6 +209,38 @@ fn settings_of(matches: &ArgMatches) -> Settings
     }
 }
 
+/// What the words ask for in which clap found this.
+fn asked_of<'a>(matches: &ArgMatches<'a>) -> Asked<'a>
+    requires { (words : List Text) × IsFoundIn words matches.now }
+    ensures { (words : List Text) → IsFoundIn words matches.now → AsksFor words result }
+{
+    if let Some(run) = named(matches, "run") {
+        return Asked::Run(blocks_of(run));
+    }
+    if let Some(dump) = named(matches, "dump") {
+        return Asked::Dump(blocks_of(dump));
+    }
+    if named(matches, "check").is_some() {
+        return Asked::Check;
+    }
+    if let Some(judge) = named(matches, "judge") {
+        return Asked::Judge(blocks_of(judge), judging_of(judge));
+    }
+    if let Some(order) = named(matches, "order") {
+        return Asked::Order(blocks_of(order), search_of(order));
+    }
+    if let Some(opaque) = named(matches, "opaque") {
+        return Asked::Opaque(words_of(opaque));
+    }
+    if let Some(tasks) = named(matches, "tasks") {
+        return Asked::Tasks(settings_of(tasks));
+    }
+    match named(matches, "load") {
+        Some(load) => Asked::Load(settings_of(load), how_of(load)),
+        None => unreachable!(),
+    }
+}
+
 /// What a command line asks for. An error is the help that it asks for, or why it is refused.
 ///
 /// Not said: where clap could name two faults, which of them.
@@ -216,29 +249,5 @@ pub fn read_asked<'a>(alloc: Global, words: &'a [String]) -> Result<Asked<'a>, E
     ensures asked { IfOk result (λ asked. AsksFor (map string_bytes words.now) asked) }
 {
     let matches = read_words(alloc, words)?;
-    if let Some(run) = named(&matches, "run") {
-        return Ok(Asked::Run(blocks_of(run)));
-    }
-    if let Some(dump) = named(&matches, "dump") {
-        return Ok(Asked::Dump(blocks_of(dump)));
-    }
-    if named(&matches, "check").is_some() {
-        return Ok(Asked::Check);
-    }
-    if let Some(judge) = named(&matches, "judge") {
-        return Ok(Asked::Judge(blocks_of(judge), judging_of(judge)));
-    }
-    if let Some(order) = named(&matches, "order") {
-        return Ok(Asked::Order(blocks_of(order), search_of(order)));
-    }
-    if let Some(opaque) = named(&matches, "opaque") {
-        return Ok(Asked::Opaque(words_of(opaque)));
-    }
-    if let Some(tasks) = named(&matches, "tasks") {
-        return Ok(Asked::Tasks(settings_of(tasks)));
-    }
-    match named(&matches, "load") {
-        Some(load) => Ok(Asked::Load(settings_of(load), how_of(load))),
-        None => unreachable!(),
-    }
+    Ok(asked_of(&matches))
 }
