@@ -3,21 +3,21 @@ use Rattle.std.proofs.lemmas.List.{map-append}
 use Rattle.rand_pcg.specs.Lcg.{Lcg}
 use Rattle.vac_draws.specs.Streams.{streams_of}
 use Rattle.vac_draws.proofs.Streaming.{next_stream}
-use Rattle.vac_load.proofs.Pairs.{one_on, all_met, image_length, one_longer}
+use Rattle.vac_load.proofs.Pairs.{one_on, all_met, image_length, nothing_left, one_longer}
 use Rattle.vac_load.proofs.seats.seats_by_seed.Goals as goal
 
 pub loop-keep-init : goal.loop-keep-init
 loop-keep-init g c = record {
-  all = search rules;
+  all = sym c.into_iter-keep-iterator.ensures.into_iter_gives.0;
   streams = search rules;
-  kept = search rules;
+  kept = ap (map (λ seat. seat.keep)) c.in_ok-seats.ensures.items;
 }
 
 pub loop-keep-preserved : goal.loop-keep-preserved
 loop-keep-preserved g c =
     let grown = one_longer c.push.new.self.items c.loop-keep.seats.items _ c.in_ok-push.ensures.items in
     record {
-      all = one_on _ _ _ _ _ c.loop-keep.invariant.all (search rules);
+      all = one_on _ _ _ _ _ c.loop-keep.invariant.all c.in-Some.ensures.steps.0;
       streams = ap (map (λ seat. seat.draws)) c.in_ok-push.ensures.items ∙
           map-append (λ seat. seat.draws) c.loop-keep.seats.items _
           ∙ ap (λ (states : List Lcg). states ++ (c.new-draws.result ∷ [])) c.loop-keep.invariant.streams
@@ -32,7 +32,8 @@ loop-keep-preserved g c =
     }
 
 pub returns-clause-keepers : goal.returns-clause-keepers
-returns-clause-keepers g c = c.loop-keep.invariant.kept ∙ all_met _ _ _ c.loop-keep.invariant.all (search rules)
+returns-clause-keepers g c = c.loop-keep.invariant.kept ∙ all_met _ _ _ c.loop-keep.invariant.all
+    (nothing_left c.loop-keep.keep-iterator c.in-None.ensures.steps.0)
 
 pub returns-clause-number : goal.returns-clause-number
 returns-clause-number g c = c.loop-keep.seats.ok.0 ∙ (image_length
