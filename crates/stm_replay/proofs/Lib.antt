@@ -7,4 +7,5 @@ pub mod Numbering
 pub mod Tagging
 pub mod Replaying
 mod Stepping
+mod Testing
 mod Opacity

@@ -1,15 +1,18 @@
 -- What a step of the running core makes of its fields.
-use Rattle.std.proofs.Common.{◌≡◌, ℕ, zero, suc, ◌+◌, ◌-◌, ◌<◌, List, [], ◌∷◌, length, set, get_or, Result, Ok, Err}
+use Rattle.std.proofs.Common.{◌≡◌, ℕ, zero, suc, ◌+◌, ◌-◌, ◌<◌, ◌≤◌, List, [], ◌∷◌, ◌++◌, length, set, get_or}
+use Rattle.std.proofs.Common.{replicate}
+use Rattle.std.proofs.Common.{Result, Ok, Err}
 use Rattle.std.proofs.Common.{OnErr, refl, ap, ◌∙◌, subst, arith, Bool, true, false, cond, eqb, ◌&&◌, ◌||◌}
 use Rattle.std.proofs.lemmas.List.{get_or_default}
 use Rattle.std.proofs.lemmas.Bool.Decides.{nat_tests}
 use Rattle.std.specs.Vec.{with_item}
 use Rattle.stm_core.specs.Client.{Client, Record}
 use Rattle.stm_core.specs.Event.{Action, tick, validate, finish, decision, gone, is_empty, passes, versioned}
-use Rattle.stm_core.specs.Event.{decides_at_once, writer_record}
-use Rattle.stm_core.specs.Core.{Core, found, left, written, client_of, stamp_of}
-use Rattle.stm_replay.specs.Seat.{seat_after, tag_number}
-use Rattle.stm_replay.specs.Running.{Running, stripes_of, entered, entry_of_record, run_acts}
+use Rattle.stm_core.specs.Event.{decides_at_once, writer_record, opener, giving, renewing, forgetting}
+use Rattle.stm_core.specs.Core.{Core, found, left, written, client_of, stamp_of, splits, gathers, renews}
+use Rattle.stm_core.specs.declared.limits.TheConstants.{MOST_GRANTS}
+use Rattle.stm_replay.specs.Seat.{blank, seat_after, tag_number}
+use Rattle.stm_replay.specs.Running.{Running, stripes_of, entered, entry_of_record, run_acts, run_played}
 use Rattle.stm_replay.specs.Placing.{Placed, put_in}
 use Rattle.stm_replay.specs.StateView.{running_of}
 use Rattle.stm_replay.specs.declared.state.State.TheInside.{Inside}
@@ -80,6 +83,78 @@ acts_is i s k e n next x y d o v =
     o ≡ (entered (decision (stamp_of r.core k) e n (client_of r.core k)) r).order →
     record { core = record d { clients = set i.seats.items (k - 1) y; events = next }; order = o } ≡ run_acts k e r)
     v (acts_in i k e n next x y d o)
+
+-- there is room for another client's grants
+pub room_for : (s : Running) (k j grants : ℕ) (x : Client) → x ≡ client_of s.core k →
+    grants ≡ (client_of s.core j).grants
+    → (client_of s.core k).grants + (client_of s.core j).grants + 1 ≤ MOST_GRANTS → x.grants + grants + 1 ≤ MOST_GRANTS
+room_for s k j grants x e f h = rw (e, f) h
+
+-- a client split off, by the seat before and after, and the new one
+pub splits_is : {A : Type 0} (i : Inside A) (s : Running) (k next : ℕ) (x y z : Client) (seats : List Client)
+    → running_of i ≡ s → k - 1 < length s.core.clients → x ≡ get_or i.seats.items (k - 1) x
+    → next ≡ s.core.events + 1 → y ≡ blank (giving x) → z ≡ record opener { grants = 0 }
+    → seats ≡ set i.seats.items (k - 1) y ++ z ∷ []
+    → record (running_of i) { core = record (running_of i).core { clients = seats; events = next } }
+    ≡ run_played (splits k) s
+splits_is i s k next x y z seats v = subst (λ (r : Running). k - 1 < length r.core.clients
+    → x ≡ get_or i.seats.items (k - 1) x → next ≡ r.core.events + 1 → y ≡ blank (giving x)
+    → z ≡ record opener { grants = 0 } → seats ≡ set i.seats.items (k - 1) y ++ z ∷ []
+    → record (running_of i) { core = record (running_of i).core { clients = seats; events = next } }
+    ≡ run_played (splits k) r) v
+    (λ inside value more giver new all.
+    let same : x ≡ client_of (running_of i).core k =
+    value ∙ get_or_default i.seats.items (k - 1) x gone inside in rw (all, giver, new, more, same) refl)
+
+-- a client gathered, by the seat before and after
+pub gathers_is : {A : Type 0} (i : Inside A) (s : Running) (k j grants next : ℕ) (x y z : Client)
+    → running_of i ≡ s → k - 1 < length s.core.clients → x ≡ get_or i.seats.items (k - 1) x
+    → grants ≡ (client_of s.core j).grants → next ≡ s.core.events + 1
+    → y ≡ blank (record x { grants = x.grants + grants + 1; attempt = forgetting x.attempt }) → z ≡ gone
+    → running_of (record i { seats = with_item (with_item i.seats (k - 1) y) (j - 1) z; events = next })
+    ≡ run_played (gathers k j) s
+gathers_is i s k j grants next x y z v = subst (λ (r : Running). k - 1 < length r.core.clients
+    → x ≡ get_or i.seats.items (k - 1) x → grants ≡ (client_of r.core j).grants → next ≡ r.core.events + 1
+    → y ≡ blank (record x { grants = x.grants + grants + 1; attempt = forgetting x.attempt }) → z ≡ gone
+    → running_of (record i { seats = with_item (with_item i.seats (k - 1) y) (j - 1) z; events = next })
+    ≡ run_played (gathers k j) r) v
+    (λ inside value others more taker left.
+    let same : x ≡ client_of (running_of i).core k =
+    value ∙ get_or_default i.seats.items (k - 1) x gone inside in rw (taker, left, more, others, same) refl)
+
+-- the clock renewed, by the seat before and after, and the new words
+pub renews_is : {A : Type 0} (i : Inside A) (s : Running) (k last next : ℕ) (locks : List ℕ) (x y : Client)
+    → running_of i ≡ s → i.stripes ≡ length i.locks.items → k - 1 < length s.core.clients
+    → x ≡ get_or i.seats.items (k - 1) x → next ≡ s.core.events + 1 → y ≡ blank (renewing x)
+    → locks ≡ replicate i.stripes 0
+    → record {
+      core = record (running_of i).core {
+        last = last;
+        renewal = i.renewal + 1;
+        events = next;
+        clock = 0;
+        locks = locks;
+        clients = set i.seats.items (k - 1) y;
+      };
+      order = i.order;
+    } ≡ run_played (renews k last) s
+renews_is i s k last next locks x y v stripes = subst (λ (r : Running). k - 1 < length r.core.clients
+    → x ≡ get_or i.seats.items (k - 1) x → next ≡ r.core.events + 1 → y ≡ blank (renewing x)
+    → locks ≡ replicate i.stripes 0
+    → record {
+      core = record (running_of i).core {
+        last = last;
+        renewal = i.renewal + 1;
+        events = next;
+        clock = 0;
+        locks = locks;
+        clients = set i.seats.items (k - 1) y;
+      };
+      order = i.order;
+    } ≡ run_played (renews k last) r) v
+    (λ inside value more renewed free.
+    let same : x ≡ client_of (running_of i).core k =
+    value ∙ get_or_default i.seats.items (k - 1) x gone inside in rw (free, stripes, renewed, more, same) refl)
 
 -- what an exchange leaves, by the number found or by the number wanted
 pub exchange : (n m : ℕ) → cond (eqb n m) (n + 1) n ≡ cond (eqb n m) (m + 1) n

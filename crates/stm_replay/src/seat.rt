@@ -19,7 +19,7 @@ use std::marker::Model;
 use stm_core::{MOST_GRANTS, MOST_TICKS};
 
 /// How far a client's attempt is.
-#[derive(Clone, Copy, Debug, PartialEq, Eq)]
+#[derive(Clone, Copy)]
 pub(crate) enum Phase {
     Idle,
     Running,
@@ -29,7 +29,7 @@ pub(crate) enum Phase {
 }
 
 /// The last step of a client, with the words that it found.
-#[derive(Clone, Copy, Debug, PartialEq, Eq)]
+#[derive(Clone, Copy)]
 pub(crate) enum Step {
     Nothing,
     Began { version: u64 },

@@ -318,7 +318,7 @@ impl<A: Allocator + Copy> State<A> {
         self.seats.reserve(1)?;
         let seat = &mut self.seats[client as usize - 1];
         seat.give();
-        let _ = self.seats.push(Seat::fresh(alloc));
+        self.seats.push_reserved(Seat::fresh(alloc));
         self.events = events;
         Ok(())
     }
@@ -411,12 +411,20 @@ impl<A: Allocator + Copy> State<A> {
         }
     }
 
+    /// Whether a client is out, and holds no lock.
+    fn is_free_handed(&self, client: u32) -> bool
+        ensures { result
+            ≡ (is_out self.now.core client
+            && is_empty (client_of self.now.core client).attempt.held) }
+    {
+        self.is_out(client) && self.seat(client).holds_none()
+    }
+
     /// Whether a client may split one off.
     fn may_split(&self, client: u32) -> bool
         ensures { result ≡ may_run (stripes_of self.now.core) (splits client) self.now.core }
     {
-        self.is_out(client)
-            && self.seat(client).holds_none()
+        self.is_free_handed(client)
             && 0 < self.seat(client).grants()
             && self.seats.len() < MOST_CLIENTS as usize
     }
@@ -440,9 +448,7 @@ impl<A: Allocator + Copy> State<A> {
             && is_empty (client_of self.now.core client).attempt.held
             && others_gathered self.now.core.clients (client - 1)) }
     {
-        self.is_out(client)
-            && self.seat(client).holds_none()
-            && others_gathered(&self.seats, client as usize - 1)
+        self.is_free_handed(client) && others_gathered(&self.seats, client as usize - 1)
     }
 
     /// Whether a client may renew the clock.
@@ -515,7 +521,7 @@ impl<A: Allocator + Copy> State<A> {
         ensures { IfOk result (λ s. s ≡ run_opened image.now last stripes) }
     {
         let mut seats = Vec::with_capacity(alloc, 1)?;
-        let _ = seats.push(Seat::opener(alloc));
+        seats.push_reserved(Seat::opener(alloc));
         Ok(State {
             last,
             renewal: 0,
