@@ -201,7 +201,7 @@ impl<A: Allocator + Copy> Seat<A> {
         requires next { self.old.attempt.passed < length self.old.attempt.reads }
         ensures { self.new ≡ seat_after 0 (validate stripe) word self.old }
     {
-        if (says_free(word) || names(&self.held, stripe)) && word / 2 <= self.rv {
+        if self.passes(stripe, word) {
             self.passed += 1;
             if self.passed == self.reads.len() {
                 self.phase = Phase::Committed;
@@ -598,6 +598,13 @@ impl<A: Allocator + Copy> Seat<A> {
         self.tag.unwrap_or(0)
     }
 
+    /// Whether a validation of this lock that finds this word passes.
+    fn passes(&self, stripe: u32, word: u64) -> bool
+        ensures { result ≡ passes stripe word self.now }
+    {
+        (says_free(word) || names(&self.held, stripe)) && word / 2 <= self.rv
+    }
+
     /// Whether a validation of this lock that finds this word decides.
     pub(crate) fn decides_by(&self, stripe: u32, word: u64) -> bool
         requires { self.now.attempt.passed < length self.now.attempt.reads }
@@ -605,9 +612,7 @@ impl<A: Allocator + Copy> Seat<A> {
             ≡ (passes stripe word self.now
             && eqb (self.now.attempt.passed + 1) (length self.now.attempt.reads)) }
     {
-        (says_free(word) || names(&self.held, stripe))
-            && word / 2 <= self.rv
-            && self.passed + 1 == self.reads.len()
+        self.passes(stripe, word) && self.passed + 1 == self.reads.len()
     }
 
     /// Whether a tick from `from` that finds the clock at `now` decides at once.
