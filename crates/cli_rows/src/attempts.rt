@@ -1,7 +1,10 @@
 //! The text of a load's attempts, worked out from the layout of the words.
 
+use crate::same::same;
 use crate::small_load::SETTINGS;
-use std::test::Fail;
+use std::process::Abort;
+use std::sync::Wait;
+use std::thread::Threads;
 use stm_attempt::NoGate;
 use vac_attempts::{Ledger, write_attempts};
 use vac_history::Watch;
@@ -43,27 +46,39 @@ const WANTS: &[u8] = b"0 0 0 commit w 8 16 w 9 24 w 10 32 w 11 40\n\
     r 47 0 r 4 0 w 41 0 w 42 0 w 43 1 w 4 40 w 43 0\n\
     1 0 0 commit r 2 24 r 24 1 r 29 200\n";
 
-#[test]
-fn attempts_of_one_question(rt: HostRuntime) -> Result<(), Fail> {
+/// The settings of a load of one question.
+const ONE_QUESTION: Settings = Settings {
+    tasks: 1,
+    items: 1,
+    reads: 100,
+    blocks: 4,
+    ..SETTINGS
+};
+
+/// What keeps the attempts of a load.
+type Kept = Keepers<Ledger<Still>>;
+
+/// The attempts of the load.
+fn attempted<R: Threads + Wait + Abort + AllocGlobal>(rt: &R) -> Kept {
     let alloc = rt.alloc();
-    let settings = Settings {
-        tasks: 1,
-        items: 1,
-        reads: 100,
-        blocks: 4,
-        ..SETTINGS
-    };
     let mut clients = Vec::new(alloc);
-    clients.push(Ledger::new(alloc, Still))?;
+    clients
+        .push(Ledger::new(alloc, Still))
+        .expect(rt, "there is memory");
     let opening = Ledger::new(alloc, Still);
     let keepers = Keepers { opening, clients };
-    let Ok((_, _, kept)) = run_load_kept(&rt, &settings, NoGate, Untold, keepers) else {
+    let Ok((_, _, kept)) = run_load_kept(rt, &ONE_QUESTION, NoGate, Untold, keepers) else {
         panic!(rt; "the load stopped")
     };
-    let mut out = Vec::new(alloc);
+    kept
+}
+
+#[test]
+fn attempts_of_one_question(rt: HostRuntime) {
+    let kept = attempted(&rt);
     let clients = kept.clients.as_slice();
     assert_eq!(rt; clients.len(), 1);
-    let written = write_attempts(alloc, 4, &kept.opening, clients, &mut out).is_ok();
-    assert_eq!(rt; (written, out.as_slice()), (true, WANTS));
-    Ok(())
+    let mut out = Vec::new(rt.alloc());
+    let written = write_attempts(rt.alloc(), 4, &kept.opening, clients, &mut out).is_ok();
+    same(&rt, &(written, out.as_slice()), &(true, WANTS));
 }

@@ -1,6 +1,8 @@
 //! Loops of a load's clients in threads, while one more client asks for reports.
 ghost use Rattle.std.specs.Prelude.{◌≡◌, ◌*◌};
 
+use crate::loading::opened;
+use crate::same::{holds, same};
 use crate::small_load::SETTINGS;
 use std::alloc::Global;
 use std::process::Abort;
@@ -9,8 +11,8 @@ use std::test::Fail;
 use std::thread;
 use std::thread::Threads;
 use stm_attempt::{Gate, Point};
-use vac_audit::audit_words;
-use vac_load::{FixedDraws, PcgDraws, Settings, Tally, client_loop, open};
+use vac_audit::{AuditFault, audit_words};
+use vac_load::{FixedDraws, PcgDraws, Settings, Tally, client_loop};
 use vac_manager::{Client, Manager, Session};
 use vac_model::{Command, Reply, Report, Task};
 
@@ -221,6 +223,24 @@ struct Left {
     reports: Reports,
 }
 
+/// Splits off a client.
+fn split(rt: &impl Abort, manager: &Manager, client: &mut Client) -> Client
+    requires { client.old.table ≡ manager.now.table }
+    ensures mine { client.new.table ≡ manager.now.table }
+    ensures other { result.table ≡ manager.now.table }
+{
+    manager.split(client).expect(rt, "there are grants")
+}
+
+/// Takes in another client.
+fn gather(manager: &Manager, client: &mut Client, other: Client)
+    requires mine { client.old.table ≡ manager.now.table }
+    requires other { other.table ≡ manager.now.table }
+    ensures { client.new.table ≡ manager.now.table }
+{
+    manager.gather(client, other);
+}
+
 /// Four clients run their loops, while a fifth one asks for reports.
 fn four_loops_and_reports<R: Threads + Sync + Abort>(
     rt: &R,
@@ -233,10 +253,10 @@ fn four_loops_and_reports<R: Threads + Sync + Abort>(
     ensures { result.client.table ≡ manager.now.table }
 {
     let mut a = a;
-    let b = manager.split(&mut a).expect(rt, "there are grants");
-    let c = manager.split(&mut a).expect(rt, "there are grants");
-    let d = manager.split(&mut a).expect(rt, "there are grants");
-    let e = manager.split(&mut a).expect(rt, "there are grants");
+    let b = split(rt, manager, &mut a);
+    let c = split(rt, manager, &mut a);
+    let d = split(rt, manager, &mut a);
+    let e = split(rt, manager, &mut a);
     let ((first, second), ((third, fourth), (e, reports))) = thread::join(
         rt,
         move || -> (Looped, Looped)
@@ -253,15 +273,30 @@ fn four_loops_and_reports<R: Threads + Sync + Abort>(
         { two_loops_and_reports(rt, alloc, manager, (c, d), e, shown) },
     );
     let (mut client, tally) = first;
-    manager.gather(&mut client, second.0);
-    manager.gather(&mut client, third.0);
-    manager.gather(&mut client, fourth.0);
-    manager.gather(&mut client, e);
+    gather(manager, &mut client, second.0);
+    gather(manager, &mut client, third.0);
+    gather(manager, &mut client, fourth.0);
+    gather(manager, &mut client, e);
     Left {
         client,
         tallies: [tally, second.1, third.1, fourth.1],
         reports,
     }
+}
+
+/// The report of the words that a manager leaves.
+fn audited(
+    rt: &impl Abort,
+    alloc: Global,
+    manager: Manager,
+    client: Client,
+) -> Result<Report, AuditFault>
+    requires { client.table ≡ manager.table }
+{
+    let Ok((words, _)) = manager.close(client) else {
+        panic!(rt; "it stayed open")
+    };
+    audit_words(alloc, words.as_slice())
 }
 
 /// How many tasks ended.
@@ -282,24 +317,18 @@ fn loops_beside_reports(rt: HostRuntime) -> Result<(), Fail> {
         reports: AtomicU32::new(0),
         over: AtomicU32::new(0),
     };
-    let (tallies, reports, audited) = {
-        let (manager, client) = Manager::new(alloc, TRIPS.blocks, TRIPS.last)?;
-        let mut session = Session::of(&manager, client);
-        open(&mut session, &mut FixedDraws(STOCK), &TRIPS)?;
-        let client = session.into_client();
-        let left = four_loops_and_reports(&rt, alloc, &manager, client, &shown);
-        let Ok((words, _)) = manager.close(left.client) else {
-            panic!(rt; "it stayed open")
-        };
-        let tallies = left.tallies;
-        let audited = audit_words(alloc, words.as_slice());
-        (tallies, left.reports, audited)
-    };
+    let (manager, client) = opened(alloc, &TRIPS, &mut FixedDraws(STOCK))?;
+    let Left {
+        client,
+        tallies,
+        reports,
+    } = four_loops_and_reports(&rt, alloc, &manager, client, &shown);
+    let audited = audited(&rt, alloc, manager, client);
+    same(&rt, &tallies.map(ended), &[u64::from(TRIPS.tasks); 4]);
     let [a, b, c, d] = tallies.map(|tally| tally.answered);
     let answered = a.wrapping_add(b).wrapping_add(c).wrapping_add(d);
-    assert_eq!(rt; tallies.map(ended), [u64::from(TRIPS.tasks); 4]);
-    assert_eq!(rt; audited, Ok(after(answered)));
-    assert_eq!(rt; reports.others, 0);
-    assert!(rt; reports.sound >= 24);
+    same(&rt, &audited, &Ok(after(answered)));
+    same(&rt, &reports.others, &0);
+    holds(&rt, reports.sound >= 24);
     Ok(())
 }

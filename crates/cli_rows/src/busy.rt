@@ -1,10 +1,14 @@
 //! Tasks of a load that another client's calls keep busy.
+ghost use Rattle.std.specs.Prelude.{◌≡◌, true};
+ghost use Rattle.vac_draws.specs.Setting.{is_settings};
 
+use crate::loading::opened;
+use crate::same::same;
 use crate::small_load::SETTINGS;
-use std::test::Fail;
+use std::alloc::Global;
 use stm_attempt::{Gate, Point};
-use vac_load::{FixedDraws, Settings, Tally, client_loop, open};
-use vac_manager::{Manager, Session};
+use vac_load::{FixedDraws, Settings, Tally, client_loop};
+use vac_manager::Session;
 use vac_model::{Command, Kind, Task};
 
 const RIVAL: Task = Task::One(Command::Reserve {
@@ -29,25 +33,38 @@ impl<'a> Gate for Rival<'a> {
     }
 }
 
+/// How the tasks of a session end while another one is their rival, and how often that one booked.
+fn loop_beside_rival(
+    alloc: Global,
+    settings: &Settings,
+    session: &mut Session<'_>,
+    other: Session<'_>,
+) -> (Tally, u32)
+    requires { is_settings settings.now ≡ true }
+{
+    let mut gate = Rival { other, answered: 0 };
+    let tally = client_loop(alloc, session, &mut FixedDraws(0), settings, &mut gate);
+    (tally, gate.answered)
+}
+
 /// Each task has one try, and its car is booked between its reads and its commit.
 #[test]
-fn each_task_is_busy(rt: HostRuntime) -> Result<(), Fail> {
+fn each_task_is_busy(rt: HostRuntime) {
     let alloc = rt.alloc();
     let settings = Settings {
         tries: 1,
         ..SETTINGS
     };
-    let (manager, client) = Manager::new(alloc, settings.blocks, settings.last)?;
+    let (manager, client) = opened(alloc, &settings, &mut FixedDraws(0)).expect(
+        &rt,
+        "there is memory",
+    );
     let mut session = Session::of(&manager, client);
-    let mut draws = FixedDraws(0);
-    open(&mut session, &mut draws, &settings)?;
-    let other = session.split()?;
-    let mut gate = Rival { other, answered: 0 };
-    let tally = client_loop(alloc, &mut session, &mut draws, &settings, &mut gate);
+    let other = session.split().expect(&rt, "there are grants");
+    let found = loop_beside_rival(alloc, &settings, &mut session, other);
     let busy = Tally {
         busy: u64::from(settings.tasks),
         ..Tally::default()
     };
-    assert_eq!(rt; (tally, gate.answered), (busy, settings.tasks));
-    Ok(())
+    same(&rt, &found, &(busy, settings.tasks));
 }

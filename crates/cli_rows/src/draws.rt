@@ -1,5 +1,6 @@
 //! Drawn words, and the tasks that are read from them.
 
+use crate::same::{holds, same};
 use crate::small_load::SETTINGS;
 use vac_draws::{Draws, FixedDraws, PcgDraws, tasks_of};
 use vac_model::{Kind, Task};
@@ -9,8 +10,8 @@ const REFERENCE: u32 = 0xa15c02b7;
 
 #[test]
 fn draws(rt: HostRuntime) {
-    assert_eq!(rt; PcgDraws::new(42, 54).word(), REFERENCE);
-    assert_eq!(rt; FixedDraws(7).word(), 7);
+    same(&rt, &PcgDraws::new(42, 54).word(), &REFERENCE);
+    same(&rt, &FixedDraws(7).word(), &7);
 }
 
 #[test]
@@ -24,8 +25,8 @@ fn tasks_of_one_word(rt: HostRuntime) {
             }
             _ => false,
         };
-        assert!(rt; is_expected);
+        holds(&rt, is_expected);
         trips = trips.saturating_add(1);
     }
-    assert_eq!(rt; trips, 3);
+    same(&rt, &trips, &3);
 }

@@ -1,11 +1,15 @@
 //! Command lines over input and output that fail: what is written then, and the status.
 
-use crate::command_lines::words_of;
+use crate::command_lines::{Ended, run_line};
 use crate::example::{DUMP, SCRIPT};
 use crate::failing::{NEVER, Pieces, Sink, Stop};
+use crate::same::same;
 use std::io::ErrorKind;
-use std::test::Fail;
-use vac_cli::run_words;
+use std::process::Abort;
+use std::sync::Wait;
+use std::thread::Threads;
+use std::time::Clock;
+use vac_cli::Open;
 
 /// A command line that reads an input, and what it writes where nothing fails.
 #[derive(Clone, Copy)]
@@ -81,149 +85,84 @@ const LONG_HISTORY: &[&str] = &[
     "--history",
 ];
 
-#[test]
-fn reads_that_fail(rt: HostRuntime) -> Result<(), Fail> {
-    for row in ROWS {
-        for fails_at in 0..3 {
-            let words = words_of(rt.alloc(), row.words)?;
-            let mut errors = Vec::new(rt.alloc());
-            let mut input = Pieces::of(row.input, 9, fails_at, ErrorKind::Other);
-            let mut out = Sink::new(rt.alloc(), NEVER, NEVER, Stop::Nothing);
-            let ended = run_words(
-                &rt,
-                &rt,
-                words.as_slice(),
-                &mut input,
-                &mut out,
-                &mut errors,
-            );
-            let wants = (1, b"fault read\n".as_slice(), true, true);
-            assert_eq!(rt;
-                (
-                    ended,
-                    out.taken.as_slice(),
-                    out.is_flushed,
-                    errors.is_empty()
-                ),
-                wants,
-                "{:?} at {fails_at}",
-                row.words
-            );
-        }
+/// The command line of a row ends so and writes this, where each of its first three reads fails in
+/// turn.
+fn fail_each_read<T: Threads + Wait + Clock + Sync + Abort + AllocGlobal + Open>(
+    rt: &T,
+    row: &Row,
+    error: ErrorKind,
+    wants: (Ended, &[u8]),
+) {
+    for fails_at in 0..3 {
+        let mut input = Pieces::of(row.input, 9, fails_at, error);
+        let mut out = Sink::new(rt.alloc(), NEVER, NEVER, Stop::Nothing);
+        let ended = run_line(rt, rt, row.words, &mut input, &mut out);
+        let found = (
+            row.words,
+            fails_at,
+            ended,
+            out.taken.as_slice(),
+            out.is_flushed,
+        );
+        same(rt, &found, &(row.words, fails_at, wants.0, wants.1, true));
     }
-    Ok(())
 }
 
 #[test]
-fn reads_that_are_interrupted(rt: HostRuntime) -> Result<(), Fail> {
+fn reads_that_fail(rt: HostRuntime) {
+    let wants = ((1, true), b"fault read\n".as_slice());
     for row in ROWS {
-        for fails_at in 0..3 {
-            let words = words_of(rt.alloc(), row.words)?;
-            let mut errors = Vec::new(rt.alloc());
-            let mut input = Pieces::of(row.input, 9, fails_at, ErrorKind::Interrupted);
-            let mut out = Sink::new(rt.alloc(), NEVER, NEVER, Stop::Nothing);
-            let ended = run_words(
-                &rt,
-                &rt,
-                words.as_slice(),
-                &mut input,
-                &mut out,
-                &mut errors,
-            );
-            let wants = (0, row.output, true, true);
-            assert_eq!(rt;
-                (
-                    ended,
-                    out.taken.as_slice(),
-                    out.is_flushed,
-                    errors.is_empty()
-                ),
-                wants,
-                "{:?} at {fails_at}",
-                row.words
-            );
-        }
+        fail_each_read(&rt, &row, ErrorKind::Other, wants);
     }
-    Ok(())
+}
+
+#[test]
+fn reads_that_are_interrupted(rt: HostRuntime) {
+    for row in ROWS {
+        fail_each_read(&rt, &row, ErrorKind::Interrupted, ((0, true), row.output));
+    }
+}
+
+/// The status of a command line over a writer, and the writer.
+fn write_to<T: Threads + Wait + Clock + Sync + Abort + AllocGlobal + Open>(
+    rt: &T,
+    words: &[&str],
+    mut input: &[u8],
+    mut out: Sink,
+) -> (u8, Sink) {
+    let (status, _) = run_line(rt, rt, words, &mut input, &mut out);
+    (status, out)
 }
 
 /// The writer takes seven bytes, fails once, and would take more after that.
 #[test]
-fn writes_that_fail_once(rt: HostRuntime) -> Result<(), Fail> {
+fn writes_that_fail_once(rt: HostRuntime) {
+    let stop = Stop::Fails(ErrorKind::Other);
     for row in ROWS {
-        let words = words_of(rt.alloc(), row.words)?;
-        let mut errors = Vec::new(rt.alloc());
-        let mut input = row.input;
-        let mut out = Sink::new(rt.alloc(), 7, 1, Stop::Fails(ErrorKind::Other));
-        let ended = run_words(
-            &rt,
-            &rt,
-            words.as_slice(),
-            &mut input,
-            &mut out,
-            &mut errors,
-        );
-        assert_eq!(rt;
-            (ended, out.taken.as_slice()),
-            (1, row.first),
-            "{:?}",
-            row.words
-        );
+        let out = Sink::new(rt.alloc(), 7, 1, stop);
+        let (status, out) = write_to(&rt, row.words, row.input, out);
+        let found = (row.words, status, out.taken.as_slice());
+        same(&rt, &found, &(row.words, 1, row.first));
     }
     for line in WRITING {
-        let words = words_of(rt.alloc(), line)?;
-        let mut errors = Vec::new(rt.alloc());
-        let mut input: &[u8] = b"";
-        let mut out = Sink::new(rt.alloc(), 7, 1, Stop::Fails(ErrorKind::Other));
-        let ended = run_words(
-            &rt,
-            &rt,
-            words.as_slice(),
-            &mut input,
-            &mut out,
-            &mut errors,
-        );
-        assert_eq!(rt; (ended, out.taken.len()), (1, 7), "{line:?}");
+        let out = Sink::new(rt.alloc(), 7, 1, stop);
+        let (status, out) = write_to(&rt, line, b"", out);
+        same(&rt, &(line, status, out.taken.len()), &(line, 1, 7));
     }
-    Ok(())
 }
 
 #[test]
-fn flushes_that_fail(rt: HostRuntime) -> Result<(), Fail> {
+fn flushes_that_fail(rt: HostRuntime) {
     for row in ROWS {
-        let words = words_of(rt.alloc(), row.words)?;
-        let mut errors = Vec::new(rt.alloc());
-        let mut input = row.input;
-        let mut out = Sink::without_flush(rt.alloc());
-        let ended = run_words(
-            &rt,
-            &rt,
-            words.as_slice(),
-            &mut input,
-            &mut out,
-            &mut errors,
-        );
-        assert_eq!(rt;
-            (ended, out.taken.as_slice()),
-            (1, row.output),
-            "{:?}",
-            row.words
-        );
+        let out = Sink::without_flush(rt.alloc());
+        let (status, out) = write_to(&rt, row.words, row.input, out);
+        let found = (row.words, status, out.taken.as_slice());
+        same(&rt, &found, &(row.words, 1, row.output));
     }
     for line in WRITING {
-        let words = words_of(rt.alloc(), line)?;
-        let mut errors = Vec::new(rt.alloc());
-        let mut input: &[u8] = b"";
-        let mut out = Sink::without_flush(rt.alloc());
-        let ended = run_words(
-            &rt,
-            &rt,
-            words.as_slice(),
-            &mut input,
-            &mut out,
-            &mut errors,
-        );
-        assert_eq!(rt; (ended, out.taken.ends_with(b"\n")), (1, true), "{line:?}");
+        let out = Sink::without_flush(rt.alloc());
+        let (status, out) = write_to(&rt, line, b"", out);
+        let is_whole = out.taken.ends_with(b"\n");
+        same(&rt, &(line, status, is_whole), &(line, 1, true));
     }
-    Ok(())
 }

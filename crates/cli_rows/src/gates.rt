@@ -1,10 +1,12 @@
 //! Gates that stay with their clients.
 
+use crate::loading::gated_load;
+use crate::same::same;
 use crate::small_load::SETTINGS;
 use std::sync::atomic::{AtomicU32, Ordering};
 use std::test::Fail;
 use stm_attempt::{Gate, Point};
-use vac_load::{FixedDraws, Settings, run_load_with};
+use vac_load::{FixedDraws, Settings};
 
 /// A gate that counts the commits that have stored their values.
 #[derive(Drop)]
@@ -31,13 +33,11 @@ fn each_gate_stays_with_its_client(rt: HostRuntime) -> Result<(), Fail> {
         rounds: 2,
         ..SETTINGS
     };
-    let Ok(loaded) = run_load_with(&rt, &settings, FixedDraws(0), clients) else {
-        panic!(rt; "the load stopped")
-    };
+    let loaded = gated_load(&rt, &settings, clients);
     let stored = (
         asking.load(Ordering::SeqCst),
         booking.load(Ordering::SeqCst),
     );
-    assert_eq!(rt; (loaded.tally.answered, stored), (12, (0, 6)));
+    same(&rt, &(loaded.tally.answered, stored), &(12, (0, 6)));
     Ok(())
 }

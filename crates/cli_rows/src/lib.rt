@@ -22,6 +22,8 @@ mod faults;
 #[cfg(test)]
 mod gates;
 #[cfg(test)]
+mod loading;
+#[cfg(test)]
 mod loads;
 #[cfg(test)]
 mod loops;
@@ -31,6 +33,8 @@ mod meetings;
 mod refused;
 #[cfg(test)]
 mod rounds;
+#[cfg(test)]
+mod same;
 #[cfg(test)]
 mod small_load;
 #[cfg(test)]

@@ -1,21 +1,19 @@
 //! Loads of one client, and arguments that are refused.
 
+use crate::loading::{load_of_zeros, seeded_load};
+use crate::same::same;
 use crate::small_load::{SETTINGS, THREE_TRIPS, all_answered, spent_at};
-use std::test::Fail;
 use stm_attempt::NoGate;
 use vac_load::{FixedDraws, LoadFault, LoadReport, MOST_ROUNDS, Settings, run_load, run_load_with};
 use vac_model::Report;
 
 #[test]
-fn trips_of_one_client(rt: HostRuntime) -> Result<(), Fail> {
-    let clients = vec![in rt.alloc(); (FixedDraws(0), NoGate)]?;
-    let loaded = run_load_with(&rt, &SETTINGS, FixedDraws(0), clients);
+fn trips_of_one_client(rt: HostRuntime) {
     let wants = LoadReport {
         tally: all_answered(3),
         report: THREE_TRIPS,
     };
-    assert_eq!(rt; loaded, Ok(wants));
-    Ok(())
+    same(&rt, &load_of_zeros(&rt, &SETTINGS), &Ok(wants));
 }
 
 #[test]
@@ -35,7 +33,7 @@ fn three_tasks_of_a_seed(rt: HostRuntime) {
         tally: all_answered(3),
         report,
     };
-    assert_eq!(rt; run_load(&rt, &SETTINGS), Ok(wants));
+    same(&rt, &seeded_load(&rt, &SETTINGS), &wants);
 }
 
 #[test]
@@ -47,33 +45,33 @@ fn one_client_asks_a_thousand_times(rt: HostRuntime) {
         user: 80,
         ..SETTINGS
     };
-    let Ok(loaded) = run_load(&rt, &settings) else {
-        panic!(rt; "the load stopped")
-    };
-    assert_eq!(rt; loaded.tally, all_answered(1_000));
-    assert_eq!(rt; loaded.report.used, loaded.report.bookings);
+    let LoadReport { tally, report } = seeded_load(&rt, &settings);
+    same(&rt, &tally, &all_answered(1_000));
+    same(&rt, &report.used, &report.bookings);
+}
+
+/// The version at which an opening found the clock spent, where that ended the load.
+fn spent_in_opening(loaded: Result<LoadReport, LoadFault>) -> Option<u64> {
+    match loaded {
+        Err(LoadFault::Opening(fault)) => spent_at(fault),
+        _ => None,
+    }
 }
 
 #[test]
-fn an_opening_finds_its_clock_spent(rt: HostRuntime) -> Result<(), Fail> {
+fn an_opening_finds_its_clock_spent(rt: HostRuntime) {
     for (last, spent) in [(5, Some(5)), (7, Some(7)), (8, None)] {
         let settings = Settings { last, ..SETTINGS };
-        let clients = vec![in rt.alloc(); (FixedDraws(0), NoGate)]?;
-        let loaded = run_load_with(&rt, &settings, FixedDraws(0), clients);
-        let found = match loaded {
-            Err(LoadFault::Opening(fault)) => spent_at(fault),
-            _ => None,
-        };
-        assert_eq!(rt; found, spent, "{last}");
+        let found = spent_in_opening(load_of_zeros(&rt, &settings));
+        same(&rt, &(last, found), &(last, spent));
     }
-    Ok(())
 }
 
 #[test]
 fn arguments_are_looked_at(rt: HostRuntime) {
     let none = Vec::<(FixedDraws, NoGate)>::new(rt.alloc());
     let refused = run_load_with(&rt, &SETTINGS, FixedDraws(0), none);
-    assert_eq!(rt; refused, Err(LoadFault::Arguments));
+    same(&rt, &refused, &Err(LoadFault::Arguments));
     for (items, rounds) in [(300, 1), (2, 0), (2, MOST_ROUNDS.saturating_add(1))] {
         let settings = Settings {
             items,
@@ -81,6 +79,7 @@ fn arguments_are_looked_at(rt: HostRuntime) {
             ..SETTINGS
         };
         let refused = run_load(&rt, &settings);
-        assert_eq!(rt; refused, Err(LoadFault::Arguments), "{items} {rounds}");
+        let wants = (items, rounds, Err(LoadFault::Arguments));
+        same(&rt, &(items, rounds, refused), &wants);
     }
 }

@@ -1,10 +1,15 @@
 //! The opening of a load, and the loop of one client.
 
+ghost use Rattle.std.specs.Prelude.{◌≡◌, true};
+ghost use Rattle.vac_draws.specs.Setting.{is_settings};
+
+use crate::loading::opened;
+use crate::same::same;
 use crate::small_load::{SETTINGS, THREE_TRIPS, all_answered, spent_at};
-use std::test::Fail;
+use std::alloc::Global;
 use stm_attempt::{Gate, Point};
-use vac_load::{FixedDraws, PcgDraws, Settings, client_loop, open};
-use vac_manager::{Manager, Session};
+use vac_load::{Draws, FixedDraws, PcgDraws, Settings, Tally, client_loop};
+use vac_manager::{Fault, Session};
 use vac_model::{Command, Reply, Task};
 
 /// A gate that counts the answers that it is told of.
@@ -19,27 +24,33 @@ impl Gate for Answers {
     }
 }
 
-#[test]
-fn a_client_alone(rt: HostRuntime) -> Result<(), Fail> {
-    let alloc = rt.alloc();
-    let mut draws = FixedDraws(0);
+/// How the tasks of one client end, how many answers its gate is told of, and a report after them.
+fn loop_alone<D: Draws>(
+    alloc: Global,
+    settings: &Settings,
+    opening: &mut D,
+    draws: &mut D,
+) -> Result<(Tally, u64, Reply), Fault>
+    requires { is_settings settings.now ≡ true }
+{
     let mut gate = Answers(0);
-    let (tally, audit) = {
-        let (manager, client) = Manager::new(alloc, SETTINGS.blocks, SETTINGS.last)?;
-        let mut session = Session::of(&manager, client);
-        open(&mut session, &mut draws, &SETTINGS)?;
-        let tally = client_loop(alloc, &mut session, &mut draws, &SETTINGS, &mut gate);
-        let audit = session.call(&Task::One(Command::Audit), 1)?;
-        (tally, audit)
-    };
-    let wants = (all_answered(3), 3, Reply::Report(THREE_TRIPS));
-    assert_eq!(rt; (tally, gate.0, audit), wants);
-    Ok(())
+    let (manager, client) = opened(alloc, settings, opening)?;
+    let mut session = Session::of(&manager, client);
+    let tally = client_loop(alloc, &mut session, draws, settings, &mut gate);
+    let audit = session.call(&Task::One(Command::Audit), 1)?;
+    Ok((tally, gate.0, audit))
 }
 
 #[test]
-fn drawn_tasks_are_answered(rt: HostRuntime) -> Result<(), Fail> {
-    let alloc = rt.alloc();
+fn a_client_alone(rt: HostRuntime) {
+    let (mut opening, mut draws) = (FixedDraws(0), FixedDraws(0));
+    let found = loop_alone(rt.alloc(), &SETTINGS, &mut opening, &mut draws);
+    let wants = (all_answered(3), 3, Reply::Report(THREE_TRIPS));
+    same(&rt, &found, &Ok(wants));
+}
+
+#[test]
+fn drawn_tasks_are_answered(rt: HostRuntime) {
     let settings = Settings {
         tasks: 200,
         items: 16,
@@ -47,31 +58,24 @@ fn drawn_tasks_are_answered(rt: HostRuntime) -> Result<(), Fail> {
         tries: 1,
         ..SETTINGS
     };
-    let mut gate = Answers(0);
-    let tally = {
-        let (manager, client) = Manager::new(alloc, settings.blocks, settings.last)?;
-        let mut session = Session::of(&manager, client);
-        open(&mut session, &mut PcgDraws::new(1, 0), &settings)?;
-        let mut draws = PcgDraws::new(1, 1);
-        client_loop(alloc, &mut session, &mut draws, &settings, &mut gate)
-    };
-    assert_eq!(rt; (tally, gate.0), (all_answered(200), 200));
-    Ok(())
+    let (manager, client) = opened(rt.alloc(), &settings, &mut PcgDraws::new(1, 0)).expect(
+        &rt,
+        "there is memory",
+    );
+    let mut session = Session::of(&manager, client);
+    let (mut draws, mut gate) = (PcgDraws::new(1, 1), Answers(0));
+    let tally = client_loop(rt.alloc(), &mut session, &mut draws, &settings, &mut gate);
+    same(&rt, &(tally, gate.0), &(all_answered(200), 200));
 }
 
 #[test]
-fn a_clock_too_short_for_the_opening(rt: HostRuntime) -> Result<(), Fail> {
+fn a_clock_too_short_for_the_opening(rt: HostRuntime) {
     let settings = Settings {
         last: 5,
         ..SETTINGS
     };
-    let (manager, client) = Manager::new(rt.alloc(), settings.blocks, settings.last)?;
-    let mut session = Session::of(&manager, client);
-    let opened = open(&mut session, &mut FixedDraws(0), &settings);
-    let spent = match opened {
-        Err(fault) => spent_at(fault),
-        Ok(_) => None,
+    let Err(fault) = opened(rt.alloc(), &settings, &mut FixedDraws(0)) else {
+        panic!(rt; "the clock has time")
     };
-    assert_eq!(rt; spent, Some(5));
-    Ok(())
+    same(&rt, &spent_at(fault), &Some(5));
 }

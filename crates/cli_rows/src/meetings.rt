@@ -1,10 +1,12 @@
 //! Two clients of a load that meet in their commits.
 
+use crate::loading::gated_load;
+use crate::same::{holds, same};
 use crate::small_load::SETTINGS;
 use std::sync::atomic::{AtomicBool, AtomicU32, Ordering};
 use std::test::Fail;
 use stm_attempt::{Gate, Point};
-use vac_load::{FixedDraws, Settings, run_load_with};
+use vac_load::{FixedDraws, Settings};
 
 /// A gate that shows that its client is at its first commit, and waits until it sees the other's.
 /// It counts the answers that it is told of.
@@ -62,12 +64,13 @@ fn two_clients_meet_in_their_commits(rt: HostRuntime) -> Result<(), Fail> {
         tasks: 1,
         ..SETTINGS
     };
-    let Ok(loaded) = run_load_with(&rt, &settings, FixedDraws(0), clients) else {
-        panic!(rt; "the load stopped")
-    };
+    let loaded = gated_load(&rt, &settings, clients);
     let told = u64::from(answers.load(Ordering::SeqCst));
     let ended = loaded.tally.answered.saturating_add(loaded.tally.busy);
-    assert!(rt; a_saw.load(Ordering::SeqCst) && b_saw.load(Ordering::SeqCst));
-    assert_eq!(rt; (ended, told), (2, loaded.tally.answered));
+    holds(
+        &rt,
+        a_saw.load(Ordering::SeqCst) && b_saw.load(Ordering::SeqCst),
+    );
+    same(&rt, &(ended, told), &(2, loaded.tally.answered));
     Ok(())
 }

@@ -3,25 +3,18 @@
 //! with each allocation refused in turn, and reads the lines that it prints; in any other run none
 //! is refused.
 
+use crate::loading::load_of_zeros;
+use crate::same::same;
 use crate::small_load::{SETTINGS, SIX_TRIPS, all_answered};
 use std::process::Abort;
-use std::sync::Wait;
-use std::thread::Threads;
-use stm_attempt::NoGate;
-use vac_load::{FixedDraws, LoadFault, LoadReport, Settings, Tally, run_load_with};
+use vac_load::{LoadFault, LoadReport, Settings, Tally};
 use vac_manager::Fault;
 
 /// A load of six trips by one client, in two rounds.
-fn load<R: Threads + Wait + AllocGlobal>(rt: &R) -> Result<LoadReport, LoadFault> {
-    let Ok(clients) = vec![in rt.alloc(); (FixedDraws(0), NoGate)] else {
-        return Err(LoadFault::Memory);
-    };
-    let settings = Settings {
-        rounds: 2,
-        ..SETTINGS
-    };
-    run_load_with(rt, &settings, FixedDraws(0), clients)
-}
+const TWO_ROUNDS: Settings = Settings {
+    rounds: 2,
+    ..SETTINGS
+};
 
 /// What was refused, where something was: the load, its thread, a command of its opening, or a task
 /// that it then counts so. No other fault may be named.
@@ -43,14 +36,14 @@ fn refused(rt: &impl Abort, loaded: &Result<LoadReport, LoadFault>) -> Option<&'
 
 #[test]
 fn a_refused_load_is_run_again(rt: HostRuntime) {
-    let mut loaded = load(&rt);
+    let mut loaded = load_of_zeros(&rt, &TWO_ROUNDS);
     if let Some(call) = refused(&rt, &loaded) {
         println!(&rt; "refused: {call}").expect(&rt, "the line is written");
-        loaded = load(&rt);
+        loaded = load_of_zeros(&rt, &TWO_ROUNDS);
     }
     let wants = LoadReport {
         tally: all_answered(6),
         report: SIX_TRIPS,
     };
-    assert_eq!(rt; loaded, Ok(wants));
+    same(&rt, &loaded, &Ok(wants));
 }

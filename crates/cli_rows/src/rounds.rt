@@ -1,35 +1,26 @@
 //! Loads of several rounds, each on a new clock.
 ghost use Rattle.std.specs.Prelude.{◌≡◌};
 
+use crate::loading::{load_of_zeros, seeded_load};
+use crate::same::same;
 use crate::small_load::{SETTINGS, SIX_TRIPS, all_answered};
 use std::sync::Wait;
 use std::sync::atomic::{AtomicU32, Ordering};
-use std::test::Fail;
 use std::thread::Threads;
-use stm_attempt::{Gate, NoGate, Point};
-use vac_load::{
-    Draws, FixedDraws, LoadFault, LoadReport, Settings, Tally, run_load, run_load_with,
-};
+use stm_attempt::{Gate, Point};
+use vac_load::{Draws, LoadFault, LoadReport, Settings, Tally, run_load_with};
 
 #[test]
-fn a_clock_that_ends_is_renewed(rt: HostRuntime) -> Result<(), Fail> {
+fn a_clock_that_ends_is_renewed(rt: HostRuntime) {
     let spent = Settings {
         tasks: 6,
         last: 11,
         ..SETTINGS
     };
-    let clients = vec![in rt.alloc(); (FixedDraws(0), NoGate)]?;
-    let Ok(in_one) = run_load_with(&rt, &spent, FixedDraws(0), clients) else {
-        panic!(rt; "the load stopped")
-    };
     let renewed = Settings {
         last: 11,
         rounds: 2,
         ..SETTINGS
-    };
-    let clients = vec![in rt.alloc(); (FixedDraws(0), NoGate)]?;
-    let Ok(in_two) = run_load_with(&rt, &renewed, FixedDraws(0), clients) else {
-        panic!(rt; "the load stopped")
     };
     let half = Tally {
         spent: 3,
@@ -39,8 +30,9 @@ fn a_clock_that_ends_is_renewed(rt: HostRuntime) -> Result<(), Fail> {
         tally: all_answered(6),
         report: SIX_TRIPS,
     };
-    assert_eq!(rt; (in_one.tally, in_two), (half, whole));
-    Ok(())
+    let in_one = load_of_zeros(&rt, &spent).map(|loaded| loaded.tally);
+    let in_two = load_of_zeros(&rt, &renewed);
+    same(&rt, &(in_one, in_two), &(Ok(half), Ok(whole)));
 }
 
 /// Words that count up, the next of which is shown.
@@ -81,7 +73,7 @@ struct Shown {
     answers: AtomicU32,
 }
 
-/// A load of one client, in words that count up.
+/// A load of one client, in words that count up, which are shown.
 fn counted_load<'a, R: Threads + Wait + AllocGlobal>(
     rt: &R,
     settings: &Settings,
@@ -101,12 +93,19 @@ fn counted_load<'a, R: Threads + Wait + AllocGlobal>(
     run_load_with(rt, settings, opening, clients)
 }
 
-fn nothing_shown() -> Shown {
-    Shown {
+/// What the load leaves, how far the words of the client went, and how many answers were told.
+fn counted<R: Threads + Wait + AllocGlobal>(
+    rt: &R,
+    settings: &Settings,
+) -> (Result<LoadReport, LoadFault>, u32, u32) {
+    let shown = Shown {
         opening: AtomicU32::new(0),
         words: AtomicU32::new(0),
         answers: AtomicU32::new(0),
-    }
+    };
+    let loaded = counted_load(rt, settings, &shown);
+    let words = shown.words.load(Ordering::SeqCst);
+    (loaded, words, shown.answers.load(Ordering::SeqCst))
 }
 
 #[test]
@@ -120,14 +119,9 @@ fn draws_and_gates_go_on_from_round_to_round(rt: HostRuntime) {
         tasks: 20,
         ..SETTINGS
     };
-    let (shown, shown_in_one) = (nothing_shown(), nothing_shown());
-    let loaded = counted_load(&rt, &rounds, &shown);
-    let loaded_in_one = counted_load(&rt, &one_round, &shown_in_one);
-    assert_eq!(rt; loaded, loaded_in_one);
-    let words = shown.words.load(Ordering::SeqCst);
-    assert_eq!(rt; words, shown_in_one.words.load(Ordering::SeqCst));
-    assert_eq!(rt; shown.answers.load(Ordering::SeqCst), 20);
-    assert_eq!(rt; shown_in_one.answers.load(Ordering::SeqCst), 20);
+    let in_rounds = counted(&rt, &rounds);
+    same(&rt, &in_rounds, &counted(&rt, &one_round));
+    same(&rt, &in_rounds.2, &20);
 }
 
 #[test]
@@ -140,9 +134,7 @@ fn several_clients_in_several_rounds(rt: HostRuntime) {
         rounds: 3,
         ..SETTINGS
     };
-    let Ok(loaded) = run_load(&rt, &settings) else {
-        panic!(rt; "the load stopped")
-    };
-    let ended = loaded.tally.answered.saturating_add(loaded.tally.busy);
-    assert_eq!(rt; (ended, loaded.report.used), (180, loaded.report.bookings));
+    let LoadReport { tally, report } = seeded_load(&rt, &settings);
+    let ended = tally.answered.saturating_add(tally.busy);
+    same(&rt, &(ended, report.used), &(180, report.bookings));
 }

@@ -1,8 +1,10 @@
 //! The times in a history, by a clock that counts its readings.
 
+use crate::same::same;
+use std::alloc::Global;
 use std::cell::Cell;
 use std::io;
-use std::test::Fail;
+use std::process::Abort;
 use std::time::{Clock, Duration, Instant};
 use stm_words::Version;
 use vac_history::{Journal, Since, write_history};
@@ -27,42 +29,54 @@ impl Clock for Readings {
     }
 }
 
+/// The journal of a client, by this clock.
+type Kept<'a> = Journal<Since<'a, Readings>>;
+
 /// Keeps a call that made this customer by this version.
-fn keep(journal: &mut Journal<Since<'_, Readings>>, id: u32, version: u64) -> Result<(), Fail> {
-    let version = Version::new(version).ok_or("a version")?;
+fn keep(rt: &impl Abort, journal: &mut Kept<'_>, id: u32, version: u64) {
+    let version = Version::new(version).expect(rt, "it is a version");
     let place = Place {
         renewal: 0,
         version,
         wrote: true,
     };
     let reply = Reply::Done;
-    journal.begin()?;
+    journal.begin().expect(rt, "there is memory");
     journal.keep(
         Task::One(Command::NewCustomer { id }),
         Placed { reply, place },
     );
-    Ok(())
+}
+
+/// Whether the history of the opening and of a client is written, and its text.
+fn written(
+    rt: &impl Abort,
+    alloc: Global,
+    opening: &Kept<'_>,
+    client: Kept<'_>,
+) -> (bool, Vec<u8>) {
+    let mut clients = Vec::new(alloc);
+    clients.push(client).expect(rt, "there is memory");
+    let mut out = Vec::new(alloc);
+    let written = write_history(alloc, opening, clients.as_slice(), &mut out).is_ok();
+    (written, out)
 }
 
 /// The start is reading 0. Each call is kept with the reading before it and the one after it.
 #[test]
-fn calls_have_the_readings_around_them(rt: HostRuntime) -> Result<(), Fail> {
+fn calls_have_the_readings_around_them(rt: HostRuntime) {
     let clock = Readings {
         count: Cell::new(0),
     };
     let start = Instant::now(&clock).ok();
     let mut opening = Journal::new(rt.alloc(), Since::new(&clock, start));
     let mut client = Journal::new(rt.alloc(), Since::new(&clock, start));
-    keep(&mut opening, 1, 1)?;
-    keep(&mut client, 2, 3)?;
-    keep(&mut opening, 3, 2)?;
-    let mut clients = Vec::new(rt.alloc());
-    clients.push(client)?;
-    let mut out = Vec::new(rt.alloc());
-    let written = write_history(rt.alloc(), &opening, clients.as_slice(), &mut out).is_ok();
+    keep(&rt, &mut opening, 1, 1);
+    keep(&rt, &mut client, 2, 3);
+    keep(&rt, &mut opening, 3, 2);
+    let (written, out) = written(&rt, rt.alloc(), &opening, client);
     let wants = b"0 1 2 newcust 1 -> true\n\
         0 5 6 newcust 3 -> true\n\
         1 3 4 newcust 2 -> true\n";
-    assert_eq!(rt; (written, out.as_slice()), (true, wants.as_slice()));
-    Ok(())
+    same(&rt, &(written, out.as_slice()), &(true, wants.as_slice()));
 }

@@ -2,8 +2,10 @@
 
 use crate::example::{ANSWERS, DUMP, SCRIPT};
 use crate::failing::{NEVER, Pieces, Sink, Stop};
+use crate::same::{holds, same};
 use std::alloc::Global;
 use std::io::{ErrorKind, Read, Write};
+use std::process::Abort;
 use vac_cli::{StreamFault, check_words, dump_script, run_script};
 
 /// Which call is made.
@@ -76,13 +78,11 @@ const ROWS: [Row; 6] = [
     },
 ];
 
+/// What a call returns.
+type Ended = Result<bool, StreamFault>;
+
 /// Makes the call of a row.
-fn play<R: Read, W: Write>(
-    alloc: Global,
-    call: Call,
-    input: &mut R,
-    output: &mut W,
-) -> Result<bool, StreamFault> {
+fn play<R: Read, W: Write>(alloc: Global, call: Call, input: &mut R, output: &mut W) -> Ended {
     match call {
         Call::Run => run_script(alloc, 1024, input, output).map(|()| true),
         Call::Dump => dump_script(alloc, 1, input, output).map(|()| true),
@@ -101,75 +101,104 @@ fn written_before(call: Call, fails_at: usize) -> &'static [u8] {
     }
 }
 
+/// What the call of a row returns and writes, and how often it reads, where one of its reads, byte
+/// by byte, fails.
+fn play_reading(
+    alloc: Global,
+    row: &Row,
+    fails_at: usize,
+    error: ErrorKind,
+) -> (Ended, Vec<u8>, usize) {
+    let mut input = Pieces::of(row.input, 1, fails_at, error);
+    let mut out = Vec::new(alloc);
+    let ended = play(alloc, row.call, &mut input, &mut out);
+    (ended, out, input.calls)
+}
+
+/// What it should return and write, where that read fails for good.
+fn wanted_of_reads(row: &Row, fails_at: usize) -> (Ended, &'static [u8]) {
+    if fails_at < row.reads {
+        (Err(StreamFault::Read), written_before(row.call, fails_at))
+    } else {
+        (Ok(row.answer), row.output)
+    }
+}
+
+/// The call of a row, each of whose reads fails in turn.
+fn fail_each_read(rt: &impl Abort, alloc: Global, row: &Row) {
+    for fails_at in 0..row.reads.saturating_add(2) {
+        let (ended, out, calls) = play_reading(alloc, row, fails_at, ErrorKind::Other);
+        let found = (row.call, fails_at, (ended, out.as_slice()), calls);
+        let reads = row.reads.min(fails_at.saturating_add(1));
+        let wants = wanted_of_reads(row, fails_at);
+        same(rt, &found, &(row.call, fails_at, wants, reads));
+    }
+}
+
 #[test]
 fn readers_that_fail(rt: HostRuntime) {
     for row in ROWS {
-        for fails_at in 0..row.reads.saturating_add(2) {
-            let mut input = Pieces::of(row.input, 1, fails_at, ErrorKind::Other);
-            let mut out = Vec::new(rt.alloc());
-            let ended = play(rt.alloc(), row.call, &mut input, &mut out);
-            let wants = if fails_at < row.reads {
-                (Err(StreamFault::Read), written_before(row.call, fails_at))
-            } else {
-                (Ok(row.answer), row.output)
-            };
-            assert_eq!(rt;
-                (ended, out.as_slice()),
-                wants,
-                "{:?} at {fails_at}",
-                row.call
-            );
-            assert_eq!(rt; input.calls, row.reads.min(fails_at.saturating_add(1)));
-        }
+        fail_each_read(&rt, rt.alloc(), &row);
+    }
+}
+
+/// The call of a row, each of whose reads is interrupted in turn.
+fn interrupt_each_read(rt: &impl Abort, alloc: Global, row: &Row) {
+    let reads = row.reads.saturating_add(1);
+    for fails_at in 0..row.reads {
+        let (ended, out, calls) = play_reading(alloc, row, fails_at, ErrorKind::Interrupted);
+        let found = (fails_at, ended, out.as_slice(), calls);
+        same(rt, &found, &(fails_at, Ok(row.answer), row.output, reads));
     }
 }
 
 #[test]
 fn readers_that_are_interrupted(rt: HostRuntime) {
     for row in ROWS {
-        for fails_at in 0..row.reads {
-            let mut input = Pieces::of(row.input, 1, fails_at, ErrorKind::Interrupted);
-            let mut out = Vec::new(rt.alloc());
-            let ended = play(rt.alloc(), row.call, &mut input, &mut out);
-            let wants = (Ok(row.answer), row.output, row.reads.saturating_add(1));
-            assert_eq!(rt;
-                (ended, out.as_slice(), input.calls),
-                wants,
-                "at {fails_at}"
-            );
-        }
+        interrupt_each_read(&rt, rt.alloc(), &row);
+    }
+}
+
+/// What the call of a row returns, and its writer, which takes nothing at one write.
+fn play_writing(alloc: Global, row: &Row, stops_at: usize, stop: Stop) -> (Ended, Sink) {
+    let mut input = Pieces::of(row.input, 5, NEVER, ErrorKind::Other);
+    let mut out = Sink::new(alloc, 1, stops_at, stop);
+    let ended = play(alloc, row.call, &mut input, &mut out);
+    (ended, out)
+}
+
+/// Whether it writes all in the end.
+fn is_whole(row: &Row, stops_at: usize, stop: Stop) -> bool {
+    stop.is_tried_again() || stops_at >= row.output.len()
+}
+
+/// What it should return and write.
+fn wanted_of_writes(row: &Row, stops_at: usize, stop: Stop) -> (Ended, &'static [u8]) {
+    if is_whole(row, stops_at, stop) {
+        (Ok(row.answer), row.output)
+    } else {
+        let written = &row.output[..stops_at.min(row.output.len())];
+        (Err(StreamFault::Write), written)
+    }
+}
+
+/// The call of a row, each of whose writes is stopped in turn.
+fn stop_each_write(rt: &impl Abort, alloc: Global, row: &Row, stop: Stop) {
+    for stops_at in 0..row.output.len().saturating_add(2) {
+        let (ended, out) = play_writing(alloc, row, stops_at, stop);
+        let found = (stop, stops_at, (ended, out.taken.as_slice()));
+        let wants = wanted_of_writes(row, stops_at, stop);
+        same(rt, &found, &(stop, stops_at, wants));
+        holds(rt, out.is_flushed || !is_whole(row, stops_at, stop));
     }
 }
 
 #[test]
 fn writers_that_fail(rt: HostRuntime) {
     for row in ROWS {
-        for stop in [
-            Stop::Nothing,
-            Stop::Fails(ErrorKind::Other),
-            Stop::Fails(ErrorKind::Interrupted),
-        ] {
-            for stops_at in 0..row.output.len() + 2 {
-                let mut input = Pieces::of(row.input, 5, NEVER, ErrorKind::Other);
-                let mut out = Sink::new(rt.alloc(), 1, stops_at, stop);
-                let ended = play(rt.alloc(), row.call, &mut input, &mut out);
-                let is_whole = stop.is_tried_again() || stops_at >= row.output.len();
-                let wants = if is_whole {
-                    (Ok(row.answer), row.output)
-                } else {
-                    (
-                        Err(StreamFault::Write),
-                        &row.output[..stops_at.min(row.output.len())],
-                    )
-                };
-                assert_eq!(rt;
-                    (ended, out.taken.as_slice()),
-                    wants,
-                    "{stop:?} at {stops_at}"
-                );
-                assert!(rt; out.is_flushed || !is_whole, "{stop:?} at {stops_at}");
-            }
-        }
+        stop_each_write(&rt, rt.alloc(), &row, Stop::Nothing);
+        stop_each_write(&rt, rt.alloc(), &row, Stop::Fails(ErrorKind::Other));
+        stop_each_write(&rt, rt.alloc(), &row, Stop::Fails(ErrorKind::Interrupted));
     }
 }
 
@@ -179,8 +208,9 @@ fn flushes_that_fail(rt: HostRuntime) {
         let mut input = row.input;
         let mut out = Sink::without_flush(rt.alloc());
         let ended = play(rt.alloc(), row.call, &mut input, &mut out);
-        let wants = (Err(StreamFault::Write), row.output);
-        assert_eq!(rt; (ended, out.taken.as_slice()), wants, "{:?}", row.call);
+        let found = (row.call, ended, out.taken.as_slice());
+        let wants = (row.call, Err(StreamFault::Write), row.output);
+        same(&rt, &found, &wants);
     }
 }
 
@@ -190,6 +220,6 @@ fn dump_of_many_chunks(rt: HostRuntime) {
     let mut out = Vec::new(rt.alloc());
     let ended = dump_script(rt.alloc(), 16_384, &mut input, &mut out);
     let lines = out.iter().filter(|byte| **byte == b'\n').count();
-    assert_eq!(rt; (ended, lines), (Ok(()), 16 + 8 * 16_384));
-    assert!(rt; out.len() > 262_144);
+    same(&rt, &(ended, lines), &(Ok(()), 16 + 8 * 16_384));
+    holds(&rt, out.len() > 262_144);
 }

@@ -1,11 +1,15 @@
 //! Histories that are held against the tasks in a file.
 
-use crate::command_lines::words_of;
+use crate::command_lines::{Ended, run_line};
 use crate::failing::{NEVER, Pieces, Sink, Stop};
+use crate::same::same;
 use std::io;
-use std::io::ErrorKind;
-use std::test::Fail;
-use vac_cli::{Open, run_words};
+use std::io::{ErrorKind, Read, Write};
+use std::process::Abort;
+use std::sync::Wait;
+use std::thread::Threads;
+use std::time::Clock;
+use vac_cli::Open;
 
 /// The name of the one file that there is.
 const NAME: &str = "tasks.txt";
@@ -37,136 +41,110 @@ const HISTORY: &[u8] = b"1 0 5 newcust 1 -> true\n";
 const WHOLE: &[u8] = b"legal calls=1 clients=1\ncars=0 flights=0 rooms=0 customers=1 bookings=0 \
     used=0 free=0 total=0 billed=0\n";
 
+/// Judges a history by the tasks in the file of this name.
+fn judge<T: Threads + Wait + Clock + Sync + Abort + AllocGlobal, R: Read, W: Write>(
+    rt: &T,
+    files: &Shelf,
+    name: &str,
+    input: &mut R,
+    output: &mut W,
+) -> Ended {
+    let words = &["vacation", "judge", "--tasks", name];
+    run_line(rt, files, words, input, output)
+}
+
+/// Tasks in the file, a history, the judge's status, and what it writes.
+const AGAINST_WORK: [(&[u8], &[u8], u8, &[u8]); 6] = [
+    (b"1 newcust 1\n", HISTORY, 0, WHOLE),
+    (
+        b"1 newcust 1\n1 audit\n",
+        HISTORY,
+        1,
+        b"illegal missing 1 2\n",
+    ),
+    (b"1 newcust 1\n", b"", 1, b"illegal missing 1 1\n"),
+    (b"", HISTORY, 1, b"illegal task 1\n"),
+    (b"1 newcust 2\n", HISTORY, 1, b"illegal task 1\n"),
+    (b"1 newcust\n", HISTORY, 1, b"fault bad-tasks 1\n"),
+];
+
 #[test]
-fn histories_against_work(rt: HostRuntime) -> Result<(), Fail> {
-    let rows: [(&[u8], &[u8], u8, &[u8]); 6] = [
-        (b"1 newcust 1\n", HISTORY, 0, WHOLE),
-        (
-            b"1 newcust 1\n1 audit\n",
-            HISTORY,
-            1,
-            b"illegal missing 1 2\n",
-        ),
-        (b"1 newcust 1\n", b"", 1, b"illegal missing 1 1\n"),
-        (b"", HISTORY, 1, b"illegal task 1\n"),
-        (b"1 newcust 2\n", HISTORY, 1, b"illegal task 1\n"),
-        (b"1 newcust\n", HISTORY, 1, b"fault bad-tasks 1\n"),
-    ];
-    for (bytes, history, status, output) in rows {
+fn histories_against_work(rt: HostRuntime) {
+    for (bytes, history, status, output) in AGAINST_WORK {
         let files = Shelf {
             bytes,
             fails_at: NEVER,
             missing: ErrorKind::NotFound,
         };
-        let words = words_of(rt.alloc(), &["vacation", "judge", "--tasks", NAME])?;
         let mut input = history;
-        let mut errors = Vec::new(rt.alloc());
         let mut out = Sink::new(rt.alloc(), NEVER, NEVER, Stop::Nothing);
-        let ended = run_words(
-            &rt,
-            &files,
-            words.as_slice(),
-            &mut input,
-            &mut out,
-            &mut errors,
-        );
-        let wants = (status, output, true, true);
-        let found = (
-            ended,
-            out.taken.as_slice(),
-            out.is_flushed,
-            errors.is_empty(),
-        );
-        assert_eq!(rt; found, wants);
+        let ended = judge(&rt, &files, NAME, &mut input, &mut out);
+        let found = (ended, out.taken.as_slice(), out.is_flushed);
+        same(&rt, &found, &((status, true), output, true));
     }
-    Ok(())
 }
+
+/// The file's name, the read of it that fails, how other files fail to open, what is written, and
+/// how often the history is read.
+const FAILING: [(&str, usize, ErrorKind, &[u8], usize); 4] = [
+    ("other.txt", NEVER, ErrorKind::NotFound, b"fault open\n", 0),
+    (
+        "other.txt",
+        NEVER,
+        ErrorKind::OutOfMemory,
+        b"fault memory\n",
+        0,
+    ),
+    (NAME, 0, ErrorKind::NotFound, b"fault read\n", 0),
+    (NAME, 1, ErrorKind::NotFound, b"fault read\n", 0),
+];
 
 /// The file is opened before the history is read. One that cannot be opened has its own fault.
 #[test]
-fn files_that_fail(rt: HostRuntime) -> Result<(), Fail> {
-    let rows: [(&str, usize, ErrorKind, &[u8], usize); 4] = [
-        ("other.txt", NEVER, ErrorKind::NotFound, b"fault open\n", 0),
-        (
-            "other.txt",
-            NEVER,
-            ErrorKind::OutOfMemory,
-            b"fault memory\n",
-            0,
-        ),
-        (NAME, 0, ErrorKind::NotFound, b"fault read\n", 0),
-        (NAME, 1, ErrorKind::NotFound, b"fault read\n", 0),
-    ];
-    for (name, fails_at, missing, output, reads) in rows {
+fn files_that_fail(rt: HostRuntime) {
+    for (name, fails_at, missing, output, reads) in FAILING {
         let files = Shelf {
             bytes: b"1 newcust 1\n",
             fails_at,
             missing,
         };
-        let words = words_of(rt.alloc(), &["vacation", "judge", "--tasks", name])?;
         let mut input = Pieces::of(HISTORY, 9, NEVER, ErrorKind::Other);
         let mut out = Vec::new(rt.alloc());
-        let mut errors = Vec::new(rt.alloc());
-        let ended = run_words(
-            &rt,
-            &files,
-            words.as_slice(),
-            &mut input,
-            &mut out,
-            &mut errors,
-        );
-        let found = (ended, out.as_slice(), errors.is_empty(), input.calls);
-        assert_eq!(rt; found, (1, output, true, reads));
+        let ended = judge(&rt, &files, name, &mut input, &mut out);
+        let found = (ended, out.as_slice(), input.calls);
+        same(&rt, &found, &((1, true), output, reads));
     }
-    Ok(())
 }
+
+/// The tasks of the history.
+const FILE: Shelf = Shelf {
+    bytes: b"1 newcust 1\n",
+    fails_at: NEVER,
+    missing: ErrorKind::NotFound,
+};
 
 /// The writer takes seven bytes, fails once, and would take more after that.
 #[test]
-fn a_verdict_that_is_cut(rt: HostRuntime) -> Result<(), Fail> {
-    let files = Shelf {
-        bytes: b"1 newcust 1\n",
-        fails_at: NEVER,
-        missing: ErrorKind::NotFound,
-    };
-    let words = words_of(rt.alloc(), &["vacation", "judge", "--tasks", NAME])?;
+fn a_verdict_that_is_cut(rt: HostRuntime) {
     let mut input = HISTORY;
-    let mut errors = Vec::new(rt.alloc());
     let mut out = Sink::new(rt.alloc(), 7, 1, Stop::Fails(ErrorKind::Other));
-    let ended = run_words(
+    let ended = judge(&rt, &FILE, NAME, &mut input, &mut out);
+    same(
         &rt,
-        &files,
-        words.as_slice(),
-        &mut input,
-        &mut out,
-        &mut errors,
+        &(ended.0, out.taken.as_slice()),
+        &(1, b"legal c".as_slice()),
     );
-    let wants = (1, b"legal c".as_slice());
-    assert_eq!(rt; (ended, out.taken.as_slice()), wants);
-    Ok(())
 }
 
 /// The work is read to its end, and then the history fails.
 #[test]
-fn a_history_that_fails(rt: HostRuntime) -> Result<(), Fail> {
-    let files = Shelf {
-        bytes: b"1 newcust 1\n",
-        fails_at: NEVER,
-        missing: ErrorKind::NotFound,
-    };
-    let words = words_of(rt.alloc(), &["vacation", "judge", "--tasks", NAME])?;
-    let mut errors = Vec::new(rt.alloc());
+fn a_history_that_fails(rt: HostRuntime) {
     let mut input = Pieces::of(HISTORY, 9, 1, ErrorKind::Other);
     let mut out = Vec::new(rt.alloc());
-    let ended = run_words(
+    let ended = judge(&rt, &FILE, NAME, &mut input, &mut out);
+    same(
         &rt,
-        &files,
-        words.as_slice(),
-        &mut input,
-        &mut out,
-        &mut errors,
+        &(ended.0, out.as_slice()),
+        &(1, b"fault read\n".as_slice()),
     );
-    let wants = (1, b"fault read\n".as_slice());
-    assert_eq!(rt; (ended, out.as_slice()), wants);
-    Ok(())
 }
