@@ -459,6 +459,19 @@ def standing_on(crates, name):
 
 CALL = re.compile(r"(?:\b(\w+)(?:::<[^()]*?>)?::|(\.))?\b([a-z_]\w*)(?:::<[^()]*?>)?\(")
 
+TAKEN = re.compile(r"^ *(?:pub )?use (\w+)::(?:\w+::)*(?:\{([^}]*)\}|(\w+));", re.M)
+
+
+@lru_cache(maxsize=None)
+def taken(path):
+    """The crate of each name that a file takes from one of this repository, which may hand on that of another."""
+    found = {}
+    for crate, listed, alone in TAKEN.findall(read(path)):
+        if crate != path.parts[-3] and (CRATES / crate / "src").is_dir():
+            handed_on = taken(root_of(crate))
+            found.update({name: handed_on.get(name, crate) for name in re.findall(r"\w+", listed or alone)})
+    return found
+
 
 class Tests:
     """The tests of the crates whose names end in `_rows`, and the calls that each of them makes."""
@@ -467,13 +480,14 @@ class Tests:
         self.below = {name: standing_on(crates, name) for name in crates if name.endswith("_rows")}
         self.tests, self.by_call = [], {}
         for name in self.below:
-            found = [f for path in sources(name) for f in functions(path)]
+            shared = [crate for crate in sorted(self.below[name]) if crate.endswith("_rows")]
+            found = [f for crate in shared for path in sources(crate) for f in functions(path)]
             calls = {id(f): self.calls_of(f) for f in found}
             by_name = {}
             for function in found:
                 by_name.setdefault(function.name, []).append(function)
             for test in found:
-                if test.test:
+                if test.test and test.crate == name:
                     self.add(test, self.through_helpers(test, calls, by_name))
         self.scripts = {f.name: read(f) for f in sorted((ROOT / "tests").iterdir()) if f.is_file()}
 
@@ -487,9 +501,10 @@ class Tests:
 
     @staticmethod
     def calls_of(function):
-        text = masked(function.file)[function.start:function.end]
+        text, crates = masked(function.file)[function.start:function.end], taken(function.file)
         words = set(re.findall(r"\b[A-Z]\w*", text))
-        return {(m.group(1) or m.group(2) or "", m.group(3)) for m in CALL.finditer(text)}, words
+        calls = {(m.group(1) or m.group(2) or crates.get(m.group(3), ""), m.group(3)) for m in CALL.finditer(text)}
+        return calls, words
 
     @staticmethod
     def through_helpers(test, calls, by_name):
@@ -519,10 +534,10 @@ class Tests:
 
 
 def is_call(how, words, function, common):
-    """Whether a call of this name is of this function: by its type, or as a method of a name that few
-    types have, or where its type is named too."""
+    """Whether a call of this name is of this function: by its crate, where the file says of which, by its
+    type, or as a method of a name that few types have, or where its type is named too."""
     if not function.owner:
-        return how != "."
+        return how == function.crate or how != "." and not (CRATES / how / "src").is_dir()
     return how == function.owner or how == "." and (function.name not in common or function.owner in words)
 
 
