@@ -5,8 +5,10 @@
 A file tests/plants/CRATE.plants is a list of plants, blocks of lines with an empty line between them:
 
     plant: name-in-plain-words
-    by: clause `ok` of Version::new             what must refuse it, in plain words: 'clause ..', 'row CRATE: test
-                                                ..' or 'script tests/NAME ..'; or why it is 'harmless: ..'
+    by: clause `ok` of Version::new             what must refuse it: 'clause of FUNCTION' or of TYPE::FUNCTION,
+                                                'clause `NAME` of ..', or of a struct that has it, 'row CRATE:
+                                                TEST' or MODULE::TEST, or 'script tests/NAME', each alone or with
+                                                plain words behind ': '; or why it is 'harmless: ..'
     file: src/version.rt                        then as in a must-fail edit: a text that stands once in the
     old: TEXT                                   file, and what stands there in its place; more pairs, and other
     new: TEXT                                   files, may follow
@@ -28,6 +30,7 @@ from itertools import chain
 from pathlib import Path
 
 from build_program import Building, kit_module
+from labels import stale
 
 ROOT = Path(__file__).resolve().parent.parent
 LISTS = ROOT / "tests" / "plants"
@@ -429,8 +432,12 @@ def main():
         options["jobs"] = max(1, int(words[at + 1]))
         del words[at:at + 2]
     plants, faults = read_lists()
+    if "--check" in words:
+        why = [(plant, stale(plant.crate, plant.by)) for plant in plants]
+        faults += [f"{plant.crate}/{plant.name}: {told}" for plant, told in why if told]
     if "--check" in words or faults:
-        print("\n".join(faults) if faults else f"plant: {len(plants)} plants, whose old texts stand once")
+        told = f"plant: {len(plants)} plants, whose old texts stand once, by clauses, tests and scripts that are there"
+        print("\n".join(faults) if faults else told)
         sys.exit(1 if faults else 0)
     plants = asked_for(plants, [word for word in words if not word.startswith("--")])
     counts = Counter()
