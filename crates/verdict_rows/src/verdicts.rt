@@ -1,13 +1,13 @@
 //! Histories of a few lines, and what is written of them.
 
+use crate::texts::{Row, fill_up, in_pieces};
 use std::alloc::{AllocError, Global};
-use std::io::Read;
 use std::test::Fail;
 use vac_judge::{CALL_BYTES, Judge, Verdict, judge_history, print_verdict};
 use vac_streams::StreamFault;
 
 /// The blocks of the system.
-const BLOCKS: u32 = 4;
+pub(crate) const BLOCKS: u32 = 4;
 
 /// The verdict on these lines.
 fn verdict_on(alloc: Global, lines: &[&str]) -> Result<Verdict, StreamFault> {
@@ -118,7 +118,7 @@ fn illegal_calls(rt: HostRuntime) -> Result<(), Fail> {
 
 #[test]
 fn lines_that_are_no_calls(rt: HostRuntime) -> Result<(), Fail> {
-    let rows: [(&str, &str); 17] = [
+    let rows: [Row; 17] = [
         ("0 0 - audit -> x", "fault bad-call 1\n"),
         ("x 0 - audit -> x", "fault bad-call 1\n"),
         ("0 0 - audit -> ? ", "fault bad-call 1\n"),
@@ -147,12 +147,10 @@ fn lines_that_are_no_calls(rt: HostRuntime) -> Result<(), Fail> {
 }
 
 /// A line of `bytes` bytes: its reply is filled up.
-fn filled(alloc: Global, bytes: usize) -> Result<Vec<u8>, AllocError> {
+fn filled_call(alloc: Global, bytes: usize) -> Result<Vec<u8>, AllocError> {
     let mut line = Vec::new(alloc);
     line.extend_from_slice(b"0 0 0 newcust 1 -> ")?;
-    for _ in line.len()..bytes {
-        line.push(b'x')?;
-    }
+    fill_up(&mut line, b'x', bytes)?;
     Ok(line)
 }
 
@@ -168,10 +166,10 @@ fn first_judged(alloc: Global, line: &[u8]) -> Result<Vec<u8>, StreamFault> {
 
 #[test]
 fn lines_of_most_bytes(rt: HostRuntime) -> Result<(), Fail> {
-    let longest = filled(rt.alloc(), CALL_BYTES)?;
+    let longest = filled_call(rt.alloc(), CALL_BYTES)?;
     let judged = first_judged(rt.alloc(), longest.as_slice())?;
     assert_eq!(rt; judged.as_slice(), b"illegal reply 1 true\n".as_slice());
-    let too_long = filled(rt.alloc(), CALL_BYTES + 1)?;
+    let too_long = filled_call(rt.alloc(), CALL_BYTES + 1)?;
     let judged = first_judged(rt.alloc(), too_long.as_slice())?;
     assert_eq!(rt; judged.as_slice(), b"fault long-line 1\n".as_slice());
     Ok(())
@@ -185,13 +183,13 @@ fn long_lines_in_pieces(rt: HostRuntime) -> Result<(), Fail> {
         (70_000, b"fault long-line 2\n"),
     ];
     for (bytes, wanted) in rows {
-        let line = filled(rt.alloc(), bytes)?;
+        let line = filled_call(rt.alloc(), bytes)?;
         let mut history = Vec::new(rt.alloc());
         history.extend_from_slice(b"0 0 0 newcust 1 -> true\n")?;
         history.extend_from_slice(line.as_slice())?;
         history.extend_from_slice(b"\nno call\n")?;
         for first in [0, 24, 4_000, 4_120, 4_121, 4_122, 66_000] {
-            let text = judged_in_pieces(rt.alloc(), history.as_slice(), first)?;
+            let text = history_in_pieces(rt.alloc(), history.as_slice(), first)?;
             assert_eq!(rt; text.as_slice(), wanted);
         }
     }
@@ -199,9 +197,8 @@ fn long_lines_in_pieces(rt: HostRuntime) -> Result<(), Fail> {
 }
 
 /// What is written of a history that is given in two pieces, the first of `first` bytes.
-fn judged_in_pieces(alloc: Global, history: &[u8], first: usize) -> Result<Vec<u8>, StreamFault> {
-    let first = first.min(history.len());
-    let mut input = (&history[..first]).chain(&history[first..]);
+fn history_in_pieces(alloc: Global, history: &[u8], first: usize) -> Result<Vec<u8>, StreamFault> {
+    let mut input = in_pieces(history, first);
     let mut text = Vec::new(alloc);
     judge_history(alloc, BLOCKS, &mut input, &mut text)?;
     Ok(text)
@@ -226,7 +223,7 @@ fn histories_in_pieces(rt: HostRuntime) -> Result<(), Fail> {
     ];
     for (history, wanted) in rows {
         for first in [0, 1, 22, 23, 24, 25, 40, 60] {
-            let text = judged_in_pieces(rt.alloc(), history, first)?;
+            let text = history_in_pieces(rt.alloc(), history, first)?;
             assert_eq!(rt; text.as_slice(), wanted);
         }
     }

@@ -1,12 +1,11 @@
 //! Histories that are held against the work that was handed out.
 
+use crate::texts::Row;
+use crate::verdicts::BLOCKS;
 use std::alloc::Global;
 use std::test::Fail;
 use vac_judge::judge_work;
 use vac_streams::StreamFault;
-
-/// The blocks of the system.
-const BLOCKS: u32 = 4;
 
 /// What is written of a history, held against these tasks, and whether it is legal.
 fn held(alloc: Global, tasks: &str, history: &str) -> Result<(bool, Vec<u8>), StreamFault> {
@@ -59,7 +58,7 @@ const THREE_OF_FIVE: &str = "0 0 1 newcust 3 -> true\n1 2 3 bill 3 -> 0\n2 3 9 a
 
 #[test]
 fn histories_that_are_not_of_their_work(rt: HostRuntime) -> Result<(), Fail> {
-    let rows: [(&str, &str); 11] = [
+    let rows: [Row; 11] = [
         ("", "illegal missing 0 1\n"),
         ("0 0 1 newcust 3 -> true\n", "illegal missing 1 1\n"),
         (
@@ -106,7 +105,7 @@ fn histories_that_are_not_of_their_work(rt: HostRuntime) -> Result<(), Fail> {
 
 #[test]
 fn lines_that_hand_out_no_task(rt: HostRuntime) -> Result<(), Fail> {
-    let rows: [(&str, &str); 6] = [
+    let rows: [Row; 6] = [
         ("0 newcust 3\n\n", "fault bad-tasks 2\n"),
         ("newcust 3", "fault bad-tasks 1\n"),
         ("0\n", "fault bad-tasks 1\n"),

@@ -1,5 +1,6 @@
 //! Histories of a few lines of which no order is claimed, and what is written of them.
 
+use crate::texts::Row;
 use std::alloc::Global;
 use std::test::Fail;
 use vac_order::{Outcome, Watcher, order_history};
@@ -33,7 +34,7 @@ const GONE_BACK: &str = "0 0 1 add car 1 9 50 -> true\n0 1 2 newcust 1 -> true\n
 
 #[test]
 fn histories_that_have_an_order(rt: HostRuntime) -> Result<(), Fail> {
-    let rows: [(&str, &str); 8] = [
+    let rows: [Row; 8] = [
         ("", ""),
         (
             "1 0 5 newcust 1 -> true\n1 6 9 reserve 1 car 1 -> true\n2 1 6 add car 1 2 5 -> true\n\
@@ -82,7 +83,7 @@ const NEVER_RIGHT: &str = "0 0 9 newcust 1 -> true\n1 0 9 newcust 2 -> true\n\
 
 #[test]
 fn histories_that_have_no_order(rt: HostRuntime) -> Result<(), Fail> {
-    let rows: [(&str, &str); 7] = [
+    let rows: [Row; 7] = [
         (NEVER_RIGHT, "illegal order 3\nstuck 4 0\n"),
         // a lost update
         (
@@ -126,7 +127,7 @@ fn histories_that_have_no_order(rt: HostRuntime) -> Result<(), Fail> {
 
 #[test]
 fn lines_that_are_wrong(rt: HostRuntime) -> Result<(), Fail> {
-    let rows: [(&str, &str); 4] = [
+    let rows: [Row; 4] = [
         ("0 0 1 newcust 1 -> true\nx\n", "fault bad-call 2\n"),
         ("0 5 4 newcust 1 -> true\nx\n", "illegal client 1\n"),
         (

@@ -1,7 +1,7 @@
 //! Texts of a few attempts, and what is written of them.
 
+use crate::texts::{Row, fill_up, in_pieces};
 use std::alloc::{AllocError, Global};
-use std::io::Read;
 use std::test::Fail;
 use vac_opaque::{ATTEMPT_BYTES, judge_attempts};
 use vac_streams::StreamFault;
@@ -10,15 +10,12 @@ use vac_streams::StreamFault;
 const WORDS: u32 = 8;
 
 /// What is written of a text of attempts.
-fn judged(alloc: Global, text: &[u8]) -> Result<Vec<u8>, StreamFault> {
+fn judged_attempts(alloc: Global, text: &[u8]) -> Result<Vec<u8>, StreamFault> {
     let mut input = text;
     let mut output = Vec::new(alloc);
     let _opaque = judge_attempts(alloc, WORDS, &mut input, &mut output)?;
     Ok(output)
 }
-
-/// A text of attempts, and what is written of it.
-type Row = (&'static str, &'static str);
 
 #[test]
 fn opaque_attempts(rt: HostRuntime) -> Result<(), Fail> {
@@ -56,7 +53,7 @@ fn opaque_attempts(rt: HostRuntime) -> Result<(), Fail> {
     ];
     for (text, wanted) in rows {
         assert_eq!(rt;
-            judged(rt.alloc(), text.as_bytes())?.as_slice(),
+            judged_attempts(rt.alloc(), text.as_bytes())?.as_slice(),
             wanted.as_bytes()
         );
     }
@@ -95,7 +92,7 @@ fn attempts_that_are_not_opaque(rt: HostRuntime) -> Result<(), Fail> {
     ];
     for (text, wanted) in rows {
         assert_eq!(rt;
-            judged(rt.alloc(), text.as_bytes())?.as_slice(),
+            judged_attempts(rt.alloc(), text.as_bytes())?.as_slice(),
             wanted.as_bytes()
         );
     }
@@ -129,7 +126,7 @@ fn lines_that_are_no_attempts(rt: HostRuntime) -> Result<(), Fail> {
     ];
     for (text, wanted) in rows {
         assert_eq!(rt;
-            judged(rt.alloc(), text.as_bytes())?.as_slice(),
+            judged_attempts(rt.alloc(), text.as_bytes())?.as_slice(),
             wanted.as_bytes()
         );
     }
@@ -137,38 +134,35 @@ fn lines_that_are_no_attempts(rt: HostRuntime) -> Result<(), Fail> {
 }
 
 /// A line of `bytes` bytes: the last value that it writes is filled up with leading zeros.
-fn filled(alloc: Global, bytes: usize) -> Result<Vec<u8>, AllocError> {
+fn filled_attempt(alloc: Global, bytes: usize) -> Result<Vec<u8>, AllocError> {
     let mut line = Vec::new(alloc);
     line.extend_from_slice(b"0 0 0 abort")?;
     for _ in 0..bytes.saturating_sub(18) / 6 {
         line.extend_from_slice(b" w 7 1")?;
     }
     line.extend_from_slice(b" r 7 ")?;
-    for _ in line.len()..bytes.saturating_sub(1) {
-        line.push(b'0')?;
-    }
+    fill_up(&mut line, b'0', bytes.saturating_sub(1))?;
     line.push(b'1')?;
     Ok(line)
 }
 
 #[test]
-fn lines_of_most_bytes(rt: HostRuntime) -> Result<(), Fail> {
-    let longest = filled(rt.alloc(), ATTEMPT_BYTES)?;
-    let text = judged(rt.alloc(), longest.as_slice())?;
+fn attempts_of_most_bytes(rt: HostRuntime) -> Result<(), Fail> {
+    let longest = filled_attempt(rt.alloc(), ATTEMPT_BYTES)?;
+    let text = judged_attempts(rt.alloc(), longest.as_slice())?;
     assert_eq!(rt;
         text.as_slice(),
         b"opaque attempts=1 committed=0 clients=1\n".as_slice()
     );
-    let too_long = filled(rt.alloc(), ATTEMPT_BYTES + 1)?;
-    let text = judged(rt.alloc(), too_long.as_slice())?;
+    let too_long = filled_attempt(rt.alloc(), ATTEMPT_BYTES + 1)?;
+    let text = judged_attempts(rt.alloc(), too_long.as_slice())?;
     assert_eq!(rt; text.as_slice(), b"fault long-line 1\n".as_slice());
     Ok(())
 }
 
 /// What is written of a text that is given in two pieces, the first of `first` bytes.
-fn judged_in_pieces(alloc: Global, text: &[u8], first: usize) -> Result<Vec<u8>, StreamFault> {
-    let first = first.min(text.len());
-    let mut input = (&text[..first]).chain(&text[first..]);
+fn attempts_in_pieces(alloc: Global, text: &[u8], first: usize) -> Result<Vec<u8>, StreamFault> {
+    let mut input = in_pieces(text, first);
     let mut output = Vec::new(alloc);
     let _opaque = judge_attempts(alloc, WORDS, &mut input, &mut output)?;
     Ok(output)
@@ -178,7 +172,7 @@ fn judged_in_pieces(alloc: Global, text: &[u8], first: usize) -> Result<Vec<u8>,
 fn texts_in_pieces(rt: HostRuntime) -> Result<(), Fail> {
     let text = b"0 0 1 commit w 3 5\n0 1 2 abort r 3 5\n1 0 2 commit r 3 6";
     for first in 0..text.len() {
-        let written = judged_in_pieces(rt.alloc(), text, first)?;
+        let written = attempts_in_pieces(rt.alloc(), text, first)?;
         assert_eq!(rt; written.as_slice(), b"illegal read 3 3 5\n".as_slice());
     }
     Ok(())
