@@ -1,8 +1,9 @@
 -- Marks with one more.
-use Rattle.std.proofs.Common.{◌≡◌, ℕ, ◌+◌, ◌==◌, ◌||◌, suc, zero, Bool, true, false, List, [], ◌∷◌, ◌++◌, take, drop}
-use Rattle.std.proofs.Common.{refl, sym, ap, ◌∙◌, arith, nat_lt}
+use Rattle.std.proofs.Common.{◌≡◌, ℕ, ◌+◌, ◌≤◌, ◌<◌, ◌==◌, ◌||◌, suc, zero, Bool, true, false, List, [], ◌∷◌, ◌++◌}
+use Rattle.std.proofs.Common.{take, drop, length, get_or, refl, sym, ap, ◌∙◌, arith, nat_lt}
 use Rattle.std.specs.List.{list_any}
 use Rattle.std.proofs.lemmas.Bool.Decides.{nat_tests}
+use Rattle.std.proofs.lemmas.List.{drop_more}
 use Rattle.std.proofs.lemmas.List.Folds.{list_any-append}
 use Rattle.vac_order.specs.Marks.{is_made}
 
@@ -44,6 +45,24 @@ pub mark_next : (next : ℕ) (beyond : List ℕ) (p : ℕ) → is_made (next + 1
 mark_next next beyond p =
     let any = list_any (λ o. o == p) beyond in
     ap (λ b. b || any) (low_more p next) ∙ or_assoc (nat_lt p next) (next == p) any
+
+-- the marks that follow on the first place that had none are passed, one by one
+pub record Passes (low : ℕ) (beyond : List ℕ) (next passed : ℕ) : Type 0 where
+  pub within : passed ≤ length beyond
+  pub made : (p : ℕ) → is_made next (drop passed beyond) p ≡ (is_made low beyond p || p == low)
+
+pub passes_none : (low : ℕ) (beyond : List ℕ) → Passes low beyond (low + 1) 0
+passes_none low beyond = record { within = omega arith; made = mark_first low beyond }
+
+pub passes_more : (low : ℕ) (beyond : List ℕ) (next passed d : ℕ) → Passes low beyond next passed →
+    passed < length beyond → get_or beyond passed d ≡ next → Passes low beyond (next + 1) (passed + 1)
+passes_more low beyond next passed d h l e = record {
+  within = omega arith;
+  made = λ p.
+      mark_next next (drop (passed + 1) beyond) p
+      ∙ ap (λ n. is_made next (n ∷ drop (passed + 1) beyond) p) (sym e)
+      ∙ ap (λ ms. is_made next ms p) (sym (drop_more beyond passed d l)) ∙ h.made p;
+}
 
 cut : (xs : List ℕ) (n : ℕ) → take n xs ++ drop n xs ≡ xs
 cut xs zero = refl

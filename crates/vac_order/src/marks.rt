@@ -32,10 +32,12 @@ fn mark_low(low: usize, mut beyond: Vec<usize>) -> (usize, Vec<usize>)
     ensures { MarksOneMore low beyond.items low (result.0, result.1.items) }
 {
     let mut next = low + 1;
-    'marks: while !beyond.is_empty() && beyond[0] == next && next < usize::MAX {
+    let mut passed = 0;
+    'marks: while passed < beyond.len() && beyond[passed] == next && next < usize::MAX {
         next += 1;
-        beyond.remove(0);
+        passed += 1;
     }
+    beyond.drain(..passed);
     (next, beyond)
 }
 
