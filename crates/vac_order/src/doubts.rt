@@ -2,8 +2,7 @@
 //! them are tried the other way.
 
 use crate::layout::Layout;
-use crate::machine::Machine;
-use crate::search::{Doubt, Pair, QuickSearch};
+use crate::trail::Trail;
 use std::alloc::{AllocError, Global};
 
 /// How many doubts are kept.
@@ -12,8 +11,31 @@ const MOST_DOUBTS: usize = 256;
 /// How many of the near ones are tried, and of those farther off.
 const MOST_TRIES: usize = 16;
 
-/// How many of the last calls are looked at for those that a call meets.
-const NEAR: usize = 262_144;
+/// The two calls of a doubt: the one that was taken and the other.
+#[derive(Clone, Copy)]
+pub(crate) struct Pair {
+    pub(crate) taken: usize,
+    pub(crate) other: usize,
+}
+
+/// A choice between two calls, and how many were made before it.
+#[derive(Clone, Copy)]
+pub(crate) struct Doubt {
+    at: usize,
+    pair: Pair,
+}
+
+/// The doubts of a quick search.
+#[derive(Drop)]
+pub(crate) struct Doubts {
+    /// Choices that may have been wrong, the first one first.
+    kept: Vec<Doubt>,
+    /// The doubts about what is planned, the next one last.
+    again: Vec<Pair>,
+    /// The doubts that are tried where nothing fits, and how many of them were.
+    tries: Vec<Pair>,
+    tried: usize,
+}
 
 /// Whether one of the calls of a doubt meets one of these calls.
 fn meets_any(layout: &Layout, pair: Pair, places: &[usize]) -> bool {
@@ -26,114 +48,173 @@ fn meets_any(layout: &Layout, pair: Pair, places: &[usize]) -> bool {
     false
 }
 
-impl<M: Machine + Drop> QuickSearch<M> {
-    /// Takes the last doubt about what comes after so many calls.
-    pub(crate) fn take_doubt(&mut self, length: usize) -> Option<Doubt> {
-        let count = self.doubts.len();
-        if count == 0 || self.doubts[count - 1].at < length {
-            return None;
+/// Whether one of the calls of a doubt meets one of these calls, and none that one, where it is
+/// there.
+fn meets_these(layout: &Layout, pair: Pair, met: &[usize], but: Option<usize>) -> bool {
+    if let Some(place) = but
+        && meets_any(layout, pair, [place].as_slice())
+    {
+        return false;
+    }
+    meets_any(layout, pair, met)
+}
+
+impl Doubts {
+    /// No doubt.
+    pub(crate) fn new(alloc: Global) -> Doubts {
+        Doubts {
+            kept: Vec::new(alloc),
+            again: Vec::new(alloc),
+            tries: Vec::new(alloc),
+            tried: 0,
         }
-        self.doubts.pop()
     }
 
-    /// Notes a choice between two calls.
-    pub(crate) fn doubt(&mut self, taken: usize, other: usize) -> Result<(), AllocError> {
-        if MOST_DOUBTS <= self.doubts.len() {
-            self.doubts.remove(0);
+    /// After how many calls the first one is.
+    pub(crate) fn first(&self) -> Option<usize> {
+        if self.kept.is_empty() {
+            return None;
         }
-        self.doubts.push(Doubt {
-            at: self.path.len(),
-            pair: Pair { taken, other },
-        })?;
+        Some(self.kept[0].at)
+    }
+
+    /// Notes a choice between two calls, after so many.
+    pub(crate) fn add(&mut self, at: usize, pair: Pair) -> Result<(), AllocError> {
+        if MOST_DOUBTS <= self.kept.len() {
+            self.kept.remove(0);
+        }
+        self.kept.push(Doubt { at, pair })?;
+        Ok(())
+    }
+
+    /// Takes the last doubt about what comes after so many calls.
+    fn take(&mut self, length: usize) -> Option<Doubt> {
+        let count = self.kept.len();
+        if count == 0 || self.kept[count - 1].at < length {
+            return None;
+        }
+        self.kept.pop()
+    }
+
+    /// Forgets the doubts about what comes after so many calls.
+    pub(crate) fn forget(&mut self, length: usize) {
+        'doubts: for _ in 0..self.kept.len() {
+            if self.take(length).is_none() {
+                return;
+            }
+        }
+    }
+
+    /// Takes out the doubts about what comes after so many calls, the last one first.
+    pub(crate) fn cut_to(
+        &mut self,
+        alloc: Global,
+        length: usize,
+    ) -> Result<Vec<Doubt>, AllocError> {
+        let mut doubts = Vec::new(alloc);
+        'doubts: for _ in 0..self.kept.len() {
+            match self.take(length) {
+                Some(doubt) => doubts.push(doubt)?,
+                None => break,
+            }
+        }
+        Ok(doubts)
+    }
+
+    /// Puts back the doubts that were taken out.
+    pub(crate) fn put_back(&mut self, mut doubts: Vec<Doubt>) -> Result<(), AllocError> {
+        'doubts: for _ in 0..doubts.len() {
+            if let Some(doubt) = doubts.pop() {
+                self.kept.push(doubt)?;
+            }
+        }
+        Ok(())
+    }
+
+    /// Forgets the doubts about what was planned.
+    pub(crate) fn plan_none(&mut self, alloc: Global) {
+        self.again = Vec::new(alloc);
+    }
+
+    /// Plans what these doubts are about.
+    pub(crate) fn plan(&mut self, alloc: Global, doubts: &[Doubt]) -> Result<(), AllocError> {
+        let mut again = Vec::new(alloc);
+        'doubts: for number in 0..doubts.len() {
+            again.push(doubts[number].pair)?;
+        }
+        self.again = again;
         Ok(())
     }
 
     /// Notes the doubts about a planned call again.
-    pub(crate) fn doubt_again(&mut self, layout: &Layout, place: usize) -> Result<(), AllocError> {
+    pub(crate) fn note_again(
+        &mut self,
+        trail: &Trail,
+        layout: &Layout,
+        place: usize,
+    ) -> Result<(), AllocError> {
         'again: for _ in 0..self.again.len() {
             let count = self.again.len();
             if count == 0 {
                 break;
             }
             let pair = self.again[count - 1];
-            if pair.taken != place && !self.is_made(layout, pair.taken) {
+            if pair.taken != place && !trail.is_made(layout, pair.taken) {
                 break;
             }
             self.again.pop();
-            if pair.taken == place && !self.is_made(layout, pair.other) {
-                self.doubt(place, pair.other)?;
+            if pair.taken == place && !trail.is_made(layout, pair.other) {
+                self.add(trail.len(), pair)?;
             }
         }
         Ok(())
     }
 
-    /// The calls of a doubt, where the one that was taken came next.
-    fn pair_at(&self, number: usize) -> Option<Pair> {
-        if self.doubts.len() <= number {
+    /// A doubt, where the call that was taken came next.
+    fn get(&self, trail: &Trail, number: usize) -> Option<Doubt> {
+        if self.kept.len() <= number {
             return None;
         }
-        let Doubt { at, pair } = self.doubts[number];
-        if self.path.len() <= at || self.path[at].place != pair.taken {
+        let doubt = self.kept[number];
+        if !trail.is_at(doubt.at, doubt.pair.taken) {
             return None;
         }
-        Some(pair)
+        Some(doubt)
     }
 
-    /// The number of the last doubt about these calls.
-    pub(crate) fn doubt_of(&self, pair: Pair) -> Option<usize> {
-        let count = self.doubts.len();
+    /// After how many calls the last doubt about these is.
+    pub(crate) fn last_of(&self, trail: &Trail, pair: Pair) -> Option<usize> {
+        let count = self.kept.len();
         'doubts: for back in 0..count {
-            let number = count - 1 - back;
-            if let Some(found) = self.pair_at(number)
-                && found.taken == pair.taken
-                && found.other == pair.other
+            if let Some(found) = self.get(trail, count - 1 - back)
+                && found.pair.taken == pair.taken
+                && found.pair.other == pair.other
             {
-                return Some(number);
+                return Some(found.at);
             }
         }
         None
-    }
-
-    /// The last calls that meet the one that ends first, made ones and those that may come next.
-    fn met(&self, alloc: Global, layout: &Layout) -> Result<Vec<usize>, AllocError> {
-        let mut met = Vec::new(alloc);
-        'path: for number in self.path.len().saturating_sub(NEAR)..self.path.len() {
-            let place = self.path[number].place;
-            if layout.meets(place, self.low) {
-                met.push(place)?;
-            }
-        }
-        'clients: for client in 0..self.heads.len() {
-            let place = self.head(client);
-            if place != self.low && layout.meets(place, self.low) {
-                met.push(place)?;
-            }
-        }
-        Ok(met)
     }
 
     /// Adds the last doubts that are about one of these calls and not about that one, where it is
     /// there.
     fn add_tries(
         &mut self,
+        trail: &Trail,
         layout: &Layout,
         met: &[usize],
         but: Option<usize>,
     ) -> Result<(), AllocError> {
         let most = self.tries.len().saturating_add(MOST_TRIES);
-        let count = self.doubts.len();
+        let count = self.kept.len();
         'doubts: for back in 0..count {
-            let Some(pair) = self.pair_at(count - 1 - back) else {
+            let Some(found) = self.get(trail, count - 1 - back) else {
                 continue;
             };
-            let is_left_out = match but {
-                None => false,
-                Some(place) => meets_any(layout, pair, [place].as_slice()),
-            };
-            if is_left_out || !meets_any(layout, pair, met) {
+            if !meets_these(layout, found.pair, met, but) {
                 continue;
             }
-            self.tries.push(pair)?;
+            self.tries.push(found.pair)?;
             if most <= self.tries.len() {
                 return Ok(());
             }
@@ -143,12 +224,46 @@ impl<M: Machine + Drop> QuickSearch<M> {
 
     /// Looks for the doubts to try: those about a call that meets the one that ends first, the last
     /// one first, and then those about a call that meets such a call.
-    pub(crate) fn find_tries(&mut self, alloc: Global, layout: &Layout) -> Result<(), AllocError> {
-        let low = self.low;
-        let met = self.met(alloc, layout)?;
+    pub(crate) fn find_tries(
+        &mut self,
+        alloc: Global,
+        trail: &Trail,
+        layout: &Layout,
+    ) -> Result<(), AllocError> {
+        let low = trail.low;
+        let met = trail.met(alloc, layout)?;
         self.tries = Vec::new(alloc);
         self.tried = 0;
-        self.add_tries(layout, [low].as_slice(), None)?;
-        self.add_tries(layout, met.as_slice(), Some(low))
+        self.add_tries(trail, layout, [low].as_slice(), None)?;
+        self.add_tries(trail, layout, met.as_slice(), Some(low))
+    }
+
+    /// How many are left to try.
+    pub(crate) fn left(&self) -> usize {
+        self.tries.len().saturating_sub(self.tried)
+    }
+
+    /// The next one to try.
+    pub(crate) fn next_try(&mut self) -> Option<Pair> {
+        if self.tries.len() <= self.tried {
+            return None;
+        }
+        self.tried += 1;
+        Some(self.tries[self.tried - 1])
+    }
+
+    /// Leaves those that were not tried.
+    pub(crate) fn leave(&mut self) {
+        self.tried = self.tries.len();
+    }
+
+    /// The first of those that were tried. They are forgotten.
+    pub(crate) fn take_tried(&mut self, alloc: Global) -> Option<Pair> {
+        if self.tries.is_empty() {
+            return None;
+        }
+        let first = self.tries[0];
+        self.tries = Vec::new(alloc);
+        Some(first)
     }
 }

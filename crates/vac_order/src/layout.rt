@@ -35,6 +35,13 @@ pub(crate) struct Layout {
     pub(crate) answered: u64,
 }
 
+/// The clients of calls: their numbers, and the place of each one's last call.
+#[derive(Drop)]
+struct Clients {
+    numbers: BTreeMap<u32, usize>,
+    lasts: Vec<usize>,
+}
+
 /// The number of a customer among items and customers.
 fn customer_key(id: u32) -> u64 {
     (id as u64).wrapping_mul(4)
@@ -50,28 +57,40 @@ fn item_key(kind: Kind, id: u32) -> u64 {
     customer_key(id).wrapping_add(place)
 }
 
-/// Adds what a command names.
-fn add_command(command: &Command, keys: &mut Vec<u64>) -> Result<(), AllocError> {
+/// The customer that a command names, as a number among items and customers.
+fn named_customer(command: &Command) -> Option<u64> {
+    match *command {
+        Command::NewCustomer { id } | Command::DropCustomer { id } | Command::Bill { id } => {
+            Some(customer_key(id))
+        }
+        Command::Reserve { customer, .. } | Command::Cancel { customer, .. } => {
+            Some(customer_key(customer))
+        }
+        _ => None,
+    }
+}
+
+/// The item that a command names, as a number among items and customers.
+fn named_item(command: &Command) -> Option<u64> {
     match *command {
         Command::Add { kind, id, .. }
         | Command::Delete { kind, id, .. }
         | Command::Free { kind, id }
-        | Command::Price { kind, id } => keys.push(item_key(kind, id))?,
-        Command::DropFlight { id } => keys.push(item_key(Kind::Flight, id))?,
-        Command::NewCustomer { id } | Command::DropCustomer { id } | Command::Bill { id } => {
-            keys.push(customer_key(id))?
-        }
-        Command::Reserve {
-            customer,
-            kind,
-            id,
-            ..
-        }
-        | Command::Cancel { customer, kind, id } => {
-            keys.push(customer_key(customer))?;
-            keys.push(item_key(kind, id))?
-        }
-        Command::Audit => {}
+        | Command::Price { kind, id }
+        | Command::Reserve { kind, id, .. }
+        | Command::Cancel { kind, id, .. } => Some(item_key(kind, id)),
+        Command::DropFlight { id } => Some(item_key(Kind::Flight, id)),
+        _ => None,
+    }
+}
+
+/// Adds what a command names.
+fn add_command(command: &Command, keys: &mut Vec<u64>) -> Result<(), AllocError> {
+    if let Some(key) = named_customer(command) {
+        keys.push(key)?;
+    }
+    if let Some(key) = named_item(command) {
+        keys.push(key)?;
     }
     Ok(())
 }
@@ -141,6 +160,23 @@ fn is_among(keys: &[u64], from: usize, to: usize, key: u64) -> bool {
     false
 }
 
+impl Clients {
+    /// The number of a client, or the next number.
+    fn number(&self, client: u32) -> usize {
+        match self.numbers.get(&client) {
+            Some(number) => *number,
+            None => self.lasts.len(),
+        }
+    }
+
+    /// Adds a client of the next number, whose first call is at a place.
+    fn add(&mut self, client: u32, place: usize) -> Result<(), AllocError> {
+        self.numbers.insert(client, self.lasts.len())?;
+        self.lasts.push(place)?;
+        Ok(())
+    }
+}
+
 impl Layout {
     /// How these calls lie.
     pub(crate) fn new(alloc: Global, lines: &[Line]) -> Result<Layout, AllocError> {
@@ -150,25 +186,34 @@ impl Layout {
             firsts: Vec::new(alloc),
             answered: 0,
         };
-        let mut numbers = BTreeMap::new(alloc);
-        let mut lasts = Vec::new(alloc);
+        let mut clients = Clients {
+            numbers: BTreeMap::new(alloc),
+            lasts: Vec::new(alloc),
+        };
         'lines: for place in 0..lines.len() {
             let line = &lines[place];
-            let client = match numbers.get(&line.client) {
-                Some(number) => *number,
-                None => lasts.len(),
-            };
-            if client < lasts.len() {
-                layout.follow(lasts[client], place);
-                lasts.as_mut_slice()[client] = place;
-            } else {
-                numbers.insert(line.client, client)?;
-                lasts.push(place)?;
-                layout.firsts.push(place)?;
-            }
+            let client = layout.client_of(&mut clients, line.client, place)?;
             layout.add(line, client, lines.len())?;
         }
         Ok(layout)
+    }
+
+    /// The number of a client whose next call is at a place.
+    fn client_of(
+        &mut self,
+        clients: &mut Clients,
+        client: u32,
+        place: usize,
+    ) -> Result<usize, AllocError> {
+        let number = clients.number(client);
+        if number < clients.lasts.len() {
+            self.follow(clients.lasts[number], place);
+            clients.lasts.as_mut_slice()[number] = place;
+        } else {
+            clients.add(client, place)?;
+            self.firsts.push(place)?;
+        }
+        Ok(number)
     }
 
     /// Adds a call, of which no next one is known.

@@ -25,6 +25,8 @@ mod search;
 mod sequential;
 mod sorting;
 mod stuck;
+mod tally;
+mod trail;
 mod versions;
 mod walk;
 mod watcher;

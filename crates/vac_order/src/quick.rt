@@ -49,10 +49,10 @@ pub(crate) fn find_quickly<M: Machine + Drop, P: Watcher>(
     }
     let mut search = QuickSearch::new(alloc, machine, &layout)?;
     'steps: for made in 0..steps {
-        watcher.tell(search.placed, made);
+        watcher.tell(search.trail.placed, made);
         match search.step(alloc, lines, &layout)? {
             Quick::On => {}
-            Quick::Found => return Ok(Some(search.places(alloc)?)),
+            Quick::Found => return Ok(Some(search.trail.places(alloc)?)),
             Quick::Missed => return Ok(None),
         }
     }

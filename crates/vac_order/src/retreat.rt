@@ -1,18 +1,11 @@
 //! What a quick search takes back where nothing fits.
 
+use crate::doubts::Pair;
 use crate::layout::Layout;
 use crate::line::Line;
 use crate::machine::Machine;
-use crate::search::{Cut, Pair, Quick, QuickSearch, led_to};
+use crate::search::{Cut, Quick, QuickSearch, led_to};
 use std::alloc::{AllocError, Global};
-
-/// How often it goes back from where nothing fits, and how much farther each time.
-const MOST_FAILS: u64 = 120;
-
-const FARTHER: u64 = 64;
-
-/// How often doubts are looked for before one more call fits.
-const MOST_JUMPS: u64 = 8;
 
 impl<M: Machine + Drop> QuickSearch<M> {
     /// Takes back all but so many calls, and the machine with them.
@@ -23,31 +16,22 @@ impl<M: Machine + Drop> QuickSearch<M> {
         layout: &Layout,
         at: usize,
     ) -> Result<Cut<M>, AllocError> {
-        let (low, is_full) = (self.low, self.is_full);
-        let mut turns = Vec::new(alloc);
-        let mut doubts = Vec::new(alloc);
-        'doubts: for _ in 0..self.doubts.len() {
-            match self.take_doubt(at) {
-                Some(doubt) => doubts.push(doubt)?,
-                None => break,
-            }
-        }
-        'back: for _ in at..self.path.len() {
-            match self.take_turn(lines, layout) {
-                Some(turn) => turns.push(turn)?,
-                None => break,
-            }
-        }
+        let doubts = self.doubts.cut_to(alloc, at)?;
+        let tail = self.trail.cut_to(alloc, lines, layout, at)?;
+        let versions = self.versions.cut(alloc, at)?;
         Ok(Cut {
             at,
-            turns,
+            tail,
             doubts,
-            versions: self.versions.cut(alloc, at)?,
+            versions,
             machine: self.machine.take(),
-            low,
-            is_full,
-            settled: self.settled,
         })
+    }
+
+    /// Plans nothing.
+    fn plan_none(&mut self, alloc: Global) {
+        self.plan = Vec::new(alloc);
+        self.doubts.plan_none(alloc);
     }
 
     /// Puts back what was taken back, in place of all that was made since.
@@ -60,49 +44,44 @@ impl<M: Machine + Drop> QuickSearch<M> {
     ) -> Result<(), AllocError> {
         let Cut {
             at,
-            mut turns,
-            mut doubts,
+            tail,
+            doubts,
             versions,
             machine,
-            low,
-            is_full,
-            settled,
         } = cut;
         self.cut_to(alloc, lines, layout, at)?;
-        'turns: for _ in 0..turns.len() {
-            if let Some(turn) = turns.pop() {
-                self.add_turn(lines, layout, turn)?;
-            }
-        }
-        'doubts: for _ in 0..doubts.len() {
-            if let Some(doubt) = doubts.pop() {
-                self.doubts.push(doubt)?;
-            }
-        }
-        self.versions.put_back(versions)?;
-        self.versions.keep_more();
         self.machine = machine;
-        self.low = low;
-        self.is_full = is_full;
-        self.settled = settled;
-        self.plan = Vec::new(alloc);
-        self.again = Vec::new(alloc);
+        self.trail.put_back(lines, layout, tail)?;
+        self.doubts.put_back(doubts)?;
+        self.versions.put_back(versions)?;
+        self.plan_none(alloc);
         Ok(())
     }
 
     /// Plans anew what was taken back, and notes which doubts there were about it.
     fn plan_again(&mut self, alloc: Global, cut: &Cut<M>) -> Result<(), AllocError> {
-        let mut plan = Vec::new(alloc);
-        let mut again = Vec::new(alloc);
-        'turns: for number in 0..cut.turns.len() {
-            plan.push(cut.turns[number].place)?;
-        }
-        'doubts: for number in 0..cut.doubts.len() {
-            again.push(cut.doubts[number].pair)?;
-        }
-        self.plan = plan;
-        self.again = again;
-        Ok(())
+        self.plan = cut.tail.places(alloc)?;
+        self.doubts.plan(alloc, cut.doubts.as_slice())
+    }
+
+    /// Makes the call at a place in the stead of what was taken back, where it gives its reply, and
+    /// plans that anew. Puts it back where the call does not.
+    fn make_instead(
+        &mut self,
+        alloc: Global,
+        lines: &[Line],
+        layout: &Layout,
+        place: usize,
+        cut: Cut<M>,
+    ) -> Result<bool, AllocError> {
+        let Some(next) = led_to(&mut self.text, self.machine.as_ref(), lines, place)? else {
+            self.put_back(alloc, lines, layout, cut)?;
+            return Ok(false);
+        };
+        self.plan_again(alloc, &cut)?;
+        self.cut = Some(cut);
+        self.move_to(next)?;
+        Ok(true)
     }
 
     /// Decides a doubt the other way, and plans what came after it anew.
@@ -113,24 +92,15 @@ impl<M: Machine + Drop> QuickSearch<M> {
         layout: &Layout,
         pair: Pair,
     ) -> Result<Option<Quick>, AllocError> {
-        let Some(number) = self.doubt_of(pair) else {
+        let Some(at) = self.doubts.last_of(&self.trail, pair) else {
             return Ok(None);
         };
-        if self.doubts.len() <= number {
+        let cut = self.cut_to(alloc, lines, layout, at)?;
+        self.trail.settle_before(at);
+        self.make_again(lines)?;
+        if !self.make_instead(alloc, lines, layout, pair.other, cut)? {
             return Ok(None);
         }
-        let at = self.doubts[number].at;
-        let cut = self.cut_to(alloc, lines, layout, at)?;
-        self.settled = self.settled.min(at);
-        self.versions.keep_more();
-        self.make_again(lines)?;
-        let Some(next) = led_to(&mut self.text, self.machine.as_ref(), lines, pair.other)? else {
-            self.put_back(alloc, lines, layout, cut)?;
-            return Ok(None);
-        };
-        self.plan_again(alloc, &cut)?;
-        self.cut = Some(cut);
-        self.move_to(next)?;
         Ok(Some(self.go_on(lines, layout, pair.other)?))
     }
 
@@ -141,18 +111,45 @@ impl<M: Machine + Drop> QuickSearch<M> {
         lines: &[Line],
         layout: &Layout,
     ) -> Result<Option<Quick>, AllocError> {
-        'tries: for _ in self.tried..self.tries.len() {
-            let number = self.tried;
-            if self.tries.len() <= number {
+        'tries: for _ in 0..self.doubts.left() {
+            let Some(pair) = self.doubts.next_try() else {
                 break;
-            }
-            let pair = self.tries[number];
-            self.tried = number + 1;
+            };
             if let Some(quick) = self.jump(alloc, lines, layout, pair)? {
                 return Ok(Some(quick));
             }
         }
         Ok(None)
+    }
+
+    /// Decides the last doubt the other way all the same.
+    fn try_last(
+        &mut self,
+        alloc: Global,
+        lines: &[Line],
+        layout: &Layout,
+    ) -> Result<Option<Quick>, AllocError> {
+        if !self.tally.may_jump() {
+            return Ok(None);
+        }
+        let Some(last) = self.doubts.take_tried(alloc) else {
+            return Ok(None);
+        };
+        let quick = self.jump(alloc, lines, layout, last)?;
+        if quick.is_some() {
+            self.cut = None;
+        }
+        Ok(quick)
+    }
+
+    /// Takes back so many calls, but leaves the machine as it is.
+    fn go_back(&mut self, lines: &[Line], layout: &Layout, count: u64) {
+        'back: for _ in 0..count {
+            let Some(length) = self.trail.go_back(lines, layout) else {
+                return;
+            };
+            self.doubts.forget(length);
+        }
     }
 
     /// Goes back, the farther the more often it had to.
@@ -162,22 +159,30 @@ impl<M: Machine + Drop> QuickSearch<M> {
         lines: &[Line],
         layout: &Layout,
     ) -> Result<Quick, AllocError> {
-        if MOST_FAILS <= self.fails {
+        let Some(count) = self.tally.count_fail() else {
             return Ok(Quick::Missed);
-        }
-        self.fails += 1;
-        self.plan = Vec::new(alloc);
-        self.again = Vec::new(alloc);
-        let most = self.fails.wrapping_mul(FARTHER);
-        'back: for _ in 0..self.draw(most).wrapping_add(1) {
-            if self.go_back(lines, layout).is_none() {
-                break;
-            }
-        }
-        self.versions.cut(alloc, self.path.len())?;
-        self.versions.keep_more();
+        };
+        self.plan_none(alloc);
+        self.go_back(lines, layout, count);
+        self.versions.cut(alloc, self.trail.len())?;
         self.make_again(lines)?;
         Ok(Quick::On)
+    }
+
+    /// Takes the last try back. Where there was none, looks for doubts to try.
+    fn find_tries(
+        &mut self,
+        alloc: Global,
+        lines: &[Line],
+        layout: &Layout,
+    ) -> Result<(), AllocError> {
+        if let Some(cut) = self.cut.take() {
+            return self.put_back(alloc, lines, layout, cut);
+        }
+        if self.tally.count_jump() {
+            return self.doubts.find_tries(alloc, &self.trail, layout);
+        }
+        Ok(())
     }
 
     /// Goes on from where nothing fits.
@@ -187,24 +192,12 @@ impl<M: Machine + Drop> QuickSearch<M> {
         lines: &[Line],
         layout: &Layout,
     ) -> Result<Quick, AllocError> {
-        match self.cut.take() {
-            Some(cut) => self.put_back(alloc, lines, layout, cut)?,
-            None if self.jumps < MOST_JUMPS => {
-                self.jumps += 1;
-                self.find_tries(alloc, layout)?;
-            }
-            None => {}
-        }
+        self.find_tries(alloc, lines, layout)?;
         if let Some(quick) = self.try_next(alloc, lines, layout)? {
             return Ok(quick);
         }
-        if self.jumps < MOST_JUMPS && !self.tries.is_empty() {
-            let last = self.tries[0];
-            self.tries = Vec::new(alloc);
-            if let Some(quick) = self.jump(alloc, lines, layout, last)? {
-                self.cut = None;
-                return Ok(quick);
-            }
+        if let Some(quick) = self.try_last(alloc, lines, layout)? {
+            return Ok(quick);
         }
         self.retreat(alloc, lines, layout)
     }

@@ -1,6 +1,8 @@
 //! Machines that a quick search was at, from which it makes its calls again to go back.
 
+use crate::line::Line;
 use crate::machine::Machine;
+use crate::trail::Turn;
 use std::alloc::{AllocError, Global};
 use std::collections::VecDeque;
 
@@ -27,6 +29,19 @@ pub(crate) struct Versions<M> {
     stride: usize,
     /// How many are kept before some are dropped.
     most: usize,
+}
+
+/// The machine after the call at a place, where there is one.
+fn after_call<M: Machine + Drop>(
+    machine: M,
+    lines: &[Line],
+    place: usize,
+) -> Result<Option<M>, AllocError> {
+    if lines.len() <= place {
+        return Ok(None);
+    }
+    let (next, _) = machine.made(&lines[place].task)?;
+    Ok(Some(next))
 }
 
 impl<M: Machine + Drop> Versions<M> {
@@ -92,12 +107,7 @@ impl<M: Machine + Drop> Versions<M> {
 
     /// Keeps the machine after so many calls of `length`, where at least as many were made since
     /// the last one that is kept as are left.
-    pub(crate) fn keep_halfway(
-        &mut self,
-        at: usize,
-        length: usize,
-        machine: &M,
-    ) -> Result<(), AllocError> {
+    fn keep_halfway(&mut self, at: usize, length: usize, machine: &M) -> Result<(), AllocError> {
         let since = match self.kept.back() {
             Some(last) => at.saturating_sub(last.at),
             None => 0,
@@ -108,13 +118,30 @@ impl<M: Machine + Drop> Versions<M> {
         Ok(())
     }
 
-    /// Keeps the next machine after the next call, and then more and more seldom.
-    pub(crate) fn keep_more(&mut self) {
+    /// The machine after the calls of a path: they are made again from the last one on that is
+    /// kept. Others are kept on the way, the nearer the denser, and the next one after the next
+    /// call, then more and more seldom. None is kept after more calls than the path has.
+    pub(crate) fn made_again(
+        &mut self,
+        lines: &[Line],
+        path: &[Turn],
+    ) -> Result<Option<M>, AllocError> {
         self.stride = 1;
+        let Some(Version { at, mut machine }) = self.last()? else {
+            return Ok(None);
+        };
+        'again: for number in at..path.len() {
+            self.keep_halfway(number, path.len(), &machine)?;
+            match after_call(machine, lines, path[number].place)? {
+                Some(next) => machine = next,
+                None => return Ok(None),
+            }
+        }
+        Ok(Some(machine))
     }
 
     /// A copy of the last machine that is kept.
-    pub(crate) fn last(&self) -> Result<Option<Version<M>>, AllocError> {
+    fn last(&self) -> Result<Option<Version<M>>, AllocError> {
         match self.kept.back() {
             Some(last) => Ok(Some(Version {
                 at: last.at,
@@ -150,13 +177,14 @@ impl<M: Machine + Drop> Versions<M> {
         Ok(cut)
     }
 
-    /// Puts back the machines that were taken out.
+    /// Puts back the machines that were taken out. The next one is kept after the next call.
     pub(crate) fn put_back(&mut self, mut cut: Vec<Version<M>>) -> Result<(), AllocError> {
         'cut: for _ in 0..cut.len() {
             if let Some(version) = cut.pop() {
                 self.kept.push_back(version)?;
             }
         }
+        self.stride = 1;
         Ok(())
     }
 }
