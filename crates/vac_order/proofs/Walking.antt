@@ -15,10 +15,10 @@ use Rattle.vac_order.specs.declared.path.Walk.{Walk}
 use Rattle.vac_order.specs.Configurations.{Configuration, MayBegin, after_call, fits, answered, weight, PlacesAtMost}
 use Rattle.vac_order.specs.Configurations.{Deepest}
 use Rattle.vac_order.specs.Walk.{IsWhole, AreChoices, AreApart, PathPlace, IsWalk, IsDeepest, KeepsDeepest, Completes}
-use Rattle.vac_order.specs.Views.{Views, TellsLeft}
+use Rattle.vac_order.specs.Views.{Views, TellsLeft, IsNextToTry}
 use Rattle.std.specs.Global.{Vec}
 use Rattle.vac_order.specs.declared.known.Known.{Known}
-use Rattle.vac_order.specs.Searching.{HasMade, MakesStep, IsUndecided, Places}
+use Rattle.vac_order.specs.Searching.{HasMade, IsUndecided, Places}
 use Rattle.vac_order.specs.Walking.{path_place, search_of, AreDistinct, AreMadeBy, WalksWith, Walks, TriesPlace}
 use Rattle.vac_order.specs.Walking.{places_of}
 use Rattle.vac_order.specs.Walking.{best_of, CompletesBy, FailsBy}
@@ -254,6 +254,16 @@ pub tried : {W : Type 0} (views : Views W) (start : Configuration) (steps : ℕ)
     → views.tries walk.world walk.next ≡ call ∷ tries → Walks views start steps walk →
     WalksWith views start steps walk (call ∷ tries)
 tried views start steps walk call tries e w = subst (WalksWith views start steps walk) e w
+
+-- the next call to try, which gives its reply, is tried from the place behind it
+pub tries_place : {W : Type 0} (views : Views W) (start : Configuration) (steps : ℕ) (walk : Walk W) (place : ℕ) →
+    IsNextToTry views walk.world walk.next place → fits (views.at walk.world).state (views.call place) ≡ true →
+    Walks views start steps walk → TriesPlace views start steps (record walk { next = place + 1 }) place
+tries_place views start steps walk place n fit w = record {
+  walks = tried views start steps walk (views.call place) (views.tries walk.world (place + 1)) n.is w;
+  goes = record { may = n.may; fit = fit };
+  left = n.left;
+}
 
 max_same : (m p : ℕ) → max m p ≡ max (max m p) p
 max_same m p = omega arith
