@@ -1,7 +1,7 @@
 -- What is found of the calls as they are kept is found of a text.
-use Rattle.std.proofs.Common.{◌≡◌, ℕ, ◌+◌, ◌-◌, ◌<◌, ◌≤◌, ◌==◌, suc, zero, Bool, true, false, cond, List, [], ◌∷◌, ◌++◌}
-use Rattle.std.proofs.Common.{length, map, flat_map, get_or, Option, Some, None, inl, inr, refl, sym, ap, ◌∙◌, subst}
-use Rattle.std.proofs.Common.{arith, append_assoc}
+use Rattle.std.proofs.Common.{◌≡◌, ℕ, ◌-◌, ◌<◌, ◌≤◌, ◌==◌, suc, zero, Bool, true, false, cond, List, [], ◌∷◌, ◌++◌}
+use Rattle.std.proofs.Common.{length, map, get_or, Option, Some, None, inl, inr, refl, sym, ap, ◌∙◌, subst}
+use Rattle.std.proofs.Common.{arith}
 use Rattle.std.specs.Prelude.{All, IfSome, ◌⊎◌}
 use Rattle.std.specs.Io.KnownBytes.{Consumes, IsAtEnd}
 use Rattle.std.proofs.KnownBytes.{Consumes-whole}
@@ -16,26 +16,22 @@ use Rattle.std.proofs.lemmas.List.Elements.{All-cons, All-head, All-tail, All-ni
 use Rattle.vac_model.specs.State.{State}
 use Rattle.vac_lines.specs.Lines.{lines_of}
 use Rattle.vac_lines.specs.Script.{as_line}
-use Rattle.vac_judge.specs.Call.{Call}
 use Rattle.vac_judge.specs.Laws.{Lists, IsLinearization}
 use Rattle.vac_order.specs.declared.line.Line.{Line}
 use Rattle.vac_order.specs.declared.stuck.Stuck.{Stuck}
-use Rattle.vac_order.specs.declared.calls.Calls.{Calls}
-use Rattle.vac_order.specs.declared.point.Point.{Point}
 use Rattle.vac_order.specs.declared.ordering.Outcome.TheVariants as outcome
 use Rattle.vac_order.specs.Orders.{IsMerge, IsOrderOf}
 use Rattle.vac_order.specs.Configurations.{start, answered, PlacesAtMost, Deepest}
 use Rattle.vac_order.specs.Searching.{IsUndecided}
 use Rattle.vac_order.specs.Walking.{AreDistinct}
 use Rattle.vac_order.specs.Calls.{call_of, calls_of, no_call, rest_of}
-use Rattle.vac_order.specs.Point.{made_of, point_at}
 use Rattle.vac_order.specs.Stuck.{AreStuck}
 use Rattle.vac_order.specs.Judging.{calls_at, IsLinearizedBy, HasNoOrder}
 use Rattle.vac_order.specs.Reading.{first_wrong, texts_of, numbers_of, call_at, IsLineAt, AreKeptLines, ReadWhole}
 use Rattle.vac_order.specs.Reading.{ReadWrong}
-use Rattle.vac_order.specs.Found.{FoundOfText, Wrong, NoOrder, Order, Undecided, calls_numbered, AreNumbers, IsOrdered}
+use Rattle.vac_order.specs.Found.{Wrong, NoOrder, Order, Undecided, calls_numbered}
 use Rattle.vac_order.specs.Found.{AreKeptInOrder}
-use Rattle.vac_order.specs.Found.{HasNone, IsLeftOpen, told_by, line_at, order_text, placed_text, none_text, open_text}
+use Rattle.vac_order.specs.Found.{told_by, line_at, order_text, placed_text, none_text, open_text}
 use Rattle.vac_order.specs.Ordering.{FindsText, HasText}
 use Rattle.vac_order.proofs.Placing.{times}
 use Rattle.vac_order.proofs.Kept.{times_cons}

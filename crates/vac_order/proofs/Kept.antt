@@ -1,18 +1,16 @@
 -- The lines as they are kept are those that were read.
-use Rattle.std.proofs.Common.{◌≡◌, ℕ, ◌+◌, ◌-◌, ◌<◌, ◌≤◌, ◌==◌, suc, zero, Bool, true, false, cond, List, [], ◌∷◌, ◌++◌}
+use Rattle.std.proofs.Common.{◌≡◌, ℕ, ◌+◌, ◌-◌, ◌<◌, ◌≤◌, ◌==◌, Bool, true, false, cond, List, [], ◌∷◌, ◌++◌}
 use Rattle.std.proofs.Common.{length, map, get_or, refl, sym, ap, ◌∙◌, subst, arith, append_assoc}
 use Rattle.std.specs.Prelude.{All, IsPermutation}
-use Rattle.std.specs.List.{sum_by}
 use Rattle.std.proofs.lemmas.Bool.Decides.{nat_tests}
 use Rattle.std.proofs.lemmas.List.Elements.{All-cons, All-head, All-tail, All-nil}
 use Rattle.std.proofs.lemmas.List.Sums.{sum_by-cons}
 use Rattle.std.proofs.lemmas.List.Sorted.{All-permutation, IsPermutation-map, sum_by-IsPermutation}
-use Rattle.vac_judge.specs.Call.{Call}
 use Rattle.vac_order.specs.declared.line.Line.{Line}
 use Rattle.vac_order.specs.Orders.{IsMerge}
 use Rattle.vac_order.specs.Walking.{AreDistinct}
 use Rattle.vac_order.specs.Calls.{call_of, calls_of, no_call, soonest_of}
-use Rattle.vac_order.specs.Reading.{texts_of, numbers_of, call_at, AreNumbered, IsLineAt, AreKeptLines, AreSortOf}
+use Rattle.vac_order.specs.Reading.{texts_of, numbers_of, AreNumbered, IsLineAt, AreKeptLines, AreSortOf}
 use Rattle.vac_order.proofs.Placing.{times}
 
 -- what stands behind a front

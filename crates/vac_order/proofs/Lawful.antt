@@ -1,5 +1,5 @@
 -- What is found is right.
-use Rattle.std.proofs.Common.{◌≡◌, ℕ, Ok, Err, Result, List, [], ◌∷◌, map, refl, sym, ap, ◌∙◌, subst}
+use Rattle.std.proofs.Common.{◌≡◌, Ok, Result, List, [], ◌∷◌, map, refl, sym, ap, ◌∙◌, subst}
 use Rattle.vac_judge.specs.declared.fault.CallFault.{CallFault}
 use Rattle.vac_judge.specs.Call.{Call}
 use Rattle.vac_order.specs.Orders.{IsLinearizable}

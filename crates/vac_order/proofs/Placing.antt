@@ -1,7 +1,6 @@
 -- The places of a path are made each once.
-use Rattle.std.proofs.Common.{◌≡◌, ℕ, ◌+◌, ◌<◌, ◌≤◌, ◌==◌, ◌||◌, Bool, true, false, cond, List, [], ◌∷◌, ◌++◌, map}
+use Rattle.std.proofs.Common.{◌≡◌, ℕ, ◌+◌, ◌<◌, ◌≤◌, ◌==◌, ◌||◌, Bool, true, false, cond, List, [], ◌∷◌, ◌++◌}
 use Rattle.std.proofs.Common.{refl, sym, ap, ◌∙◌, subst, arith, append_assoc}
-use Rattle.std.specs.Prelude.{All}
 use Rattle.std.specs.List.{list_any, sum_by}
 use Rattle.std.proofs.lemmas.Bool.Decides.{nat_tests}
 use Rattle.std.proofs.lemmas.List.Folds.{list_any-append}
@@ -10,7 +9,6 @@ use Rattle.std.proofs.lemmas.List.Elements.{All-append, All-cons, All-nil}
 use Rattle.vac_order.specs.declared.path.Frame.{Frame}
 use Rattle.vac_order.specs.Views.{Views}
 use Rattle.vac_order.specs.Walking.{AreDistinct, AreMade, AreMadeBy, places_of}
-use Rattle.vac_order.proofs.Each.{test}
 
 -- how often a number stands in a list
 abbrev pub times : ℕ → List ℕ → ℕ

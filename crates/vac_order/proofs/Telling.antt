@@ -1,8 +1,7 @@
 -- How a text is read as a history, line by line.
-use Rattle.std.proofs.Common.{◌≡◌, ◌⊎◌, ℕ, ◌+◌, ◌<◌, ◌≤◌, Bool, true, false, cond, List, [], ◌∷◌, ◌++◌, length, map}
-use Rattle.std.proofs.Common.{refl, ap, sym, ◌∙◌, inl, inr, append-nil, append_assoc, subst, Option, Some, None, nat_lt}
-use Rattle.std.proofs.Common.{Result, Ok, Err}
-use Rattle.std.proofs.lemmas.List.{map-append}
+use Rattle.std.proofs.Common.{◌≡◌, ◌⊎◌, ℕ, ◌+◌, Bool, true, false, cond, List, [], ◌∷◌, ◌++◌, length, map}
+use Rattle.std.proofs.Common.{refl, ap, sym, ◌∙◌, inl, inr, append-nil, append_assoc, subst, Option, Some, nat_lt}
+use Rattle.std.proofs.Common.{Result, Ok}
 use Rattle.std.specs.Io.KnownBytes.{IsAtEnd}
 use Rattle.vac_lines.specs.Lines.{lines_of}
 use Rattle.vac_streams.specs.declared.fault.StreamFault.{StreamFault}
@@ -14,16 +13,14 @@ use Rattle.vac_streams.specs.Heard.{ToldAll, ToldLast, AreFirst, AreFirstOf, Hea
 use Rattle.vac_streams.proofs.Telling.{lines_both}
 use Rattle.vac_judge.specs.declared.fault.CallFault.{CallFault}
 use Rattle.vac_judge.specs.declared.verdict.Verdict.{Verdict}
-use Rattle.vac_judge.specs.declared.verdict.Verdict.TheVariants.{Fault, Illegal}
+use Rattle.vac_judge.specs.declared.verdict.Verdict.TheVariants.{Illegal}
 use Rattle.vac_judge.specs.declared.verdict.Wrong.TheVariants.{Client}
 use Rattle.vac_judge.specs.Call.{Call, line_call}
-use Rattle.vac_judge.specs.Order.{call_breaks_client}
 use Rattle.vac_judge.specs.Hearing.{told_call}
 use Rattle.vac_judge.proofs.Telling.{lines_told}
-use Rattle.vac_order.specs.declared.history.History.{History}
 use Rattle.vac_order.specs.declared.reading.HistoryText.{HistoryText}
 use Rattle.vac_order.specs.Calls.{calls_of}
-use Rattle.vac_order.specs.Reading.{wrong_behind, first_wrong, texts_of, IsHeld, Took, TookLine, StopsAt}
+use Rattle.vac_order.specs.Reading.{wrong_behind, first_wrong, texts_of, IsHeld, TookLine}
 use Rattle.vac_order.specs.Reading.{HistoryHearsLine}
 use Rattle.vac_order.specs.Reading.{ReadWhole, ReadWrong}
 

@@ -1,7 +1,7 @@
 -- What is written of an order is a history that the judge calls legal.
 use Rattle.std.proofs.Common.{◌≡◌, ◌≢◌, ◌⊎◌, ◌||◌, ◌-◌, ◌<◌, ◌≤◌, ℕ, suc, zero, Bool, true, false, cond, Option, Some}
 use Rattle.std.proofs.Common.{None, Result, Ok, Err, inl, inr, List, [], ◌∷◌, ◌++◌, map, length, get_or, refl, sym, ap}
-use Rattle.std.proofs.Common.{◌∙◌, subst, arith, append_assoc, append-nil, nat_lt}
+use Rattle.std.proofs.Common.{◌∙◌, subst, arith, append_assoc, nat_lt}
 use Rattle.std.specs.Prelude.{All, IfSome}
 use Rattle.std.specs.List.{list_any}
 use Rattle.std.specs.Option.{ok_or}

@@ -1,5 +1,5 @@
 -- What is found of a history of which only each client's own order is known, and its text.
-use Rattle.std.specs.Prelude.{◌≡◌, ◌≤◌, ◌<◌, ◌-◌, ⊤, ℕ, Bool, Some, None, All, List, [], ◌∷◌, ◌++◌, map, flat_map, length, get_or, codes, decimal}
+use Rattle.std.specs.Prelude.{◌≡◌, ◌≤◌, ◌-◌, ℕ, Bool, Some, None, All, List, [], ◌++◌, map, flat_map, length, get_or, codes, decimal}
 use Rattle.vac_model.specs.State.{State}
 use Rattle.vac_model.specs.declared.replies.Reply.{Reply}
 use Rattle.vac_lines.specs.Lines.{lines_of}
@@ -11,7 +11,7 @@ use Rattle.vac_judge.specs.Call.{Call}
 use Rattle.vac_judge.specs.Laws.{Lists, IsLinearization}
 use Rattle.vac_order.specs.declared.stuck.Stuck.{Stuck}
 use Rattle.vac_order.specs.Orders.{IsMerge, IsOrderOf, IsLinearizable}
-use Rattle.vac_order.specs.Configurations.{Configuration, start, answered, PlacesAtMost, Deepest}
+use Rattle.vac_order.specs.Configurations.{start, answered, PlacesAtMost, Deepest}
 use Rattle.vac_order.specs.Calls.{rest_of}
 use Rattle.vac_order.specs.Searching.{IsUndecided}
 use Rattle.vac_order.specs.Walking.{AreDistinct}

@@ -1,4 +1,4 @@
-use Rattle.std.proofs.Common.{◌≡◌, ◌<◌, ◌≤◌, ℕ, ◌++◌, length, take, flat_map, get_or, refl, sym, ap, ◌∙◌, subst, arith}
+use Rattle.std.proofs.Common.{◌<◌, ℕ, ◌++◌, length, take, flat_map, get_or, refl, sym, ap, ◌∙◌, arith}
 use Rattle.std.proofs.Common.{append_assoc, append-nil}
 use Rattle.std.specs.Global.{Vec}
 use Rattle.std.proofs.lemmas.List.{take_all}

@@ -1,7 +1,4 @@
-use Rattle.std.proofs.Common.{◌≡◌, ◌++◌, ◌<◌, length, flat_map, ap, ◌∙◌, append_assoc, Result, Ok, Err, OnOk}
-use Rattle.std.specs.Prelude.{All}
-use Rattle.vac_lines.specs.Script.{as_line}
-use Rattle.vac_order.specs.declared.stuck.Stuck.{Stuck}
+use Rattle.std.proofs.Common.{◌++◌, flat_map, ap, ◌∙◌, append_assoc, Result, Ok, Err, OnOk}
 use Rattle.vac_order.specs.Reading.{numbers_of}
 use Rattle.vac_order.specs.Found.{stuck_text, told_by}
 use Rattle.vac_order.proofs.found.print_no_order.Goals as goal

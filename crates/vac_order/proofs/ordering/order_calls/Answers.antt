@@ -1,4 +1,3 @@
-use Rattle.std.proofs.Common.{ap, ◌∙◌}
 use Rattle.vac_order.proofs.ordering.order_calls.Goals as goal
 
 pub returns : goal.returns

@@ -1,4 +1,4 @@
-use Rattle.std.proofs.Common.{◌≡◌, Option, Some, None, sym, ◌∙◌, subst}
+use Rattle.std.proofs.Common.{◌≡◌, Some, None, sym, ◌∙◌, subst}
 use Rattle.vac_judge.specs.declared.verdict.Verdict.{Verdict}
 use Rattle.vac_order.specs.Reading.{ReadWrong}
 use Rattle.vac_order.proofs.Telling.{read_all, read_wrong}

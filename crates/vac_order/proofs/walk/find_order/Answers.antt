@@ -1,10 +1,9 @@
-use Rattle.std.proofs.Common.{◌≤◌, ◌<◌, suc, [], map, refl, sym, ap, subst, arith, add-one}
-use Rattle.std.specs.Prelude.{vec_len, All}
+use Rattle.std.proofs.Common.{◌≤◌, ◌<◌, suc, sym, subst, arith, add-one}
+use Rattle.std.specs.Prelude.{vec_len}
 use Rattle.vac_order.specs.Configurations.{answered}
 use Rattle.vac_order.specs.Views.{TellsLeft}
-use Rattle.vac_order.specs.Walk.{Completes}
 use Rattle.vac_order.specs.Searching.{IsUndecided}
-use Rattle.vac_order.specs.Walking.{AreDistinct, CompletesBy, StaysWithin, StepsTo, Walks}
+use Rattle.vac_order.specs.Walking.{CompletesBy, StaysWithin, StepsTo, Walks}
 use Rattle.vac_order.proofs.Placing.{distinct_none}
 use Rattle.std.proofs.lemmas.List.Elements.{All-nil}
 use Rattle.vac_order.proofs.Walking.{starts, no_calls, undecided}

@@ -1,5 +1,4 @@
-use Rattle.std.proofs.Common.{◌≡◌, ◌≤◌, not, nat_le, sym, ap, ◌∙◌, arith}
-use Rattle.vac_judge.specs.Order.{call_breaks_client}
+use Rattle.std.proofs.Common.{◌≤◌, nat_le, sym, ap, ◌∙◌, arith}
 use Rattle.vac_judge.specs.Parts.{shown_call, shown_end}
 use Rattle.vac_order.specs.Calls.{calls_of}
 use Rattle.vac_order.proofs.Turns.{said_some, said_none}

@@ -1,4 +1,4 @@
-use Rattle.std.proofs.Common.{◌≡◌, ◌-◌, ◌^◌, [], List, sym, subst, ap}
+use Rattle.std.proofs.Common.{◌-◌, ◌^◌, List, sym, subst, ap}
 use Rattle.vac_judge.specs.Follows.{EachCall}
 use Rattle.vac_order.specs.declared.line.Line.{Line}
 use Rattle.vac_order.specs.Calls.{calls_of}
