@@ -87,6 +87,30 @@ fn print_finding<M: Machine + Drop>(
     }
 }
 
+/// What is found of a history, from the machine without entries on, and its text.
+fn order_from<M: Machine + Drop, P: Watcher>(
+    alloc: Global,
+    blocks: u32,
+    steps: u64,
+    history: History,
+    machine: M,
+    watcher: &mut P,
+) -> Result<(Outcome, Vec<u8>), AllocError>
+    requires some { 1 ≤ blocks }
+    requires most { blocks ≤ MOST_BLOCKS }
+    requires held { IsHeld history }
+    requires empty { M.state machine ≡ empty_state blocks }
+    ensures { IfOk result (λ found. (bytes : List ℕ) →
+        texts_of history.lines.items ≡ lines_of bytes →
+        Lists bytes (calls_of history.lines.items) → first_wrong bytes ≡ None →
+        FindsText blocks steps bytes found.0 found.1.items) }
+{
+    let ordered = judge_lines(alloc, blocks, history, machine, steps, watcher)?;
+    let mut text = Vec::new(alloc);
+    let outcome = print_finding(alloc, &ordered, &mut text)?;
+    Ok((outcome, text))
+}
+
 /// What is found of a history, and its text.
 fn order_calls<P: Watcher>(
     alloc: Global,
@@ -104,10 +128,7 @@ fn order_calls<P: Watcher>(
         FindsText blocks steps bytes found.0 found.1.items) }
 {
     let manager = open(alloc, blocks)?;
-    let ordered = judge_lines(alloc, blocks, history, manager, steps, watcher)?;
-    let mut text = Vec::new(alloc);
-    let outcome = print_finding(alloc, &ordered, &mut text)?;
-    Ok((outcome, text))
+    order_from(alloc, blocks, steps, history, manager, watcher)
 }
 
 /// Reads a history and finds what is to be written of it.

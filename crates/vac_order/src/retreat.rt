@@ -59,9 +59,21 @@ impl<M: Machine + Drop> QuickSearch<M> {
     }
 
     /// Plans anew what was taken back, and notes which doubts there were about it.
-    fn plan_again(&mut self, alloc: Global, cut: &Cut<M>) -> Result<(), AllocError> {
+    fn plan_again(&mut self, alloc: Global) -> Result<(), AllocError> {
+        let Some(cut) = &self.cut else {
+            return Ok(());
+        };
         self.plan = cut.tail.places(alloc)?;
         self.doubts.plan(alloc, cut.doubts.as_slice())
+    }
+
+    /// Puts back what was taken back last. Returns whether anything was.
+    fn undo(&mut self, alloc: Global, lines: &[Line], layout: &Layout) -> Result<bool, AllocError> {
+        let Some(cut) = self.cut.take() else {
+            return Ok(false);
+        };
+        self.put_back(alloc, lines, layout, cut)?;
+        Ok(true)
     }
 
     /// Makes the call at a place in the stead of what was taken back, where it gives its reply, and
@@ -72,15 +84,13 @@ impl<M: Machine + Drop> QuickSearch<M> {
         lines: &[Line],
         layout: &Layout,
         place: usize,
-        cut: Cut<M>,
     ) -> Result<bool, AllocError> {
         let Some(next) = led_to(&mut self.text, self.machine.as_ref(), lines, place)? else {
-            self.put_back(alloc, lines, layout, cut)?;
+            self.undo(alloc, lines, layout)?;
             return Ok(false);
         };
-        self.plan_again(alloc, &cut)?;
-        self.cut = Some(cut);
         self.move_to(next)?;
+        self.plan_again(alloc)?;
         Ok(true)
     }
 
@@ -95,10 +105,10 @@ impl<M: Machine + Drop> QuickSearch<M> {
         let Some(at) = self.doubts.last_of(&self.trail, pair) else {
             return Ok(None);
         };
-        let cut = self.cut_to(alloc, lines, layout, at)?;
+        self.cut = Some(self.cut_to(alloc, lines, layout, at)?);
         self.trail.settle_before(at);
         self.make_again(lines)?;
-        if !self.make_instead(alloc, lines, layout, pair.other, cut)? {
+        if !self.make_instead(alloc, lines, layout, pair.other)? {
             return Ok(None);
         }
         Ok(Some(self.go_on(lines, layout, pair.other)?))
@@ -176,10 +186,7 @@ impl<M: Machine + Drop> QuickSearch<M> {
         lines: &[Line],
         layout: &Layout,
     ) -> Result<(), AllocError> {
-        if let Some(cut) = self.cut.take() {
-            return self.put_back(alloc, lines, layout, cut);
-        }
-        if self.tally.count_jump() {
+        if !self.undo(alloc, lines, layout)? && self.tally.count_jump() {
             return self.doubts.find_tries(alloc, &self.trail, layout);
         }
         Ok(())

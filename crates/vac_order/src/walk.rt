@@ -1,7 +1,7 @@
 //! The search for an order: a walk through worlds, one call at a time, and back where nothing is
 //! left to try.
 
-ghost use Rattle.std.specs.Prelude.{◌≡◌, ◌<◌, ◌≤◌, ◌+◌, ◌++◌, ◌∷◌, [], ◌||◌, ◌==◌, ℕ, suc, max, true, false, IfOk, IfSome, map, if◌then◌else◌};
+ghost use Rattle.std.specs.Prelude.{◌≡◌, ◌<◌, ◌≤◌, ◌+◌, ◌++◌, ◌∷◌, [], ◌||◌, ◌==◌, ℕ, suc, max, IfOk, IfSome, if◌then◌else◌};
 ghost use Rattle.vac_order.specs.Configurations.{Configuration, after_call};
 ghost use Rattle.vac_order.specs.Walk.{IsWhole};
 ghost use Rattle.vac_order.specs.Walking.{BestIsWithin, StaysWithin, Walks, WalksWith, TriesPlace, StepsTo, FindsFrom, places_of, best_of};

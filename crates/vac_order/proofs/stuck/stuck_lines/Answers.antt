@@ -12,13 +12,28 @@ use Rattle.vac_order.specs.Marks.{is_made}
 use Rattle.vac_order.specs.Calls.{calls_of, given_text}
 use Rattle.vac_order.proofs.Tries.{at}
 use Rattle.vac_order.proofs.Sorted.{call_here, length_calls}
-use Rattle.vac_order.proofs.StuckCalls.{AreFound, found_more, found_less}
+use Rattle.vac_order.proofs.StuckCalls.{AreFound, found_none, found_more, found_less, found_all}
 use Rattle.vac_order.proofs.stuck.stuck_lines.Goals as goal
 use Rattle.vac_order.proofs.stuck.stuck_lines.Goals.{then-is_some+in_ok-expected+in_ok-push, else-is_some}
 
 given : (reply : Option (Vec ℕ)) → is_some (given_text reply) ≡ is_some reply
 given None = refl
 given (Some text) = refl
+
+pub calls-init : goal.calls-init
+calls-init g c =
+    let s = g.M.Machine.state c.args.machine.now in
+    let made = is_made c.args.low c.args.beyond.now in
+    let cs = calls_of c.args.lines.now in
+    subst (λ l. AreFound s made cs l 0) (sym c.new-found.ensures.items) (found_none s made cs)
+
+pub bounds-lines-place : goal.bounds-lines-place
+bounds-lines-place g c =
+    subst (λ n. c.in-Some.place < n) (length_calls c.args.lines.now) c.in-Some.ensures.next.within
+
+pub returns : goal.returns
+returns g c = found_all (g.M.Machine.state c.args.machine.now) (is_made c.args.low c.args.beyond.now)
+    (calls_of c.args.lines.now) c.calls.found.items c.calls.from c.in_default.ensures.next c.calls.invariant
 
 pub calls-preserved : goal.calls-preserved
 calls-preserved g c =
