@@ -1,4 +1,5 @@
-use Rattle.std.proofs.Common.{◌≡◌, Result, Ok, Err, IfOk, sym, ap, ◌∙◌, subst}
+use Rattle.std.proofs.Common.{◌≡◌, sym, ap, ◌∙◌, subst}
+use Rattle.std.proofs.lemmas.Result.{IfOk-weaker}
 use Rattle.std.specs.Prelude.{IfSome}
 use Rattle.vac_model.specs.State.{empty_state}
 use Rattle.vac_order.specs.Calls.{calls_of}
@@ -8,10 +9,6 @@ use Rattle.vac_order.specs.Point.{point_at, point_views}
 use Rattle.vac_order.specs.Judging.{IsLinearizedBy, IsFoundOfCalls}
 use Rattle.vac_order.proofs.Judged.{all_left, judges}
 use Rattle.vac_order.proofs.order.judge_order.Goals as goal
-
-if_ok : {X E : Type 0} (P Q : X → Type 0) → ((x : X) → P x → Q x) → (r : Result X E) → IfOk r P → IfOk r Q
-if_ok P Q f (Ok x) h = f x h
-if_ok P Q f (Err e) h = tt
 
 pub find_order-requires : goal.find_order-requires
 find_order-requires g c =
@@ -28,10 +25,10 @@ returns g c =
     let state = g.M.Machine.state in
     let calls = c.args.calls.now in
     let blocks = c.args.blocks in
-    if_ok (λ found. FindsFrom (point_views state calls) (point_at state calls c.new.result) c.args.steps found)
+    IfOk-weaker c.find_order.result (λ found. FindsFrom (point_views state calls) (point_at state calls c.new.result) c.args.steps found)
     (λ found. state c.args.machine ≡ empty_state blocks →
     IsFoundOfCalls (point_at state calls) blocks (calls_of calls.lines.items) c.args.steps found)
     (λ found h e.
     judges state calls c.new.result blocks c.args.steps c.requires.whole c.new.ensures.low c.new.ensures.beyond
     (ap state c.new.ensures.machine ∙ e) found h)
-    c.find_order.result c.find_order.ensures
+    c.find_order.ensures

@@ -1,22 +1,19 @@
-use Rattle.std.proofs.Common.{Result, Ok, Err, IfOk, subst}
+use Rattle.std.proofs.Common.{subst}
+use Rattle.std.proofs.lemmas.Result.{IfOk-weaker}
 use Rattle.vac_order.specs.Marks.{is_made}
 use Rattle.vac_order.specs.Calls.{calls_of}
 use Rattle.vac_order.specs.Stuck.{AreStuck}
 use Rattle.vac_order.proofs.stuck.stuck_calls.Goals as goal
 
-if_ok : {X E : Type 0} (P Q : X → Type 0) → ((x : X) → P x → Q x) → (r : Result X E) → IfOk r P → IfOk r Q
-if_ok P Q f (Ok x) h = f x h
-if_ok P Q f (Err e) h = tt
-
 pub returns : goal.returns
 returns g c =
     let point = c.args.point.now in
     let state = g.M.Machine.state point.machine in
-    if_ok (λ found. AreStuck state (is_made point.low c.as_slice.result.now)
+    IfOk-weaker c.stuck_lines.result (λ found. AreStuck state (is_made point.low c.as_slice.result.now)
     (calls_of c.as_slice-2.result.now) found.items)
     (λ found. AreStuck state (is_made point.low point.beyond.items) (calls_of c.args.calls.now.lines.items) found.items)
     (λ found h.
     subst (λ ls. AreStuck state (is_made point.low point.beyond.items) (calls_of ls) found.items) c.as_slice-2.ensures
     (subst (λ b. AreStuck state (is_made point.low b) (calls_of c.as_slice-2.result.now) found.items)
     c.as_slice.ensures.value h))
-    c.stuck_lines.result c.stuck_lines.ensures
+    c.stuck_lines.ensures
