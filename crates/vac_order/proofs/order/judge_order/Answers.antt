@@ -25,7 +25,8 @@ returns g c =
     let state = g.M.Machine.state in
     let calls = c.args.calls.now in
     let blocks = c.args.blocks in
-    IfOk-weaker c.find_order.result (λ found. FindsFrom (point_views state calls) (point_at state calls c.new.result) c.args.steps found)
+    IfOk-weaker c.find_order.result (λ found. FindsFrom (point_views state calls)
+    (point_at state calls c.new.result) c.args.steps found)
     (λ found. state c.args.machine ≡ empty_state blocks →
     IsFoundOfCalls (point_at state calls) blocks (calls_of calls.lines.items) c.args.steps found)
     (λ found h e.
