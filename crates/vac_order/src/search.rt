@@ -1,5 +1,7 @@
 //! The state of a quick search: where it is, and how it got there.
 
+ghost use Rattle.std.specs.Prelude.{◌<◌, length, IfOk, IfSome};
+
 use crate::doubts::{Doubt, Doubts, Pair};
 use crate::layout::Layout;
 use crate::line::Line;
@@ -9,6 +11,7 @@ use crate::tally::Tally;
 use crate::trail::{Tail, Trail};
 use crate::versions::{Version, Versions};
 use std::alloc::{AllocError, Global};
+use vac_model::Reply;
 
 /// What was taken back: after how many calls, these calls, the doubts about them and the machines
 /// that were kept there, each first one last, and the machine where the search was.
@@ -50,6 +53,21 @@ pub(crate) enum Quick {
     Missed,
 }
 
+/// The machine after the call at a place, where there is one, and its reply. It takes the place of
+/// the one before.
+pub(crate) fn made_at<M: Machine + Drop>(
+    machine: M,
+    lines: &[Line],
+    place: usize,
+) -> Result<Option<(M, Reply)>, AllocError>
+    ensures { IfOk result (λ made. IfSome made (λ _. place < length lines.now)) }
+{
+    if lines.len() <= place {
+        return Ok(None);
+    }
+    Ok(Some(machine.made(&lines[place].task)?))
+}
+
 /// The machine after a call, where that gives its reply. It takes the place of the one before, and
 /// the reply's text is written over another.
 pub(crate) fn led_from<M: Machine + Drop>(
@@ -58,10 +76,9 @@ pub(crate) fn led_from<M: Machine + Drop>(
     lines: &[Line],
     place: usize,
 ) -> Result<Option<M>, AllocError> {
-    if lines.len() <= place {
+    let Some((next, reply)) = made_at(machine, lines, place)? else {
         return Ok(None);
-    }
-    let (next, reply) = machine.made(&lines[place].task)?;
+    };
     if is_right(text, &lines[place].reply, &reply)? {
         Ok(Some(next))
     } else {

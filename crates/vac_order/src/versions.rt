@@ -2,6 +2,7 @@
 
 use crate::line::Line;
 use crate::machine::Machine;
+use crate::search::made_at;
 use crate::trail::Turn;
 use std::alloc::{AllocError, Global};
 use std::collections::VecDeque;
@@ -29,19 +30,6 @@ pub(crate) struct Versions<M> {
     stride: usize,
     /// How many are kept before some are dropped.
     most: usize,
-}
-
-/// The machine after the call at a place, where there is one.
-fn after_call<M: Machine + Drop>(
-    machine: M,
-    lines: &[Line],
-    place: usize,
-) -> Result<Option<M>, AllocError> {
-    if lines.len() <= place {
-        return Ok(None);
-    }
-    let (next, _) = machine.made(&lines[place].task)?;
-    Ok(Some(next))
 }
 
 impl<M: Machine + Drop> Versions<M> {
@@ -132,8 +120,8 @@ impl<M: Machine + Drop> Versions<M> {
         };
         'again: for number in at..path.len() {
             self.keep_halfway(number, path.len(), &machine)?;
-            match after_call(machine, lines, path[number].place)? {
-                Some(next) => machine = next,
+            match made_at(machine, lines, path[number].place)? {
+                Some((next, _)) => machine = next,
                 None => return Ok(None),
             }
         }
