@@ -110,19 +110,17 @@ fn add_client_options<'a>(alloc: Global, command: Made<'a>) -> Made<'a>
     let clients = number_option(alloc, "clients", 1, MOST_CLIENTS, "4")
         .short('c')
         .help("How many clients call the system, each in a thread of its own");
-    let command = add_option(command, clients);
     let tasks = number_option(alloc, "tasks", 1, MOST_TASKS, "100")
         .short('t')
         .help("How many tasks each client asks for in each round");
-    let command = add_option(command, tasks);
     let rounds = number_option(alloc, "rounds", 1, MOST_ROUNDS, "1").help(
         "How many rounds there are, each on a new clock",
     );
-    let command = add_option(command, rounds);
     let tries = number_option(alloc, "tries", 1, MOST_TRIES, "64").help(
         "How many attempts a task may take",
     );
-    add_option(command, tries)
+    let command = add_option(add_option(command, clients), tasks);
+    add_option(add_option(command, rounds), tries)
 }
 
 /// Adds the options that say what the tasks of a load are.
@@ -132,24 +130,21 @@ fn add_task_options<'a>(alloc: Global, command: Made<'a>) -> Made<'a>
     let items = number_option(alloc, "items", 1, MOST_ITEMS, "16")
         .short('r')
         .help("How many items of each kind there are; the blocks must be four times as many");
-    let command = add_option(command, items);
     let asks = number_option(alloc, "asks", 1, MOST_PARTS as u32, "4")
         .short('n')
         .help("The most items that a task names");
-    let command = add_option(command, asks);
     let reads = number_option(alloc, "reads", 0, PERCENT, "0").help(
         "How many of a hundred tasks are questions, which change nothing",
     );
-    let command = add_option(command, reads);
     let user = number_option(alloc, "user", 0, PERCENT, "80")
         .short('u')
         .help("How many of a hundred tasks are trips");
-    let command = add_option(command, user);
     let seed = any_number_option(alloc, "seed", "1")
         .short('s')
         .help("What the tasks are drawn from");
-    let command = add_option(command, seed);
-    add_option(command, blocks_option(alloc))
+    let command = add_option(add_option(command, items), asks);
+    let command = add_option(add_option(command, reads), user);
+    add_option(add_option(command, seed), blocks_option(alloc))
 }
 
 /// Adds the flags that say what a load writes of itself. Where no load is run they change nothing,
@@ -160,19 +155,17 @@ fn add_telling_options<'a>(alloc: Global, command: Made<'a>, is_run: bool) -> Ma
     let progress = flag(alloc, "progress", is_run).help(
         "Tells on standard error how many tasks were answered, at most twice a second",
     );
-    let command = add_option(command, progress);
     let stats = flag(alloc, "stats", is_run).help(
         "Tells on standard error how long the clients took, and how often they tried",
     );
-    let command = add_option(command, stats);
     let history = flag(alloc, "history", is_run).help(
         "Writes its calls as a history for judge, the two lines on standard error",
     );
-    let command = add_option(command, history);
     let attempts = flag(alloc, "attempts", is_run).help(
         "Writes its attempts for opaque, the two lines on standard error",
     );
-    add_option(command, attempts)
+    let command = add_option(add_option(command, progress), stats);
+    add_option(add_option(command, history), attempts)
 }
 
 /// Adds the options of a load, which is run or not.
