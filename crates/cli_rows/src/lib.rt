@@ -1,6 +1,7 @@
-//! Tests of the load and of the program's calls: scripts, dumps, checks and command lines over
-//! input and output that fail, histories held against work, drawn tasks, loads of one client, of
-//! several that meet, and with memory refused, the times of a history, and the text of attempts.
+//! Tests of the load, of the program's calls and of the judges: scripts, dumps, checks and command
+//! lines over input and output that fail, histories held against work, drawn tasks, loads of one
+//! client, of several that meet, and with memory refused, the times of a history, the text of
+//! attempts, and verdicts and orders that were worked out by hand.
 #![tactic(auto)]
 
 #[cfg(test)]
@@ -22,6 +23,8 @@ mod faults;
 #[cfg(test)]
 mod gates;
 #[cfg(test)]
+mod held_work;
+#[cfg(test)]
 mod loading;
 #[cfg(test)]
 mod loads;
@@ -29,6 +32,10 @@ mod loads;
 mod loops;
 #[cfg(test)]
 mod meetings;
+#[cfg(test)]
+mod opacity;
+#[cfg(test)]
+mod orders;
 #[cfg(test)]
 mod refused;
 #[cfg(test)]
@@ -41,5 +48,9 @@ mod small_load;
 mod stamps;
 #[cfg(test)]
 mod streams;
+#[cfg(test)]
+mod texts;
+#[cfg(test)]
+mod verdicts;
 #[cfg(test)]
 mod work;

@@ -1,6 +1,7 @@
-//! Tests of the words of a transactional memory and of the transaction core: events played one by
-//! one, with and without the memory that they take, and random lists of events beside a history
-//! that is worked out anew.
+//! Tests of the words of a transactional memory, of its core, its logs and its regions: events
+//! played one by one, with and without the memory that they take, random lists of events beside a
+//! history that is worked out anew, worked rows of logs, many addresses, openings and closings,
+//! clocks that end and go on, two threads, and each growth refused.
 #![tactic(auto)]
 
 #[cfg(test)]
@@ -10,6 +11,10 @@ mod events;
 #[cfg(test)]
 mod history;
 #[cfg(test)]
+mod logs;
+#[cfg(test)]
+mod losses;
+#[cfg(test)]
 mod moves;
 #[cfg(test)]
 mod player;
@@ -17,5 +22,11 @@ mod player;
 mod random_lists;
 #[cfg(test)]
 mod refusals;
+#[cfg(test)]
+mod regions;
+#[cfg(test)]
+mod renewals;
+#[cfg(test)]
+mod same;
 #[cfg(test)]
 mod words;

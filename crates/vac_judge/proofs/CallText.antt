@@ -43,7 +43,7 @@ use Rattle.vac_judge.specs.Call.{Call, CallTexts, is_arrow, parts_of, call_parts
 use Rattle.vac_judge.specs.Call.{at_end}
 use Rattle.vac_judge.specs.Call.{reply_at, is_no_end, is_no_reply, line_call}
 use Rattle.vac_spans.specs.declared.client.TheConstants.{MOST_CLIENT}
-use Rattle.vac_judge.specs.declared.call.TheConstants.{NEVER}
+use Rattle.vac_spans.specs.declared.span.TheConstants.{NEVER}
 use Rattle.vac_lines.specs.declared.line.TheConstants.{LINE_BYTES}
 use Rattle.vac_judge.specs.Parts.{IsCutAtArrow}
 use Rattle.vac_judge.specs.CallText.{call_text, end_text, answer_text, IsPick, IsReply, IsUnanswered, IsWritten}

@@ -13,7 +13,8 @@ use Rattle.vac_judge.specs.declared.verdict.Verdict.TheVariants.{Fault, Illegal}
 use Rattle.vac_judge.specs.Call.{Call, line_call}
 use Rattle.vac_spans.proofs.Order as spans
 use Rattle.vac_spans.proofs.Order.{passes, fails}
-use Rattle.vac_judge.specs.Order.{span_of, call_breaks_client, call_breaks_time, is_right, wrong_of}
+use Rattle.vac_judge.specs.Order.{span_of, call_breaks_client, call_breaks_time, wrong_of}
+use Rattle.vac_lines.specs.Text.{is_right}
 use Rattle.vac_judge.specs.Verdict.{judged, unless_wrong, verdict_on}
 use Rattle.vac_judge.specs.Laws.{IsAnswerOf, GiveReplies, IsLinearization, state_after}
 use Rattle.vac_judge.specs.Wrongs.{IsCause, IsFirstWrong, IsFirstFault, IllegalIsFirstWrong, FaultIsFirst}

@@ -10,7 +10,8 @@ use Rattle.vac_spans.proofs.Order.{misplaced_mapped}
 use Rattle.vac_judge.specs.declared.verdict.Wrong.{Wrong}
 use Rattle.vac_judge.specs.declared.verdict.Wrong.TheVariants.{Client, Time, Reply}
 use Rattle.vac_judge.specs.Call.{Call}
-use Rattle.vac_judge.specs.Order.{span_of, call_breaks_client, call_breaks_time, is_right, wrong_of}
+use Rattle.vac_judge.specs.Order.{span_of, call_breaks_client, call_breaks_time, wrong_of}
+use Rattle.vac_lines.specs.Text.{is_right}
 use Rattle.vac_judge.specs.Judging.{TimesSay, JudgesTimes}
 
 -- what is wrong with the place of a call is wrong with the call

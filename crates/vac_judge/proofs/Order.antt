@@ -13,7 +13,8 @@ use Rattle.vac_judge.specs.declared.verdict.Wrong.TheVariants as wrong
 use Rattle.vac_judge.specs.Call.{Call}
 use Rattle.vac_spans.specs.Order as spans
 pub use Rattle.vac_spans.proofs.Tests.{both_false, false_both, turn_from, turn_test, time_from, time_test}
-use Rattle.vac_judge.specs.Order.{span_of, call_breaks_client, call_breaks_time, is_right, wrong_of}
+use Rattle.vac_judge.specs.Order.{span_of, call_breaks_client, call_breaks_time, wrong_of}
+use Rattle.vac_lines.specs.Text.{is_right}
 use Rattle.vac_judge.specs.Laws.{IsAnswerOf}
 
 -- a fact of each element

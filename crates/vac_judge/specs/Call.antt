@@ -14,7 +14,8 @@ use Rattle.vac_spans.specs.Client.{client_number}
 use Rattle.vac_lines.specs.LineTable.{line_task, is_bad_byte}
 use Rattle.vac_judge.specs.declared.fault.CallFault.{CallFault}
 use Rattle.vac_judge.specs.declared.fault.CallFault.TheVariants.{BadCall, Line}
-use Rattle.vac_judge.specs.declared.call.TheConstants.{CALL_BYTES, NEVER}
+use Rattle.vac_judge.specs.declared.call.TheConstants.{CALL_BYTES}
+use Rattle.vac_spans.specs.declared.span.TheConstants.{NEVER}
 
 -- a call of a client, with readings of the clock before it began and after it was answered, the
 -- task that was asked for, and the text of the reply; one that was never answered ends later than

@@ -11,7 +11,8 @@ use Rattle.vac_lines.specs.Script.{as_line}
 use Rattle.vac_lines.specs.TaskText.{task_text}
 use Rattle.vac_lines.specs.Text.{reply_text}
 use Rattle.vac_spans.specs.declared.client.TheConstants.{MOST_CLIENT}
-use Rattle.vac_judge.specs.declared.call.TheConstants.{CALL_BYTES, NEVER}
+use Rattle.vac_judge.specs.declared.call.TheConstants.{CALL_BYTES}
+use Rattle.vac_spans.specs.declared.span.TheConstants.{NEVER}
 use Rattle.vac_judge.specs.Call.{Call, line_call}
 use Rattle.vac_judge.specs.Verdict.{verdict_on, is_legal}
 use Rattle.vac_judge.specs.Laws.{Lists, IsLinearization}

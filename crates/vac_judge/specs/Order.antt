@@ -1,10 +1,9 @@
 -- When a call does not fit the calls before it. Earlier calls are listed from the newest on.
-use Rattle.std.specs.Prelude.{ℕ, Bool, true, Option, Some, None, List, if◌then◌else◌}
-use Rattle.std.specs.Str.{bytes_eq}
+use Rattle.std.specs.Prelude.{ℕ, Bool, Option, Some, None, List, if◌then◌else◌}
 use Rattle.vac_model.specs.State.{State}
 use Rattle.vac_model.specs.Run.{run}
 use Rattle.vac_model.specs.declared.replies.Reply.{Reply}
-use Rattle.vac_lines.specs.Text.{reply_text}
+use Rattle.vac_lines.specs.Text.{is_right}
 use Rattle.vac_spans.specs.declared.span.Span.{Span}
 use Rattle.vac_spans.specs.Order as spans
 use Rattle.vac_judge.specs.declared.verdict.Wrong.{Wrong}
@@ -22,11 +21,6 @@ call_breaks_client earlier call = spans.breaks_client span_of earlier call
 -- the call comes after one that began only after this one had ended
 abbrev pub call_breaks_time : List Call → Call → Bool
 call_breaks_time earlier call = spans.breaks_time span_of earlier call
-
--- the text of a reply is the expected one; where there was none, any is right
-abbrev pub is_right : Option (List ℕ) → Reply → Bool
-is_right None expected = true
-is_right (Some text) expected = bytes_eq text (reply_text expected)
 
 -- the first thing that is wrong with a call after these earlier ones, which leave the state s
 abbrev pub wrong_of : State → List Call → Call → Option Wrong

@@ -5,7 +5,7 @@ use Rattle.vac_lines.specs.Lines.{words_of}
 use Rattle.vac_judge.specs.declared.arrow.CallParts.{CallParts}
 use Rattle.vac_judge.specs.declared.call.Answer.{Answer}
 use Rattle.vac_judge.specs.declared.call.CallLine.{CallLine}
-use Rattle.vac_judge.specs.declared.call.TheConstants.{NEVER}
+use Rattle.vac_spans.specs.declared.span.TheConstants.{NEVER}
 use Rattle.vac_judge.specs.Call.{Call, CallTexts, is_arrow, call_parts}
 
 -- these texts are before and after the first word that is an arrow

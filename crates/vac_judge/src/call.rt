@@ -12,13 +12,10 @@ use crate::fault::CallFault;
 use std::alloc::Global;
 use vac_lines::{LineFault, has_bad_byte, read_line, read_memory_word};
 use vac_model::Task;
-use vac_spans::{Span, read_client};
+use vac_spans::{NEVER, Span, read_client};
 
 /// The most bytes that a line of a history has before its end.
 pub const CALL_BYTES: usize = 4096;
-
-/// The END of a call that was never answered: later than all times.
-pub const NEVER: u128 = 1 << 64;
 
 /// The word in the place of END where a call was never answered.
 const NO_END: &[u8] = b"-";

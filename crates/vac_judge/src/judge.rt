@@ -1,13 +1,11 @@
 //! Judging one call after another.
 
 ghost use Rattle.std.specs.Prelude.{◌≡◌, ◌≢◌, ◌≤◌, ◌<◌, ◌^◌, ◌+◌, IfOk, IfErr, MatchOption, List, [], true, Err};
-ghost use Rattle.std.specs.Str.{bytes_eq};
 ghost use Rattle.vac_model.specs.Ranges.{is_task};
 ghost use Rattle.vac_model.specs.State.{State, empty_state};
-ghost use Rattle.vac_lines.specs.Text.{reply_text};
+ghost use Rattle.vac_lines.specs.Text.{is_right};
 ghost use Rattle.vac_judge.specs.Call.{Call, line_call};
 ghost use Rattle.vac_judge.specs.Parts.{shown_call, shown_reply};
-ghost use Rattle.vac_judge.specs.Order.{is_right};
 ghost use Rattle.vac_judge.specs.Judging.{Follows, JudgesTimes, JudgesCall, Takes, DecidesVerdict as IsEnd};
 ghost use Rattle.vac_judge.specs.Judging.{IsJudgeStop};
 ghost use Rattle.vac_judge.specs.Verdict.{summary_of};
@@ -17,7 +15,7 @@ use crate::fault::CallFault;
 use crate::verdict::{Summary, Verdict, Wrong};
 use std::alloc::{AllocError, Global};
 use tx_alloc::FreeList;
-use vac_lines::{LineFault, print_reply};
+use vac_lines::{LineFault, is_text_of};
 use vac_model::Reply;
 use vac_model::limits::MOST_BLOCKS;
 use vac_plain::Heap;
@@ -34,15 +32,6 @@ pub struct Judge {
     spans: Spans,
     /// The text of the last reply that was expected.
     expected: Vec<u8>,
-}
-
-/// Whether a text is that of a reply.
-fn is_text_of(buffer: &mut Vec<u8>, reply: &Reply, text: &[u8]) -> Result<bool, AllocError>
-    ensures { IfOk result (λ same. same ≡ bytes_eq text.now (reply_text reply.now)) }
-{
-    buffer.clear();
-    print_reply(reply, buffer)?;
-    Ok(text == buffer.as_slice())
 }
 
 /// Whether a call may have been answered with this reply: any is right where it was never answered.

@@ -20,7 +20,7 @@ mod verdict;
 mod work;
 
 pub use answers::numbers_of_a_reply;
-pub use call::{Answer, CALL_BYTES, CallLine, NEVER, read_call};
+pub use call::{Answer, CALL_BYTES, CallLine, read_call};
 pub use fault::CallFault;
 pub use held::{HeldVerdict, judge_work, print_held};
 pub use judge::Judge;

@@ -1,6 +1,9 @@
 -- The texts of replies and faults, without a line end.
-use Rattle.std.specs.Prelude.{◌≡◌, ℕ, Option, Some, None, List, [], ◌∷◌, ◌++◌, length, take, codes, decimal}
+use Rattle.std.specs.Prelude.{◌≡◌, ℕ, Bool, true, Option, Some, None, List, [], ◌∷◌, ◌++◌, length, take, codes, decimal}
 use Rattle.std.specs.List.{flat_map, zip}
+use Rattle.std.specs.Str.{bytes_eq}
+use Rattle.std.specs.Option.{option_map}
+use Rattle.std.specs.Global.{Vec}
 use Rattle.vac_model.specs.declared.commands.Why.{Why}
 use Rattle.vac_model.specs.declared.commands.Why.TheVariants.{NeedsCountAndPrice, TotalLimit, Full, NoItem, NotFree, InUse, Exists, NoCustomer, SoldOut, NotBooked, UnitLimit}
 use Rattle.vac_model.specs.declared.replies.Reply.{Reply}
@@ -101,6 +104,15 @@ reply_text (reply.Report r) = report_text r
 reply_text (reply.No why) = codes "false " ++ why_name why
 reply_text (reply.Trip t) = trip_text t
 reply_text (reply.Update u) = update_text u
+
+-- the text that was given, where there was one
+abbrev pub given_text : Option (Vec ℕ) → Option (List ℕ)
+given_text given = option_map (λ (text : Vec ℕ). text.items) given
+
+-- the text of a reply is the expected one; where there was none, any is right
+abbrev pub is_right : Option (List ℕ) → Reply → Bool
+is_right None expected = true
+is_right (Some text) expected = bytes_eq text (reply_text expected)
 
 -- the name of a line's fault; that memory was refused is no fault of a line
 abbrev pub fault_name : LineFault → List ℕ

@@ -23,6 +23,9 @@ pub use fault::LineFault;
 pub use limits::{CHUNK_BYTES, MOST_READS};
 pub use line::{LINE_BYTES, has_bad_byte, read_line};
 pub use numbers::read_memory_word;
-pub use reply::{append_field, keep_whole, print_fault, print_reply, print_word, refusal_name};
+pub use reply::{
+    append_field, is_right, is_text_of, keep_whole, print_fault, print_reply, print_word,
+    refusal_name,
+};
 pub use task_text::{print_task, task_texts_are_read, task_texts_fit};
 pub use writing::{NotWritten, write_all, write_and_flush};

@@ -1,8 +1,9 @@
 //! The texts of replies, of faults and of the words of a memory.
 
-ghost use Rattle.std.specs.Prelude.{◌≡◌, ◌++◌, OnOk, OnErr, decimal, codes, take};
+ghost use Rattle.std.specs.Prelude.{◌≡◌, ◌++◌, IfOk, OnOk, OnErr, decimal, codes, take};
 ghost use Rattle.std.specs.List.{flat_map};
-ghost use Rattle.vac_lines.specs.Text.{Extends, why_name, done_text, report_text, field_text, entries_text, booked_text, sums_text, joined_text, pick_text, trip_text, update_text, change_text, reply_text, fault_name, fault_text};
+ghost use Rattle.std.specs.Str.{bytes_eq};
+ghost use Rattle.vac_lines.specs.Text.{Extends, why_name, done_text, report_text, field_text, entries_text, booked_text, sums_text, joined_text, pick_text, trip_text, update_text, change_text, reply_text, is_right, given_text, fault_name, fault_text};
 ghost use Rattle.vac_lines.specs.Memory.{word_line};
 
 use crate::fault::LineFault;
@@ -35,6 +36,30 @@ pub fn print_reply(reply: &Reply, out: &mut Vec<u8>) -> Result<(), AllocError>
     let start = out.len();
     let printed = append_reply(reply, out);
     keep_whole(out, start, printed)
+}
+
+/// Whether a text is that of a reply, which is written over another.
+pub fn is_text_of(buffer: &mut Vec<u8>, reply: &Reply, text: &[u8]) -> Result<bool, AllocError>
+    ensures { IfOk result (λ same. same ≡ bytes_eq text.now (reply_text reply.now)) }
+{
+    buffer.clear();
+    print_reply(reply, buffer)?;
+    Ok(text == buffer.as_slice())
+}
+
+/// Whether a reply is the one that was given: any is where none was. The text of the reply is
+/// written over another.
+pub fn is_right(
+    buffer: &mut Vec<u8>,
+    given: &Option<Vec<u8>>,
+    reply: &Reply,
+) -> Result<bool, AllocError>
+    ensures { IfOk result (λ right. right ≡ is_right (given_text given.now) reply.now) }
+{
+    match given {
+        Some(given) => is_text_of(buffer, reply, given.as_slice()),
+        None => Ok(true),
+    }
 }
 
 /// Appends the text of a line's fault. Where memory is refused, nothing is appended.

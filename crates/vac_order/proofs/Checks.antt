@@ -5,11 +5,11 @@ use Rattle.vac_model.specs.State.{State, empty_state}
 use Rattle.vac_model.specs.Run.{run}
 use Rattle.vac_model.specs.declared.replies.Reply.{Reply}
 use Rattle.vac_plain.specs.PlainState.{IsStateOf}
-use Rattle.vac_judge.specs.Order.{is_right}
-use Rattle.vac_order.specs.declared.line.Line.{Line}
+use Rattle.vac_lines.specs.Text.{is_right, given_text}
+use Rattle.vac_quick.specs.declared.line.Line.{Line}
 use Rattle.vac_order.specs.declared.point.Point.{Point}
 use Rattle.vac_order.specs.Marks.{is_made}
-use Rattle.vac_order.specs.Calls.{calls_of, given_text, rest_of, can_come, no_call}
+use Rattle.vac_order.specs.Calls.{calls_of, rest_of, can_come, no_call}
 use Rattle.vac_order.specs.Point.{made_of}
 use Rattle.vac_order.specs.Configurations.{Configuration, Goes, CallsReach, start, answered}
 use Rattle.vac_order.specs.Walk.{IsWhole}

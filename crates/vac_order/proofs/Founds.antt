@@ -17,7 +17,7 @@ use Rattle.vac_model.specs.State.{State}
 use Rattle.vac_lines.specs.Lines.{lines_of}
 use Rattle.vac_lines.specs.Script.{as_line}
 use Rattle.vac_judge.specs.Laws.{Lists, IsLinearization}
-use Rattle.vac_order.specs.declared.line.Line.{Line}
+use Rattle.vac_quick.specs.declared.line.Line.{Line}
 use Rattle.vac_order.specs.declared.stuck.Stuck.{Stuck}
 use Rattle.vac_order.specs.declared.ordering.Outcome.TheVariants as outcome
 use Rattle.vac_order.specs.Orders.{IsMerge, IsOrderOf}

@@ -11,15 +11,15 @@ use Rattle.vac_model.specs.State.{State}
 use Rattle.vac_model.specs.Run.{run}
 use Rattle.vac_model.specs.declared.replies.Reply.{Reply}
 use Rattle.vac_judge.specs.Call.{Call}
-use Rattle.vac_judge.specs.Order.{is_right}
-use Rattle.vac_order.specs.declared.line.Line.{Line}
+use Rattle.vac_lines.specs.Text.{is_right, given_text}
+use Rattle.vac_quick.specs.declared.line.Line.{Line}
 use Rattle.vac_order.specs.Configurations.{Configuration, fits, after_call, without_next, answered}
 use Rattle.vac_order.specs.declared.calls.Calls.{Calls}
 use Rattle.vac_order.specs.declared.point.Point.{Point}
 use Rattle.vac_order.specs.Marks.{is_made, MarksOneMore}
 use Rattle.vac_order.specs.Point.{made_of, point_views, RunsTo}
 use Rattle.vac_order.specs.Views.{TellsLeft, TellsNext, LedTo}
-use Rattle.vac_order.specs.Calls.{call_of, calls_of, are_sorted, given_text, rest_of, can_come, tries_from, IsTry}
+use Rattle.vac_order.specs.Calls.{call_of, calls_of, are_sorted, rest_of, can_come, tries_from, IsTry}
 use Rattle.vac_order.specs.Calls.{TellsTry}
 use Rattle.vac_order.proofs.Tries.{at, may_begin, tries_step, tries_none, tries_skip, front_more, of_stands, stands_of}
 use Rattle.vac_order.proofs.Tries.{rest_made}

@@ -5,13 +5,13 @@ use Rattle.std.proofs.Common.{nat_lt, nat_le}
 use Rattle.std.specs.List.{filter}
 use Rattle.std.proofs.Props.{props}
 use Rattle.vac_model.specs.Ranges.{is_task}
-use Rattle.vac_judge.specs.declared.call.TheConstants.{NEVER}
+use Rattle.vac_spans.specs.declared.span.TheConstants.{NEVER}
 use Rattle.std.specs.List.Sorted.{IsNonDecreasingBy, IsStableByKey, ties}
 use Rattle.std.specs.Ordering.{nat_cmp, is_lt}
 use Rattle.std.specs.declared.cmp.Ordering.TheVariants.{Less, Equal, Greater}
 use Rattle.std.proofs.Math.Seq.{take-append_seam}
 use Rattle.std.proofs.lemmas.Bool.Decides.{nat_tests}
-use Rattle.vac_order.specs.declared.line.Line.{Line}
+use Rattle.vac_quick.specs.declared.line.Line.{Line}
 use Rattle.vac_order.specs.Calls.{call_of, calls_of, are_sorted, least_begin, soonest_of}
 use Rattle.vac_order.proofs.Sorted.{EachLine}
 use Rattle.vac_order.proofs.Stable.{Rises, at_once}

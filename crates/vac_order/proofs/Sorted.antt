@@ -10,7 +10,7 @@ use Rattle.std.specs.Global.{Vec}
 use Rattle.vac_judge.specs.Call.{Call}
 use Rattle.vac_order.specs.Orders.{is_answered}
 use Rattle.vac_order.proofs.Left.{none_answered}
-use Rattle.vac_order.specs.declared.line.Line.{Line}
+use Rattle.vac_quick.specs.declared.line.Line.{Line}
 use Rattle.vac_order.specs.Configurations.{weight, answered}
 use Rattle.vac_order.specs.Calls.{call_of, calls_of, follows, are_sorted, no_call, rest_of, may_next, tries_of}
 use Rattle.vac_order.specs.Calls.{tries_from}

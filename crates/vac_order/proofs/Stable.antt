@@ -4,7 +4,7 @@ use Rattle.std.proofs.Common.{refl, sym, ap, ◌∙◌, subst, inl, inr, arith, 
 use Rattle.std.specs.Prelude.{⊤}
 use Rattle.std.proofs.lemmas.Bool.{cases_lt}
 use Rattle.std.proofs.lemmas.Bool.Decides.{nat_tests}
-use Rattle.vac_order.specs.declared.line.Line.{Line}
+use Rattle.vac_quick.specs.declared.line.Line.{Line}
 use Rattle.vac_order.specs.Orders.{of_client}
 use Rattle.vac_order.specs.Walk.{InTurn}
 use Rattle.vac_order.specs.Calls.{call_of, calls_of}

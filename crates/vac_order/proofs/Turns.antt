@@ -14,7 +14,7 @@ use Rattle.vac_judge.specs.declared.call.Answer.{Answer}
 use Rattle.vac_judge.specs.Parts.{shown_call, shown_end, shown_reply}
 use Rattle.vac_judge.specs.Order.{call_breaks_client}
 use Rattle.vac_judge.specs.Follows.{IsBehind, EachCall}
-use Rattle.vac_order.specs.declared.line.Line.{Line}
+use Rattle.vac_quick.specs.declared.line.Line.{Line}
 use Rattle.vac_order.specs.declared.history.History.{History}
 use Rattle.vac_order.specs.Walk.{InTurn, IsTimed}
 use Rattle.vac_order.specs.Calls.{call_of, calls_of}

@@ -1,15 +1,10 @@
 -- The calls of a history as they are kept, in the order in which they ended.
 use Rattle.std.specs.Prelude.{◌≡◌, ◌<◌, ◌+◌, ◌-◌, ◌^◌, ◌==◌, ◌&&◌, ◌||◌, ℕ, suc, Bool, true, Option, is_some, Some, None, List, [], ◌∷◌, ◌++◌, map, not, take, drop, get_or, length, nat_lt, nat_le, if◌then◌else◌}
 use Rattle.std.specs.List.{list_any}
-use Rattle.std.specs.Option.{option_map}
-use Rattle.std.specs.Global.{Vec}
 use Rattle.vac_model.specs.declared.tasks.Task.TheVariants as task
 use Rattle.vac_judge.specs.Call.{Call}
-use Rattle.vac_order.specs.declared.line.Line.{Line}
-
--- the text of the answer, where there was one
-abbrev pub given_text : Option (Vec ℕ) → Option (List ℕ)
-given_text given = option_map (λ (text : Vec ℕ). text.items) given
+use Rattle.vac_quick.specs.declared.line.Line.{Line}
+use Rattle.vac_lines.specs.Text.{given_text}
 
 -- the call that a line is
 abbrev pub call_of : Line → Call

@@ -3,7 +3,7 @@ use Rattle.std.specs.Prelude.{◌≡◌, ◌+◌, ◌≤◌, ◌==◌, ℕ, Bool
 use Rattle.vac_model.specs.State.{State, empty_state}
 use Rattle.vac_model.specs.Run.{run}
 use Rattle.vac_judge.specs.Call.{Call}
-use Rattle.vac_judge.specs.Order.{is_right}
+use Rattle.vac_lines.specs.Text.{is_right}
 use Rattle.vac_judge.specs.Follows.{EachCall}
 use Rattle.vac_order.specs.Orders.{of_client, is_answered}
 

@@ -20,7 +20,7 @@ use Rattle.vac_judge.specs.Call.{Call, line_call}
 use Rattle.vac_judge.specs.Order.{call_breaks_client}
 use Rattle.vac_judge.specs.Follows.{EachCall}
 use Rattle.vac_judge.specs.Laws.{Lists}
-use Rattle.vac_order.specs.declared.line.Line.{Line}
+use Rattle.vac_quick.specs.declared.line.Line.{Line}
 use Rattle.vac_order.specs.declared.history.History.{History}
 use Rattle.vac_order.specs.declared.reading.HistoryText.{HistoryText}
 use Rattle.vac_order.specs.declared.reading.Reading.{Reading}

@@ -5,9 +5,9 @@ ghost use Rattle.vac_order.specs.Calls.{are_sorted};
 ghost use Rattle.vac_order.specs.Reading.{IsHeld, AreKeptLines};
 
 use crate::history::History;
-use crate::line::Line;
 use crate::sorting::sorted_lines;
 use std::alloc::AllocError;
+use vac_quick::Line;
 
 /// Calls in the order in which they ended.
 #[derive(Drop)]

@@ -8,13 +8,14 @@ ghost use Rattle.vac_order.specs.Judging.{IsLinearizedBy};
 ghost use Rattle.vac_order.specs.Checking.{HavePlaces};
 
 use crate::calls::Calls;
-use crate::line::Line;
 use crate::marks::mark;
-use crate::point::{Point, is_finished, is_right, next_call};
+use crate::point::{Point, is_finished, next_call};
 use std::alloc::{AllocError, Global};
 use tx_alloc::FreeList;
+use vac_lines::is_right;
 use vac_model::limits::MOST_BLOCKS;
 use vac_plain::Heap;
+use vac_quick::Line;
 
 /// Whether the call at a place may come next.
 fn may_come(low: usize, beyond: &[usize], lines: &[Line], place: usize) -> bool

@@ -5,11 +5,11 @@ ghost use Rattle.vac_lines.specs.Script.{as_line};
 ghost use Rattle.vac_order.specs.Found.{placed_text, stuck_text, none_text, open_text, told_by};
 ghost use Rattle.vac_order.specs.Reading.{texts_of, numbers_of};
 
-use crate::line::Line;
 use crate::stuck::Stuck;
 use std::alloc::AllocError;
 use vac_lines::{append_field, print_reply};
 use vac_model::Reply;
+use vac_quick::Line;
 
 /// Appends a line of a text and a number.
 fn append_count(out: &mut Vec<u8>, text: &[u8], number: u64) -> Result<(), AllocError>

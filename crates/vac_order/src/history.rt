@@ -4,13 +4,14 @@ ghost use Rattle.std.specs.Prelude.{◌≡◌, ◌<◌, ◌^◌, true, [], not, 
 ghost use Rattle.vac_model.specs.Ranges.{is_task};
 ghost use Rattle.vac_judge.specs.Order.{call_breaks_client};
 ghost use Rattle.vac_judge.specs.Parts.{shown_call, shown_end, shown_reply};
-ghost use Rattle.vac_order.specs.Calls.{calls_of, given_text};
+ghost use Rattle.vac_order.specs.Calls.{calls_of};
+ghost use Rattle.vac_lines.specs.Text.{given_text};
 ghost use Rattle.vac_order.specs.Reading.{IsHeld, IsLineOf, Took};
 
-use crate::line::Line;
 use std::alloc::{AllocError, Global};
-use vac_judge::{Answer, CallLine, NEVER};
-use vac_spans::Ends;
+use vac_judge::{Answer, CallLine};
+use vac_quick::Line;
+use vac_spans::{Ends, NEVER};
 
 /// The calls that were read, in the order of their lines, and when each client's last ended.
 #[derive(Drop)]

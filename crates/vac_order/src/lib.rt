@@ -4,32 +4,19 @@
 
 mod calls;
 mod checking;
-mod choices;
-mod doubts;
 mod found;
 mod history;
 mod known;
 mod laws;
-mod layout;
-mod line;
-mod machine;
 mod marks;
 mod order;
 mod ordering;
 mod path;
 mod point;
-mod quick;
 mod reading;
-mod retreat;
-mod search;
-mod sequential;
 mod sorting;
 mod stuck;
-mod tally;
-mod trail;
-mod versions;
 mod walk;
-mod watcher;
 mod world;
 
 pub use laws::{
@@ -37,6 +24,6 @@ pub use laws::{
     where_none_is_found_there_is_none,
 };
 pub use ordering::{Outcome, STEPS, order_history};
+pub use vac_quick::Watcher;
 pub use walk::{Finding, find_order};
-pub use watcher::Watcher;
 pub use world::World;

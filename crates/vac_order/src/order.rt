@@ -11,13 +11,12 @@ ghost use Rattle.vac_order.specs.Reading.{IsHeld, AreKeptLines};
 use crate::calls::Calls;
 use crate::checking::is_linearization;
 use crate::history::History;
-use crate::machine::Machine;
 use crate::point::Point;
-use crate::quick::find_quickly;
 use crate::walk::{Finding, find_order};
-use crate::watcher::Watcher;
 use std::alloc::{AllocError, Global};
 use vac_model::limits::MOST_BLOCKS;
+use vac_quick::{Watcher, find_quickly};
+use vac_sequential::Machine;
 
 /// The places that were found quickly, where they are an order of these calls that is a
 /// linearization, for a system of `blocks` blocks.
@@ -62,7 +61,7 @@ pub(crate) fn judge_order<M: Machine + Drop, P: Watcher>(
         IsFoundOfCalls (point_at M.state calls.now) blocks (calls_of calls.now.lines.items)
         steps found) }
 {
-    let found = find_quickly(alloc, calls, machine.copy()?, steps, watcher)?;
+    let found = find_quickly(alloc, calls.as_slice(), machine.copy()?, steps, watcher)?;
     if let Some(places) = checked_order(alloc, blocks, calls, found)? {
         return Ok(Finding::Order(places));
     }

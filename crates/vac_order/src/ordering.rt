@@ -1,7 +1,7 @@
 //! Ordering a history: what is read, found and written.
 
 ghost use Rattle.std.specs.Prelude.{◌≡◌, ◌≤◌, ◌≢◌, ℕ, None, List, [], IfOk, IfErr};
-ghost use Rattle.vac_order.specs.declared.line.Line.{Line};
+ghost use Rattle.vac_quick.specs.declared.line.Line.{Line};
 ghost use Rattle.vac_model.specs.State.{empty_state};
 ghost use Rattle.vac_lines.specs.Lines.{lines_of};
 ghost use Rattle.vac_judge.specs.Laws.{Lists};
@@ -14,18 +14,17 @@ ghost use Rattle.vac_order.specs.Ordering.{FindsText, HasText, HasOrdered, HasSt
 
 use crate::found::{print_no_order, print_order, print_undecided};
 use crate::history::History;
-use crate::machine::Machine;
 use crate::order::{Ordered, judge_lines};
 use crate::reading::{Reading, read_history};
 use crate::stuck::stuck_calls;
 use crate::walk::Finding;
-use crate::watcher::Watcher;
 use std::alloc::{AllocError, Global};
 use std::io::{Read, Write};
 use vac_judge::print_verdict;
 use vac_lines::write_and_flush;
 use vac_model::limits::MOST_BLOCKS;
-use vac_sequential::{Sequential, SequentialFault};
+use vac_quick::Watcher;
+use vac_sequential::{Machine, Sequential, SequentialFault};
 use vac_streams::StreamFault;
 
 /// How many steps a search makes at most, where nothing else is asked for.

@@ -3,22 +3,21 @@
 ghost use Rattle.std.specs.Prelude.{◌≡◌, ◌⊎◌, ◌==◌, [], ◌≤◌, ◌<◌, ℕ, IfOk, IfSome, length, take, true};
 ghost use Rattle.std.specs.List.{list_any};
 ghost use Rattle.vac_order.specs.Marks.{is_made};
-ghost use Rattle.vac_order.specs.Calls.{calls_of, given_text, are_sorted, rest_of};
+ghost use Rattle.vac_order.specs.Calls.{calls_of, are_sorted, rest_of};
 ghost use Rattle.vac_order.specs.Calls.{can_come, TellsTry};
 ghost use Rattle.vac_order.specs.Configurations.{answered};
 ghost use Rattle.vac_order.specs.Views.{TellsLeft, LedTo};
 ghost use Rattle.vac_order.specs.Point.{point_views, RunsTo};
 ghost use Rattle.vac_judge.specs.Call.{Call};
-ghost use Rattle.vac_judge.specs.Order.{is_right};
 
 use crate::calls::Calls;
-use crate::line::Line;
-use crate::machine::Machine;
 use crate::marks::{first_left, is_made, mark};
 use crate::world::World;
 use std::alloc::{AllocError, Global};
-use vac_lines::print_reply;
+use vac_lines::is_right;
 use vac_model::Reply;
+use vac_quick::Line;
+use vac_sequential::Machine;
 
 /// Which calls have a place in the order, and the machine that they leave.
 #[derive(Drop)]
@@ -113,23 +112,6 @@ pub(crate) fn next_call(low: usize, beyond: &[usize], lines: &[Line], from: usiz
         }
     }
     None
-}
-
-/// Whether this reply may have been given, which is so where the call was never answered. The
-/// reply's text is written over another.
-pub(crate) fn is_right(
-    text: &mut Vec<u8>,
-    given: &Option<Vec<u8>>,
-    reply: &Reply,
-) -> Result<bool, AllocError>
-    ensures { IfOk result (λ right. right ≡ is_right (given_text given.now) reply.now) }
-{
-    let Some(given) = given else {
-        return Ok(true);
-    };
-    text.clear();
-    print_reply(reply, text)?;
-    Ok(given.as_slice() == text.as_slice())
 }
 
 /// The point after the call at a place, which may come next and led to a machine and this reply,

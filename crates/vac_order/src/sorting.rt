@@ -6,8 +6,8 @@ ghost use Rattle.vac_order.specs.Walk.{InTurn};
 ghost use Rattle.vac_order.specs.Calls.{calls_of, are_sorted, soonest_of};
 ghost use Rattle.vac_order.specs.Reading.{AreSortOf};
 
-use crate::line::Line;
 use std::alloc::AllocError;
+use vac_quick::Line;
 
 /// The lesser of two moments.
 fn lesser(a: u64, b: u64) -> u64

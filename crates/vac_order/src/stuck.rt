@@ -7,11 +7,11 @@ ghost use Rattle.vac_order.specs.Point.{made_of};
 ghost use Rattle.vac_order.specs.Stuck.{AreStuck};
 
 use crate::calls::Calls;
-use crate::line::Line;
-use crate::machine::Machine;
 use crate::point::{Point, next_call};
 use std::alloc::{AllocError, Global};
 use vac_model::Reply;
+use vac_quick::Line;
+use vac_sequential::Machine;
 
 /// A call that may come next: where it is, and what the manager would answer.
 #[derive(Drop)]

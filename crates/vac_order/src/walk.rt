@@ -8,9 +8,9 @@ ghost use Rattle.vac_order.specs.Walking.{BestIsWithin, StaysWithin, Walks, Walk
 
 use crate::known::Known;
 use crate::path::{Frame, Walk};
-use crate::watcher::Watcher;
 use crate::world::World;
 use std::alloc::{AllocError, Global};
+use vac_quick::Watcher;
 
 /// What a step of the search leads to.
 #[derive(Drop)]

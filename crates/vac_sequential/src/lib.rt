@@ -6,6 +6,7 @@
 #![tactic(auto)]
 
 mod items;
+mod machine;
 mod maps;
 mod sequential;
 mod steps;
@@ -13,4 +14,5 @@ mod tables;
 mod task_runs;
 mod tries;
 
+pub use machine::Machine;
 pub use sequential::{Sequential, SequentialFault};

@@ -10,5 +10,5 @@ mod spans;
 
 pub use client::{MOST_CLIENT, read_client};
 pub use ends::Ends;
-pub use span::{Misplaced, Span};
+pub use span::{Misplaced, NEVER, Span};
 pub use spans::Spans;

@@ -1,5 +1,8 @@
 //! Who did something, and when.
 
+/// When what never ended ends: later than all times.
+pub const NEVER: u128 = 1 << 64;
+
 /// Who did something, and between which readings of the clock.
 #[derive(Clone, Copy, Debug, PartialEq, Eq)]
 pub struct Span {

@@ -4,7 +4,7 @@ use Rattle.std.specs.Global.{Vec}
 use Rattle.std.proofs.lemmas.List.{take_all}
 use Rattle.vac_model.specs.declared.replies.Reply.TheVariants as reply
 use Rattle.vac_order.specs.declared.stuck.Stuck.{Stuck}
-use Rattle.vac_order.specs.declared.line.Line.{Line}
+use Rattle.vac_quick.specs.declared.line.Line.{Line}
 use Rattle.vac_order.specs.Reading.{numbers_of}
 use Rattle.vac_order.specs.Found.{stuck_text, told_by}
 use Rattle.vac_order.proofs.Printing.{stuck_next, all_get}

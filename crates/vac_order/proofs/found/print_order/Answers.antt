@@ -3,7 +3,7 @@ use Rattle.std.proofs.Common.{append_assoc, append-nil}
 use Rattle.std.specs.Global.{Vec}
 use Rattle.std.proofs.lemmas.List.{take_all}
 use Rattle.vac_lines.specs.Script.{as_line}
-use Rattle.vac_order.specs.declared.line.Line.{Line}
+use Rattle.vac_quick.specs.declared.line.Line.{Line}
 use Rattle.vac_order.specs.Reading.{texts_of}
 use Rattle.vac_order.specs.Found.{placed_text}
 use Rattle.vac_order.proofs.Printing.{placed_next, all_get}

@@ -2,7 +2,7 @@ use Rattle.std.proofs.Common.{◌≡◌, ◌==◌, ◌<◌, ℕ, true, false, le
 use Rattle.std.specs.List.{list_any}
 use Rattle.std.proofs.lemmas.Bool.Decides.{nat_tests}
 use Rattle.vac_judge.specs.Call.{Call}
-use Rattle.vac_order.specs.declared.line.Line.{Line}
+use Rattle.vac_quick.specs.declared.line.Line.{Line}
 use Rattle.vac_order.specs.Marks.{is_made}
 use Rattle.vac_order.specs.Calls.{calls_of}
 use Rattle.vac_order.proofs.Tries.{front_made}

@@ -1,5 +1,5 @@
 use Rattle.std.proofs.Common.{◌≡◌, ◌<◌, is_some, length, sym, ap, ◌∙◌, arith}
-use Rattle.vac_order.specs.declared.line.Line.{Line}
+use Rattle.vac_quick.specs.declared.line.Line.{Line}
 use Rattle.vac_order.specs.Marks.{is_made}
 use Rattle.vac_order.specs.Calls.{calls_of}
 use Rattle.vac_order.proofs.Sorted.{length_calls}

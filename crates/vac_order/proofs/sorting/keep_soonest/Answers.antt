@@ -1,5 +1,5 @@
 use Rattle.std.proofs.Common.{◌<◌, ◌-◌, ◌+◌, length, get_or, set, sym, subst, cond, nat_lt, refl, ap, ◌∙◌, arith}
-use Rattle.vac_order.specs.declared.line.Line.{Line}
+use Rattle.vac_quick.specs.declared.line.Line.{Line}
 use Rattle.vac_order.proofs.Soonest.{Keeps, keep_step, keep_any, same_default}
 use Rattle.vac_order.proofs.sorting.keep_soonest.Goals as goal
 

@@ -1,6 +1,6 @@
 use Rattle.std.proofs.Common.{◌∙◌, ap, rules}
 use Rattle.std.proofs.lemmas.List.Sorted.{IsNonDecreasingBy-from_sort_by_key, answers_always}
-use Rattle.vac_order.specs.declared.line.Line.{Line}
+use Rattle.vac_quick.specs.declared.line.Line.{Line}
 use Rattle.vac_order.specs.Orders.{of_client}
 use Rattle.vac_order.specs.Calls.{calls_of, are_sorted, soonest_of}
 use Rattle.vac_order.proofs.Stable.{Rises, stable_merges}

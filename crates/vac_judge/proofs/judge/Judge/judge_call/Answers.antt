@@ -3,7 +3,8 @@ use Rattle.vac_model.specs.Run.{run}
 use Rattle.vac_judge.specs.declared.verdict.Wrong.TheVariants.{Reply}
 use Rattle.vac_judge.specs.Parts.{shown_call}
 use Rattle.vac_spans.specs.Keeping.{Keeps}
-use Rattle.vac_judge.specs.Order.{span_of, is_right}
+use Rattle.vac_judge.specs.Order.{span_of}
+use Rattle.vac_lines.specs.Text.{is_right}
 use Rattle.vac_judge.proofs.Keeping.{wrong_times, wrong_reply, no_wrong, well_placed}
 use Rattle.vac_judge.proofs.judge.Judge.judge_call.Goals as goal
 

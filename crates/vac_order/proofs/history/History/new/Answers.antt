@@ -1,6 +1,6 @@
 use Rattle.std.proofs.Common.{◌-◌, ◌^◌, List, sym, subst, ap}
 use Rattle.vac_judge.specs.Follows.{EachCall}
-use Rattle.vac_order.specs.declared.line.Line.{Line}
+use Rattle.vac_quick.specs.declared.line.Line.{Line}
 use Rattle.vac_order.specs.Calls.{calls_of}
 use Rattle.vac_order.specs.Walk.{InTurn, IsTimed}
 use Rattle.vac_order.specs.Reading.{AreNumbered}

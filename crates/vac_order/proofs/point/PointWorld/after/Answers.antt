@@ -1,7 +1,7 @@
 use Rattle.std.proofs.Common.{◌≡◌, sym, ap, ◌∙◌, refl, get_or}
 use Rattle.vac_model.specs.Run.{run}
 use Rattle.vac_judge.specs.Call.{Call}
-use Rattle.vac_order.specs.declared.line.Line.{Line}
+use Rattle.vac_quick.specs.declared.line.Line.{Line}
 use Rattle.vac_order.proofs.Sorted.{call_here}
 use Rattle.vac_order.proofs.point.PointWorld.after.Goals as goal
 

@@ -1,0 +1,17 @@
+//! Tests of the examples of objects and of the desks: each call of a teller of the bank, and of a
+//! user of the queue, and tellers, users and desks in threads. And of the searches that bodies of
+//! objects have.
+#![tactic(auto)]
+
+#[cfg(test)]
+mod desks;
+#[cfg(test)]
+mod given_up;
+#[cfg(test)]
+mod rounds;
+#[cfg(test)]
+mod search;
+#[cfg(test)]
+mod tellers;
+#[cfg(test)]
+mod users;

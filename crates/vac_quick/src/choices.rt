@@ -1,0 +1,327 @@
+//! Which call a quick search makes next.
+
+use crate::layout::Layout;
+use crate::line::Line;
+use crate::search::{QuickSearch, led_from, led_to};
+use crate::trail::Trail;
+use std::alloc::{AllocError, Global};
+use vac_sequential::Machine;
+
+/// How many of the next calls tell how good a choice is, at most.
+const FARTHEST: u64 = 128;
+
+/// For how many of these one counts that it makes.
+const MADE: u64 = 16;
+
+/// A call after which the one that ends first gives its reply: how far the next ones give theirs,
+/// and the machine after it.
+#[derive(Drop)]
+struct Help<M> {
+    reach: u64,
+    place: usize,
+    machine: M,
+}
+
+/// How many calls give their replies in the order in which they end, after a machine in which one
+/// more call than here was made. It counts no farther than it must.
+fn reach_of<M: Machine + Drop>(
+    text: &mut Vec<u8>,
+    trail: &Trail,
+    lines: &[Line],
+    layout: &Layout,
+    made: usize,
+    mut machine: M,
+) -> Result<u64, AllocError> {
+    let mut count: u64 = 0;
+    'places: for place in trail.low..lines.len() {
+        if place == made || trail.is_made(layout, place) {
+            continue;
+        }
+        let Some(next) = led_from(text, machine, lines, place)? else {
+            return Ok(count);
+        };
+        machine = next;
+        count = count.wrapping_add(1);
+        if FARTHEST <= count {
+            return Ok(count);
+        }
+    }
+    Ok(count)
+}
+
+/// Whether the first of two calls that help is the better one. Any is better than none.
+fn is_better<M>(help: &Help<M>, best: &Option<Help<M>>) -> bool {
+    match best {
+        Some(best) => {
+            best.reach < help.reach || best.reach == help.reach && help.place < best.place
+        }
+        None => true,
+    }
+}
+
+/// The place of a call that helps, where there is one.
+fn place_of<M>(help: &Option<Help<M>>, count: usize) -> usize {
+    match help {
+        Some(help) => help.place,
+        None => count,
+    }
+}
+
+impl<M: Machine + Drop> QuickSearch<M> {
+    /// Whether a call that leads to a machine now is to come before the one that ends first, which
+    /// leads to another.
+    fn is_first(
+        &mut self,
+        lines: &[Line],
+        place: usize,
+        now: &M,
+        after: &M,
+    ) -> Result<bool, AllocError> {
+        let low = self.trail.low;
+        let Some(both) = led_to(&mut self.text, Some(now), lines, low)? else {
+            return Ok(false);
+        };
+        let is_needed = match led_to(&mut self.text, Some(after), lines, place)? {
+            None => true,
+            Some(later) if later.hash() == both.hash() => return Ok(false),
+            Some(_) => false,
+        };
+        let is_first = is_needed != self.tally.strays(4);
+        if is_first {
+            self.doubt(place, low)?;
+        } else {
+            self.doubt(low, place)?;
+        }
+        Ok(is_first)
+    }
+
+    /// The same for one that names nothing in common with it, but that all blocks are in use, and
+    /// that does not give its reply after it.
+    fn is_full_first(&mut self, lines: &[Line], now: &M) -> Result<bool, AllocError> {
+        if let Some(machine) = &self.machine
+            && machine.hash() == now.hash()
+        {
+            return Ok(true);
+        }
+        if !self.tally.strays(2) {
+            return Ok(false);
+        }
+        Ok(led_to(&mut self.text, Some(now), lines, self.trail.low)?.is_some())
+    }
+
+    /// The machine after one of these calls, where it is to come before the one that ends first,
+    /// which leads to another machine.
+    fn rival(
+        &mut self,
+        lines: &[Line],
+        layout: &Layout,
+        place: usize,
+        after: &M,
+    ) -> Result<Option<M>, AllocError> {
+        let Some(now) = led_to(&mut self.text, self.machine.as_ref(), lines, place)? else {
+            return Ok(None);
+        };
+        let is_first = if layout.meets(self.trail.low, place) {
+            self.is_first(lines, place, &now, after)?
+        } else {
+            led_to(&mut self.text, Some(after), lines, place)?.is_none()
+                && self.is_full_first(lines, &now)?
+        };
+        if is_first { Ok(Some(now)) } else { Ok(None) }
+    }
+
+    /// Looks among these calls for one that is to come before the one that ends first, which leads
+    /// to a machine.
+    fn guard(
+        &mut self,
+        lines: &[Line],
+        layout: &Layout,
+        rivals: &[usize],
+        after: &M,
+    ) -> Result<Option<(usize, M)>, AllocError> {
+        'rivals: for number in 0..rivals.len() {
+            let place = rivals[number];
+            if !self.tally.may_look(MADE) {
+                return Ok(None);
+            }
+            if let Some(now) = self.rival(lines, layout, place, after)? {
+                return Ok(Some((place, now)));
+            }
+        }
+        Ok(None)
+    }
+
+    /// A call that may be made, where the one that ends first gives its reply after it. How far the
+    /// next calls give theirs may be drawn.
+    fn help(
+        &mut self,
+        lines: &[Line],
+        layout: &Layout,
+        place: usize,
+        is_drawn: bool,
+    ) -> Result<Option<Help<M>>, AllocError> {
+        if place == self.trail.low || !self.trail.is_open(lines, place) {
+            return Ok(None);
+        }
+        let Some(machine) = led_to(&mut self.text, self.machine.as_ref(), lines, place)? else {
+            return Ok(None);
+        };
+        let copy = machine.copy()?;
+        let mut reach = reach_of(&mut self.text, &self.trail, lines, layout, place, copy)?;
+        if reach == 0 {
+            return Ok(None);
+        }
+        if is_drawn {
+            reach = self.tally.draw(FARTHEST);
+        }
+        Ok(Some(Help {
+            reach,
+            place,
+            machine,
+        }))
+    }
+
+    /// The best of the next calls of clients that help, and the place of another one, where there
+    /// is one.
+    fn best_help(
+        &mut self,
+        lines: &[Line],
+        layout: &Layout,
+        is_drawn: bool,
+    ) -> Result<(Option<Help<M>>, usize), AllocError> {
+        let mut best = None;
+        let mut other = lines.len();
+        'clients: for client in 0..self.trail.heads.len() {
+            let place = self.trail.head(client);
+            let Some(help) = self.help(lines, layout, place, is_drawn)? else {
+                continue;
+            };
+            if is_better(&help, &best) {
+                other = place_of(&best, lines.len());
+                best = Some(help);
+            } else {
+                other = place;
+            }
+        }
+        Ok((best, other))
+    }
+
+    /// Makes a call after which the one that ends first gives its reply: that after which the most
+    /// do, or as it is drawn. None where the calls of all clients may not be looked at.
+    fn look_ahead(
+        &mut self,
+        lines: &[Line],
+        layout: &Layout,
+        may_look: bool,
+    ) -> Result<Option<usize>, AllocError> {
+        let is_drawn = self.tally.strays(2);
+        if !may_look {
+            return Ok(None);
+        }
+        let (best, other) = self.best_help(lines, layout, is_drawn)?;
+        let Some(
+            Help {
+                reach: _,
+                place,
+                machine,
+            },
+        ) = best
+        else {
+            return Ok(None);
+        };
+        if other < lines.len() {
+            self.doubt(place, other)?;
+        }
+        self.move_to(machine)?;
+        Ok(Some(place))
+    }
+
+    /// Makes a planned call, which may come next. Returns whether it gives its reply there.
+    fn keep_to_plan(
+        &mut self,
+        lines: &[Line],
+        layout: &Layout,
+        place: usize,
+    ) -> Result<bool, AllocError> {
+        if !self.attempt(lines, place)? {
+            return Ok(false);
+        }
+        self.doubts.note_again(&self.trail, layout, place)?;
+        Ok(true)
+    }
+
+    /// Makes the next call that is planned. One that does not give its reply there is left out.
+    fn planned(&mut self, lines: &[Line], layout: &Layout) -> Result<Option<usize>, AllocError> {
+        'plan: for _ in 0..self.plan.len() {
+            let Some(place) = self.plan.pop() else {
+                return Ok(None);
+            };
+            if self.trail.head(layout.spot(place).client) != place {
+                continue;
+            }
+            let is_open = self.trail.is_open(lines, place);
+            if is_open && self.keep_to_plan(lines, layout, place)? {
+                return Ok(Some(place));
+            }
+            if place == self.trail.low || !is_open {
+                self.plan.push(place)?;
+                return Ok(None);
+            }
+        }
+        Ok(None)
+    }
+
+    /// Makes the call that ends first, or one of these that is to come before it, or after which
+    /// the call that ends first gives its reply.
+    fn decide(
+        &mut self,
+        lines: &[Line],
+        layout: &Layout,
+        rivals: &[usize],
+    ) -> Result<Option<usize>, AllocError> {
+        let low = self.trail.low;
+        let Some(after) = led_to(&mut self.text, self.machine.as_ref(), lines, low)? else {
+            return self.look_ahead(lines, layout, true);
+        };
+        if let Some((place, now)) = self.guard(lines, layout, rivals, &after)? {
+            self.move_to(now)?;
+            return Ok(Some(place));
+        }
+        self.move_to(after)?;
+        Ok(Some(low))
+    }
+
+    /// Makes a call that is not planned in the machine, and returns its place.
+    fn unplanned(
+        &mut self,
+        alloc: Global,
+        lines: &[Line],
+        layout: &Layout,
+    ) -> Result<Option<usize>, AllocError> {
+        let low = self.trail.low;
+        let may_look = self.tally.may_look(self.trail.heads.len() as u64);
+        if may_look {
+            let rivals = self.trail.rivals(alloc, lines, layout)?;
+            if !rivals.is_empty() {
+                return self.decide(lines, layout, rivals.as_slice());
+            }
+        }
+        if self.attempt(lines, low)? {
+            return Ok(Some(low));
+        }
+        self.look_ahead(lines, layout, may_look)
+    }
+
+    /// Makes the next call in the machine, and returns its place.
+    pub(crate) fn choose(
+        &mut self,
+        alloc: Global,
+        lines: &[Line],
+        layout: &Layout,
+    ) -> Result<Option<usize>, AllocError> {
+        match self.planned(lines, layout)? {
+            Some(place) => Ok(Some(place)),
+            None => self.unplanned(alloc, lines, layout),
+        }
+    }
+}
