@@ -4,7 +4,7 @@ those with the longest chain behind them first. Its argument is how many process
 line for each library that is done, and builds only what is not built already.
 
 `rt all check` and `rt run` would do the same with one job a crate, so that most processors stand still
-while the last crates of the chain are proved. Here the crate that most others wait for gets those that are
+while the last crates of the chain are proved. Here the crate that most others wait for gets one that is
 free. No work is kept between runs, as `rt check` keeps it: over kept work a second job gains nothing. A
 library is built with its statements alone, as the gate builds it, so that the crates above load less; since
 other commands want its proofs too, it stands apart from theirs, in out/start/. Crates, their sums and the
@@ -109,18 +109,17 @@ class Building:
         return True
 
     def start(self, pool):
-        """Starts what may be proved now, each on one processor. Where nothing else may be proved it gets all
-        that are free; and of three processors and more the first, for which the longest chain waits, gets two.
-        (A second job costs a quarter of its time, which of two processors nothing gives back.)"""
+        """Starts what may be proved now, each on one processor. Where some would be left, the first, for which
+        the longest chain waits, gets a second; and the last of all gets all. (A second job costs a fifth of a
+        crate's time, which comes back only on a processor that would stand still.)"""
         waits = set(self.left) | {crate for crate, _ in self.running.values()}
         ready = [crate for crate in self.left if not waits & set(crate.below())]
-        for place, crate in enumerate(ready):
-            free = self.processors - sum(jobs for _, jobs in self.running.values())
-            if free <= 0:
-                return
-            first = 2 if place == 0 and self.processors > 2 else 1
-            wanted = MOST_JOBS if len(ready) == 1 else first
-            jobs = min(wanted, free)
+        free = self.processors - sum(jobs for _, jobs in self.running.values())
+        for place, crate in enumerate(ready[:free]):
+            most = 1
+            if place == 0 and len(ready) < free:
+                most = 2 if self.running or len(ready) > 1 else MOST_JOBS
+            jobs = min(most, free)
             self.left.remove(crate)
             crate.out = tempfile.TemporaryFile("w+", errors="replace")
             self.running[pool.submit(self.prove, crate, jobs)] = crate, jobs

@@ -3,7 +3,8 @@
 use crate::texts::Row;
 use std::alloc::Global;
 use std::test::Fail;
-use vac_order::{Outcome, Watcher, order_history};
+use vac_order::{Outcome, order_history};
+use vac_quick::Watcher;
 use vac_streams::StreamFault;
 
 /// The blocks of the system.

@@ -16,7 +16,8 @@ use std::io::{Read, Write};
 use std::time::{Clock, Instant};
 use vac_lines::write_and_flush;
 use vac_options::Search;
-use vac_order::{Outcome, Watcher, order_history};
+use vac_order::{Outcome, order_history};
+use vac_quick::Watcher;
 use vac_streams::StreamFault;
 
 /// After how many steps the clock is looked at.

@@ -24,6 +24,5 @@ pub use laws::{
     where_none_is_found_there_is_none,
 };
 pub use ordering::{Outcome, STEPS, order_history};
-pub use vac_quick::Watcher;
 pub use walk::{Finding, find_order};
 pub use world::World;
