@@ -106,6 +106,27 @@ set_whole chunks i chunk k whole places l =
       | inr ne ↦ ap length (get_or-set_other chunks i k chunk [] ne) ∙ whole.each k below
     ]
 
+pub longer : (cs more : List (List ℕ)) (chunk : List ℕ) → AreWhole cs → length cs < 1125899906842624 →
+    length chunk ≡ 1024 → more ≡ cs ++ chunk ∷ [] → IsLonger cs more
+longer cs more chunk whole few places is =
+    let len : length more ≡ length cs + 1 = ap length is ∙ length-append cs (chunk ∷ []) in
+    record {
+      chunk = chunk;
+      appended = is;
+      whole = record {
+        each = λ k l. ap (λ xs. length (get_or xs k [])) is ∙ (elim (same_or k (length cs)) [
+          | inl e ↦ (
+              let none : k - length cs ≡ 0 = omega (arith, e) in
+              ap length (get_or-append_right cs (chunk ∷ []) (length cs) k [] refl (omega (arith, e))
+              ∙ ap (λ j. get_or (chunk ∷ []) j []) none) ∙ places)
+          | inr ne ↦ (
+              let below : k < length cs = omega (arith, ne, l, len) in
+              ap length (get_or-append cs (chunk ∷ []) [] k below) ∙ whole.each k below)
+        ]);
+        limit = omega (arith, few, len);
+      };
+    }
+
 pub longer_roomier : (rest more : List (List ℕ)) (full : ℕ) → full ≡ length rest → IsLonger rest more →
     IsRoomier rest more full
 longer_roomier rest more full e longer = record {

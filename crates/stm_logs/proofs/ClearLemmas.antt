@@ -1,9 +1,19 @@
 -- The nodes leave the index one after the other.
 use Rattle.std.proofs.Common.{◌≡◌, ◌≢◌, inl, inr, ℕ, ◌+◌, ◌<◌, List, length, set, length-set, refl, sym, ap, ◌∙◌, arith}
 use Rattle.stm_logs.specs.Nodes.{Node, Block, at, with_next}
+use Rattle.stm_logs.specs.Index.{IsIndexed}
 use Rattle.stm_logs.specs.Held.{IsIndexedAndChained, IsLog, Cleared}
 use Rattle.stm_logs.proofs.NodeLemmas.{same_or, put_here, put_other, field_kept}
 use Rattle.stm_logs.proofs.LogLemmas.{none_log}
+
+pub cleared_none : (ns : List Node) (n : ℕ) → IsIndexed ns n → Cleared ns ns n 0
+cleared_none ns n indexed = record {
+  len = refl;
+  places = λ _. refl;
+  numbers = λ _. refl;
+  locks = λ _. refl;
+  left = λ q k t. (t, (indexed.slots q k t).0, (indexed.slots q k t).1);
+}
 
 pub cleared_place : (old new : List Node) (n e : ℕ) → IsIndexedAndChained old n → Cleared old new n e → e < n →
     (at new (e + 1)).place < length new

@@ -1,10 +1,27 @@
-use Rattle.std.proofs.Common.{◌≡◌, ◌<◌, ◌+◌, ℕ, List, set, sym, ap, ◌∙◌, arith, subst}
+use Rattle.std.proofs.Common.{◌≡◌, ◌<◌, ◌+◌, ℕ, List, set, refl, sym, ap, ◌∙◌, arith, subst}
 use Rattle.stm_logs.specs.declared.nodes.Entry.{Entry}
 use Rattle.stm_logs.specs.Nodes.{Node, Block, at, with_next}
 use Rattle.stm_logs.specs.Held.{Cleared}
+use Rattle.stm_logs.specs.Order.{log_value}
 use Rattle.stm_logs.proofs.LogLemmas.{log_of}
-use Rattle.stm_logs.proofs.ClearLemmas.{cleared_more, cleared_place, cleared_log}
+use Rattle.stm_logs.proofs.ClearLemmas.{cleared_none, cleared_more, cleared_place, cleared_log}
 use Rattle.stm_logs.proofs.table.clear_nodes.Goals as goal
+
+pub loop-e-init : goal.loop-e-init
+loop-e-init g c = record {
+  count = refl;
+  cleared = cleared_none c.args.nodes.now.list c.args.nodes.now.count c.requires.ready.indexed;
+}
+
+pub get-requires : goal.get-requires
+get-requires g c = omega (arith, c.loop-e.invariant.cleared.len, c.requires.ready.indexed.room)
+
+pub set_slot-requires : goal.set_slot-requires
+set_slot-requires g c =
+    let less : c.loop-e.e < c.args.nodes.now.count = omega arith in
+    let inside = cleared_place c.args.nodes.now.list c.loop-e.nodes.list c.args.nodes.now.count c.loop-e.e
+    c.requires.ready c.loop-e.invariant.cleared less in
+    omega (arith, inside, ap (λ (x : Entry). x.place) c.get.ensures)
 
 pub loop-e-preserved : goal.loop-e-preserved
 loop-e-preserved g c =
@@ -23,6 +40,9 @@ loop-e-preserved g c =
           (omega (arith, inside, place)));
     }
 
+pub set_next-requires-clause-inside : goal.set_next-requires-clause-inside
+set_next-requires-clause-inside g c = omega (arith, c.loop-e.invariant.cleared.len, c.requires.ready.indexed.room)
+
 pub returns-clause-log : goal.returns-clause-log
 returns-clause-log g c =
     let old : List Node = c.args.nodes.now.list in
@@ -38,3 +58,8 @@ returns-clause-log g c =
     let recent : end.recent ≡ 0 = ap (λ (b : Block). b.recent) c.set_count.ensures ∙
     ap (λ (b : Block). b.recent) c.set_recent.ensures in
     log_of end _ 0 0 list (ap (λ (b : Block). b.count) c.set_count.ensures) recent log.ready log.places (omega arith)
+
+pub returns-clause-value : goal.returns-clause-value
+returns-clause-value g c =
+    let end : Block = c.set_count.new.self in
+    ap (log_value end.list) (ap (λ (b : Block). b.count) c.set_count.ensures)

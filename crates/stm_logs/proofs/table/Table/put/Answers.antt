@@ -13,9 +13,35 @@ use Rattle.stm_logs.proofs.LogLemmas.{log_of}
 use Rattle.stm_logs.proofs.table.Table.put.Given as given
 use Rattle.stm_logs.proofs.table.Table.put.Goals as goal
 
+pub probe-place-requires : goal.probe-place-requires
+probe-place-requires g c = c.self.invariant.ready.indexed
+
+pub slot-word-requires : goal.slot-word-requires
+slot-word-requires g c = c.probe-place.ensures.inside
+
+pub put_new-requires-clause-log : goal.put_new-requires-clause-log
+put_new-requires-clause-log g c = c.self.invariant
+
+pub put_new-requires-clause-place : goal.put_new-requires-clause-place
+put_new-requires-clause-place g c = c.probe-place.ensures
+
+pub put_new-requires-clause-new : goal.put_new-requires-clause-new
+put_new-requires-clause-new g c =
+    (c.probe-place.ensures.free (sym c.slot-word.ensures ∙ c.if-word-eq0.true)).0
+
 pub returns-then-word-eq0-clause-there : goal.returns-then-word-eq0-clause-there
 returns-then-word-eq0-clause-there g c = λ there. absurd (there
     (absent_at c.self.inside.nodes _ _ _ _ c.self.view_is c.probe-place.ensures c.slot-word.ensures c.if-word-eq0.true))
+
+pub get-node-requires : goal.get-node-requires
+get-node-requires g c =
+    let found = found_at _ _ _ _ _ c.probe-place.ensures c.slot-word.ensures (omega arith) in
+    omega (arith, found.0, c.self.invariant.ready.indexed.room)
+
+pub put-requires : goal.put-requires
+put-requires g c =
+    let found = found_at _ _ _ _ _ c.probe-place.ensures c.slot-word.ensures (omega arith) in
+    omega (arith, found.0, c.self.invariant.ready.indexed.room)
 
 module _ (g : given.Over) (c : goal.After-put g) where
   abbrev old : Block
