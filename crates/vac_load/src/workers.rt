@@ -94,7 +94,7 @@ impl<S: Stages> Plan<S> {
             &mut keep,
         );
         self.phases.done();
-        let seat = Seat { draws, gate, keep };
+        let seat = Seat::of(draws, gate, keep);
         Worker {
             session,
             seat,
