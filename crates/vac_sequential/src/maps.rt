@@ -69,7 +69,9 @@ impl<V: Entry> IdMap<V> {
         self.weight
     }
 
-    /// A number. Not said: that maps with the same entries have the same, as is meant.
+    /// A number.
+    ///
+    /// Not said: that maps with the same entries have the same, as is meant.
     pub(crate) fn hash(&self) -> u64 {
         self.hash
     }

@@ -83,7 +83,9 @@ impl Tables {
         self.customers.is_same(&other.customers)
     }
 
-    /// A number. Not said: that equal states have the same, as is meant.
+    /// A number.
+    ///
+    /// Not said: that equal states have the same, as is meant.
     pub(crate) fn hash(&self) -> u64 {
         let items = mixed(
             self.cars.hash(),
