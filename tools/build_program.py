@@ -4,9 +4,9 @@ those with the longest chain behind them first. Its argument is how many process
 line for each library that is done, and builds only what is not built already.
 
 `rt all check` and `rt run` would do the same with one job a crate, so that most processors stand still
-while the last crates of the chain are proved. Here the crate that most others wait for gets one that is
-free. No work is kept between runs, as `rt check` keeps it: over kept work a second job gains nothing. A
-library is built with its statements alone, as the gate builds it, so that the crates above load less; since
+while the last crates of the chain are proved. Here the one with the longest chain behind it gets a second
+job where a processor would stand still. No work is kept between runs, as `rt check` keeps it: over kept work
+a second job gains nothing. A library is built with its statements alone, as the gate builds it, so that the crates above load less; since
 other commands want its proofs too, it stands apart from theirs, in out/start/. Crates, their sums and the
 words of each call are those of the kit's own module."""
 
@@ -110,8 +110,8 @@ class Building:
 
     def start(self, pool):
         """Starts what may be proved now, each on one processor. Where some would be left, the first, for which
-        the longest chain waits, gets a second; and the last of all gets all. (A second job costs a fifth of a
-        crate's time, which comes back only on a processor that would stand still.)"""
+        the longest chain waits, gets a second; and up to MOST_JOBS where nothing else is proved meanwhile. (A
+        second job costs a fifth of a crate's time, which only a processor that would stand still gives back.)"""
         waits = set(self.left) | {crate for crate, _ in self.running.values()}
         ready = [crate for crate in self.left if not waits & set(crate.below())]
         free = self.processors - sum(jobs for _, jobs in self.running.values())

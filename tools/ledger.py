@@ -473,6 +473,19 @@ def taken(path):
     return found
 
 
+@lru_cache(maxsize=None)
+def modules_of(path):
+    """The modules of its own crate whose functions a file can name: itself, and those that it takes names from."""
+    return {path.stem, *re.findall(r"\bcrate::(\w+)", read(path))}
+
+
+def is_at_hand(helper, path):
+    """Whether a file can name a helper: it stands there, or in a module or a crate that the file takes names from."""
+    if helper.crate == path.parts[-3]:
+        return helper.file.stem in modules_of(path)
+    return helper.crate in taken(path).values()
+
+
 class Tests:
     """The tests of the crates whose names end in `_rows`, and the calls that each of them makes."""
 
@@ -502,7 +515,7 @@ class Tests:
     @staticmethod
     def calls_of(function):
         text, crates = masked(function.file)[function.start:function.end], taken(function.file)
-        words = set(re.findall(r"\b[A-Z]\w*", text))
+        words = {*re.findall(r"\b[A-Z]\w*", text), *crates.values()}
         calls = {(m.group(1) or m.group(2) or crates.get(m.group(3), ""), m.group(3)) for m in CALL.finditer(text)}
         return calls, words
 
@@ -513,9 +526,10 @@ class Tests:
             function = pending.pop()
             reached.append(calls[id(function)])
             for _, name in calls[id(function)][0]:
-                if name not in seen:
+                at_hand = [it for it in by_name.get(name, []) if is_at_hand(it, function.file)]
+                if at_hand and name not in seen:
                     seen.add(name)
-                    pending += by_name.get(name, [])
+                    pending += at_hand
         return reached
 
     def naming(self, function, common):
@@ -538,7 +552,8 @@ def is_call(how, words, function, common):
     type, or as a method of a name that few types have, or where its type is named too."""
     if not function.owner:
         return how == function.crate or how != "." and not (CRATES / how / "src").is_dir()
-    return how == function.owner or how == "." and (function.name not in common or function.owner in words)
+    known = function.owner if function.name in common else function.crate
+    return how == function.owner or how == "." and known in words
 
 
 # Pages.
@@ -759,7 +774,8 @@ def index_of(crates, counts):
 
 COMMON = {"new", "get", "len", "clear", "push", "read", "write", "next", "find", "words", "first", "insert",
           "remove", "begin", "commit", "split", "gather", "close", "call", "run", "report", "size", "last",
-          "put", "lock", "word", "as_slice", "at", "of", "fmt", "keep", "finish", "total", "number"}
+          "put", "copy", "is_same", "hash", "lock", "word", "as_slice", "at", "of", "fmt", "keep", "finish",
+          "total", "number"}
 
 
 def pages():
