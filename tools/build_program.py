@@ -6,9 +6,9 @@ line for each library that is done, and builds only what is not built already.
 `rt all check` and `rt run` would do the same with one job a crate, so that most processors stand still
 while the last crates of the chain are proved. Here the one with the longest chain behind it gets a second
 job where a processor would stand still. No work is kept between runs, as `rt check` keeps it: over kept work
-a second job gains nothing. A library is built with its statements alone, as the gate builds it, so that the crates above load less; since
-other commands want its proofs too, it stands apart from theirs, in out/start/. Crates, their sums and the
-words of each call are those of the kit's own module."""
+a second job gains nothing. A library is built with its statements alone, as the gate builds it, so that the
+crates above load less; since other commands want its proofs too, it stands apart from theirs, in out/start/.
+Crates, their sums and the words of each call are those of the kit's own module."""
 
 import hashlib
 import importlib.util
