@@ -5,7 +5,7 @@ ghost use Rattle.stm_core.specs.Event.{opener};
 ghost use Rattle.stm_region.specs.Shown.{HasSplit, joined, opened_on};
 ghost use Rattle.stm_region.specs.Refused.{ClosesNot, IsLast, OpensNot};
 ghost use Rattle.stm_region.specs.declared.fault.RegionFault.TheVariants.{Clients};
-ghost use Rattle.stm_object.specs.History.{HasRun, HasAsked, IsAlone};
+ghost use Rattle.stm_object.specs.History.{HasTransacted, HasAsked, IsAlone};
 ghost use Rattle.bank.specs.declared.entry.Entry.TheVariants.{Transfer, Sum};
 ghost use Rattle.bank.specs.declared.law.TheConstants.{ACCOUNTS};
 ghost use Rattle.bank.specs.Accounts.{IsBank, Finds, after, code, ClosesBalanced};
@@ -68,7 +68,7 @@ impl Bank {
         requires range { (from < ACCOUNTS) × (to < ACCOUNTS) }
         requires tries { 1 ≤ tries }
         ensures own { teller.new.table ≡ teller.old.table }
-        ensures call { HasRun IsBank code Finds after self.now
+        ensures call { HasTransacted IsBank code Finds after self.now
             (λ moved. Transfer from to amount moved) (λ moved. moved) tries result
             teller.old.value teller.new.value }
     {

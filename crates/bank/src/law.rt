@@ -1,6 +1,5 @@
 //! The bank as an object.
 
-ghost use Rattle.std.specs.Prelude.{◌≡◌, List, ℕ, sum};
 ghost use Rattle.bank.specs.Accounts.{KeepsSum};
 
 use crate::entry::Entry;

@@ -21,7 +21,7 @@ use Rattle.vac_manager.specs.Renewed.{ClosesSomewhere}
 use Rattle.vac_manager.specs.Session.{SessionShown}
 use Rattle.booking_desk.specs.declared.desk.Desk.{Desk}
 use Rattle.booking_desk.specs.declared.settings.DeskSettings.{DeskSettings}
-use Rattle.booking_desk.specs.declared.rounds.Progress.{Progress}
+use Rattle.booking_desk.specs.declared.rounds.OpenDesks.{OpenDesks}
 use Rattle.booking_desk.specs.declared.run.DeskReport.{DeskReport}
 use Rattle.booking_desk.specs.Trips.{stock_of}
 use Rattle.booking_desk.specs.Desks.{asked, cost_of_giving_up, MayServe, new_desk, new_desks}
@@ -42,7 +42,7 @@ new_may s = All-from_recursion (MayServe s) new_desks (
     may number l = record { number = l; within = omega arith }
 
 -- the stock was added by the first call
-pub on_first : (s : DeskSettings) (p : Progress) (stripes : ℕ) (c : CallerShown) (t : Task) (reply : Reply) →
+pub on_first : (s : DeskSettings) (p : OpenDesks) (stripes : ℕ) (c : CallerShown) (t : Task) (reply : Reply) →
     Opens s.blocks s.last stripes p.manager c → HasCalled p.manager t 1 (Ok reply) c p.client →
     t ≡ stock_of s.units → p.desks.items ≡ new_desks → p.rounds ≡ 0 → AreOn s p
 on_first s p stripes c t reply opens call task desks rounds =
@@ -76,7 +76,7 @@ only_memory s stripes region c c' t (fault.Spent version) some range opens call 
     absurd (omega (arith, at, none, opens.last_is, some))
 
 -- after a renewal all desks may serve
-pub may_run : (s : DeskSettings) (p : Progress) (m : RegionShown) (c : CallerShown) (words : List ℕ) → AreOn s p →
+pub may_run : (s : DeskSettings) (p : OpenDesks) (m : RegionShown) (c : CallerShown) (words : List ℕ) → AreOn s p →
     ClosesSomewhere p.manager p.client.value words → m.renewal ≡ p.manager.renewal + 1 →
     c ≡ record p.client { table = m.table; value = renewing p.client.value } →
     MayRun s p.desks.items (record { manager = m; client = c })
@@ -108,7 +108,7 @@ all_ended s ds h e = All-from_recursion (λ d. asked d ≡ s.trips) ds
     (ended_each s ds (recursion_from_All (MayServe s) ds h) e)
 
 -- one round more was run after a renewal
-pub on_more : (s : DeskSettings) (p q : Progress) (m : RegionShown) (c : CallerShown) (y : SessionShown)
+pub on_more : (s : DeskSettings) (p q : OpenDesks) (m : RegionShown) (c : CallerShown) (y : SessionShown)
     (words : List ℕ) → AreOn s p → p.rounds < s.rounds → ClosesSomewhere p.manager p.client.value words →
     m.size ≡ p.manager.size → m.renewal ≡ p.manager.renewal + 1 →
     c ≡ record p.client { table = m.table; value = renewing p.client.value } →
@@ -141,7 +141,7 @@ on_more s p q m c y words on less closes size next same run manager client round
     }
 
 -- the manager was closed
-pub desked : (s : DeskSettings) (p : Progress) (words : List ℕ) (version : ℕ) (r : DeskReport) → AreOn s p →
+pub desked : (s : DeskSettings) (p : OpenDesks) (words : List ℕ) (version : ℕ) (r : DeskReport) → AreOn s p →
     AreEnded s p.desks.items p.rounds → ClosesInState p.manager p.client.value words version →
     ((x : State) → Shows words x → report x ≡ r.report) → r.desks ≡ p.desks → r.rounds ≡ p.rounds → Desked s r
 desked s p words version r on ended closes shows desks rounds = rw (desks, rounds) (record {

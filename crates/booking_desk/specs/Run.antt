@@ -11,7 +11,7 @@ use Rattle.vac_manager.specs.Called.{HasAllGrants}
 use Rattle.vac_manager.specs.Opening.{ClosesInState}
 use Rattle.booking_desk.specs.declared.desk.Desk.{Desk}
 use Rattle.booking_desk.specs.declared.settings.DeskSettings.{DeskSettings}
-use Rattle.booking_desk.specs.declared.rounds.Progress.{Progress}
+use Rattle.booking_desk.specs.declared.rounds.OpenDesks.{OpenDesks}
 use Rattle.booking_desk.specs.declared.run.DeskReport.{DeskReport}
 use Rattle.booking_desk.specs.Trips.{stock_of}
 use Rattle.booking_desk.specs.Desks.{asked, new_desks, MayServe, cost_of_giving_up}
@@ -37,7 +37,7 @@ pub record Went (s : DeskSettings) (ds : List Desk) (records : List Record) : Ty
 
 -- the desks after some rounds, with as many renewals of the manager, which has room for as many
 -- entries as the settings say, and whose one client is alone
-pub record AreOn (s : DeskSettings) (p : Progress) : Type 0 where
+pub record AreOn (s : DeskSettings) (p : OpenDesks) : Type 0 where
   pub own : p.client.table ≡ p.manager.table
   pub alone : HasAllGrants p.client.value
   pub room : capacity_of p.manager ≡ s.blocks

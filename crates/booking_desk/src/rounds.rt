@@ -1,6 +1,6 @@
 //! Rounds of all desks: each gets a client and a thread of its own, and the clients are gathered.
 
-ghost use Rattle.std.specs.Prelude.{◌≡◌, ◌≤◌, ◌<◌, ◌+◌, true, IfOk, IfErr};
+ghost use Rattle.std.specs.Prelude.{◌≡◌, ◌<◌, ◌+◌, true, IfOk, IfErr};
 ghost use Rattle.booking_desk.specs.Setting.{is_desk_settings};
 ghost use Rattle.booking_desk.specs.Desks.{session_of, HasServed, MayServe};
 ghost use Rattle.booking_desk.specs.Rounds.{HasRunRound, MayRun};
@@ -25,7 +25,7 @@ struct Round {
 
 /// The desks after some rounds, with the manager and its one client.
 #[derive(Drop)]
-pub(crate) struct Progress {
+pub(crate) struct OpenDesks {
     pub(crate) manager: Manager,
     pub(crate) client: Client,
     pub(crate) desks: Vec<Desk>,
@@ -83,8 +83,8 @@ pub(crate) fn go_on<R: Threads + Sync>(
     rt: &R,
     alloc: Global,
     settings: DeskSettings,
-    progress: Progress,
-) -> Result<Progress, DeskFault>
+    progress: OpenDesks,
+) -> Result<OpenDesks, DeskFault>
     requires settings { is_desk_settings settings ≡ true }
     requires on { AreOn settings progress }
     requires rounds { progress.rounds < settings.rounds }
@@ -101,7 +101,7 @@ pub(crate) fn go_on<R: Threads + Sync>(
         Err(RenewFault::Closed(..)) => return Err(DeskFault::Memory),
     };
     let round = serve_all(rt, alloc, &manager, settings, client, progress.desks)?;
-    Ok(Progress {
+    Ok(OpenDesks {
         manager,
         client: round.client,
         desks: round.desks,

@@ -5,7 +5,7 @@ ghost use Rattle.booking_desk.specs.Setting.{is_desk_settings};
 ghost use Rattle.booking_desk.specs.Run.{AreOn, AreEnded, Desked};
 
 use crate::desk::{Desk, is_left, new_desks};
-use crate::rounds::{Progress, go_on};
+use crate::rounds::{OpenDesks, go_on};
 use crate::settings::DeskSettings;
 use crate::trips::stock;
 use std::alloc::Global;
@@ -36,7 +36,7 @@ pub enum DeskFault {
 }
 
 /// Opens a manager, and adds the stock as its first task.
-fn open(alloc: Global, settings: DeskSettings) -> Result<Progress, DeskFault>
+fn open(alloc: Global, settings: DeskSettings) -> Result<OpenDesks, DeskFault>
     requires settings { is_desk_settings settings ≡ true }
     ensures on { IfOk result (λ r. AreOn settings r) }
     ensures refused { IfErr result (λ fault. fault ≡ DeskFault.Memory) }
@@ -51,7 +51,7 @@ fn open(alloc: Global, settings: DeskSettings) -> Result<Progress, DeskFault>
         return Err(DeskFault::Memory);
     };
     match manager.call(&mut client, &task, 1) {
-        Ok(_) => Ok(Progress {
+        Ok(_) => Ok(OpenDesks {
             manager,
             client,
             desks,
@@ -65,7 +65,7 @@ fn open(alloc: Global, settings: DeskSettings) -> Result<Progress, DeskFault>
 }
 
 /// Closes the manager, and returns what the desks leave.
-fn close(progress: Progress, settings: DeskSettings) -> Result<DeskReport, DeskFault>
+fn close(progress: OpenDesks, settings: DeskSettings) -> Result<DeskReport, DeskFault>
     requires on { AreOn settings progress }
     requires ended { AreEnded settings progress.desks.items progress.rounds }
     ensures ran { IfOk result (λ r. Desked settings r) }

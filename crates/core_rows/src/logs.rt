@@ -1,5 +1,5 @@
 //! Read logs and write logs: worked rows, many addresses, and each growth refused.
-ghost use Rattle.std.specs.Prelude.{◌≡◌, ℕ, ◌%◌, ◌<◌, ◌≤◌};
+ghost use Rattle.std.specs.Prelude.{ℕ, ◌%◌, ◌<◌, ◌≤◌};
 ghost use Rattle.stm_logs.specs.Log.{IsStriped};
 
 use crate::same::{holds, same};
@@ -119,11 +119,11 @@ fn of_two_locks(alloc: Global) -> Result<WriteLog, AllocError> {
     Ok(log)
 }
 
-/// The words of a log, each with its lock, as they come by lock.
-fn by_lock(alloc: Global, log: &WriteLog) -> Result<Vec<(u32, Addr, u64)>, AllocError> {
+/// The words of a log, each with its lock: lock after lock, those of each by address.
+fn words_by_lock(alloc: Global, log: &WriteLog) -> Result<Vec<(u32, Addr, u64)>, AllocError> {
     let mut found = Vec::new(alloc);
-    for (lock, words) in log.by_lock() {
-        for (addr, value) in words {
+    for lock in log.locks() {
+        for (addr, value) in log.words_of(lock) {
             found.push((lock, addr, value))?;
         }
     }
@@ -133,7 +133,7 @@ fn by_lock(alloc: Global, log: &WriteLog) -> Result<Vec<(u32, Addr, u64)>, Alloc
 #[test]
 fn locks_come_with_their_words(rt: HostRuntime) -> Result<(), Fail> {
     let mut log = of_two_locks(rt.alloc())?;
-    let found = by_lock(rt.alloc(), &log)?;
+    let found = words_by_lock(rt.alloc(), &log)?;
     let wanted = [(1, Addr(5), 3), (1, Addr(9), 4), (2, Addr(6), 2)];
     same(&rt, &found.as_slice(), &wanted.as_slice());
     let pairs: Vec<(Addr, u64)> = log.pairs_by_lock().collect(rt.alloc())?;
@@ -143,7 +143,7 @@ fn locks_come_with_their_words(rt: HostRuntime) -> Result<(), Fail> {
         &[(Addr(5), 3), (Addr(9), 4), (Addr(6), 2)].as_slice(),
     );
     log.clear();
-    holds(&rt, log.by_lock().next().is_none());
+    holds(&rt, log.locks().next().is_none());
     holds(&rt, log.pairs_by_lock().next().is_none());
     Ok(())
 }

@@ -1,5 +1,5 @@
 //! Regions that open, split, close and write single words, one client at a time and in threads.
-ghost use Rattle.std.specs.Prelude.{◌≡◌, ℕ, ◌<◌, IfOk, false, []};
+ghost use Rattle.std.specs.Prelude.{◌≡◌, ◌<◌, IfOk, false};
 ghost use Rattle.stm_core.specs.Core.{IsFreeHanded};
 
 use crate::same::{close, open, same, split, stays_open};

@@ -1,5 +1,5 @@
 //! Versions and lock words, and plain memory through the bound.
-ghost use Rattle.std.specs.Prelude.{◌≡◌, ℕ, ◌<◌, IfOk};
+ghost use Rattle.std.specs.Prelude.{◌≡◌, ◌<◌, IfOk};
 
 use std::test::Fail;
 use stm_words::{FreeLaw, LockWord, Version, law_keeps_fitting};

@@ -1,5 +1,5 @@
 //! A list of bookings in plain memory beside an ordered map.
-ghost use Rattle.std.specs.Prelude.{◌≡◌, ◌+◌, ◌*◌, ◌<◌, IfOk};
+ghost use Rattle.std.specs.Prelude.{◌≡◌, ◌*◌, ◌<◌, IfOk};
 ghost use Rattle.stock_rows.specs.Stock.{IsStockKey, HasStock};
 
 use rand_core::Rng;

@@ -1,6 +1,6 @@
 //! Tests of the examples of objects and of the desks: each call of a teller of the bank, and of a
-//! user of the queue, and tellers, users and desks in threads. And of the searches that bodies of
-//! objects have.
+//! user of the queue; tellers, users and desks in threads, and a desk that gives up. And of the
+//! searches that bodies of objects have.
 #![tactic(auto)]
 
 #[cfg(test)]

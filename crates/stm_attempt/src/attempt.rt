@@ -21,7 +21,7 @@ use tx_memory::{Addr, TxMem, TxRead};
 
 /// A running transaction of a client, with its read log and its write log.
 ///
-/// It must be ended by `commit` or `drop_it`.
+/// It must be ended by `commit` or `abort`.
 pub struct Attempt<'a, L: Law, R: Allocator = Global, A: Allocator + Copy = Global> {
     pub(crate) region: &'a Region<L, R>,
     pub(crate) client: &'a mut Client<L>,
@@ -111,7 +111,7 @@ impl<'a, L: Law, R: Allocator, A: Allocator + Copy> Attempt<'a, L, R, A> {
     /// Aborts the attempt: it ends with no record.
     ///
     /// Not said: what the logs hold until the next begin.
-    pub fn drop_it(self)
+    pub fn abort(self)
         requires { runs self ≡ true }
         ensures client { client_left self.exit ≡ self.entry.client.now }
         ensures free_handed { IsFreeHanded (client_of self.entry) }

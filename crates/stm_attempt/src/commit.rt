@@ -133,7 +133,7 @@ fn commit_writes<L: Law, R: Allocator, A: Allocator + Copy, T: Tag, G: Gate>(
 }
 
 /// Commits what was read and written, unless a read met a conflict. The logs are no longer in use.
-fn end<L: Law, R: Allocator, A: Allocator + Copy, T: Tag, G: Gate>(
+fn commit_or_stop<L: Law, R: Allocator, A: Allocator + Copy, T: Tag, G: Gate>(
     region: &Region<L, R>,
     logs: &mut Logs<A>,
     client: &mut Client<L>,
@@ -220,6 +220,6 @@ impl<'a, L: Law, R: Allocator, A: Allocator + Copy> Attempt<'a, L, R, A> {
             stopped,
             standing: _,
         } = self;
-        end(region, logs, client, rv, stopped, tag, gate)
+        commit_or_stop(region, logs, client, rv, stopped, tag, gate)
     }
 }

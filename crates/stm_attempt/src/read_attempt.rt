@@ -21,7 +21,7 @@ use tx_memory::{Addr, TxRead};
 
 /// A running transaction that only reads. It keeps no log and takes no memory.
 ///
-/// It must be ended by `finish` or `drop_it`.
+/// It must be ended by `finish` or `abort`.
 pub struct ReadAttempt<'a, L: Law, R: Allocator = Global> {
     pub(crate) region: &'a Region<L, R>,
     pub(crate) client: &'a mut Client<L>,
@@ -121,7 +121,7 @@ impl<'a, L: Law, R: Allocator> ReadAttempt<'a, L, R> {
     }
 
     /// Aborts the attempt: it ends with no record.
-    pub fn drop_it(self)
+    pub fn abort(self)
         requires { runs self ≡ true }
         ensures client { client_left self.exit ≡ self.entry.client.now }
         ensures free_handed { IsFreeHanded (client_of self.entry) }

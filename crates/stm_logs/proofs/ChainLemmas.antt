@@ -1,4 +1,4 @@
--- The nodes in their order give the words of a lock, the locks, and the locks with their words.
+-- The nodes in their order give the words of a lock, and the locks.
 use Rattle.std.proofs.Common.{◌≡◌, ◌≢◌, ◌⊎◌, inl, inr, ℕ, zero, suc, ◌+◌, ◌-◌, ◌<◌, ◌≤◌, Bool, true, false, cond, not}
 use Rattle.std.proofs.Common.{◌&&◌, nat_eq, leb, Option, Some, None, MatchOption, List, [], ◌∷◌, map, filter, drop}
 use Rattle.std.proofs.Common.{get_or, length, refl, sym, ap, ◌∙◌, arith, subst}
@@ -8,9 +8,9 @@ use Rattle.std.proofs.lemmas.Bool.Decides.{nat_tests}
 use Rattle.std.proofs.lemmas.Bool.{cases_lt}
 use Rattle.stm_logs.specs.declared.nodes.TheConstants.{TOP}
 use Rattle.stm_logs.specs.Nodes.{Node, at}
-use Rattle.stm_logs.specs.Log.{LogValue, empty_log, log_groups, log_pairs, log_locks, is_number, pairs_of}
+use Rattle.stm_logs.specs.Log.{LogValue, empty_log, log_pairs, log_locks, is_number, pairs_of}
 use Rattle.stm_logs.specs.Order.{rank_of_number, rank_in, Least, IsChained, IsBefore, log_value}
-use Rattle.stm_logs.specs.Chain.{EndsWithin, pair_of, goes_on, words_from, locks_from, groups_from}
+use Rattle.stm_logs.specs.Chain.{EndsWithin, pair_of, goes_on, words_from, locks_from}
 use Rattle.stm_logs.proofs.NodeLemmas.{same_or}
 use Rattle.stm_logs.proofs.OrderLemmas.{after_node, rank_number}
 use Rattle.stm_logs.proofs.TableLemmas.{both_bool, true_false, get_source}
@@ -124,7 +124,7 @@ above_less ns low p (suc e) z m h =
 
 module _ (ns : List Node) (n : ℕ) (c : IsChained ns n) (room : n < length ns) where
   -- what comes behind a node
-  behind : (p : ℕ) → 0 < p → p ≤ n → Least ns n (rank_in (at ns p) + 1) (at ns p).next
+  pub behind : (p : ℕ) → 0 < p → p ≤ n → Least ns n (rank_in (at ns p) + 1) (at ns p).next
   behind p z m = subst (λ l. Least ns n l (at ns p).next) (after_node ns p z) (c.next p m)
 
   ends_from : (most low p : ℕ) → Least ns n low p → above ns low n ≤ most → EndsWithin ns most p
@@ -366,73 +366,29 @@ module _ (ns : List Node) (n : ℕ) (c : IsChained ns n) (room : n < length ns) 
       subst (λ k. In k (locks_from ns most p)) source.value_is
       (locks.complete source.node source.some source.inside (omega arith))))
 
-  -- ---- the locks with their words
-  groups_are : (whole start most low p : ℕ) → Least ns n low p → EndsWithin ns most p →
-      (0 < p → words_from ns (at ns p).lock whole start ≡ pairs_of (log_value ns n) (at ns p).lock)
-      → groups_from ns whole start most p ≡ map (λ lock. (lock, pairs_of (log_value ns n) lock)) (locks_from ns most p)
-  groups_are whole start zero low p l ends words = refl
-  groups_are whole start (suc most) low p l ends words =
-      let lock : ℕ = (at ns p).lock in
-      let next : ℕ = (at ns p).next in
-      let pairs : ℕ → ℕ × List (ℕ × ℕ) = λ k. (k, pairs_of (log_value ns n) k) in
-      let mine : Bool → Bool → List (ℕ × List (ℕ × ℕ)) = λ none goes. cond none []
-      (cond goes (groups_from ns whole start most next) ((
-        lock,
-        words_from ns lock whole start,
-      ) ∷ groups_from ns most next most next)) in
-      let theirs : Bool → Bool → List ℕ = λ none goes. cond none []
-      (cond goes (locks_from ns most next) (lock ∷ locks_from ns most next)) in
-      elim (same_or p 0) [
-        | inl none ↦ ap (λ b. mine b (goes_on ns lock next)) (eq_zero p none) ∙
-            sym (ap (λ b. map pairs (theirs b (goes_on ns lock next))) (eq_zero p none))
-        | inr ne ↦ (
-            let some : 0 < p = omega arith in
-            let s = l.some some in
-            ap (λ b. mine b (goes_on ns lock next)) (not_zero p some) ∙ elim (both_bool (goes_on ns lock next)) [
-              | inl goes ↦ (
-                  let same = (going_on ns lock next goes).1 in
-                  ap (mine false) goes
-                  ∙ groups_are whole start most (rank_in (at ns p) + 1) next (behind p some s.0) (ends some).1
-                  (λ _. ap (λ k. words_from ns k whole start) same ∙ words some ∙ ap (pairs_of (log_value ns n))
-                  (sym same))
-                  ∙ sym (ap (λ b. map pairs (theirs false b)) goes))
-              | inr stops ↦ (
-                  let rest = groups_are most next most (rank_in (at ns p) + 1) next (behind p some s.0) (ends some).1
-                  (λ there. pairs_are (at ns next).lock most next (least_of_lock p some s.0 stops there) (ends some).1)
-                  in
-                  ap (mine false) stops ∙ (λ i. (lock, words some i) ∷ rest i) ∙
-                  sym (ap (λ b. map pairs (theirs false b)) stops))
-            ] ∙ sym (ap (λ b. map pairs (theirs b (goes_on ns lock next))) (not_zero p some)))
-      ]
-    where
-      least_of_lock : (p : ℕ) → 0 < p → p ≤ n → goes_on ns (at ns p).lock (at ns p).next ≡ false → 0 < (at ns p).next →
-          Least ns n (rank_of_number (at ns ((at ns p).next)).lock 0) (at ns p).next
-      least_of_lock p some m stops there =
-          let q : ℕ = (at ns p).next in
-          let old = behind p some m in
-          let s = old.some there in
-          let up = lock_ends p some m stops q there s.0 s.1 in
-          let low : rank_in (at ns p) + 1 ≤ rank_of_number (at ns q).lock 0 =
-          next_lock (at ns p).lock (at ns q).lock (at ns p).number (c.fits p m) up in
-          record {
-            none = λ z. absurd (omega arith);
-            some = λ _. (s.0, first_of_lock (at ns q).lock (at ns q).lock (at ns q).number (omega arith));
-            least = λ z f y k at_f. old.least z f y k (omega arith);
-          }
-
-  -- the locks with their words from the first node on are those of the log
-  pub all_groups : (most p : ℕ) → Least ns n 0 p → EndsWithin ns most p →
-      groups_from ns most p most p ≡ log_groups (log_value ns n)
-  all_groups most p l ends =
-      groups_are most p most 0 p l ends (λ some. pairs_are (at ns p).lock most p (first_lock p l some) ends)
-      ∙ ap (map (λ lock. (lock, pairs_of (log_value ns n) lock))) (all_locks most p l ends)
-    where
-      first_lock : (p : ℕ) → Least ns n 0 p → 0 < p → Least ns n (rank_of_number (at ns p).lock 0) p
-      first_lock p l some = record {
+  -- the words behind the last ones of a lock begin with those of the next lock
+  pub least_of_lock : (p : ℕ) → 0 < p → p ≤ n → goes_on ns (at ns p).lock (at ns p).next ≡ false → 0 < (at ns p).next →
+      Least ns n (rank_of_number (at ns ((at ns p).next)).lock 0) (at ns p).next
+  least_of_lock p some m stops there =
+      let q : ℕ = (at ns p).next in
+      let old = behind p some m in
+      let s = old.some there in
+      let up = lock_ends p some m stops q there s.0 s.1 in
+      let low : rank_in (at ns p) + 1 ≤ rank_of_number (at ns q).lock 0 =
+      next_lock (at ns p).lock (at ns q).lock (at ns p).number (c.fits p m) up in
+      record {
         none = λ z. absurd (omega arith);
-        some = λ _. ((l.some some).0, first_of_lock (at ns p).lock (at ns p).lock (at ns p).number (omega arith));
-        least = λ z f y k _. l.least z f y k (omega arith);
+        some = λ _. (s.0, first_of_lock (at ns q).lock (at ns q).lock (at ns q).number (omega arith));
+        least = λ z f y k at_f. old.least z f y k (omega arith);
       }
+
+  -- the first words of all begin with those of their lock
+  pub first_lock : (p : ℕ) → Least ns n 0 p → 0 < p → Least ns n (rank_of_number (at ns p).lock 0) p
+  first_lock p l some = record {
+    none = λ z. absurd (omega arith);
+    some = λ _. ((l.some some).0, first_of_lock (at ns p).lock (at ns p).lock (at ns p).number (omega arith));
+    least = λ z f y k _. l.least z f y k (omega arith);
+  }
 
   -- ---- where a lock's words begin
   pub least_behind : (x b : ℕ) → IsBefore ns n x b → Least ns n x (at ns b).next
@@ -487,9 +443,6 @@ pub empty_locks : log_locks empty_log ≡ []
 empty_locks = ap (λ (es : List (ℕ × ℕ)). keys {R = nat_cmp} (from_entries (map (λ (p : ℕ × ℕ). (p.1, p.0)) es)))
     none_entries ∙ ap (map (λ (p : ℕ × ℕ). p.0)) none_entries
 
-pub empty_groups : log_groups empty_log ≡ []
-empty_groups = ap (map (λ lock. (lock, pairs_of empty_log lock))) empty_locks
-
 pub empty_pairs : (lock : ℕ) → pairs_of empty_log lock ≡ []
 empty_pairs lock = ap (filter (λ (p : ℕ × ℕ). is_number (get empty_log.locks p.0) lock)) none_entries
 
@@ -538,50 +491,28 @@ step_inside ns (suc most) p some ends =
 -- the same lock goes on
 pub step_on : (ns : List Node) (most p : ℕ) → 0 < p → EndsWithin ns most p →
     goes_on ns (at ns p).lock (at ns p).next ≡ true
-    → (locks_from ns most p ≡ locks_from ns (most - 1) (at ns p).next)
-    × ((whole first : ℕ) → groups_from ns whole first most p ≡ groups_from ns whole first (most - 1) (at ns p).next)
+    → locks_from ns most p ≡ locks_from ns (most - 1) (at ns p).next
 step_on ns zero p some ends goes = absurd (omega (arith, ends))
 step_on ns (suc most) p some ends goes =
     let next : ℕ = (at ns p).next in
-    let up : suc most - 1 ≡ most = omega arith in (
-      ap (λ b. cond b [] (cond (goes_on ns (at ns p).lock next) (locks_from ns most next)
-          ((at ns p).lock ∷ locks_from ns most next))) (not_zero p some)
-          ∙ ap (λ b. cond b (locks_from ns most next) ((at ns p).lock ∷ locks_from ns most next)) goes ∙
-          ap (λ k. locks_from ns k next) (sym up),
-      λ whole first.
-          ap (λ b. cond b [] (cond (goes_on ns (at ns p).lock next) (groups_from ns whole first most next)
-          (((at ns p).lock, words_from ns (at ns p).lock whole first) ∷ groups_from ns most next most next)))
-          (not_zero p some)
-          ∙ ap (λ b. cond b (groups_from ns whole first most next)
-          (((at ns p).lock, words_from ns (at ns p).lock whole first) ∷ groups_from ns most next most next)) goes ∙
-          ap (λ k. groups_from ns whole first k next) (sym up),
-    )
+    let up : suc most - 1 ≡ most = omega arith in
+    ap (λ b. cond b [] (cond (goes_on ns (at ns p).lock next) (locks_from ns most next)
+    ((at ns p).lock ∷ locks_from ns most next))) (not_zero p some)
+    ∙ ap (λ b. cond b (locks_from ns most next) ((at ns p).lock ∷ locks_from ns most next)) goes ∙
+    ap (λ k. locks_from ns k next) (sym up)
 
 -- another lock follows, or none
 pub step_last : (ns : List Node) (most p : ℕ) → 0 < p → EndsWithin ns most p →
     goes_on ns (at ns p).lock (at ns p).next ≡ false
-    → (locks_from ns most p ≡ (at ns p).lock ∷ locks_from ns (most - 1) (at ns p).next)
-    × ((whole first : ℕ) → groups_from ns whole first most p ≡ (
-      (at ns p).lock,
-      words_from ns (at ns p).lock whole first,
-    ) ∷ groups_from ns (most - 1) (at ns p).next (most - 1) (at ns p).next)
+    → locks_from ns most p ≡ (at ns p).lock ∷ locks_from ns (most - 1) (at ns p).next
 step_last ns zero p some ends stops = absurd (omega (arith, ends))
 step_last ns (suc most) p some ends stops =
     let next : ℕ = (at ns p).next in
-    let up : suc most - 1 ≡ most = omega arith in (
-      ap (λ b. cond b [] (cond (goes_on ns (at ns p).lock next) (locks_from ns most next)
-          ((at ns p).lock ∷ locks_from ns most next))) (not_zero p some)
-          ∙ ap (λ b. cond b (locks_from ns most next) ((at ns p).lock ∷ locks_from ns most next)) stops ∙
-          ap (λ k. (at ns p).lock ∷ locks_from ns k next) (sym up),
-      λ whole first.
-          ap (λ b. cond b [] (cond (goes_on ns (at ns p).lock next) (groups_from ns whole first most next)
-          (((at ns p).lock, words_from ns (at ns p).lock whole first) ∷ groups_from ns most next most next)))
-          (not_zero p some)
-          ∙ ap (λ b. cond b (groups_from ns whole first most next)
-          (((at ns p).lock, words_from ns (at ns p).lock whole first) ∷ groups_from ns most next most next)) stops
-          ∙ ap (λ k. ((at ns p).lock, words_from ns (at ns p).lock whole first) ∷ groups_from ns k next k next)
-          (sym up),
-    )
+    let up : suc most - 1 ≡ most = omega arith in
+    ap (λ b. cond b [] (cond (goes_on ns (at ns p).lock next) (locks_from ns most next)
+    ((at ns p).lock ∷ locks_from ns most next))) (not_zero p some)
+    ∙ ap (λ b. cond b (locks_from ns most next) ((at ns p).lock ∷ locks_from ns most next)) stops ∙
+    ap (λ k. (at ns p).lock ∷ locks_from ns k next) (sym up)
 
 -- a node that leads on lies in the block
 pub next_inside : (ns : List Node) (left here next : ℕ) → 0 < here → EndsWithin ns left here →
@@ -601,5 +532,5 @@ pub locks_past : (ns : List Node) (most start left here lock next : ℕ) (b : Bo
 locks_past ns most start left here lock next b some ends same is lock_is goes stops kept =
     let off : goes_on ns (at ns here).lock (at ns here).next ≡ false =
     ap (λ k. goes_on ns k (at ns here).next) (same ∙ sym lock_is) ∙ ap (goes_on ns lock) (sym is) ∙ sym goes ∙ stops in
-    kept ∙ (step_last ns left here some ends off).0 ∙ ap (λ k. k ∷ locks_from ns (left - 1) (at ns here).next) same ∙
+    kept ∙ step_last ns left here some ends off ∙ ap (λ k. k ∷ locks_from ns (left - 1) (at ns here).next) same ∙
     ap (λ q. (at ns start).lock ∷ locks_from ns (left - 1) q) (sym is)

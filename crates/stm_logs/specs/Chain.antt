@@ -31,17 +31,6 @@ locks_from ns (suc most) p =
     let rest = locks_from ns most next in
     cond (nat_eq p 0) [] (cond (goes_on ns lock next) rest (lock ∷ rest))
 
--- the locks of a chain as above, each with its words; those of the first lock begin at start, from
--- where there are at most `whole` nodes
-abbrev pub groups_from : List Node → ℕ → ℕ → ℕ → ℕ → List (ℕ × List (ℕ × ℕ))
-groups_from ns whole start zero p = []
-groups_from ns whole start (suc most) p =
-    let lock = (at ns p).lock in
-    let next = (at ns p).next in
-    cond (nat_eq p 0) [] (cond (goes_on ns lock next)
-    (groups_from ns whole start most next)
-    ((lock, words_from ns lock whole start) ∷ groups_from ns most next most next))
-
 -- the words of a chain, with their values, of at most `most` nodes
 abbrev pub pairs_from : List Node → ℕ → ℕ → List (ℕ × ℕ)
 pairs_from ns zero p = []
@@ -56,10 +45,6 @@ words_in (Some block) lock most p = words_from block.now.list lock most p
 abbrev pub locks_in : Option (Bor Block) → ℕ → ℕ → List ℕ
 locks_in None most p = []
 locks_in (Some block) most p = locks_from block.now.list most p
-
-abbrev pub groups_in : Option (Bor Block) → ℕ → ℕ → List (ℕ × List (ℕ × ℕ))
-groups_in None most p = []
-groups_in (Some block) most p = groups_from block.now.list most p most p
 
 abbrev pub pairs_in : Option (Bor Block) → ℕ → ℕ → List (ℕ × ℕ)
 pairs_in None most p = []

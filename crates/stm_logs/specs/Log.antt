@@ -44,10 +44,6 @@ is_number (Some k) lock = nat_eq k lock
 abbrev pub pairs_of : LogValue → ℕ → List (ℕ × ℕ)
 pairs_of w lock = filter (λ p. is_number (get w.locks p.0) lock) (log_pairs w)
 
--- the locks of the written addresses in ascending order, each with its addresses and values
-abbrev pub log_groups : LogValue → List (ℕ × List (ℕ × ℕ))
-log_groups w = map (λ lock. (lock, pairs_of w lock)) (log_locks w)
-
 -- the written addresses with their values, by ascending lock, those of one lock by ascending
 -- address
 abbrev pub pairs_by_lock : LogValue → List (ℕ × ℕ)

@@ -2,7 +2,7 @@
 ghost use Rattle.std.specs.Prelude.{◌≡◌, ℕ, ◌<◌, ◌∷◌, length};
 ghost use Rattle.std.specs.Iterator.{YieldsFirst, YieldsFirstBy, item_count};
 ghost use Rattle.stm_logs.specs.Nodes.{at};
-ghost use Rattle.stm_logs.specs.Chain.{EndsWithin, goes_on, words_from, locks_from, groups_from};
+ghost use Rattle.stm_logs.specs.Chain.{EndsWithin, goes_on, locks_from};
 
 use crate::nodes::Nodes;
 use std::alloc::{Allocator, Global};
@@ -94,52 +94,6 @@ impl<'a, A: Allocator> Iterator for Locks<'a, A> {
     }
 }
 
-/// The locks of a write log in ascending order, each once, with its words.
-#[derive(Drop)]
-pub struct ByLock<'a, A: Allocator = Global> {
-    pub(crate) nodes: Option<&'a Nodes<A>>,
-    pub(crate) at: usize,
-    /// No more nodes are left than this.
-    pub(crate) most: usize,
-}
-
-impl<'a, A: Allocator> Model for ByLock<'a, A> {
-    ghost use Rattle.std.specs.Prelude.{ℕ, List};
-
-    ghost Value = { List (ℕ × List (ℕ × ℕ)) };
-
-    ghost use Rattle.stm_logs.specs.Chain.{groups_in, EndsIn};
-
-    ghost view = { λ w. groups_in w.nodes w.most w.at };
-
-    ghost invariant = { λ w. EndsIn w.nodes w.most w.at };
-}
-
-impl<'a, A: Allocator> Iterator for ByLock<'a, A> {
-    type Item = (u32, Words<'a, A>);
-
-    ghost next_gives = { YieldsFirstBy (λ item. (item.0, item.1)) (λ rest. rest) };
-
-    ghost remaining = { item_count (λ rest. rest) };
-
-    #[inline]
-    fn next(&mut self) -> Option<(u32, Words<'a, A>)> {
-        let nodes = self.nodes?;
-        if self.at == 0 {
-            return None;
-        }
-        let lock = nodes.get(self.at).lock;
-        let words = Words {
-            nodes: Some(nodes),
-            lock,
-            at: self.at,
-            most: self.most,
-        };
-        (self.at, self.most) = past(nodes, self.at, self.most);
-        Some((lock, words))
-    }
-}
-
 /// The words of a write log with their values, by ascending lock, those of one lock by ascending
 /// address.
 #[derive(Drop)]
@@ -190,13 +144,6 @@ fn past<A: Allocator>(nodes: &Nodes<A>, start: usize, most: usize) -> (usize, us
     ensures ends { EndsWithin nodes.now.list result.1 result.0 }
     ensures locks { locks_from nodes.now.list most start
         ≡ (at nodes.now.list start).lock ∷ locks_from nodes.now.list result.1 result.0 }
-    ensures groups { (whole first : ℕ) → groups_from nodes.now.list whole first most start
-        ≡ (
-          (at nodes.now.list start).lock,
-          words_from nodes.now.list
-              (at nodes.now.list start).lock whole first,
-        )
-        ∷ groups_from nodes.now.list result.1 result.0 result.1 result.0 }
 {
     let lock = nodes.get(start).lock;
     let mut at = start;

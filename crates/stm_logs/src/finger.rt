@@ -1,6 +1,6 @@
 //! The fingers of a write log: where a walk through a long log may start. A finger is a guess, and
 //! is looked at before it is followed.
-ghost use Rattle.std.specs.Prelude.{◌≡◌, ℕ, ◌+◌, ◌<◌, ◌≤◌, length, true};
+ghost use Rattle.std.specs.Prelude.{◌≡◌, ◌+◌, ◌<◌, ◌≤◌, length, true};
 ghost use Rattle.stm_logs.specs.declared.nodes.TheConstants.{MAX_PLACES};
 ghost use Rattle.stm_logs.specs.Order.{rank_of_number, HasLock, IsChained, IsBelow, OnlyFingers};
 

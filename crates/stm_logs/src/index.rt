@@ -1,7 +1,7 @@
 //! The index of a write log: open addressing with linear probing.
-ghost use Rattle.std.specs.Prelude.{◌≡◌, ◌≢◌, ℕ, ◌+◌, ◌*◌, ◌<◌, ◌≤◌, List, length, slice_set};
+ghost use Rattle.std.specs.Prelude.{◌≡◌, ◌+◌, ◌*◌, ◌<◌, ◌≤◌, length};
 ghost use Rattle.stm_logs.specs.declared.nodes.TheConstants.{MAX_PLACES};
-ghost use Rattle.stm_logs.specs.Nodes.{Block, at, bare};
+ghost use Rattle.stm_logs.specs.Nodes.{at, bare};
 ghost use Rattle.stm_logs.specs.Index.{home, IsFoundNode, IsIndexed, HasNoNumber, Answers, Entered};
 
 use crate::nodes::{Entry, NUMBERS, Nodes};

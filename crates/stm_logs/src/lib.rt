@@ -16,6 +16,6 @@ mod row;
 mod table;
 mod write;
 
-pub use chain::{ByLock, Locks, Pairs, Words};
+pub use chain::{Locks, Pairs, Words};
 pub use read::ReadLog;
 pub use write::WriteLog;

@@ -1,5 +1,5 @@
 //! The nodes of a write log and its index, in two raw blocks.
-ghost use Rattle.std.specs.Prelude.{◌≡◌, ℕ, ◌+◌, ◌*◌, ◌<◌, ◌≤◌, List, length, slice_set, IfOk};
+ghost use Rattle.std.specs.Prelude.{◌≡◌, ◌<◌, ◌≤◌, length, IfOk};
 
 use crate::row::{Right, Row, fill, release};
 use std::alloc::{AllocError, Allocator};

@@ -1,7 +1,7 @@
 //! The order of a write log's nodes: by lock, and within a lock by address.
-ghost use Rattle.std.specs.Prelude.{◌≡◌, ◌↔◌, ℕ, ◌+◌, ◌*◌, ◌<◌, ◌≤◌, List, length};
+ghost use Rattle.std.specs.Prelude.{◌≡◌, ◌+◌, ◌*◌, ◌<◌, ◌≤◌, length};
 ghost use Rattle.stm_logs.specs.declared.nodes.TheConstants.{MAX_PLACES};
-ghost use Rattle.stm_logs.specs.Nodes.{Block, at, bare, with_node, with_next};
+ghost use Rattle.stm_logs.specs.Nodes.{at, bare, with_node, with_next};
 ghost use Rattle.stm_logs.specs.Order.{rank_of_number, rank_in, IsChained, IsBelow, IsBefore};
 
 use crate::finger::nearer;

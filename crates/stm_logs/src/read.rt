@@ -2,7 +2,7 @@
 ghost use Rattle.stm_logs.specs.Chunks.{AreWhole, HasRoomInChunks, IsLonger, IsRoomier, IsSetAside, IsTurned};
 ghost use Rattle.stm_logs.specs.Refusals.{OrSame, Becomes};
 ghost use Rattle.stm_logs.specs.declared.read.TheConstants.{PLACES};
-ghost use Rattle.std.specs.Prelude.{◌≡◌, ℕ, ◌+◌, ◌*◌, ◌<◌, ◌≤◌, List, [], ◌∷◌, ◌++◌, length, take, slice_index, slice_set, IfOk, MatchResult};
+ghost use Rattle.std.specs.Prelude.{◌≡◌, ℕ, ◌+◌, ◌*◌, ◌<◌, ◌≤◌, List, [], ◌∷◌, ◌++◌, length, slice_index, slice_set, IfOk, MatchResult};
 
 use crate::row::{Right, Row, fill, release};
 use std::alloc::{AllocError, Allocator, Global};

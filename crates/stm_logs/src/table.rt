@@ -1,15 +1,15 @@
 //! The written words of a log with their locks and values, in one block of nodes with its index.
 ghost use Rattle.std.specs.Prelude.{◌≡◌, ◌≢◌, ◌↔◌, ℕ, ◌+◌, ◌*◌, ◌<◌, ◌≤◌, true, false, None, Some, Ok, length, IsOk, IfOk};
 ghost use Rattle.std.specs.FinMap.{get, len};
-ghost use Rattle.stm_logs.specs.Nodes.{Block, at};
+ghost use Rattle.stm_logs.specs.Nodes.{at};
 ghost use Rattle.stm_logs.specs.Index.{HasNoNumber, Answers};
-ghost use Rattle.stm_logs.specs.Order.{OnlyFingers, block_log};
+ghost use Rattle.stm_logs.specs.Order.{block_log};
 ghost use Rattle.stm_logs.specs.Held.{IsLog, HasOneMoreWord, with_word};
 ghost use Rattle.stm_logs.specs.Chain.{EndsWithin, words_from};
-ghost use Rattle.stm_logs.specs.Log.{LogValue, empty_log, log_groups, log_locks, pairs_by_lock, pairs_of, SameAddresses};
+ghost use Rattle.stm_logs.specs.Log.{LogValue, empty_log, log_locks, pairs_by_lock, pairs_of, SameAddresses};
 ghost use Rattle.stm_logs.specs.Refusals.{OrSame, Becomes};
 
-use crate::chain::{ByLock, Locks, Pairs, Words};
+use crate::chain::{Locks, Pairs, Words};
 use crate::finger::{point, point_all_if, shows};
 use crate::grow::{SHORT, grown, is_full, is_long};
 use crate::index::{enter, find, probe};
@@ -105,18 +105,6 @@ impl<A: Allocator + Copy> Table<A> {
         ensures { result ≡ log_locks self.now }
     {
         Locks {
-            nodes: Some(&self.nodes),
-            at: self.nodes.get(0).next as usize,
-            most: self.nodes.count(),
-        }
-    }
-
-    /// The locks in ascending order, each once, with its words.
-    #[inline]
-    pub(crate) fn by_lock(&self) -> ByLock<'_, A>
-        ensures { result ≡ log_groups self.now }
-    {
-        ByLock {
             nodes: Some(&self.nodes),
             at: self.nodes.get(0).next as usize,
             most: self.nodes.count(),

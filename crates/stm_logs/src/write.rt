@@ -1,11 +1,11 @@
 //! The write log: the addresses that a transaction has written, with their values and locks.
-ghost use Rattle.std.specs.Prelude.{◌≡◌, ◌≢◌, ◌↔◌, ℕ, ◌%◌, ◌<◌, ◌≤◌, IsOk, None, Some, length, slice_index, IfOk, true};
+ghost use Rattle.std.specs.Prelude.{◌≡◌, ◌≢◌, ◌↔◌, ℕ, ◌%◌, ◌<◌, ◌≤◌, IsOk, None, Some, length, slice_index, true};
 ghost use Rattle.std.specs.FinMap.{get, len};
 ghost use Rattle.stm_logs.specs.Refusals.{Becomes};
 ghost use Rattle.stm_logs.specs.Held.{with_word};
-ghost use Rattle.stm_logs.specs.Log.{LogValue, empty_log, log_groups, log_locks, pairs_by_lock, pairs_of, SameAddresses};
+ghost use Rattle.stm_logs.specs.Log.{LogValue, empty_log, log_locks, pairs_by_lock, pairs_of, SameAddresses};
 
-use crate::chain::{ByLock, Locks, Pairs, Words};
+use crate::chain::{Locks, Pairs, Words};
 use crate::table::Table;
 use std::alloc::{AllocError, Allocator, Global};
 use std::marker::Model;
@@ -197,22 +197,6 @@ impl<A: Allocator + Copy> WriteLog<A> {
             None => Words {
                 nodes: None,
                 lock,
-                at: 0,
-                most: 0,
-            },
-        }
-    }
-
-    /// The locks of the addresses in ascending order, each once, with its addresses and values by
-    /// ascending address. No lock is looked up.
-    #[inline]
-    pub fn by_lock(&self) -> ByLock<'_, A>
-        ensures { result ≡ log_groups self.now }
-    {
-        match &self.table {
-            Some(table) => table.by_lock(),
-            None => ByLock {
-                nodes: None,
                 at: 0,
                 most: 0,
             },

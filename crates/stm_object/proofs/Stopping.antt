@@ -14,7 +14,8 @@ use Rattle.stm_attempt.specs.declared.conflict.Stop.TheVariants as stop
 use Rattle.stm_object.specs.Object.{IsLawfulEntry}
 use Rattle.stm_object.specs.History.{AddsEntry, SparesWrites, RecordsEntry, WasInOrder, IsAlone, IsNoConflict, WasRead}
 use Rattle.stm_object.specs.History.{ConflictWasShown}
-use Rattle.stm_object.specs.History.{WouldWriteEntry, IsStopOfEntry, IsConflict, Missed, Misses, AreTries, HasRun}
+use Rattle.stm_object.specs.History.{WouldWriteEntry, IsStopOfEntry, IsConflict, Missed, Misses, AreTries}
+use Rattle.stm_object.specs.History.{HasTransacted}
 use Rattle.stm_object.specs.History.{HasAsked}
 
 -- a read showed the conflict that the attempt kept
@@ -187,7 +188,7 @@ module _ {E : Type 0} (fits : List ℕ → Type 0) (code : E → List ℕ) (find
       (IsAlone w → IfErr result (λ s. IsNoConflict s))
       → IfErr result (λ s. IsStopOfEntry fits code finds after region entry changes 1 s w v')
       → ((conflict : Conflict) → result ≡ Err (stop.Conflict conflict) → left' ≡ 0)
-      → HasRun fits code finds after region entry changes tries answer v v'
+      → HasTransacted fits code finds after region entry changes tries answer v v'
   has_run region entry changes tries left left' v w v' answer result is t less grants start same next records order
       spares alone stopped last = rw is (record {
         grants = same ∙ grants;

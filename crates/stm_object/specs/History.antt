@@ -206,7 +206,7 @@ IsConflict region tries conflict v v' =
 -- what a call of a transaction does, by at most `tries` attempts: what it records and where, how
 -- many attempts it makes, and why it stops
 -- Not said: that it is answered in the end, however many tries it has; how long a try takes
-pub record HasRun {E A : Type 0} (fits : List ℕ → Type 0) (code : E → List ℕ)
+pub record HasTransacted {E A : Type 0} (fits : List ℕ → Type 0) (code : E → List ℕ)
     (finds : E → List ℕ → Type 0) (after : E → List ℕ → List ℕ) (region : RegionShown)
     (entry : A → E) (changes : A → Bool) (tries : ℕ) (result : Result A Stop) (v v' : Client)
     : Type 0 where

@@ -1,6 +1,6 @@
 //! Shared objects: what their operations find and leave, one after the other.
 
-ghost use Rattle.std.specs.Prelude.{◌≡◌, ℕ, List, length};
+ghost use Rattle.std.specs.Prelude.{ℕ, List};
 
 use std::marker::PhantomData;
 use stm_words::{Law, Tag};

@@ -4,7 +4,7 @@ ghost use Rattle.std.specs.Prelude.{◌≡◌, ◌≤◌, Bool, false, IfOk, IfE
 ghost use Rattle.stm_core.specs.Core.{IsFreeHanded};
 ghost use Rattle.stm_object.specs.Bodies.{HasFitting, Did};
 ghost use Rattle.stm_object.specs.History.{MayAttempt, AttemptedOnce, IsAlone, IsNoConflict};
-ghost use Rattle.stm_object.specs.History.{IsConflict, IsStopOfEntry, HasRun, HasAsked, SparesWrites};
+ghost use Rattle.stm_object.specs.History.{IsConflict, IsStopOfEntry, HasTransacted, HasAsked, SparesWrites};
 
 use crate::object::{Object, ObjectLaw};
 use crossbeam_utils::Backoff;
@@ -60,11 +60,11 @@ pub fn attempt_once<S: Object, B: Body<S>>(
     let mut attempt = Attempt::begin(region, client, logs);
     let answer = body.run(&mut attempt);
     if let Some(conflict) = attempt.stopped() {
-        attempt.drop_it();
+        attempt.abort();
         return Err(Stop::Conflict(conflict));
     }
     let Ok(found) = answer else {
-        attempt.drop_it();
+        attempt.abort();
         return Err(Stop::Memory);
     };
     let entry = body.entry(&found);
@@ -86,7 +86,7 @@ pub fn transact<S: Object, B: Body<S>>(
     requires tries { 1 ≤ tries }
     ensures own { client.new.table ≡ client.old.table }
     ensures free_handed { IsFreeHanded client.new.value }
-    ensures call { HasRun S.fits S.Entry.numbers S.finds S.after region.now
+    ensures call { HasTransacted S.fits S.Entry.numbers S.finds S.after region.now
         (λ a. B.entry_of body.now a) (λ a. B.changes body.now a) tries result client.old.value
         client.new.value }
 {
@@ -138,7 +138,7 @@ pub fn ask_once<S: Object, B: Query<S>>(
     let mut attempt = ReadAttempt::begin(region, client);
     let answer = body.run(&mut attempt);
     if let Some(conflict) = attempt.stopped() {
-        attempt.drop_it();
+        attempt.abort();
         return Err(conflict);
     }
     let Ok(found) = answer else {

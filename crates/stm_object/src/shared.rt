@@ -2,10 +2,10 @@
 
 ghost use Rattle.std.specs.Prelude.{◌≡◌, ◌≤◌, IfOk, IfErr, length};
 ghost use Rattle.stm_core.specs.Event.{opener};
-ghost use Rattle.stm_region.specs.Shown.{HasSplit, joined, opened_on};
+ghost use Rattle.stm_region.specs.Shown.{HasSplit, with_gathered, opened_on};
 ghost use Rattle.stm_region.specs.Refused.{ClosesNot, IsLast, OpensNot};
 ghost use Rattle.stm_region.specs.declared.fault.RegionFault.TheVariants.{Clients};
-ghost use Rattle.stm_object.specs.History.{Closes, HasRun, HasAsked, IsAlone};
+ghost use Rattle.stm_object.specs.History.{Closes, HasTransacted, HasAsked, IsAlone};
 
 use crate::object::{Object, ObjectLaw};
 use crate::run::{Body, Query, ask, transact};
@@ -86,7 +86,7 @@ impl<S: Object> Shared<S> {
         requires own { user.old.table ≡ self.now.table }
         requires tries { 1 ≤ tries }
         ensures own { user.new.table ≡ user.old.table }
-        ensures call { HasRun S.fits S.Entry.numbers S.finds S.after self.now
+        ensures call { HasTransacted S.fits S.Entry.numbers S.finds S.after self.now
             (λ a. B.entry_of body.now a) (λ a. B.changes body.now a) tries result user.old.value
             user.new.value }
     {
@@ -127,7 +127,7 @@ impl<S: Object> Shared<S> {
     pub fn gather(&self, user: &mut User<S>, other: User<S>)
         requires { (user.old.table ≡ self.now.table) × (other.table ≡ self.now.table) }
         ensures { user.new
-            ≡ record user.old { value = joined user.old.value other.value } }
+            ≡ record user.old { value = with_gathered user.old.value other.value } }
     {
         let User { client, logs: _ } = other;
         self.region.gather(&mut user.client, client);

@@ -13,7 +13,7 @@ use Rattle.stm_core.proofs.Facts.{one_version}
 use Rattle.stm_core.proofs.Lones.{at_map}
 use Rattle.stm_core.proofs.Playing.{every_list_is_serializable}
 use Rattle.stm_core.proofs.Whole.{whole_serial, whole_lawful, whole_shared, own_sorted}
-use Rattle.stm_region.specs.Shown.{Opened, joined}
+use Rattle.stm_region.specs.Shown.{Opened, with_gathered}
 use Rattle.stm_core.specs.Guards.{stripe_of}
 use Rattle.stm_region.specs.Traced.{Mirrors}
 use Rattle.stm_region.specs.Rule.{IsCoreState, listed}
@@ -46,7 +46,7 @@ module _ (fits : List ℕ → Type 0) (lawful : RecordLaw) (o : Opened) (s : Sta
       (at_map (shed h.core.renewal) h.core.clients i v (subst (λ cs. get_elem? cs i ≡ some v) h.views e)))))
 
   pub takes_all : (i j : ℕ) (v w : Client) → i ≢ j → get_elem? s.views i ≡ some v → get_elem? s.views j ≡ some w →
-      v.is_gathered ≡ false → w.is_gathered ≡ false → joined v w ≡ taking v w
+      v.is_gathered ≡ false → w.is_gathered ≡ false → with_gathered v w ≡ taking v w
   takes_all i j v w ne e f un un' = joined_all lawful (stripe_of o.stripes) h.core h.rule i j v w ne
       (subst (λ cs. get_elem? cs i ≡ some v) h.views e) (subst (λ cs. get_elem? cs j ≡ some w) h.views f) un un'
 

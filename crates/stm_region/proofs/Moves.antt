@@ -26,7 +26,7 @@ use Rattle.stm_core.proofs.Renewing.{split_rules, gather_rules}
 use Rattle.stm_core.proofs.Whole.{whole_shared, opening_fits, knows}
 use Rattle.stm_core.proofs.Histories.{image_fits}
 use Rattle.stm_core.proofs.Facts.{some_fits, grants_of_two, ahead, all_lawful, one_version}
-use Rattle.stm_region.specs.Shown.{Opened, RegionShown, joined, opened_with, bounds, unplaced}
+use Rattle.stm_region.specs.Shown.{Opened, RegionShown, with_gathered, opened_with, bounds, unplaced}
 use Rattle.stm_region.specs.declared.layout.TheConstants.{FIRST_LOCK}
 use Rattle.stm_region.specs.Layout.{place, first_cell, InRange, IsLaid, IsStore}
 use Rattle.stm_region.specs.Findings.{IsLockWord, IsVersion, StandsOn, IsRightAfter, IsOneEvent, IsOfOneVersionAt}
@@ -105,7 +105,7 @@ pub record Matches (o : Opened) (c : Core) : Type 0 where
 -- the bound on the grants takes none away
 pub joined_all : (lawful : RecordLaw) (l : ℕ → ℕ) (c : Core) → Rule lawful l c → (i j : ℕ) (v w : Client) → i ≢ j →
     get_elem? c.clients i ≡ some v → get_elem? c.clients j ≡ some w → v.is_gathered ≡ false → w.is_gathered ≡ false →
-    joined v w ≡ taking v w
+    with_gathered v w ≡ taking v w
 joined_all lawful l c inv i j v w ne at to un un' =
     let n = grants_of_two lawful l (now c) inv.inv i j (shed c.renewal v) (shed c.renewal w) ne
     (at_map (shed c.renewal) c.clients i v at) (at_map (shed c.renewal) c.clients j w to) un un' in
@@ -531,14 +531,15 @@ module _ (fits : List ℕ → Type 0) (lawful : RecordLaw) (law : Keeping fits l
 
     -- a client takes in another
     join_allowed : (id : ℕ) (v : Client) (other : ℕ) (w : Client) → IsFreeHanded v → IsFreeHanded w →
-        Joins Kept id v other w (joined v w) gone
+        Joins Kept id v other w (with_gathered v w) gone
     join_allowed id v other w free free' s h at ne to =
         let at' : get_elem? h.core.clients id ≡ some v = subst (λ vs. get_elem? vs id ≡ some v) h.views at in
-        let to' : get_elem? (set h.core.clients id (joined v w)) other ≡ some w =
-        subst (λ vs. get_elem? (set vs id (joined v w)) other ≡ some w) h.views to in
-        let was : get_elem? h.core.clients other ≡ some w = sym (set_else h.core.clients id other (joined v w) ne) ∙
+        let to' : get_elem? (set h.core.clients id (with_gathered v w)) other ≡ some w =
+        subst (λ vs. get_elem? (set vs id (with_gathered v w)) other ≡ some w) h.views to in
+        let was : get_elem? h.core.clients other ≡ some w = sym
+            (set_else h.core.clients id other (with_gathered v w) ne) ∙
         to' in
-        let all : joined v w ≡ taking v w = joined_all lawful lk h.core h.rule id other v w
+        let all : with_gathered v w ≡ taking v w = joined_all lawful lk h.core h.rule id other v w
         (λ e. ne (sym e)) at' was free.0 free'.0 in record {
           core = gathered id v other w h.core;
           gap = h.gap;
@@ -561,9 +562,9 @@ module _ (fits : List ℕ → Type 0) (lawful : RecordLaw) (law : Keeping fits l
 
     pub joins_here : (words : ℕ) (key : Opened) → Runs words key r → (id : ℕ) (v : Client) (other : ℕ) (w : Client) →
         IsFreeHanded v → IsFreeHanded w → (0 < words) × Joins (IsCoreState {S = S} fits lawful key) id v other w
-        (joined v w) gone
+        (with_gathered v w) gone
     joins_here words key run id v other w free free' = (
       let t = run.total in omega arith,
       subst (λ k. Joins (IsCoreState {S = S} fits lawful k) id v other w
-          (joined v w) gone) (sym run.key_is) (join_allowed id v other w free free'),
+          (with_gathered v w) gone) (sym run.key_is) (join_allowed id v other w free free'),
     )

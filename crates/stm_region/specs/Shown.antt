@@ -136,8 +136,8 @@ HasSplit before now other =
 
 -- a client with the records and grants of another and one grant more: never more than all grants,
 -- as those of all clients that are out and these clients themselves make one more
-abbrev pub joined : Client → Client → Client
-joined v w = record (taking v w) { grants = min (v.grants + w.grants + 1) MOST_GRANTS }
+abbrev pub with_gathered : Client → Client → Client
+with_gathered v w = record (taking v w) { grants = min (v.grants + w.grants + 1) MOST_GRANTS }
 
 -- the client's own number is the word of its last step, where that was a probe
 abbrev pub KeepsProbe : ℕ → Step → Type 0

@@ -1,9 +1,8 @@
 //! The kinds of atomic step on the table (load, exchange, store, and the subtraction that gives
 //! a lock back), whose event the proof picks.
-ghost use Rattle.std.specs.Prelude.{◌≡◌, ◌≢◌, ℕ, ◌+◌, ◌-◌, ◌*◌, ◌/◌, ◌<◌, ◌≤◌, ◌^◌, ◌==◌};
+ghost use Rattle.std.specs.Prelude.{◌≡◌, ℕ, ◌+◌, ◌-◌, ◌<◌, ◌^◌};
 ghost use Rattle.stm_core.specs.Core.{left};
-ghost use Rattle.stm_core.specs.Client.{word_before};
-ghost use Rattle.stm_core.specs.Event.{Action, lock as locks, tick as ticks, give_back as gives_back, finish as finishes};
+ghost use Rattle.stm_core.specs.Event.{tick as ticks, give_back as gives_back, finish as finishes};
 ghost use Rattle.stm_region.specs.Shown.{MayStep, value_after};
 ghost use Rattle.stm_region.specs.Layout.{MayStepAt, Exchanges, Stores};
 ghost use Rattle.stm_region.specs.Findings.{IsOneEvent, HasActed};

@@ -2,7 +2,7 @@
 //! table tell. These types are for the proofs alone.
 
 ghost use Rattle.stm_core.specs.Event.{Action, begin, giving, fresh, gone};
-ghost use Rattle.stm_region.specs.Shown.{RegionShown, joined, nowhere};
+ghost use Rattle.stm_region.specs.Shown.{RegionShown, with_gathered, nowhere};
 ghost use Rattle.stm_region.specs.Findings.{acting};
 
 use crate::view::View;
@@ -45,7 +45,7 @@ impl Split<View> for Gives {
 pub struct Takes;
 
 impl Join<View> for Takes {
-    ghost both = { joined };
+    ghost both = { with_gathered };
 
     ghost spent = { gone };
 }

@@ -1,5 +1,5 @@
 //! The region: its opening, and the splitting and gathering of its clients.
-ghost use Rattle.std.specs.Prelude.{◌≡◌, ◌+◌, ◌<◌, ◌≤◌, length, IfOk, IfErr};
+ghost use Rattle.std.specs.Prelude.{◌≡◌, ◌+◌, ◌<◌, length, IfOk, IfErr};
 ghost use Rattle.stm_region.specs.declared.fault.RegionFault.TheVariants.{Clients};
 ghost use Rattle.std.specs.Prelude.{◌⊎◌};
 ghost use Rattle.tx_memory.specs.Image.{In};
@@ -7,7 +7,7 @@ ghost use Rattle.stm_core.specs.Client.{Record};
 ghost use Rattle.stm_core.specs.History.{Sub};
 ghost use Rattle.stm_core.specs.Core.{IsFreeHanded};
 ghost use Rattle.stm_core.specs.Event.{opener};
-ghost use Rattle.stm_region.specs.Shown.{HasSplit, joined, opened_on, opened_with};
+ghost use Rattle.stm_region.specs.Shown.{HasSplit, with_gathered, opened_on, opened_with};
 ghost use Rattle.stm_core.specs.Guards.{stripe_of};
 ghost use Rattle.stm_region.specs.Layout.{first_cell};
 ghost use Rattle.stm_region.specs.Refused.{IsSize, IsLast, IsStripes, OpensNot};
@@ -193,7 +193,7 @@ impl<L: Law, A: Allocator> Region<L, A> {
         requires own { (client.old.table ≡ self.now.table) × (other.table ≡ self.now.table) }
         requires free_handed { IsFreeHanded client.old.value × IsFreeHanded other.value }
         ensures client { client.new
-            ≡ record client.old { value = joined client.old.value other.value } }
+            ≡ record client.old { value = with_gathered client.old.value other.value } }
         ensures mine { Sub client.old.value.records client.new.value.records }
         ensures theirs { Sub other.value.records client.new.value.records }
         ensures only { (r : Record) → In r client.new.value.records →

@@ -1,10 +1,10 @@
 //! What the rule of a region's table says, as laws.
-ghost use Rattle.std.specs.Prelude.{◌≡◌, ℕ, ◌≤◌, false, map};
+ghost use Rattle.std.specs.Prelude.{◌≡◌, false, map};
 ghost use Rattle.tx_memory.specs.Image.{In, Agrees};
 ghost use Rattle.stm_core.specs.Client.{Record, shed};
 ghost use Rattle.stm_core.specs.Event.{taking};
 ghost use Rattle.stm_core.specs.History.{Serial, Sub, all_records, image_at};
-ghost use Rattle.stm_region.specs.Shown.{joined};
+ghost use Rattle.stm_region.specs.Shown.{with_gathered};
 ghost use Rattle.stm_region.specs.Rule.{Always, OfEach, OfEachTwo};
 ghost use Rattle.stm_region.specs.Running.{IsListed};
 
@@ -40,8 +40,8 @@ pub fn reads_are_of_one_version<L: Law>()
 {}
 
 /// Gathering takes no grant away: two clients that are out have fewer grants together than there
-/// are, so the bound in `joined` is never met.
+/// are, so the bound in `with_gathered` is never met.
 pub fn gathering_keeps_all_grants<L: Law>()
     ensures { Always L.fits L.lawful (λ o s. OfEachTwo s (λ v w.
-        v.is_gathered ≡ false → w.is_gathered ≡ false → joined v w ≡ taking v w)) }
+        v.is_gathered ≡ false → w.is_gathered ≡ false → with_gathered v w ≡ taking v w)) }
 {}

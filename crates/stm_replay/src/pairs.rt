@@ -1,6 +1,6 @@
 //! Lists of pairs and of numbers, as tests of a guard ask for them.
 
-ghost use Rattle.std.specs.Prelude.{◌≡◌, ◌==◌, ◌<◌, ◌%◌, ◌&&◌, ◌||◌, not, nat_lt, ◌↔◌, length, List, [], ◌∷◌};
+ghost use Rattle.std.specs.Prelude.{◌≡◌, ◌==◌, ◌<◌, ◌%◌, ◌&&◌, ◌||◌, nat_lt, []};
 ghost use Rattle.std.specs.List.{list_any, list_all};
 ghost use Rattle.stm_core.specs.Client.{writes_to, old_version, is_free, without};
 ghost use Rattle.stm_core.specs.Event.{is_empty};

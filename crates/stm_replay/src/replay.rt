@@ -1,6 +1,6 @@
 //! The core as running code.
 
-ghost use Rattle.std.specs.Prelude.{◌≡◌, ℕ, ◌<◌, ◌≤◌, ◌^◌, true, false, length, IfOk, IfErr};
+ghost use Rattle.std.specs.Prelude.{◌≡◌, ◌<◌, ◌≤◌, true, length, IfOk, IfErr};
 ghost use Rattle.stm_replay.specs.Played.{event_of};
 ghost use Rattle.stm_replay.specs.Running.{may_run, stripes_of, run_played, run_opened, found_of};
 ghost use Rattle.stm_replay.specs.Refusals.{IsRefusal};

@@ -1,11 +1,11 @@
 //! What the running core keeps of one client, and when that allows a step.
 
-ghost use Rattle.std.specs.Prelude.{◌≡◌, ℕ, ◌<◌, ◌≤◌, ◌+◌, ◌^◌, length, OnOk, OnErr, List, [], ◌∷◌, not, eqb, false, ◌&&◌, ◌||◌};
+ghost use Rattle.std.specs.Prelude.{◌≡◌, ◌<◌, ◌≤◌, ◌+◌, length, OnOk, OnErr, [], ◌∷◌, not, eqb, false, ◌&&◌, ◌||◌};
 ghost use Rattle.stm_core.specs.Client.{Client};
 ghost use Rattle.stm_replay.specs.Seat.{blank, seat_after, tag_number};
 ghost use Rattle.stm_core.specs.Client.{word_before, value_fetched, found_by, is_committed, old_version};
 ghost use Rattle.stm_core.specs.Guards.{is_reading, has_probed, has_found_free, has_fetched, may_act, stripe_of};
-ghost use Rattle.stm_core.specs.Event.{is_empty, passes, begin, probe, fetch, check, lock, tick, validate, put, release, give_back, finish, giving, taking, renewing, opener, fresh, gone, forgetting};
+ghost use Rattle.stm_core.specs.Event.{is_empty, passes, begin, probe, fetch, check, lock, tick, validate, put, release, give_back, finish, giving, renewing, opener, fresh, gone, forgetting};
 ghost use Rattle.stm_core.specs.Core.{are_gathered, others_gathered};
 ghost use Rattle.stm_core.specs.declared.limits.TheConstants.{MOST_GRANTS, MOST_TICKS};
 ghost use Rattle.stm_words.specs.declared.version.TheConstants.{VERSION_LIMIT};

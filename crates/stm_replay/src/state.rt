@@ -1,8 +1,8 @@
 //! The words, the clients and the decided records of the running core: when it allows an event, and
 //! what it makes of one.
 
-ghost use Rattle.std.specs.Prelude.{◌≡◌, ◌≢◌, ℕ, ◌<◌, ◌≤◌, ◌+◌, ◌-◌, ◌*◌, ◌^◌, ◌&&◌, cond, eqb, true, length, slice_index, OnOk, OnErr, IfOk, List, [], ◌∷◌};
-ghost use Rattle.stm_core.specs.Core.{client_of, is_out, others_gathered, bounds_of, splits, gathers, renews};
+ghost use Rattle.std.specs.Prelude.{◌≡◌, ◌≢◌, ◌<◌, ◌≤◌, ◌+◌, ◌-◌, ◌*◌, ◌^◌, ◌&&◌, cond, eqb, true, length, slice_index, OnOk, OnErr, IfOk, [], ◌∷◌};
+ghost use Rattle.stm_core.specs.Core.{client_of, is_out, others_gathered, splits, gathers, renews};
 ghost use Rattle.stm_core.specs.Event.{begin, probe, fetch, check, lock, tick, validate, put, release, give_back, finish, is_empty};
 ghost use Rattle.stm_core.specs.Client.{old_version, word_before, IsFree};
 ghost use Rattle.stm_replay.specs.Played.{event_of};

@@ -27,7 +27,7 @@ pub(crate) fn write_one(
     match attempt.write(addr, value) {
         Ok(()) => attempt.commit(&1u64, &mut NoGate),
         Err(_) => {
-            attempt.drop_it();
+            attempt.abort();
             Err(Stop::Memory)
         }
     }
@@ -48,6 +48,6 @@ pub(crate) fn read_one(
 {
     let mut attempt = Attempt::begin(region, client, logs);
     let value = attempt.read(addr);
-    attempt.drop_it();
+    attempt.abort();
     value
 }

@@ -39,7 +39,7 @@ fn own_writes_are_read_and_dropped(rt: HostRuntime) -> Result<(), Fail> {
         let before = attempt.read(Addr(9));
         let written = attempt.write(Addr(9), 5);
         let after = attempt.read(Addr(9));
-        attempt.drop_it();
+        attempt.abort();
         let dropped = read_one(&region, &mut client, &mut logs, Addr(9));
         let (words, last) = close(&rt, alloc, region, client);
         (before, written, after, dropped, words, last)
@@ -63,7 +63,7 @@ fn a_reader_finishes_at_its_read_version(rt: HostRuntime) -> Result<(), Fail> {
         let mut reader = ReadAttempt::begin(&region, &mut client);
         let value = reader.read(Addr(9));
         if value.is_err() {
-            reader.drop_it();
+            reader.abort();
             panic!(rt; "it was refused")
         }
         (committed, value, reader.finish(&7u64))
@@ -81,7 +81,7 @@ fn a_reader_of_zeros_finishes_at_version_0(rt: HostRuntime) -> Result<(), Fail> 
         let mut reader = ReadAttempt::begin(&region, &mut client);
         let value = reader.read(Addr(9));
         if value.is_err() {
-            reader.drop_it();
+            reader.abort();
             panic!(rt; "it was refused")
         }
         (value, reader.finish(&7u64))
@@ -172,7 +172,7 @@ fn two_words_of_one_stripe(rt: HostRuntime) -> Result<(), Fail> {
         let first = writing.commit(&1u64, &mut NoGate);
         let refused = reading.read(Addr(5));
         let met = reading.stopped();
-        reading.drop_it();
+        reading.abort();
         let mut writing = Attempt::begin(&region, &mut a, &mut logs_a);
         let read = writing.read(Addr(9));
         let four = writing.write(Addr(13), 4);
@@ -211,7 +211,7 @@ fn add_to_all(
         }
     }
     if refused {
-        attempt.drop_it();
+        attempt.abort();
         return Err(Stop::Memory);
     }
     attempt.commit(&1u64, &mut NoGate)
@@ -280,10 +280,10 @@ fn both_kinds_of_attempt_read_alike(rt: HostRuntime) -> Result<(), Fail> {
         let written = write_one(&region, &mut client, &mut logs, Addr(9), 5);
         let mut attempt = Attempt::begin(&region, &mut client, &mut logs);
         let logged = sum_of(&mut attempt, Addr(9), Addr(13));
-        attempt.drop_it();
+        attempt.abort();
         let mut reader = ReadAttempt::begin(&region, &mut client);
         let unlogged = sum_of(&mut reader, Addr(9), Addr(13));
-        reader.drop_it();
+        reader.abort();
         (written, logged, unlogged)
     };
     same(&rt, &written, &Ok(version(&rt, 1)));

@@ -107,7 +107,7 @@ fn change_customer_in_an_attempt(
     let mut attempt = Attempt::begin(region, client, logs);
     let answers = change_customer(&mut attempt).ok();
     let same = has_words(&mut attempt, 96, words).ok();
-    attempt.drop_it();
+    attempt.abort();
     Some((answers?, same?))
 }
 

@@ -271,7 +271,7 @@ impl<'a, 'b> Gate for ReadsAt<'a, 'b> {
             let mut attempt = attempt;
             let read = attempt.read(Addr(9));
             *self.answer = Some((read, attempt.stopped()));
-            attempt.drop_it();
+            attempt.abort();
         }
     }
 }
@@ -293,7 +293,7 @@ pub(crate) fn write_under<G: Gate>(
     match attempt.write(Addr(9), 1) {
         Ok(()) => attempt.commit(&1u64, gate),
         Err(_) => {
-            attempt.drop_it();
+            attempt.abort();
             Err(Stop::Memory)
         }
     }
@@ -326,7 +326,7 @@ fn read_at(
         answer: _,
     } = gate;
     if let Some(Running { attempt }) = other {
-        attempt.drop_it();
+        attempt.abort();
     }
     (answer, committed)
 }
@@ -405,7 +405,7 @@ fn commit_at(
         answer: _,
     } = gate;
     if let Some(Running { attempt }) = other {
-        attempt.drop_it();
+        attempt.abort();
     }
     if written {
         (answer, committed)

@@ -66,7 +66,7 @@ fn take_and_commit(
     let mut attempt = Attempt::begin(region, client, logs);
     let taken = take_block(&mut attempt, start);
     let Ok(block) = taken else {
-        attempt.drop_it();
+        attempt.abort();
         return None;
     };
     let version = attempt.commit(&1u64, &mut NoGate).ok()?;
@@ -91,7 +91,7 @@ fn take_beside_another(
     let taken = take_block(&mut attempt, FreeList::new(0));
     let theirs = take_and_commit(region, other, others, FreeList::new(1));
     let Ok(block) = taken else {
-        attempt.drop_it();
+        attempt.abort();
         return [None, theirs];
     };
     let committed = attempt.commit(&1u64, &mut NoGate);
@@ -172,7 +172,7 @@ fn move_two_in_an_attempt(
     let mut attempt = Attempt::begin(region, client, logs);
     let taken = move_two(&mut attempt).ok();
     let same = has_words(&mut attempt, 96, words).ok();
-    attempt.drop_it();
+    attempt.abort();
     Some((taken?, same?))
 }
 

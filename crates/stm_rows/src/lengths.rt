@@ -81,7 +81,7 @@ fn hang_in_an_attempt(
     let mut attempt = Attempt::begin(region, client, logs);
     let taken = take_and_hang(&mut attempt).ok();
     let same = has_words(&mut attempt, 96, words).ok();
-    attempt.drop_it();
+    attempt.abort();
     Some((taken?, same?))
 }
 

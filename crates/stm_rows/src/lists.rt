@@ -79,7 +79,7 @@ fn change_in_an_attempt(
     let mut attempt = Attempt::begin(region, client, logs);
     let answers = change(&mut attempt).ok();
     let same = has_words(&mut attempt, 976, words).ok();
-    attempt.drop_it();
+    attempt.abort();
     Some((answers?, same?))
 }
 

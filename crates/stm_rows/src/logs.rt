@@ -118,7 +118,7 @@ fn write_and_read<A: Allocator + Copy>(
             done = addr + 1;
         }
     }
-    attempt.drop_it();
+    attempt.abort();
     done
 }
 

@@ -35,7 +35,7 @@ fn a_commit_at_locked_decides_by_its_tick(rt: HostRuntime) -> Result<(), Fail> {
             answer: _,
         } = gate;
         if let Some(Running { attempt }) = other {
-            attempt.drop_it();
+            attempt.abort();
         }
         (read, written, committed)
     };
@@ -73,7 +73,7 @@ fn a_commit_at_locked_meets_a_held_lock(rt: HostRuntime) -> Result<(), Fail> {
             answer: _,
         } = gate;
         if let Some(Running { attempt }) = other {
-            attempt.drop_it();
+            attempt.abort();
         }
         let nine = read_one(&region, &mut a, &mut logs_a, Addr(9));
         let ten = read_one(&region, &mut a, &mut logs_a, Addr(10));
@@ -116,7 +116,7 @@ fn a_commit_at_locked_finds_a_lock_taken(rt: HostRuntime) -> Result<(), Fail> {
             answer: _,
         } = gate;
         if let Some(Running { attempt }) = other {
-            attempt.drop_it();
+            attempt.abort();
         }
         let eight = read_one(&region, &mut a, &mut logs_a, Addr(8));
         let nine = read_one(&region, &mut a, &mut logs_a, Addr(9));

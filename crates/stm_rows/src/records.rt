@@ -106,7 +106,7 @@ fn change_item_in_an_attempt(
     let mut attempt = Attempt::begin(region, client, logs);
     let item = change_item(&mut attempt).ok();
     let same = has_words(&mut attempt, 96, words).ok();
-    attempt.drop_it();
+    attempt.abort();
     Some((item?, same?))
 }
 

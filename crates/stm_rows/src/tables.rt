@@ -159,7 +159,7 @@ fn change_in_an_attempt(
     let mut attempt = Attempt::begin(region, client, logs);
     let answers = change(&mut attempt).ok();
     let same = has_words(&mut attempt, 96, words).ok();
-    attempt.drop_it();
+    attempt.abort();
     Some((answers?, same?))
 }
 

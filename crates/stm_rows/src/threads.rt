@@ -63,7 +63,7 @@ fn try_move(
 {
     let mut attempt = Attempt::begin(region, client, logs);
     let Ok((left, there)) = move_amount(&mut attempt, Addr(from), Addr(to), amount) else {
-        attempt.drop_it();
+        attempt.abort();
         return None;
     };
     let version = attempt.commit(&amount, &mut NoGate).ok()?.get();

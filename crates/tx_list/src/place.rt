@@ -15,5 +15,5 @@ pub const NEXT: u32 = 3;
 /// How many units are booked.
 pub const UNITS: u32 = 4;
 
-/// How many kinds there are.
+/// How many kinds there are. (`vac_model`, of which a list knows nothing, has the number too.)
 pub const KINDS: u64 = 3;

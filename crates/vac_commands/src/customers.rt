@@ -3,7 +3,6 @@
 ghost use Rattle.std.specs.Prelude.{◌≡◌, ◌+◌, ◌≤◌, IfOk, IfErr, MatchOption, Some, true};
 ghost use Rattle.vac_model.specs.Ranges.{is_command};
 ghost use Rattle.tx_list.specs.Lists.{HasBooking};
-ghost use Rattle.vac_model.specs.Coded.{kind_of_number};
 ghost use Rattle.vac_records.specs.InMemory.{HoldsState};
 ghost use Rattle.vac_commands.specs.Entries.{CustomerIsAt, CustomerIsMissing};
 ghost use Rattle.vac_commands.specs.CustomerSteps.{RanOn, ItemsStayOn, HasSeat, HasNoBookings, CanDrop, CanCancelFirst, PlaceRead, OneGivenBack, GivenBack};
@@ -201,18 +200,7 @@ fn place_at<M: TxRead>(memory: &mut M, booking: Block) -> Result<(Kind, u32), M:
 {
     let number = load(memory, booking.word(tx_list::place::KIND))?;
     let id = load(memory, booking.word(tx_list::place::ID))?;
-    Ok((kind_from(number), id as u32))
-}
-
-/// The kind of a number, as a booking's words have it.
-fn kind_from(number: u64) -> Kind
-    ensures { result ≡ kind_of_number number }
-{
-    match number {
-        0 => Kind::Car,
-        1 => Kind::Flight,
-        _ => Kind::Room,
-    }
+    Ok((Kind::of_number(number), id as u32))
 }
 
 /// Takes a customer without bookings out of the table. The block becomes the first of free list

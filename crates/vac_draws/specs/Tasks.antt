@@ -4,6 +4,8 @@ use Rattle.std.specs.Prelude.{List, [], ◌∷◌, ◌++◌, Option, Some, None,
 use Rattle.std.specs.declared.alloc.AllocError.{AllocError}
 use Rattle.vac_model.specs.declared.items.Kind.{Kind}
 use Rattle.vac_model.specs.declared.items.Kind.TheVariants.{Car, Flight, Room}
+use Rattle.vac_model.specs.declared.limits.TheConstants.{KINDS}
+use Rattle.vac_model.specs.Coded.{kind_of_number}
 use Rattle.vac_model.specs.declared.commands.Command.{Command}
 use Rattle.vac_model.specs.declared.commands.Command.TheVariants as command
 use Rattle.vac_model.specs.declared.tasks.Task.{Task}
@@ -17,13 +19,9 @@ use Rattle.vac_draws.specs.Draws.{Reader, always, below, followed_by, joined, fo
 abbrev pub up_to : ℕ → Reader ℕ
 up_to n = followed_by (below n) (λ k. always (k + 1))
 
--- the kind of this number
-abbrev pub kind_at : ℕ → Kind
-kind_at n = if n == 0 then Car else if n == 1 then Flight else Room
-
 -- a kind, by one word
 abbrev pub kind : Reader Kind
-kind = followed_by (below 3) (λ n. always (kind_at n))
+kind = followed_by (below KINDS) (λ n. always (kind_of_number n))
 
 -- a price, by one word: one of LEVELS, PRICE_STEP apart, from LOWEST_PRICE on
 abbrev pub price : Reader ℕ

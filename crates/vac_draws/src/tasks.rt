@@ -6,7 +6,7 @@ ghost use Rattle.vac_model.specs.Amounts.{is_amount, is_id};
 ghost use Rattle.vac_model.specs.Ranges.{is_change, is_command, is_task};
 ghost use Rattle.vac_draws.specs.Draws.{Reader, Drawn, below, times_over};
 ghost use Rattle.vac_draws.specs.Setting.{is_settings};
-ghost use Rattle.vac_draws.specs.Tasks.{up_to, kind_at, kind, price, ask, drawn_trip, drawn_leave, removal};
+ghost use Rattle.vac_draws.specs.Tasks.{up_to, kind, price, ask, drawn_trip, drawn_leave, removal};
 ghost use Rattle.vac_draws.specs.Tasks.{change_of, change, drawn_update, work, task_of, DrawnTask};
 ghost use Rattle.vac_draws.specs.Tasks.{question_at, question};
 ghost use Rattle.vac_draws.specs.Tasks.{IsTurn, TurnsMakeTasks};
@@ -16,11 +16,8 @@ use crate::draws::Draws;
 use crate::settings::{LEVELS, LOWEST_PRICE, PERCENT, PRICE_STEP, Settings, UNITS};
 use arrayvec::ArrayVec;
 use std::alloc::{AllocError, Global};
-use vac_model::limits::MOST_PARTS;
+use vac_model::limits::{KINDS, MOST_PARTS};
 use vac_model::{Command, Kind, Task};
-
-/// How many kinds there are.
-const KINDS: u32 = 3;
 
 /// A number below `n`.
 pub(crate) fn draw_below<D: Draws>(draws: &mut D, n: u32) -> u32
@@ -41,20 +38,10 @@ fn draw_up_to<D: Draws>(draws: &mut D, n: u32) -> u32
     draw_below(draws, n) + 1
 }
 
-fn kind_of(number: u32) -> Kind
-    ensures { result ≡ kind_at number }
-{
-    match number {
-        0 => Kind::Car,
-        1 => Kind::Flight,
-        _ => Kind::Room,
-    }
-}
-
 fn draw_kind<D: Draws>(draws: &mut D) -> Kind
     ensures { Drawn D.leads kind draws.old result draws.new }
 {
-    kind_of(draw_below(draws, KINDS))
+    Kind::of_number(draw_below(draws, KINDS) as u64)
 }
 
 pub(crate) fn draw_price<D: Draws>(draws: &mut D) -> u32

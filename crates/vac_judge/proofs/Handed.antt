@@ -16,12 +16,12 @@ use Rattle.vac_streams.proofs.Cutting.{HasNoEnd, lines_cut, lines_last}
 use Rattle.vac_judge.specs.declared.fault.CallFault.{CallFault}
 use Rattle.vac_judge.specs.declared.fault.CallFault.TheVariants.{BadCall}
 use Rattle.vac_judge.specs.declared.work.Work.{Work}
-use Rattle.vac_judge.specs.declared.holding.Progress.{Progress}
+use Rattle.vac_judge.specs.declared.holding.CallCount.{CallCount}
 use Rattle.vac_judge.specs.declared.holding.Holding.{Holding}
 use Rattle.vac_judge.specs.Call.{Call, line_call, joined_words}
 use Rattle.vac_judge.specs.Work.{Asked, words_asked, text_asked, line_asked, onto_work, work_of, tasks_of, made_by}
 use Rattle.vac_judge.specs.Work.{has_stopped, is_next, first_foreign, calls_in, is_missing, first_missing}
-use Rattle.vac_judge.specs.Holding.{asked_of, tasks_listed, IsWork, onto_all, IsProgress, IsKept, Counts, CountsSeen}
+use Rattle.vac_judge.specs.Holding.{asked_of, tasks_listed, IsWork, onto_all, IsCallCount, IsKept, Counts, CountsSeen}
 use Rattle.vac_judge.proofs.Arrows.{first_word, one_word, word_first, text_is}
 
 -- ---- lines and words
@@ -190,15 +190,16 @@ read_all kept count text rest r none = (
 
 -- ---- calls
 
-pub count_more : (old new : Holding) (c : Call) (p p' : Progress) → new.clients ≡ insert old.clients c.client p' →
+pub count_more : (old new : Holding) (c : Call) (p p' : CallCount) → new.clients ≡ insert old.clients c.client p' →
     p'.made ≡ p.made + 1
     → p'.stopped ≡ (is_none c.reply || p.stopped) → new.count ≡ old.count + 1 → (calls : List Call) → Counts old calls →
-    IsProgress p c.client calls → Counts new (c ∷ calls)
+    IsCallCount p c.client calls → Counts new (c ∷ calls)
 count_more old new c p p' i made stopped n calls h progress = record {
   clients = λ k. elim (test c.client k) [
     | inl same ↦
         subst (λ o. IsKept o k (c ∷ calls))
-        (sym (ap (λ (m : FinMap nat_cmp Progress). get m k) i ∙ ap (get (insert old.clients c.client p')) (sym same.1) ∙
+        (sym (ap (λ (m : FinMap nat_cmp CallCount). get m k) i ∙ ap (get (insert old.clients c.client p')) (sym same.1)
+            ∙
         get_here old.clients c.client p'))
         (record {
           made = made ∙ ap (λ m. m + 1) (progress.made ∙ ap (λ q. made_by q calls) same.1) ∙
@@ -207,7 +208,7 @@ count_more old new c p p' i made stopped n calls h progress = record {
               ∙ ap (λ b. (b && is_none c.reply) || has_stopped k calls) (sym same.0);
         })
     | inr other ↦
-        subst (λ o. IsKept o k (c ∷ calls)) (sym (ap (λ (m : FinMap nat_cmp Progress). get m k) i ∙
+        subst (λ o. IsKept o k (c ∷ calls)) (sym (ap (λ (m : FinMap nat_cmp CallCount). get m k) i ∙
         get_other old.clients c.client p' k other.1))
         (kept_on (get old.clients k) k other.0 (h.clients k))
   ];
@@ -223,7 +224,7 @@ count_more old new c p p' i made stopped n calls h progress = record {
     stopped_on : (k : ℕ) → (c.client == k) ≡ false → has_stopped k calls ≡ has_stopped k (c ∷ calls)
     stopped_on k f = ap (λ b. (b && is_none c.reply) || has_stopped k calls) (sym f)
 
-    kept_on : (o : Option Progress) (k : ℕ) → (c.client == k) ≡ false → IsKept o k calls → IsKept o k (c ∷ calls)
+    kept_on : (o : Option CallCount) (k : ℕ) → (c.client == k) ≡ false → IsKept o k calls → IsKept o k (c ∷ calls)
     kept_on None k f h = (h.0 ∙ made_on k f, h.1 ∙ stopped_on k f)
     kept_on (Some q) k f h = record { made = h.made ∙ made_on k f; stopped = h.stopped ∙ stopped_on k f }
 
@@ -325,7 +326,7 @@ seen_first work held seen rest e c = λ asked calls w h. record {
 }
 
 -- a client is open or not, as its numbers say
-number_of : (p : Progress) (held : Holding) (client before : ℕ) (calls : List Call) → IsProgress p client calls →
+number_of : (p : CallCount) (held : Holding) (client before : ℕ) (calls : List Call) → IsCallCount p client calls →
     (nat_le p.made before && not p.stopped) ≡ is_missing calls client before
 number_of p held client before calls h = ap (λ m. nat_le m before && not p.stopped) h.made ∙
     ap (λ b. nat_le (made_by client calls) before && not b) h.stopped
@@ -336,10 +337,10 @@ seen_head client rest [] e = absurd (let h = e in cc)
 seen_head client rest (a ∷ more) e = (a, more, refl, cc, cc)
 
 pub seen_more : (work : Work) (held : Holding) (seen seen' : FinMap nat_cmp ℕ) (client before number : ℕ)
-    (rest behind : List ℕ) (p : Progress) → AllSeen work held seen rest
+    (rest behind : List ℕ) (p : CallCount) → AllSeen work held seen rest
     → rest ≡ client ∷ behind → before ≡ unwrap_or (get seen client) 0 → number ≡ before + 1 →
     seen' ≡ insert seen client number
-    → ((calls : List Call) → Counts held calls → IsProgress p client calls) →
+    → ((calls : List Call) → Counts held calls → IsCallCount p client calls) →
     (nat_le p.made before && not p.stopped) ≡ false → AllSeen work held seen' behind
 seen_more work held seen seen' client before number rest behind p all cut b n i progress closed = λ asked calls w h.
     let s = all asked calls w h in
@@ -403,9 +404,9 @@ IsMissing work held found = (asked : List Asked) (calls : List Call) → IsWork 
     found ≡ first_missing calls [] asked
 
 pub seen_missing : (work : Work) (held : Holding) (seen : FinMap nat_cmp ℕ) (client before number : ℕ)
-    (rest behind : List ℕ) (p : Progress) → AllSeen work held seen rest
+    (rest behind : List ℕ) (p : CallCount) → AllSeen work held seen rest
     → rest ≡ client ∷ behind → before ≡ unwrap_or (get seen client) 0 → number ≡ before + 1
-    → ((calls : List Call) → Counts held calls → IsProgress p client calls) →
+    → ((calls : List Call) → Counts held calls → IsCallCount p client calls) →
     (nat_le p.made before && not p.stopped) ≡ true → IsMissing work held (Some (client, number))
 seen_missing work held seen client before number rest behind p all cut b n progress found = λ asked calls w h.
     let s = all asked calls w h in

@@ -5,7 +5,7 @@ use Rattle.std.specs.FinMap.{FinMap, get}
 use Rattle.std.specs.Global.{Vec}
 use Rattle.vac_model.specs.declared.tasks.Task.{Task}
 use Rattle.vac_judge.specs.declared.work.Work.{Work}
-use Rattle.vac_judge.specs.declared.holding.Progress.{Progress}
+use Rattle.vac_judge.specs.declared.holding.CallCount.{CallCount}
 use Rattle.vac_judge.specs.declared.holding.Holding.{Holding}
 use Rattle.vac_judge.specs.Call.{Call}
 use Rattle.vac_judge.specs.Work.{Asked, tasks_of, made_by, has_stopped}
@@ -30,14 +30,14 @@ onto_all front (Ok work) = Ok (front ++ work)
 onto_all front (Err line) = Err (length front + line)
 
 -- how many calls a client made, and whether one of them was never answered
-pub record IsProgress (progress : Progress) (client : ℕ) (calls : List Call) : Type 0 where
+pub record IsCallCount (progress : CallCount) (client : ℕ) (calls : List Call) : Type 0 where
   pub made : progress.made ≡ made_by client calls
   pub stopped : progress.stopped ≡ has_stopped client calls
 
 -- what is kept of a client's calls: where there are none, nothing
-abbrev pub IsKept : Option Progress → ℕ → List Call → Type 0
+abbrev pub IsKept : Option CallCount → ℕ → List Call → Type 0
 IsKept None client calls = (0 ≡ made_by client calls) × (false ≡ has_stopped client calls)
-IsKept (Some progress) client calls = IsProgress progress client calls
+IsKept (Some progress) client calls = IsCallCount progress client calls
 
 -- the calls of each client were counted
 pub record Counts (kept : Holding) (calls : List Call) : Type 0 where

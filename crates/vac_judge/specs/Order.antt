@@ -2,7 +2,6 @@
 use Rattle.std.specs.Prelude.{ℕ, Bool, Option, Some, None, List, if◌then◌else◌}
 use Rattle.vac_model.specs.State.{State}
 use Rattle.vac_model.specs.Run.{run}
-use Rattle.vac_model.specs.declared.replies.Reply.{Reply}
 use Rattle.vac_lines.specs.Text.{is_right}
 use Rattle.vac_spans.specs.declared.span.Span.{Span}
 use Rattle.vac_spans.specs.Order as spans

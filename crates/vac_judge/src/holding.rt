@@ -7,7 +7,7 @@ ghost use Rattle.vac_lines.specs.TaskText.{task_text};
 ghost use Rattle.vac_judge.specs.Call.{Call, line_call};
 ghost use Rattle.vac_judge.specs.Parts.{shown_call};
 ghost use Rattle.vac_judge.specs.Work.{Asked, is_next, first_foreign, first_missing, calls_in};
-ghost use Rattle.vac_judge.specs.Holding.{IsWork, Counts, IsProgress};
+ghost use Rattle.vac_judge.specs.Holding.{IsWork, Counts, IsCallCount};
 
 use crate::by_client::ByClient;
 use crate::call::{CallLine, read_call};
@@ -20,7 +20,7 @@ use vac_streams::StreamFault;
 
 /// How far a client is.
 #[derive(Clone, Copy, Drop)]
-pub(crate) struct Progress {
+pub(crate) struct CallCount {
     /// How many calls it made.
     made: usize,
     /// Whether one of them was never answered.
@@ -30,7 +30,7 @@ pub(crate) struct Progress {
 /// The calls of each client, counted.
 #[derive(Drop)]
 pub(crate) struct Holding {
-    clients: ByClient<Progress>,
+    clients: ByClient<CallCount>,
     /// How many calls there are.
     count: u64,
 }
@@ -47,7 +47,7 @@ fn have_one_form(alloc: Global, wanted: &Task, given: &Task) -> Result<bool, All
 }
 
 /// How far a client is after one more call.
-fn progress_after(progress: Progress, call: &CallLine<'_>) -> Result<Progress, StreamFault>
+fn count_after(progress: CallCount, call: &CallLine<'_>) -> Result<CallCount, StreamFault>
     ensures made { IfOk result (λ next. next.made ≡ progress.made + 1) }
     ensures stopped { IfOk result (λ next.
         next.stopped ≡ (is_none (shown_call call.now).reply || progress.stopped)) }
@@ -55,7 +55,7 @@ fn progress_after(progress: Progress, call: &CallLine<'_>) -> Result<Progress, S
 {
     let made = progress.made.checked_add(1).ok_or(StreamFault::Bound)?;
     let stopped = call.answer.is_none() || progress.stopped;
-    Ok(Progress { made, stopped })
+    Ok(CallCount { made, stopped })
 }
 
 impl Holding {
@@ -70,12 +70,12 @@ impl Holding {
     }
 
     /// How far a client is.
-    fn progress(&self, client: u32) -> Progress
-        ensures { (calls : List Call) → Counts self.now calls → IsProgress result client calls }
+    fn progress(&self, client: u32) -> CallCount
+        ensures { (calls : List Call) → Counts self.now calls → IsCallCount result client calls }
     {
         match self.clients.get(client) {
             Some(progress) => *progress,
-            None => Progress {
+            None => CallCount {
                 made: 0,
                 stopped: false,
             },
@@ -83,13 +83,13 @@ impl Holding {
     }
 
     /// Counts one more call.
-    fn count(&mut self, call: &CallLine<'_>, progress: Progress) -> Result<(), StreamFault>
+    fn count(&mut self, call: &CallLine<'_>, progress: CallCount) -> Result<(), StreamFault>
         ensures counts { OnOk result ((calls : List Call) → Counts self.old calls →
-            IsProgress progress call.now.client calls →
+            IsCallCount progress call.now.client calls →
             Counts self.new (shown_call call.now ∷ calls)) }
         ensures fault { IfErr result (λ fault. fault ≢ StreamFault.Write) }
     {
-        let next = progress_after(progress, call)?;
+        let next = count_after(progress, call)?;
         let count = self.count.checked_add(1).ok_or(StreamFault::Bound)?;
         self.clients.insert(call.client, next)?;
         self.count = count;

@@ -35,7 +35,7 @@ pub struct Judge {
 }
 
 /// Whether a call may have been answered with this reply: any is right where it was never answered.
-fn is_right(
+fn is_expected(
     buffer: &mut Vec<u8>,
     answer: Option<Answer<'_>>,
     reply: &Reply,
@@ -111,7 +111,7 @@ impl Judge {
             return Ok(Some(wrong));
         }
         let reply = self.heap.run(&call.task, FreeList::new(0));
-        if !is_right(&mut self.expected, call.answer, &reply)? {
+        if !is_expected(&mut self.expected, call.answer, &reply)? {
             return Ok(Some(Wrong::Reply(reply)));
         }
         self.spans.push(&call.span())?;

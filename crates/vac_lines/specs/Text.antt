@@ -1,4 +1,4 @@
--- The texts of replies and faults, without a line end.
+-- The texts of replies and faults, without a line end; and when a reply is the one that was given.
 use Rattle.std.specs.Prelude.{◌≡◌, ℕ, Bool, true, Option, Some, None, List, [], ◌∷◌, ◌++◌, length, take, codes, decimal}
 use Rattle.std.specs.List.{flat_map, zip}
 use Rattle.std.specs.Str.{bytes_eq}

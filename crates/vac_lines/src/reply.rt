@@ -38,7 +38,9 @@ pub fn print_reply(reply: &Reply, out: &mut Vec<u8>) -> Result<(), AllocError>
     keep_whole(out, start, printed)
 }
 
-/// Whether a text is that of a reply, which is written over another.
+/// Whether a text is that of a reply, which is written into the buffer over what it has.
+///
+/// Not said: what the buffer has then.
 pub fn is_text_of(buffer: &mut Vec<u8>, reply: &Reply, text: &[u8]) -> Result<bool, AllocError>
     ensures { IfOk result (λ same. same ≡ bytes_eq text.now (reply_text reply.now)) }
 {
@@ -47,8 +49,9 @@ pub fn is_text_of(buffer: &mut Vec<u8>, reply: &Reply, text: &[u8]) -> Result<bo
     Ok(text == buffer.as_slice())
 }
 
-/// Whether a reply is the one that was given: any is where none was. The text of the reply is
-/// written over another.
+/// Whether a reply is the one that was given: any is right where none was given.
+///
+/// Not said: what the buffer has then.
 pub fn is_right(
     buffer: &mut Vec<u8>,
     given: &Option<Vec<u8>>,

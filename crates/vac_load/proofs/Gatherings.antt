@@ -1,7 +1,7 @@
 -- Clients are gathered one by one.
 use Rattle.std.proofs.Common.{◌≡◌, ◌∙◌, ℕ, ◌+◌, min, List, [], ◌∷◌, ◌++◌, refl, sym, ap, arith}
 use Rattle.stm_core.specs.Client.{Client, Record, merged}
-use Rattle.stm_region.specs.Shown.{joined}
+use Rattle.stm_region.specs.Shown.{with_gathered}
 use Rattle.vac_manager.specs.Session.{SessionShown}
 use Rattle.vac_load.specs.declared.tally.Tally.{Tally}
 use Rattle.vac_load.specs.Sums.{sum_of, plus, added_up}
@@ -58,7 +58,7 @@ pub record TookIn (y other after : SessionShown) : Type 0 where
   pub grants : after.client.value.grants ≡ min (y.client.value.grants + other.client.value.grants + 1) 63
 
 pub took_in : (y other after : SessionShown) → after ≡ record y {
-  client = record y.client { value = joined y.client.value other.client.value };
+  client = record y.client { value = with_gathered y.client.value other.client.value };
 } → TookIn y other after
 took_in y other after e = record {
   manager = ap (λ (x : SessionShown). x.manager) e;

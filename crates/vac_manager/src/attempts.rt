@@ -42,7 +42,7 @@ fn try_reading<G: Gate, T: Tracer>(
     tracer.begun(renewal, began);
     let answer = tracer.read_task(&mut attempt, task);
     if let Some(met) = attempt.stopped() {
-        attempt.drop_it();
+        attempt.abort();
         return Err(Stop::Conflict(met));
     }
     let Ok(reply) = answer else {
@@ -86,11 +86,11 @@ fn try_writing<G: Gate, T: Tracer>(
     tracer.begun(renewal, began);
     let answer = tracer.run_task(&mut attempt, task, own.start);
     if let Some(conflict) = attempt.stopped() {
-        attempt.drop_it();
+        attempt.abort();
         return Err(Stop::Conflict(conflict));
     }
     let Ok(reply) = answer else {
-        attempt.drop_it();
+        attempt.abort();
         return Err(Stop::Memory);
     };
     let told = Told {

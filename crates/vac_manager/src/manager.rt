@@ -3,7 +3,7 @@
 ghost use Rattle.std.specs.Prelude.{◌≡◌, ◌↔◌, ◌+◌, ◌*◌, ◌⊎◌, min, false, IfOk, IfErr, IsErrOf};
 ghost use Rattle.stm_core.specs.declared.limits.TheConstants.{MOST_STRIPES};
 ghost use Rattle.stm_core.specs.History.{Sub};
-ghost use Rattle.stm_region.specs.Shown.{joined};
+ghost use Rattle.stm_region.specs.Shown.{with_gathered};
 ghost use Rattle.stm_region.specs.Refused.{ClosesNot};
 ghost use Rattle.tx_alloc.specs.Pool.{heap_words};
 ghost use Rattle.vac_manager.specs.Called.{HasAllGrants, HasCalled, Splits, SplitsNot, OnlyOf};
@@ -236,7 +236,7 @@ impl Manager {
     pub fn gather(&self, client: &mut Client, other: Client)
         requires { (client.old.table ≡ self.now.table) × (other.table ≡ self.now.table) }
         ensures client { client.new
-            ≡ record client.old { value = joined client.old.value other.value } }
+            ≡ record client.old { value = with_gathered client.old.value other.value } }
         ensures mine { Sub client.old.value.records client.new.value.records }
         ensures theirs { Sub other.value.records client.new.value.records }
         ensures only { OnlyOf client.old.value other.value client.new.value }

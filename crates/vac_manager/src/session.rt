@@ -2,7 +2,7 @@
 
 ghost use Rattle.std.specs.Prelude.{◌≡◌, IfOk, IfErr};
 ghost use Rattle.stm_core.specs.History.{Sub};
-ghost use Rattle.stm_region.specs.Shown.{joined};
+ghost use Rattle.stm_region.specs.Shown.{with_gathered};
 ghost use Rattle.vac_manager.specs.Called.{HasCalled, Splits, SplitsNot, OnlyOf};
 ghost use Rattle.vac_manager.specs.Placed.{HasCalledPlaced, replied};
 ghost use Rattle.vac_manager.specs.Tracing.{HasTraced};
@@ -131,7 +131,7 @@ impl<'a> Session<'a> {
         requires own { other.manager.table ≡ self.old.manager.table }
         ensures session { self.new ≡ record self.old {
           client = record self.old.client {
-            value = joined self.old.client.value other.entry.client.value;
+            value = with_gathered self.old.client.value other.entry.client.value;
           };
         } }
         ensures mine { Sub self.old.client.value.records self.new.client.value.records }

@@ -1,5 +1,9 @@
 //! What can be booked.
 
+ghost use Rattle.std.specs.Prelude.{◌≡◌};
+ghost use Rattle.vac_model.specs.State.{kind_number};
+ghost use Rattle.vac_model.specs.Coded.{kind_of_number};
+
 /// The kind of an item. Kinds are in this order.
 #[derive(Clone, Copy, Debug, PartialEq, Eq, PartialOrd, Ord, Default)]
 pub enum Kind {
@@ -7,6 +11,32 @@ pub enum Kind {
     Car,
     Flight,
     Room,
+}
+
+impl Kind {
+    /// The number of the kind: 0 for cars, 1 for flights, 2 for rooms.
+    #[inline]
+    pub fn number(self) -> u64
+        ensures { result ≡ kind_number self }
+    {
+        match self {
+            Kind::Car => 0,
+            Kind::Flight => 1,
+            Kind::Room => 2,
+        }
+    }
+
+    /// The kind of a number. All from 2 on are rooms'.
+    #[inline]
+    pub fn of_number(number: u64) -> Kind
+        ensures { result ≡ kind_of_number number }
+    {
+        match number {
+            0 => Kind::Car,
+            1 => Kind::Flight,
+            _ => Kind::Room,
+        }
+    }
 }
 
 /// One entry of a table of cars, flights or rooms: how many units are booked, how many can still

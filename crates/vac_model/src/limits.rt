@@ -1,5 +1,9 @@
 //! The limits of the reservation system. Each number is here alone, but `MOST_BLOCKS`, which
-//! `tx_alloc` has too; code, contracts and definitions cite it by its name.
+//! `tx_alloc` has too, and `KINDS`, which `tx_list` has; code, contracts and definitions cite it by
+//! its name.
+
+/// How many kinds of items there are.
+pub const KINDS: u32 = 3;
 
 /// The most blocks that a manager has, which is the most entries of a state.
 pub const MOST_BLOCKS: u32 = 262_144;

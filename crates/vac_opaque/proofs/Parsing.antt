@@ -6,10 +6,11 @@ use Rattle.std.proofs.lemmas.List.Elements.{All-weaker}
 use Rattle.std.proofs.lemmas.List.Splits.{slice_split_at, slice_split_none}
 use Rattle.vac_lines.specs.declared.fault.LineFault.{LineFault}
 use Rattle.vac_lines.specs.Lines.{words_of, HasNo}
+use Rattle.vac_lines.specs.LineTable.{◌>>=◌}
 use Rattle.vac_opaque.specs.declared.attempt.Access.{Access}
 use Rattle.vac_spans.specs.declared.span.Span.{Span}
 use Rattle.vac_opaque.specs.declared.attempt.Head.{Head}
-use Rattle.vac_opaque.specs.Attempt.{Attempt, ◌>>=◌, at_attempt_client, at_memory_word, at_outcome, accesses_of}
+use Rattle.vac_opaque.specs.Attempt.{Attempt, at_attempt_client, at_memory_word, at_outcome, accesses_of}
 use Rattle.vac_opaque.specs.Attempt.{onto_accesses}
 use Rattle.vac_opaque.specs.Attempt.{words_attempt}
 use Rattle.vac_opaque.specs.Parts.{read_span, with_accesses, put_before, IsAmong, AllAmong}

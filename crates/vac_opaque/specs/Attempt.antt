@@ -8,7 +8,7 @@ use Rattle.vac_lines.specs.declared.fault.LineFault.{LineFault}
 use Rattle.vac_lines.specs.declared.fault.LineFault.TheVariants as fault
 use Rattle.vac_lines.specs.Lines.{words_of}
 use Rattle.vac_lines.specs.Words.{memory_word_of}
-use Rattle.vac_lines.specs.LineTable.{is_bad_byte}
+use Rattle.vac_lines.specs.LineTable.{◌>>=◌, is_bad_byte}
 use Rattle.vac_spans.specs.declared.span.Span.{Span}
 use Rattle.vac_spans.specs.Client.{client_number}
 use Rattle.vac_opaque.specs.declared.attempt.Access.{Access}
@@ -16,7 +16,8 @@ use Rattle.vac_opaque.specs.declared.attempt.Access.TheVariants.{Read, Write}
 use Rattle.vac_opaque.specs.declared.attempt.TheConstants.{ATTEMPT_BYTES}
 
 -- an attempt of a client at a transaction: who made it and when, whether it committed, and what it
--- read and wrote, in this order
+-- read and wrote, in this order (as a text tells it; the running one of stm_core is another, of which
+-- a judge of any memory knows nothing)
 pub record Attempt : Type 0 where
   pub span : Span
   pub commits : Bool
@@ -25,13 +26,6 @@ pub record Attempt : Type 0 where
 -- the span of an attempt
 abbrev pub span_of_attempt : Attempt → Span
 span_of_attempt attempt = attempt.span
-
-infixl 10 ◌>>=◌
--- goes on with what was read; the first fault ends the reading
-abbrev pub ◌>>=◌ : {A B : Type 0} → Result A LineFault → (A → Result B LineFault)
-    → Result B LineFault
-(Ok x) >>= f = f x
-(Err e) >>= f = Err e
 
 -- CLIENT: 0 to 4,294,967,295, of 1 to 10 digits
 abbrev pub at_attempt_client : List ℕ → Result ℕ LineFault

@@ -7,7 +7,7 @@ use Rattle.vac_spans.specs.declared.span.Span.{Span}
 use Rattle.vac_opaque.specs.declared.attempt.Access.{Access}
 use Rattle.vac_opaque.specs.declared.attempt.Access.TheVariants.{Read, Write}
 use Rattle.vac_opaque.specs.declared.attempt.Head.{Head}
-use Rattle.vac_opaque.specs.Attempt.{Attempt, ◌>>=◌, at_attempt_client, at_memory_word}
+use Rattle.vac_opaque.specs.Attempt.{Attempt, at_attempt_client, at_memory_word}
 
 -- the words that are left of a line
 abbrev pub words_left : Option (Bor (List ℕ)) → List (List ℕ)

@@ -2,9 +2,9 @@
 use Rattle.std.specs.Prelude.{◌≡◌, ◌<◌, ◌+◌, ◌-◌, ◌^◌, ◌==◌, ◌&&◌, ◌||◌, ℕ, suc, Bool, true, Option, is_some, Some, None, List, [], ◌∷◌, ◌++◌, map, not, take, drop, get_or, length, nat_lt, nat_le, if◌then◌else◌}
 use Rattle.std.specs.List.{list_any}
 use Rattle.vac_model.specs.declared.tasks.Task.TheVariants as task
-use Rattle.vac_judge.specs.Call.{Call}
-use Rattle.vac_quick.specs.declared.line.Line.{Line}
 use Rattle.vac_lines.specs.Text.{given_text}
+use Rattle.vac_quick.specs.declared.line.Line.{Line}
+use Rattle.vac_judge.specs.Call.{Call}
 
 -- the call that a line is
 abbrev pub call_of : Line → Call

@@ -2,10 +2,10 @@
 
 ghost use Rattle.std.specs.Prelude.{◌≡◌, ◌<◌, ◌^◌, true, [], not, IfOk, MatchBool};
 ghost use Rattle.vac_model.specs.Ranges.{is_task};
+ghost use Rattle.vac_lines.specs.Text.{given_text};
 ghost use Rattle.vac_judge.specs.Order.{call_breaks_client};
 ghost use Rattle.vac_judge.specs.Parts.{shown_call, shown_end, shown_reply};
 ghost use Rattle.vac_order.specs.Calls.{calls_of};
-ghost use Rattle.vac_lines.specs.Text.{given_text};
 ghost use Rattle.vac_order.specs.Reading.{IsHeld, IsLineOf, Took};
 
 use std::alloc::{AllocError, Global};

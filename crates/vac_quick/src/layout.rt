@@ -49,12 +49,7 @@ fn customer_key(id: u32) -> u64 {
 
 /// The number of an item among items and customers.
 fn item_key(kind: Kind, id: u32) -> u64 {
-    let place = match kind {
-        Kind::Car => 1,
-        Kind::Flight => 2,
-        Kind::Room => 3,
-    };
-    customer_key(id).wrapping_add(place)
+    customer_key(id).wrapping_add(kind.number() + 1)
 }
 
 /// The customer that a command names, as a number among items and customers.
@@ -66,7 +61,12 @@ fn named_customer(command: &Command) -> Option<u64> {
         Command::Reserve { customer, .. } | Command::Cancel { customer, .. } => {
             Some(customer_key(customer))
         }
-        _ => None,
+        Command::Add { .. }
+        | Command::Delete { .. }
+        | Command::DropFlight { .. }
+        | Command::Free { .. }
+        | Command::Price { .. }
+        | Command::Audit => None,
     }
 }
 
@@ -80,7 +80,10 @@ fn named_item(command: &Command) -> Option<u64> {
         | Command::Reserve { kind, id, .. }
         | Command::Cancel { kind, id, .. } => Some(item_key(kind, id)),
         Command::DropFlight { id } => Some(item_key(Kind::Flight, id)),
-        _ => None,
+        Command::NewCustomer { .. }
+        | Command::DropCustomer { .. }
+        | Command::Bill { .. }
+        | Command::Audit => None,
     }
 }
 

@@ -23,7 +23,7 @@ pub struct Line {
     pub task: Task,
     /// The text of the answer, where there was one.
     pub reply: Option<Vec<u8>>,
-    /// None of the lines from this one on begins before this.
+    /// For searches: a reading before which no line from this one on is said to begin.
     pub soonest: u64,
     ghost asked: { is_task task ≡ true },
     ghost ended: { nat_lt end NEVER ≡ is_some reply },

@@ -31,7 +31,8 @@ impl<M: Machine + Drop> QuickSearch<M> {
     }
 }
 
-/// Looks for an order of calls, where any answered ones are, in at most `steps` steps.
+/// Looks for an order of calls, which are given as they ended, in at most `steps` steps, where some
+/// were answered. Returns their places among the lines, in that order.
 ///
 /// Not said: anything of what it finds, and that it finds anything.
 pub fn find_quickly<M: Machine + Drop, P: Watcher>(

@@ -20,13 +20,8 @@ pub fn key_of(kind: Kind, id: u32) -> Key
     ensures kind { result.kind ≡ kind_number kind }
     ensures id { result.id ≡ id }
 {
-    let kind = match kind {
-        Kind::Car => 0,
-        Kind::Flight => 1,
-        Kind::Room => 2,
-    };
     Key {
-        kind,
+        kind: kind.number(),
         id: id as u64,
     }
 }

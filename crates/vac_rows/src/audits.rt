@@ -1,5 +1,5 @@
 //! Clients in threads, and one that audits at the same time.
-ghost use Rattle.std.specs.Prelude.{◌≡◌, ◌*◌};
+ghost use Rattle.std.specs.Prelude.{◌≡◌};
 
 use crate::draws::{BLOCKS, draw_task};
 use crate::managers::open;

@@ -1,5 +1,5 @@
 //! Clients of a manager over a region that come and go.
-ghost use Rattle.std.specs.Prelude.{◌≡◌, ◌*◌, All};
+ghost use Rattle.std.specs.Prelude.{◌≡◌, All};
 
 use crate::calls::{Called, expect};
 use crate::managers::open;

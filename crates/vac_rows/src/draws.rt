@@ -17,11 +17,7 @@ fn draw_id(draws: &mut Pcg32) -> u32 {
 }
 
 fn draw_kind(draws: &mut Pcg32) -> Kind {
-    match draws.next_u32() % 3 {
-        0 => Kind::Car,
-        1 => Kind::Flight,
-        _ => Kind::Room,
-    }
+    Kind::of_number((draws.next_u32() % 3) as u64)
 }
 
 /// Up to three units, or none, with a price or without.

@@ -1,5 +1,5 @@
 //! A manager that goes on with its entries on a new clock.
-ghost use Rattle.std.specs.Prelude.{◌≡◌, ◌*◌};
+ghost use Rattle.std.specs.Prelude.{◌≡◌};
 
 use crate::calls::{Called, expect};
 use crate::managers::open;

@@ -1,5 +1,4 @@
 //! How a script is written, and run on a new plain manager and on a new manager over a region.
-ghost use Rattle.std.specs.Prelude.{◌≡◌};
 
 use std::alloc::{AllocError, Global};
 use std::process::Abort;

@@ -382,7 +382,7 @@ fn booking_hash(kind: Kind, id: u32, booking: Option<Booking>) -> u64 {
     let Some(booking) = booking else {
         return 0;
     };
-    let place = mixed(kind_code(kind), id as u64);
+    let place = mixed(kind.number(), id as u64);
     mixed(place, mixed(booking.units, booking.sum))
 }
 
@@ -391,15 +391,6 @@ fn entry_hash(entry: Option<((Kind, u32), Booking)>) -> u64 {
     match entry {
         Some(((kind, id), booking)) => booking_hash(kind, id, Some(booking)),
         None => 0,
-    }
-}
-
-/// A number for each kind.
-fn kind_code(kind: Kind) -> u64 {
-    match kind {
-        Kind::Car => 0,
-        Kind::Flight => 1,
-        Kind::Room => 2,
     }
 }
 

@@ -79,6 +79,7 @@ impl Sequential {
     }
 
     /// A number that is kept, for finding states that may be the same.
+    ///
     /// Not said: anything of it.
     pub fn hash(&self) -> u64 {
         self.tables.hash()

@@ -4,6 +4,8 @@ use Rattle.std.proofs.Common.{[], ◌∷◌, ◌++◌, Some}
 use Rattle.rand_pcg.specs.Lcg.{Lcg}
 use Rattle.rand_pcg.specs.Pcg.{pcg32}
 use Rattle.vac_model.specs.declared.items.Kind.{Kind}
+use Rattle.vac_model.specs.declared.limits.TheConstants.{KINDS}
+use Rattle.vac_model.specs.Coded.{kind_of_number}
 use Rattle.vac_model.specs.declared.items.Kind.TheVariants.{Car, Flight, Room}
 use Rattle.vac_model.specs.declared.commands.Command.TheVariants as command
 use Rattle.vac_model.specs.declared.tasks.Task.TheVariants as task
@@ -11,7 +13,7 @@ use Rattle.vac_draws.specs.declared.settings.Settings.{Settings}
 use Rattle.vac_draws.specs.declared.settings.TheConstants.{PERCENT, LEVELS, UNITS, PRICE_STEP, LOWEST_PRICE}
 use Rattle.vac_draws.specs.Draws.{Reader, always, below, followed_by, joined, one, for_each, times_over, Drawn}
 use Rattle.vac_draws.specs.Streams.{gives}
-use Rattle.vac_draws.specs.Tasks.{up_to, kind, kind_at, price, ask, drawn_trip, drawn_leave, removal, change_of, change}
+use Rattle.vac_draws.specs.Tasks.{up_to, kind, price, ask, drawn_trip, drawn_leave, removal, change_of, change}
 use Rattle.vac_draws.specs.Tasks.{drawn_update}
 use Rattle.vac_draws.specs.Tasks.{task_at, work, question_at, question, mixed_at, task_of, stock, stocks, customers}
 use Rattle.vac_draws.specs.Tasks.{opening}
@@ -65,7 +67,7 @@ up_to_total : (n : ℕ) → IsTotal (up_to n)
 up_to_total n = then_total (below n) (λ k. k + 1) (below_total n)
 
 kind_total : IsTotal kind
-kind_total = then_total (below 3) kind_at (below_total 3)
+kind_total = then_total (below KINDS) kind_of_number (below_total KINDS)
 
 price_total : IsTotal price
 price_total = then_total (below LEVELS) (λ level. level * PRICE_STEP + LOWEST_PRICE) (below_total LEVELS)

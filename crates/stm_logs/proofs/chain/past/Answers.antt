@@ -1,7 +1,7 @@
 use Rattle.std.proofs.Common.{◌≡◌, ℕ, ◌-◌, true, List, sym, ap, ◌∙◌, subst}
 use Rattle.stm_logs.specs.declared.nodes.Entry.{Entry}
 use Rattle.stm_logs.specs.Nodes.{Node, at}
-use Rattle.stm_logs.specs.Chain.{EndsWithin, goes_on, locks_from, groups_from}
+use Rattle.stm_logs.specs.Chain.{EndsWithin, goes_on, locks_from}
 use Rattle.stm_logs.proofs.ChainLemmas.{going_on, next_inside, locks_past, step_inside, step_on}
 use Rattle.stm_logs.proofs.chain.past.Goals as goal
 
@@ -40,7 +40,5 @@ loop-start-preserved g c =
       some = on.0;
       ends = subst (EndsWithin ns (left - 1)) (sym is) (step_inside ns left here before.some before.ends).2;
       lock = on.1 ∙ lock;
-      locks = before.locks ∙ step.0 ∙ ap (locks_from ns (left - 1)) (sym is);
-      groups = λ whole first. before.groups whole first ∙ step.1 whole first ∙
-          ap (groups_from ns whole first (left - 1)) (sym is);
+      locks = before.locks ∙ step ∙ ap (locks_from ns (left - 1)) (sym is);
     }

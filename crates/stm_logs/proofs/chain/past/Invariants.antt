@@ -1,6 +1,6 @@
 use Rattle.std.proofs.Common.{◌≡◌, ◌<◌, ℕ}
 use Rattle.stm_logs.specs.Nodes.{at}
-use Rattle.stm_logs.specs.Chain.{EndsWithin, locks_from, groups_from}
+use Rattle.stm_logs.specs.Chain.{EndsWithin, locks_from}
 use Rattle.stm_logs.proofs.chain.past.Given as goal
 
 abbrev pub invariant-loop-start : goal.invariant-loop-start
@@ -9,8 +9,6 @@ invariant-loop-start g l = record {
   ends : EndsWithin l.nodes.list l.left l.at;
   lock : (at l.nodes.list l.at).lock ≡ (at l.nodes.list l.start).lock;
   locks : locks_from l.nodes.list l.most l.start ≡ locks_from l.nodes.list l.left l.at;
-  groups : (whole first : ℕ) → groups_from l.nodes.list whole first l.most l.start ≡ groups_from l.nodes.list whole
-      first l.left l.at;
 }
 
 abbrev pub decreases-loop-start : goal.decreases-loop-start

@@ -4,13 +4,13 @@ use Rattle.std.specs.Global.{Vec}
 use Rattle.vac_model.specs.State.{State}
 use Rattle.vac_model.specs.Run.{run}
 use Rattle.vac_model.specs.declared.replies.Reply.{Reply}
+use Rattle.vac_lines.specs.Text.{given_text}
 use Rattle.vac_judge.specs.Call.{Call}
 use Rattle.vac_quick.specs.declared.line.Line.{Line}
 use Rattle.vac_order.specs.declared.stuck.Stuck.{Stuck}
 use Rattle.vac_order.specs.Orders.{is_answered}
 use Rattle.vac_order.specs.Marks.{is_made}
 use Rattle.vac_order.specs.Calls.{calls_of}
-use Rattle.vac_lines.specs.Text.{given_text}
 use Rattle.vac_order.proofs.Tries.{at}
 use Rattle.vac_order.proofs.Sorted.{call_here, length_calls}
 use Rattle.vac_order.proofs.StuckCalls.{AreFound, found_none, found_more, found_less, found_all}

@@ -19,7 +19,7 @@ returns-then-not-branch c = λ s earlier f.
     let call = shown_call c.args.call.now in
     let reply = c.run-reply.ensures.reply s f.heap in
     let same : false ≡ is_right call.reply (run s call.task).1 =
-    sym c.if-not-branch.true ∙ c.in_ok-is_right.ensures ∙ ap (is_right call.reply) (sym reply) in
+    sym c.if-not-branch.true ∙ c.in_ok-is_expected.ensures ∙ ap (is_right call.reply) (sym reply) in
     record {
       found_is = wrong_reply s earlier call false (c.in_default.ensures s earlier f) same ∙
           ap (λ r. Some (Reply r)) reply;
@@ -32,7 +32,7 @@ returns c = λ s earlier f.
     let reply = c.run-reply.ensures.reply s f.heap in
     let times = c.in_default.ensures s earlier f in
     let same : true ≡ is_right call.reply (run s call.task).1 =
-    sym c.if-not-branch.false ∙ c.in_ok-is_right.ensures ∙ ap (is_right call.reply) (sym reply) in
+    sym c.if-not-branch.false ∙ c.in_ok-is_expected.ensures ∙ ap (is_right call.reply) (sym reply) in
     let placed = well_placed earlier call c.span.result c.span.ensures times in
     record {
       found_is = wrong_reply s earlier call true times same;

@@ -6,8 +6,8 @@ use Rattle.stm_region.specs.Shown.{ClientShown, bounds}
 use Rattle.stm_core.specs.Guards.{stripe_of}
 use Rattle.stm_attempt.specs.Committing.{HasCommitted, IsCommitResult, WasDecided, commit_record}
 use Rattle.stm_attempt.proofs.Parts.{no_pairs, finished_by, has_finished, met_none, not_answered, not_lone, not_refused}
-use Rattle.stm_attempt.proofs.commit.end.Goals as goal
-use Rattle.stm_attempt.proofs.commit.end.Goals.{in-Some, in-None+then-len-eq0, in-None+else-len-eq0}
+use Rattle.stm_attempt.proofs.commit.commit_or_stop.Goals as goal
+use Rattle.stm_attempt.proofs.commit.commit_or_stop.Goals.{in-Some, in-None+then-len-eq0, in-None+else-len-eq0}
 
 pub finish-requires-clause-allowed : goal.finish-requires-clause-allowed
 finish-requires-clause-allowed g c =
