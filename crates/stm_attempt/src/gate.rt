@@ -17,13 +17,25 @@ pub enum Point {
     Answered,
 }
 
-/// What is called at each point of a commit. A gate may use other clients of the region.
+/// What is told how far a client is: by each commit, and by callers who run many. A gate may use
+/// other clients of the region.
 pub trait Gate {
     /// Called once at each point that the commit comes to.
     ///
     /// Not said: when it is called: tests see each point told once and in its order, and that
     /// Decided comes after the last validation is read in the code.
     fn at(&mut self, point: Point);
+
+    /// Called right before a client's first call of many. A commit never calls it: it is for
+    /// callers.
+    ///
+    /// Not said: that it is called, which is read in the code.
+    fn ready(&mut self) {}
+
+    /// Called right after a client's last call of many. A commit never calls it: it is for callers.
+    ///
+    /// Not said: that it is called, which is read in the code.
+    fn done(&mut self) {}
 }
 
 /// The gate that does nothing.
