@@ -8,7 +8,7 @@ use std::thread::Threads;
 use stm_attempt::NoGate;
 use vac_attempts::{Ledger, write_attempts};
 use vac_history::Watch;
-use vac_load::{Keepers, Phases, Settings, run_load_kept};
+use vac_load::{Keepers, Settings, run_load_kept};
 
 /// A watch that stands still.
 #[derive(Clone, Copy, Drop)]
@@ -20,16 +20,6 @@ impl Watch for Still {
     fn read(&mut self) -> u64 {
         0
     }
-}
-
-/// Tells nobody how far the clients are.
-#[derive(Clone, Copy, Drop)]
-struct Untold;
-
-impl Phases for Untold {
-    fn ready(&self) {}
-
-    fn done(&self) {}
 }
 
 /// The roots stand in words 1 to 4, the heads of the free lists in 8 to 15, and the blocks of eight
@@ -67,7 +57,7 @@ fn attempted<R: Threads + Wait + Abort + AllocGlobal>(rt: &R) -> Kept {
         .expect(rt, "there is memory");
     let opening = Ledger::new(alloc, Still);
     let keepers = Keepers { opening, clients };
-    let Ok((_, _, kept)) = run_load_kept(rt, &ONE_QUESTION, NoGate, Untold, keepers) else {
+    let Ok((_, _, kept)) = run_load_kept(rt, &ONE_QUESTION, NoGate, keepers) else {
         panic!(rt; "the load stopped")
     };
     kept

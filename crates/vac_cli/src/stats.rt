@@ -5,7 +5,8 @@ use std::io::Write;
 use std::sync::atomic::{AtomicU32, AtomicU64, Ordering};
 use std::thread;
 use std::time::{Clock, Instant};
-use vac_load::{Efforts, Phases};
+use stm_attempt::{Gate, Point};
+use vac_load::Efforts;
 
 /// The nanoseconds of a second.
 const SECOND: u128 = 1_000_000_000;
@@ -108,12 +109,15 @@ impl<'a, T: Clock> Span<'a, T> {
     }
 }
 
-impl<T: Clock> Phases for &Span<'_, T> {
-    fn ready(&self) {
+impl<T: Clock> Gate for &Span<'_, T> {
+    #[inline]
+    fn at(&mut self, _point: Point) {}
+
+    fn ready(&mut self) {
         self.stand_ready();
     }
 
-    fn done(&self) {
+    fn done(&mut self) {
         self.end_one();
     }
 }

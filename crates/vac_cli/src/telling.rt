@@ -10,7 +10,7 @@ use std::sync::atomic::{AtomicBool, AtomicU64, Ordering};
 use std::thread;
 use std::thread::{Parker, Threads};
 use std::time::{Clock, Duration, Instant};
-use stm_attempt::{Gate, NoGate, Point};
+use stm_attempt::{Gate, Point};
 use vac_load::{Efforts, Keepers, LoadFault, LoadReport, Settings, run_load_kept};
 use vac_manager::Keep;
 use vac_options::How;
@@ -18,17 +18,27 @@ use vac_options::How;
 /// The least time between two lines, in milliseconds.
 const PAUSE_MILLIS: u64 = 500;
 
-/// The gate of a client, which counts the tasks that are answered.
+/// The gate of a client, which counts the tasks that are answered, and hands on what it is told.
 #[derive(Clone, Copy, Drop)]
-struct Counter<'a> {
+struct Counter<'a, G> {
     answered: &'a AtomicU64,
+    gate: G,
 }
 
-impl Gate for Counter<'_> {
+impl<G: Gate> Gate for Counter<'_, G> {
     fn at(&mut self, point: Point) {
         if point == Point::Answered {
             self.answered.fetch_add(1, Ordering::SeqCst);
         }
+        self.gate.at(point);
+    }
+
+    fn ready(&mut self) {
+        self.gate.ready();
+    }
+
+    fn done(&mut self) {
+        self.gate.done();
     }
 }
 
@@ -59,8 +69,11 @@ impl Progress {
     ) -> Result<(LoadReport, Efforts, Keepers<K>), LoadFault>
         ensures { RunsKept K.notes settings.now keepers result }
     {
-        let answered = &self.answered;
-        let loaded = run_load_kept(rt, settings, Counter { answered }, span, keepers);
+        let counter = Counter {
+            answered: &self.answered,
+            gate: span,
+        };
+        let loaded = run_load_kept(rt, settings, counter, keepers);
         self.has_ended.store(true, Ordering::SeqCst);
         self.teller.unpark();
         loaded
@@ -137,7 +150,7 @@ pub(crate) fn run_told<
     ensures { RunsKept K.notes settings.now keepers result }
 {
     if !how.progress {
-        return run_load_kept(rt, settings, NoGate, span, keepers);
+        return run_load_kept(rt, settings, span, keepers);
     }
     let progress = Progress::new();
     let (shared, settings) = (&progress, *settings);

@@ -194,17 +194,17 @@ pub count_more : (old new : Holding) (c : Call) (p p' : CallCount) → new.clien
     p'.made ≡ p.made + 1
     → p'.stopped ≡ (is_none c.reply || p.stopped) → new.count ≡ old.count + 1 → (calls : List Call) → Counts old calls →
     IsCallCount p c.client calls → Counts new (c ∷ calls)
-count_more old new c p p' i made stopped n calls h progress = record {
+count_more old new c p p' i made stopped n calls h so_far = record {
   clients = λ k. elim (test c.client k) [
     | inl same ↦
         subst (λ o. IsKept o k (c ∷ calls))
         (sym (ap (λ (m : FinMap nat_cmp CallCount). get m k) i ∙ ap (get (insert old.clients c.client p')) (sym same.1)
-            ∙
+        ∙
         get_here old.clients c.client p'))
         (record {
-          made = made ∙ ap (λ m. m + 1) (progress.made ∙ ap (λ q. made_by q calls) same.1) ∙
+          made = made ∙ ap (λ m. m + 1) (so_far.made ∙ ap (λ q. made_by q calls) same.1) ∙
               ap (λ b. cond b (made_by k calls + 1) (made_by k calls)) (sym same.0);
-          stopped = stopped ∙ ap (λ b. is_none c.reply || b) (progress.stopped ∙ ap (λ q. has_stopped q calls) same.1)
+          stopped = stopped ∙ ap (λ b. is_none c.reply || b) (so_far.stopped ∙ ap (λ q. has_stopped q calls) same.1)
               ∙ ap (λ b. (b && is_none c.reply) || has_stopped k calls) (sym same.0);
         })
     | inr other ↦
@@ -342,7 +342,7 @@ pub seen_more : (work : Work) (held : Holding) (seen seen' : FinMap nat_cmp ℕ)
     seen' ≡ insert seen client number
     → ((calls : List Call) → Counts held calls → IsCallCount p client calls) →
     (nat_le p.made before && not p.stopped) ≡ false → AllSeen work held seen' behind
-seen_more work held seen seen' client before number rest behind p all cut b n i progress closed = λ asked calls w h.
+seen_more work held seen seen' client before number rest behind p all cut b n i so_far closed = λ asked calls w h.
     let s = all asked calls w h in
     let q = seen_head client behind s.behind (s.clients ∙ cut) in
     let a = q.0 in
@@ -350,7 +350,7 @@ seen_more work held seen seen' client before number rest behind p all cut b n i 
     let is : before ≡ length (tasks_of client s.before) = b ∙ s.sees client in
     let not_it : is_missing calls a.client (length (tasks_of a.client s.before)) ≡ false =
     ap (λ k. is_missing calls k (length (tasks_of k s.before))) q.3 ∙ ap (is_missing calls client) (sym is) ∙
-    sym (number_of p held client before calls (progress calls h)) ∙ closed in
+    sym (number_of p held client before calls (so_far calls h)) ∙ closed in
     record {
       before = a ∷ s.before;
       behind = more;
@@ -408,7 +408,7 @@ pub seen_missing : (work : Work) (held : Holding) (seen : FinMap nat_cmp ℕ) (c
     → rest ≡ client ∷ behind → before ≡ unwrap_or (get seen client) 0 → number ≡ before + 1
     → ((calls : List Call) → Counts held calls → IsCallCount p client calls) →
     (nat_le p.made before && not p.stopped) ≡ true → IsMissing work held (Some (client, number))
-seen_missing work held seen client before number rest behind p all cut b n progress found = λ asked calls w h.
+seen_missing work held seen client before number rest behind p all cut b n so_far found = λ asked calls w h.
     let s = all asked calls w h in
     let q = seen_head client behind s.behind (s.clients ∙ cut) in
     let a = q.0 in
@@ -416,7 +416,7 @@ seen_missing work held seen client before number rest behind p all cut b n progr
     let is : before ≡ length (tasks_of client s.before) = b ∙ s.sees client in
     let it : is_missing calls a.client (length (tasks_of a.client s.before)) ≡ true =
     ap (λ k. is_missing calls k (length (tasks_of k s.before))) q.3 ∙ ap (is_missing calls client) (sym is) ∙
-    sym (number_of p held client before calls (progress calls h)) ∙ found in
+    sym (number_of p held client before calls (so_far calls h)) ∙ found in
     sym (s.same ∙ ap (first_missing calls s.before) q.2
     ∙ ap (λ v. cond v (Some (a.client, length (tasks_of a.client s.before) + 1))
     (first_missing calls (a ∷ s.before) more)) it

@@ -61,7 +61,7 @@ call_parts line =
     parts_of (before_first is_arrow (words_of line)) (after_first is_arrow (words_of line))
 
 infixl 10 ◌>>=◌
--- goes on with what was read; the first fault ends the reading (vac_lines has it of a line's faults)
+-- goes on with what was read; the first fault ends the reading (as in vac_lines, of other faults)
 abbrev pub ◌>>=◌ : {A B : Type 0} → Result A CallFault → (A → Result B CallFault)
     → Result B CallFault
 (Ok x) >>= f = f x

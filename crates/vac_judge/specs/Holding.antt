@@ -30,14 +30,14 @@ onto_all front (Ok work) = Ok (front ++ work)
 onto_all front (Err line) = Err (length front + line)
 
 -- how many calls a client made, and whether one of them was never answered
-pub record IsCallCount (progress : CallCount) (client : ℕ) (calls : List Call) : Type 0 where
-  pub made : progress.made ≡ made_by client calls
-  pub stopped : progress.stopped ≡ has_stopped client calls
+pub record IsCallCount (so_far : CallCount) (client : ℕ) (calls : List Call) : Type 0 where
+  pub made : so_far.made ≡ made_by client calls
+  pub stopped : so_far.stopped ≡ has_stopped client calls
 
 -- what is kept of a client's calls: where there are none, nothing
 abbrev pub IsKept : Option CallCount → ℕ → List Call → Type 0
 IsKept None client calls = (0 ≡ made_by client calls) × (false ≡ has_stopped client calls)
-IsKept (Some progress) client calls = IsCallCount progress client calls
+IsKept (Some so_far) client calls = IsCallCount so_far client calls
 
 -- the calls of each client were counted
 pub record Counts (kept : Holding) (calls : List Call) : Type 0 where

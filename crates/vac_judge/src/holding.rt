@@ -47,14 +47,14 @@ fn have_one_form(alloc: Global, wanted: &Task, given: &Task) -> Result<bool, All
 }
 
 /// How far a client is after one more call.
-fn count_after(progress: CallCount, call: &CallLine<'_>) -> Result<CallCount, StreamFault>
-    ensures made { IfOk result (λ next. next.made ≡ progress.made + 1) }
+fn count_after(so_far: CallCount, call: &CallLine<'_>) -> Result<CallCount, StreamFault>
+    ensures made { IfOk result (λ next. next.made ≡ so_far.made + 1) }
     ensures stopped { IfOk result (λ next.
-        next.stopped ≡ (is_none (shown_call call.now).reply || progress.stopped)) }
+        next.stopped ≡ (is_none (shown_call call.now).reply || so_far.stopped)) }
     ensures fault { IfErr result (λ fault. fault ≢ StreamFault.Write) }
 {
-    let made = progress.made.checked_add(1).ok_or(StreamFault::Bound)?;
-    let stopped = call.answer.is_none() || progress.stopped;
+    let made = so_far.made.checked_add(1).ok_or(StreamFault::Bound)?;
+    let stopped = call.answer.is_none() || so_far.stopped;
     Ok(CallCount { made, stopped })
 }
 
@@ -70,11 +70,11 @@ impl Holding {
     }
 
     /// How far a client is.
-    fn progress(&self, client: u32) -> CallCount
+    fn so_far(&self, client: u32) -> CallCount
         ensures { (calls : List Call) → Counts self.now calls → IsCallCount result client calls }
     {
         match self.clients.get(client) {
-            Some(progress) => *progress,
+            Some(so_far) => *so_far,
             None => CallCount {
                 made: 0,
                 stopped: false,
@@ -83,13 +83,13 @@ impl Holding {
     }
 
     /// Counts one more call.
-    fn count(&mut self, call: &CallLine<'_>, progress: CallCount) -> Result<(), StreamFault>
+    fn count(&mut self, call: &CallLine<'_>, so_far: CallCount) -> Result<(), StreamFault>
         ensures counts { OnOk result ((calls : List Call) → Counts self.old calls →
-            IsCallCount progress call.now.client calls →
+            IsCallCount so_far call.now.client calls →
             Counts self.new (shown_call call.now ∷ calls)) }
         ensures fault { IfErr result (λ fault. fault ≢ StreamFault.Write) }
     {
-        let next = count_after(progress, call)?;
+        let next = count_after(so_far, call)?;
         let count = self.count.checked_add(1).ok_or(StreamFault::Bound)?;
         self.clients.insert(call.client, next)?;
         self.count = count;
@@ -105,14 +105,14 @@ impl Holding {
             Counts self.old calls → Counts self.new (shown_call call.now ∷ calls)) }
         ensures fault { IfErr result (λ fault. fault ≢ StreamFault.Write) }
     {
-        let progress = self.progress(call.client);
-        let Some(wanted) = work.get(call.client, progress.made) else {
+        let so_far = self.so_far(call.client);
+        let Some(wanted) = work.get(call.client, so_far.made) else {
             return Ok(false);
         };
         if !have_one_form(alloc, wanted, &call.task)? {
             return Ok(false);
         }
-        self.count(call, progress)?;
+        self.count(call, so_far)?;
         Ok(true)
     }
 }
@@ -164,8 +164,8 @@ pub(crate) fn first_missing(
         let client = *client;
         let before = seen.get(client).copied().unwrap_or(0);
         let number = before.checked_add(1).ok_or(StreamFault::Bound)?;
-        let progress = held.progress(client);
-        if progress.made <= before && !progress.stopped {
+        let so_far = held.so_far(client);
+        if so_far.made <= before && !so_far.stopped {
             return Ok(Some((client, number as u64)));
         }
         seen.insert(client, number)?;

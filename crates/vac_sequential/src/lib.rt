@@ -1,8 +1,8 @@
 //! The plain manager: the program that the rules of `vac_model` are, one call at a time, over maps
 //! whose versions share their entries.
 //!
-//! [`Sequential`] has no words, versions or clients. It is the oracle of tests and the [`Machine`] of
-//! searches: a copy costs nothing, and equal states are found equal.
+//! [`Sequential`] has no words, versions or clients. It is the oracle of tests and the [`Machine`]
+//! of searches: a copy costs nothing, and equal states are found equal.
 #![tactic(auto)]
 
 mod items;

@@ -3,17 +3,17 @@ use Rattle.std.specs.FinMap.{get}
 use Rattle.vac_judge.proofs.Handed.{no_bytes, seen_first, seen_more, seen_missing, seen_all, found_open, closed_by_stop}
 use Rattle.vac_judge.proofs.Handed.{closed_by_made}
 use Rattle.vac_judge.proofs.holding.first_missing.Goals as goal
-use Rattle.vac_judge.proofs.holding.first_missing.Goals.{else-progress-before-via-then-progress-before+else-not-progress}
-use Rattle.vac_judge.proofs.holding.first_missing.Goals.{else-progress-before-via-else-progress-before}
+use Rattle.vac_judge.proofs.holding.first_missing.Goals.{else-so_far-before-via-then-so_far-before+else-not-so_far}
+use Rattle.vac_judge.proofs.holding.first_missing.Goals.{else-so_far-before-via-else-so_far-before}
 
 pub loop-client-init : goal.loop-client-init
 loop-client-init c = seen_first c.args.work.now c.args.held.now c.new-seen.result c.clients-rest.result.now
     c.new-seen.ensures c.clients-rest.ensures
 
-pub returns-then-not-progress-clause-missing : goal.returns-then-not-progress-clause-missing
-returns-then-not-progress-clause-missing c =
+pub returns-then-not-so_far-clause-missing : goal.returns-then-not-so_far-clause-missing
+returns-then-not-so_far-clause-missing c =
     let at = c.loop-client in
-    let p = c.progress-progress.result in
+    let p = c.so_far-so_far.result in
     let before = c.unwrap_or-before.result in
     let cut : at.rest.now ≡ c.in-Some.client.now ∷ c.in-Some.behind.now = search rules in
     let seen : before ≡ unwrap_or (get at.seen c.in-Some.client.now) 0 = search rules in
@@ -22,26 +22,26 @@ returns-then-not-progress-clause-missing c =
     let goes : p.stopped ≡ false = search rules in
     seen_missing c.args.work.now c.args.held.now at.seen c.in-Some.client.now before c.in_ok-number.number at.rest.now
     c.in-Some.behind.now p at.invariant cut seen more
-    c.progress-progress.ensures (found_open p.made before p.stopped few goes)
+    c.so_far-so_far.ensures (found_open p.made before p.stopped few goes)
 
 pub loop-client-preserved : goal.loop-client-preserved
 loop-client-preserved c =
     let at = c.loop-client in
-    let p = c.progress-progress.result in
+    let p = c.so_far-so_far.result in
     let before = c.unwrap_or-before.result in
     let cut : at.rest.now ≡ c.in-Some.client.now ∷ c.in-Some.behind.now = search rules in
     let seen : before ≡ unwrap_or (get at.seen c.in-Some.client.now) 0 = search rules in
     let more : c.in_ok-number.number ≡ before + 1 = search rules in
     let closed : (nat_le p.made before && not p.stopped) ≡ false =
-    elim c.else-progress-before.branch [
-      | else-progress-before-via-then-progress-before+else-not-progress w ↦
-          closed_by_stop p.made before p.stopped w.if-not-progress.false
-      | else-progress-before-via-else-progress-before w ↦ closed_by_made p.made before p.stopped
-          w.if-progress-before.false
+    elim c.else-so_far-before.branch [
+      | else-so_far-before-via-then-so_far-before+else-not-so_far w ↦
+          closed_by_stop p.made before p.stopped w.if-not-so_far.false
+      | else-so_far-before-via-else-so_far-before w ↦ closed_by_made p.made before p.stopped
+          w.if-so_far-before.false
     ] in
     seen_more c.args.work.now c.args.held.now at.seen c.insert.new.self c.in-Some.client.now before
     c.in_ok-number.number at.rest.now c.in-Some.behind.now p at.invariant
-    cut seen more c.in_ok-insert.ensures c.progress-progress.ensures closed
+    cut seen more c.in_ok-insert.ensures c.so_far-so_far.ensures closed
 
 pub returns-clause-missing : goal.returns-clause-missing
 returns-clause-missing c =
