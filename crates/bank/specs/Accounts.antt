@@ -1,5 +1,5 @@
--- Accounts, and what the bank's transactions do to them. (Each law says `after`, `Finds` and
--- `code` of its own entries.)
+-- Accounts, and what the bank's transactions do to them. Each example has its own `after`, `Finds`
+-- and `code`.
 use Rattle.std.specs.Prelude.{◌≡◌, ℕ, ◌+◌, ◌-◌, ◌<◌, ◌≤◌, ◌^◌, true, false, cond, List, [], ◌∷◌, length, slice_index, slice_set, sum}
 use Rattle.stm_core.specs.Client.{Client}
 use Rattle.stm_region.specs.Shown.{RegionShown}

@@ -2,7 +2,7 @@
 
 ghost use Rattle.std.specs.Prelude.{◌≡◌, ◌*◌, ◌<◌, ◌≤◌, IfOk, IfErr, replicate, sum};
 ghost use Rattle.stm_core.specs.Event.{opener};
-ghost use Rattle.stm_region.specs.Shown.{HasSplit, joined, opened_on};
+ghost use Rattle.stm_region.specs.Shown.{HasSplit, with_gathered, opened_on};
 ghost use Rattle.stm_region.specs.Refused.{ClosesNot, IsLast, OpensNot};
 ghost use Rattle.stm_region.specs.declared.fault.RegionFault.TheVariants.{Clients};
 ghost use Rattle.stm_object.specs.History.{HasTransacted, HasAsked, IsAlone};
@@ -102,7 +102,7 @@ impl Bank {
     pub fn gather(&self, teller: &mut Teller, other: Teller)
         requires { (teller.old.table ≡ self.now.table) × (other.table ≡ self.now.table) }
         ensures { teller.new
-            ≡ record teller.old { value = joined teller.old.value other.value } }
+            ≡ record teller.old { value = with_gathered teller.old.value other.value } }
     {
         self.shared.gather(teller, other)
     }

@@ -8,7 +8,7 @@ use Rattle.stm_core.specs.Client.{Record, before, rank, inserted, merged}
 use Rattle.stm_core.specs.History.{Sub, done}
 use Rattle.stm_core.proofs.Merging.{sub_trans, sub_left, in_sub}
 use Rattle.stm_core.proofs.Orders.{in_merged}
-use Rattle.stm_region.specs.Shown.{RegionShown, joined}
+use Rattle.stm_region.specs.Shown.{RegionShown, with_gathered}
 use Rattle.vac_manager.specs.Called.{CallerShown, Splits}
 use Rattle.vac_manager.specs.Renewed.{ClosesSomewhere}
 use Rattle.vac_manager.specs.Session.{SessionShown}
@@ -158,7 +158,7 @@ pub has_run_more : (s : DeskSettings) (all ds ds' : List Desk) (d d' : Desk) (y 
     all ≡ ds ++ d ∷ [] → MayRun s all y →
     a.manager ≡ y.manager → Splits y.client a.client o.client → o.manager ≡ y.manager → HasServed s d d' o o' →
     HasRunRound s ds ds' a b →
-    c ≡ record b { client = record b.client { value = joined b.client.value o'.client.value } } →
+    c ≡ record b { client = record b.client { value = with_gathered b.client.value o'.client.value } } →
     Sub o'.client.value.records c.client.value.records →
     HasRunRound s all (ds' ++ d' ∷ []) y c
 has_run_more s all ds ds' d d' y a b c o o' e may am split om one run taken theirs =

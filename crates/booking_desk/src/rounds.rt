@@ -83,16 +83,16 @@ pub(crate) fn go_on<R: Threads + Sync>(
     rt: &R,
     alloc: Global,
     settings: DeskSettings,
-    progress: OpenDesks,
+    open_desks: OpenDesks,
 ) -> Result<OpenDesks, DeskFault>
     requires settings { is_desk_settings settings ≡ true }
-    requires on { AreOn settings progress }
-    requires rounds { progress.rounds < settings.rounds }
+    requires on { AreOn settings open_desks }
+    requires rounds { open_desks.rounds < settings.rounds }
     ensures on { IfOk result (λ r. AreOn settings r) }
-    ensures rounds { IfOk result (λ r. r.rounds ≡ progress.rounds + 1) }
+    ensures rounds { IfOk result (λ r. r.rounds ≡ open_desks.rounds + 1) }
     ensures refused { IfErr result (λ fault. fault ≡ DeskFault.Memory) }
 {
-    let (manager, client) = match progress.manager.renew(progress.client, settings.last) {
+    let (manager, client) = match open_desks.manager.renew(open_desks.client, settings.last) {
         Ok(renewed) => renewed,
         Err(RenewFault::Kept(_, _, fault)) => {
             prove!(fault == RegionFault::Memory);
@@ -100,11 +100,11 @@ pub(crate) fn go_on<R: Threads + Sync>(
         }
         Err(RenewFault::Closed(..)) => return Err(DeskFault::Memory),
     };
-    let round = serve_all(rt, alloc, &manager, settings, client, progress.desks)?;
+    let round = serve_all(rt, alloc, &manager, settings, client, open_desks.desks)?;
     Ok(OpenDesks {
         manager,
         client: round.client,
         desks: round.desks,
-        rounds: progress.rounds + 1,
+        rounds: open_desks.rounds + 1,
     })
 }

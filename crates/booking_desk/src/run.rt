@@ -65,17 +65,17 @@ fn open(alloc: Global, settings: DeskSettings) -> Result<OpenDesks, DeskFault>
 }
 
 /// Closes the manager, and returns what the desks leave.
-fn close(progress: OpenDesks, settings: DeskSettings) -> Result<DeskReport, DeskFault>
-    requires on { AreOn settings progress }
-    requires ended { AreEnded settings progress.desks.items progress.rounds }
+fn close(open_desks: OpenDesks, settings: DeskSettings) -> Result<DeskReport, DeskFault>
+    requires on { AreOn settings open_desks }
+    requires ended { AreEnded settings open_desks.desks.items open_desks.rounds }
     ensures ran { IfOk result (λ r. Desked settings r) }
-    ensures rounds { IfOk result (λ r. r.rounds ≡ progress.rounds) }
+    ensures rounds { IfOk result (λ r. r.rounds ≡ open_desks.rounds) }
     ensures refused { IfErr result (λ fault. fault ≡ DeskFault.Memory) }
 {
-    match progress.manager.close(progress.client) {
+    match open_desks.manager.close(open_desks.client) {
         Ok((words, _)) => Ok(DeskReport {
-            desks: progress.desks,
-            rounds: progress.rounds,
+            desks: open_desks.desks,
+            rounds: open_desks.rounds,
             report: report_of(words),
         }),
         Err((_, _, fault)) => {
@@ -95,11 +95,11 @@ fn run_rounds<R: Threads + Sync>(
     ensures ran { IfOk result (λ r. Desked settings r) }
     ensures refused { IfErr result (λ fault. fault ≡ DeskFault.Memory) }
 {
-    let mut progress = open(alloc, settings)?;
-    'rounds: while progress.rounds < settings.rounds && is_left(&progress.desks, settings) {
-        progress = go_on(rt, alloc, settings, progress)?;
+    let mut open_desks = open(alloc, settings)?;
+    'rounds: while open_desks.rounds < settings.rounds && is_left(&open_desks.desks, settings) {
+        open_desks = go_on(rt, alloc, settings, open_desks)?;
     }
-    close(progress, settings)
+    close(open_desks, settings)
 }
 
 /// Opens a manager with a stock, and has four desks book their trips in threads of their own, in

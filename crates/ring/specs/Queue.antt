@@ -1,5 +1,5 @@
--- The queue in a ring's words, and what the ring's transactions do to it. (Each law says `after`,
--- `Finds` and `code` of its own entries.)
+-- The queue in a ring's words, and what the ring's transactions do to it. Each example has its own
+-- `after`, `Finds` and `code`.
 use Rattle.std.specs.Prelude.{◌≡◌, ℕ, zero, suc, ◌+◌, ◌-◌, ◌%◌, ◌^◌, ◌<◌, ◌≤◌, true, false, cond, Option, None, Some, List, [], ◌∷◌, length, slice_index, slice_set}
 use Rattle.ring.specs.declared.entry.Entry.{Entry}
 use Rattle.ring.specs.declared.entry.Entry.TheVariants.{Push, Pop, Empty, Len}

@@ -17,7 +17,7 @@ pub enum Point {
     Answered,
 }
 
-/// What is told how far a client is: by each commit, and by callers who run many. A gate may use
+/// Is told how far a client is, by each commit and by callers who make many calls. A gate may use
 /// other clients of the region.
 pub trait Gate {
     /// Called once at each point that the commit comes to.
@@ -26,13 +26,14 @@ pub trait Gate {
     /// Decided comes after the last validation is read in the code.
     fn at(&mut self, point: Point);
 
-    /// Called right before a client's first call of many. A commit never calls it: it is for
-    /// callers.
+    /// Called right before the first of a client's calls in a row, in each round of a load anew. A
+    /// commit never calls it: it is for callers.
     ///
     /// Not said: that it is called, which is read in the code.
     fn ready(&mut self) {}
 
-    /// Called right after a client's last call of many. A commit never calls it: it is for callers.
+    /// Called right after the last of a client's calls in a row, in each round of a load anew. A
+    /// commit never calls it: it is for callers.
     ///
     /// Not said: that it is called, which is read in the code.
     fn done(&mut self) {}

@@ -80,7 +80,7 @@ impl<'a, L: Law, R: Allocator> ReadAttempt<'a, L, R> {
         *rv
     }
 
-    /// The conflict that a read of this attempt met, after which it can only be dropped.
+    /// The conflict that a read of this attempt met, after which it can only be aborted.
     pub fn stopped(&self) -> Option<Conflict>
         requires { runs self.now ≡ true }
         ensures value { result ≡ self.now.stopped }

@@ -178,7 +178,7 @@ module _ {E : Type 0} (fits : List ℕ → Type 0) (code : E → List ℕ) (find
   spares_from changes v w v' (Err e) start k = tt
 
   -- a call, by its last attempt
-  pub has_run : {A : Type 0} (region : RegionShown) (entry : A → E) (changes : A → Bool) (tries left left' : ℕ)
+  pub has_transacted : {A : Type 0} (region : RegionShown) (entry : A → E) (changes : A → Bool) (tries left left' : ℕ)
       (v w v' : Client) (answer result : Result A Stop) → answer ≡ result
       → Trying (λ conflict x. ConflictWasShown fits code finds after region entry changes conflict x) tries left v w
       → left ≡ left' + 1 →
@@ -189,7 +189,7 @@ module _ {E : Type 0} (fits : List ℕ → Type 0) (code : E → List ℕ) (find
       → IfErr result (λ s. IsStopOfEntry fits code finds after region entry changes 1 s w v')
       → ((conflict : Conflict) → result ≡ Err (stop.Conflict conflict) → left' ≡ 0)
       → HasTransacted fits code finds after region entry changes tries answer v v'
-  has_run region entry changes tries left left' v w v' answer result is t less grants start same next records order
+  has_transacted region entry changes tries left left' v w v' answer result is t less grants start same next records order
       spares alone stopped last = rw is (record {
         grants = same ∙ grants;
         records = records_from region entry v w v' result start records;

@@ -30,9 +30,9 @@ fn newer(rt: &impl Abort, lock: u32) -> Conflict {
 }
 
 #[test]
-fn own_writes_are_read_and_dropped(rt: HostRuntime) -> Result<(), Fail> {
+fn own_writes_are_read_and_aborted(rt: HostRuntime) -> Result<(), Fail> {
     let alloc = rt.alloc();
-    let (before, written, after, dropped, words, last) = {
+    let (before, written, after, aborted, words, last) = {
         let (region, mut client) = Region::<FreeLaw>::new(alloc, &[0; 32], 100, 32)?;
         let mut logs = Logs::new(alloc);
         let mut attempt = Attempt::begin(&region, &mut client, &mut logs);
@@ -40,14 +40,14 @@ fn own_writes_are_read_and_dropped(rt: HostRuntime) -> Result<(), Fail> {
         let written = attempt.write(Addr(9), 5);
         let after = attempt.read(Addr(9));
         attempt.abort();
-        let dropped = read_one(&region, &mut client, &mut logs, Addr(9));
+        let aborted = read_one(&region, &mut client, &mut logs, Addr(9));
         let (words, last) = close(&rt, alloc, region, client);
-        (before, written, after, dropped, words, last)
+        (before, written, after, aborted, words, last)
     };
     same(&rt, &before, &Ok(0));
     same(&rt, &written, &Ok(()));
     same(&rt, &after, &Ok(5));
-    same(&rt, &dropped, &Ok(0));
+    same(&rt, &aborted, &Ok(0));
     same(&rt, &words.as_slice(), &[0u64; 32].as_slice());
     same(&rt, &last.get(), &0);
     Ok(())

@@ -200,7 +200,7 @@ fn place_at<M: TxRead>(memory: &mut M, booking: Block) -> Result<(Kind, u32), M:
 {
     let number = load(memory, booking.word(tx_list::place::KIND))?;
     let id = load(memory, booking.word(tx_list::place::ID))?;
-    Ok((Kind::of_number(number), id as u32))
+    Ok((Kind::from_number(number), id as u32))
 }
 
 /// Takes a customer without bookings out of the table. The block becomes the first of free list

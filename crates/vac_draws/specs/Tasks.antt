@@ -4,12 +4,12 @@ use Rattle.std.specs.Prelude.{List, [], ◌∷◌, ◌++◌, Option, Some, None,
 use Rattle.std.specs.declared.alloc.AllocError.{AllocError}
 use Rattle.vac_model.specs.declared.items.Kind.{Kind}
 use Rattle.vac_model.specs.declared.items.Kind.TheVariants.{Car, Flight, Room}
-use Rattle.vac_model.specs.declared.limits.TheConstants.{KINDS}
-use Rattle.vac_model.specs.Coded.{kind_of_number}
 use Rattle.vac_model.specs.declared.commands.Command.{Command}
 use Rattle.vac_model.specs.declared.commands.Command.TheVariants as command
 use Rattle.vac_model.specs.declared.tasks.Task.{Task}
 use Rattle.vac_model.specs.declared.tasks.Task.TheVariants as task
+use Rattle.vac_model.specs.declared.limits.TheConstants.{KINDS}
+use Rattle.vac_model.specs.Coded.{kind_of_number}
 use Rattle.vac_draws.specs.declared.settings.Settings.{Settings}
 use Rattle.vac_draws.specs.declared.settings.TheConstants.{PERCENT, UNITS}
 use Rattle.vac_draws.specs.declared.settings.TheConstants.{LEVELS, PRICE_STEP, LOWEST_PRICE}

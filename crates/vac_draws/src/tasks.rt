@@ -41,7 +41,7 @@ fn draw_up_to<D: Draws>(draws: &mut D, n: u32) -> u32
 fn draw_kind<D: Draws>(draws: &mut D) -> Kind
     ensures { Drawn D.leads kind draws.old result draws.new }
 {
-    Kind::of_number(draw_below(draws, KINDS) as u64)
+    Kind::from_number(draw_below(draws, KINDS) as u64)
 }
 
 pub(crate) fn draw_price<D: Draws>(draws: &mut D) -> u32

@@ -18,7 +18,7 @@ use vac_lines::{LineFault, print_task};
 use vac_model::Task;
 use vac_streams::StreamFault;
 
-/// How far a client is.
+/// How many calls a client made, and whether one was never answered.
 #[derive(Clone, Copy, Drop)]
 pub(crate) struct CallCount {
     /// How many calls it made.
@@ -46,7 +46,7 @@ fn have_one_form(alloc: Global, wanted: &Task, given: &Task) -> Result<bool, All
     Ok(wanted_text.as_slice() == given_text.as_slice())
 }
 
-/// How far a client is after one more call.
+/// The count after one more call.
 fn count_after(so_far: CallCount, call: &CallLine<'_>) -> Result<CallCount, StreamFault>
     ensures made { IfOk result (λ next. next.made ≡ so_far.made + 1) }
     ensures stopped { IfOk result (λ next.
@@ -69,8 +69,8 @@ impl Holding {
         }
     }
 
-    /// How far a client is.
-    fn so_far(&self, client: u32) -> CallCount
+    /// The count of a client's calls.
+    fn count_of(&self, client: u32) -> CallCount
         ensures { (calls : List Call) → Counts self.now calls → IsCallCount result client calls }
     {
         match self.clients.get(client) {
@@ -105,7 +105,7 @@ impl Holding {
             Counts self.old calls → Counts self.new (shown_call call.now ∷ calls)) }
         ensures fault { IfErr result (λ fault. fault ≢ StreamFault.Write) }
     {
-        let so_far = self.so_far(call.client);
+        let so_far = self.count_of(call.client);
         let Some(wanted) = work.get(call.client, so_far.made) else {
             return Ok(false);
         };
@@ -164,7 +164,7 @@ pub(crate) fn first_missing(
         let client = *client;
         let before = seen.get(client).copied().unwrap_or(0);
         let number = before.checked_add(1).ok_or(StreamFault::Bound)?;
-        let so_far = held.so_far(client);
+        let so_far = held.count_of(client);
         if so_far.made <= before && !so_far.stopped {
             return Ok(Some((client, number as u64)));
         }

@@ -1,6 +1,7 @@
 //! What can be booked.
 
-ghost use Rattle.std.specs.Prelude.{◌≡◌};
+ghost use Rattle.std.specs.Prelude.{◌≡◌, ◌<◌};
+ghost use Rattle.vac_model.specs.declared.limits.TheConstants.{KINDS};
 ghost use Rattle.vac_model.specs.State.{kind_number};
 ghost use Rattle.vac_model.specs.Coded.{kind_of_number};
 
@@ -17,7 +18,8 @@ impl Kind {
     /// The number of the kind: 0 for cars, 1 for flights, 2 for rooms.
     #[inline]
     pub fn number(self) -> u64
-        ensures { result ≡ kind_number self }
+        ensures number { result ≡ kind_number self }
+        ensures below { result < KINDS }
     {
         match self {
             Kind::Car => 0,
@@ -26,10 +28,11 @@ impl Kind {
         }
     }
 
-    /// The kind of a number. All from 2 on are rooms'.
+    /// The kind of a number. Each number from 2 on stands for rooms.
     #[inline]
-    pub fn of_number(number: u64) -> Kind
-        ensures { result ≡ kind_of_number number }
+    pub fn from_number(number: u64) -> Kind
+        ensures kind { result ≡ kind_of_number number }
+        ensures back { number < KINDS → kind_number result ≡ number }
     {
         match number {
             0 => Kind::Car,

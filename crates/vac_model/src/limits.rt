@@ -1,5 +1,5 @@
 //! The limits of the reservation system. Each number is here alone, but `MOST_BLOCKS`, which
-//! `tx_alloc` has too, and `KINDS`, which `tx_list` has; code, contracts and definitions cite it by
+//! `tx_alloc` has too, and `KINDS`, which `tx_list` has. Code, contracts and definitions cite each by
 //! its name.
 
 /// How many kinds of items there are.

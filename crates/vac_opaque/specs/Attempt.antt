@@ -16,8 +16,7 @@ use Rattle.vac_opaque.specs.declared.attempt.Access.TheVariants.{Read, Write}
 use Rattle.vac_opaque.specs.declared.attempt.TheConstants.{ATTEMPT_BYTES}
 
 -- an attempt of a client at a transaction: who made it and when, whether it committed, and what it
--- read and wrote, in this order (as a text tells it: of the running one of stm_core a judge of any
--- memory knows nothing)
+-- read and wrote, in this order. It is an attempt as a text tells it, not one of stm_core
 pub record Attempt : Type 0 where
   pub span : Span
   pub commits : Bool

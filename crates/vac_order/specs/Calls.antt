@@ -3,8 +3,8 @@ use Rattle.std.specs.Prelude.{◌≡◌, ◌<◌, ◌+◌, ◌-◌, ◌^◌, ◌
 use Rattle.std.specs.List.{list_any}
 use Rattle.vac_model.specs.declared.tasks.Task.TheVariants as task
 use Rattle.vac_lines.specs.Text.{given_text}
-use Rattle.vac_quick.specs.declared.line.Line.{Line}
 use Rattle.vac_judge.specs.Call.{Call}
+use Rattle.vac_quick.specs.declared.line.Line.{Line}
 
 -- the call that a line is
 abbrev pub call_of : Line → Call

@@ -23,7 +23,7 @@ pub struct Line {
     pub task: Task,
     /// The text of the answer, where there was one.
     pub reply: Option<Vec<u8>>,
-    /// For searches: a reading before which no line from this one on is said to begin.
+    /// No line from this one on is said to begin before this reading of the clock. For searches.
     pub soonest: u64,
     ghost asked: { is_task task ≡ true },
     ghost ended: { nat_lt end NEVER ≡ is_some reply },

@@ -3,6 +3,7 @@
 use rand_core::Rng;
 use rand_pcg::Pcg32;
 use std::alloc::{AllocError, Global};
+use vac_model::limits::KINDS;
 use vac_model::{Command, Kind, Task};
 
 /// How many tasks each test runs.
@@ -17,7 +18,7 @@ fn draw_id(draws: &mut Pcg32) -> u32 {
 }
 
 fn draw_kind(draws: &mut Pcg32) -> Kind {
-    Kind::of_number((draws.next_u32() % 3) as u64)
+    Kind::from_number((draws.next_u32() % KINDS) as u64)
 }
 
 /// Up to three units, or none, with a price or without.

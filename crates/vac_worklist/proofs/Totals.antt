@@ -4,11 +4,11 @@ use Rattle.std.proofs.Common.{[], ◌∷◌, ◌++◌, Some}
 use Rattle.rand_pcg.specs.Lcg.{Lcg}
 use Rattle.rand_pcg.specs.Pcg.{pcg32}
 use Rattle.vac_model.specs.declared.items.Kind.{Kind}
-use Rattle.vac_model.specs.declared.limits.TheConstants.{KINDS}
-use Rattle.vac_model.specs.Coded.{kind_of_number}
 use Rattle.vac_model.specs.declared.items.Kind.TheVariants.{Car, Flight, Room}
 use Rattle.vac_model.specs.declared.commands.Command.TheVariants as command
 use Rattle.vac_model.specs.declared.tasks.Task.TheVariants as task
+use Rattle.vac_model.specs.declared.limits.TheConstants.{KINDS}
+use Rattle.vac_model.specs.Coded.{kind_of_number}
 use Rattle.vac_draws.specs.declared.settings.Settings.{Settings}
 use Rattle.vac_draws.specs.declared.settings.TheConstants.{PERCENT, LEVELS, UNITS, PRICE_STEP, LOWEST_PRICE}
 use Rattle.vac_draws.specs.Draws.{Reader, always, below, followed_by, joined, one, for_each, times_over, Drawn}

@@ -10,8 +10,8 @@ pub close-requires-clause-ended : goal.close-requires-clause-ended
 close-requires-clause-ended g c = elim c.rounds-test.branch [
   | then-rounds-test+else-is_left w ↦
       let none : w.is_left.result ≡ false = search rules in
-      let same : w.deref.result.now ≡ c.rounds.progress.desks.items = search rules in
-      inl (all_ended c.args.settings c.rounds.progress.desks.items c.rounds.invariant.within
+      let same : w.deref.result.now ≡ c.rounds.open_desks.desks.items = search rules in
+      inl (all_ended c.args.settings c.rounds.open_desks.desks.items c.rounds.invariant.within
       (subst (λ (l : List Desk). list_any (λ d. nat_lt (asked d) c.args.settings.trips) l ≡ false) same
       (sym w.is_left.ensures ∙ none)))
   | else-rounds-test w ↦ inr (let most = c.rounds.invariant.most in search (rules, arith))

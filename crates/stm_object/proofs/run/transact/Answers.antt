@@ -1,6 +1,6 @@
 use Rattle.std.proofs.Common.{rules, Err, ap, ◌-◌, ◌∙◌, arith}
 use Rattle.stm_object.specs.History.{ConflictWasShown}
-use Rattle.stm_object.proofs.Stopping.{missed, trying_next, has_run, conflict_shown}
+use Rattle.stm_object.proofs.Stopping.{missed, trying_next, has_transacted, conflict_shown}
 use Rattle.stm_object.proofs.run.transact.Goals as goal
 
 pub tries-preserved : goal.tries-preserved
@@ -27,7 +27,7 @@ pub returns-in_default-2 : goal.returns-in_default-2
 returns-in_default-2 g c = record {
   own = search rules;
   free_handed = search rules;
-  call = has_run g.S.Object.fits g.S.Entry.Tag.numbers g.S.Object.finds g.S.Object.after c.args.region.now
+  call = has_transacted g.S.Object.fits g.S.Entry.Tag.numbers g.S.Object.finds g.S.Object.after c.args.region.now
       (λ a. g.B.Body.entry_of c.args.body.now a) (λ a. g.B.Body.changes c.args.body.now a) c.args.tries c.tries.left
       (c.tries.left - 1) c.args.client.now.value
       c.tries.client.value c.attempt_once.new.client.value (Err _) c.attempt_once.result (search rules)
@@ -40,7 +40,7 @@ returns-in_default-2 g c = record {
 }
 
 pub returns-in_default-clause-call : goal.returns-in_default-clause-call
-returns-in_default-clause-call g c = has_run g.S.Object.fits g.S.Entry.Tag.numbers g.S.Object.finds g.S.Object.after
+returns-in_default-clause-call g c = has_transacted g.S.Object.fits g.S.Entry.Tag.numbers g.S.Object.finds g.S.Object.after
     c.args.region.now (λ a. g.B.Body.entry_of c.args.body.now a)
     (λ a. g.B.Body.changes c.args.body.now a) c.args.tries c.tries.left (c.tries.left - 1)
     c.args.client.now.value c.tries.client.value c.attempt_once.new.client.value _ c.attempt_once.result
@@ -52,7 +52,7 @@ returns-in_default-clause-call g c = has_run g.S.Object.fits g.S.Entry.Tag.numbe
     c.attempt_once.ensures.stopped (λ conflict is. search rules)
 
 pub returns-in_default-3-clause-call : goal.returns-in_default-3-clause-call
-returns-in_default-3-clause-call g c = has_run g.S.Object.fits g.S.Entry.Tag.numbers g.S.Object.finds
+returns-in_default-3-clause-call g c = has_transacted g.S.Object.fits g.S.Entry.Tag.numbers g.S.Object.finds
     g.S.Object.after c.args.region.now (λ a. g.B.Body.entry_of c.args.body.now a)
     (λ a. g.B.Body.changes c.args.body.now a) c.args.tries c.tries.left
     (c.tries.left - 1) c.args.client.now.value c.tries.client.value c.attempt_once.new.client.value _

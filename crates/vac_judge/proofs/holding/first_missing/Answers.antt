@@ -13,7 +13,7 @@ loop-client-init c = seen_first c.args.work.now c.args.held.now c.new-seen.resul
 pub returns-then-not-so_far-clause-missing : goal.returns-then-not-so_far-clause-missing
 returns-then-not-so_far-clause-missing c =
     let at = c.loop-client in
-    let p = c.so_far-so_far.result in
+    let p = c.count_of-so_far.result in
     let before = c.unwrap_or-before.result in
     let cut : at.rest.now ≡ c.in-Some.client.now ∷ c.in-Some.behind.now = search rules in
     let seen : before ≡ unwrap_or (get at.seen c.in-Some.client.now) 0 = search rules in
@@ -22,12 +22,12 @@ returns-then-not-so_far-clause-missing c =
     let goes : p.stopped ≡ false = search rules in
     seen_missing c.args.work.now c.args.held.now at.seen c.in-Some.client.now before c.in_ok-number.number at.rest.now
     c.in-Some.behind.now p at.invariant cut seen more
-    c.so_far-so_far.ensures (found_open p.made before p.stopped few goes)
+    c.count_of-so_far.ensures (found_open p.made before p.stopped few goes)
 
 pub loop-client-preserved : goal.loop-client-preserved
 loop-client-preserved c =
     let at = c.loop-client in
-    let p = c.so_far-so_far.result in
+    let p = c.count_of-so_far.result in
     let before = c.unwrap_or-before.result in
     let cut : at.rest.now ≡ c.in-Some.client.now ∷ c.in-Some.behind.now = search rules in
     let seen : before ≡ unwrap_or (get at.seen c.in-Some.client.now) 0 = search rules in
@@ -41,7 +41,7 @@ loop-client-preserved c =
     ] in
     seen_more c.args.work.now c.args.held.now at.seen c.insert.new.self c.in-Some.client.now before
     c.in_ok-number.number at.rest.now c.in-Some.behind.now p at.invariant
-    cut seen more c.in_ok-insert.ensures c.so_far-so_far.ensures closed
+    cut seen more c.in_ok-insert.ensures c.count_of-so_far.ensures closed
 
 pub returns-clause-missing : goal.returns-clause-missing
 returns-clause-missing c =

@@ -4,7 +4,7 @@ use Rattle.stm_core.specs.Guards.{stripe_of}
 use Rattle.stm_attempt.specs.Conflicts.{IsReadConflict}
 use Rattle.stm_attempt.proofs.attempt.Attempt.commit.Goals as goal
 
-pub commit_or_stop-requires-clause-ready : goal.end-requires-clause-ready
+pub commit_or_stop-requires-clause-ready : goal.commit_or_stop-requires-clause-ready
 commit_or_stop-requires-clause-ready g c = record {
   running = c.args.self.running c.requires.running;
   known = c.args.self.known;
