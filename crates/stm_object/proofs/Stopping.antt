@@ -189,7 +189,8 @@ module _ {E : Type 0} (fits : List ℕ → Type 0) (code : E → List ℕ) (find
       → IfErr result (λ s. IsStopOfEntry fits code finds after region entry changes 1 s w v')
       → ((conflict : Conflict) → result ≡ Err (stop.Conflict conflict) → left' ≡ 0)
       → HasTransacted fits code finds after region entry changes tries answer v v'
-  has_transacted region entry changes tries left left' v w v' answer result is t less grants start same next records order
+  has_transacted region entry changes tries left left' v w v' answer result is t less grants start same next records
+      order
       spares alone stopped last = rw is (record {
         grants = same ∙ grants;
         records = records_from region entry v w v' result start records;

@@ -40,7 +40,8 @@ returns-in_default-2 g c = record {
 }
 
 pub returns-in_default-clause-call : goal.returns-in_default-clause-call
-returns-in_default-clause-call g c = has_transacted g.S.Object.fits g.S.Entry.Tag.numbers g.S.Object.finds g.S.Object.after
+returns-in_default-clause-call g c = has_transacted g.S.Object.fits g.S.Entry.Tag.numbers g.S.Object.finds
+    g.S.Object.after
     c.args.region.now (λ a. g.B.Body.entry_of c.args.body.now a)
     (λ a. g.B.Body.changes c.args.body.now a) c.args.tries c.tries.left (c.tries.left - 1)
     c.args.client.now.value c.tries.client.value c.attempt_once.new.client.value _ c.attempt_once.result
