@@ -1,5 +1,5 @@
 -- Structures over images that have the words that lead to them at 0, asked for at one length alone.
-use Rattle.std.proofs.Common.{◌≡◌, ◌≢◌, inl, inr, ℕ, ◌+◌, ◌*◌, ◌<◌, ◌≤◌, ◌^◌, List, [], ◌∷◌, Option, Some, None}
+use Rattle.std.proofs.Common.{◌≡◌, inl, inr, ℕ, ◌+◌, ◌<◌, List, [], ◌∷◌, Option, Some, None}
 use Rattle.std.proofs.Common.{MatchOption, length, replicate, slice_index, nat_eq, false, refl, sym, ap, ◌∙◌, subst}
 use Rattle.std.proofs.Common.{arith}
 use Rattle.std.proofs.lemmas.Bool.Decides.{nat_tests}
@@ -8,8 +8,7 @@ use Rattle.tx_memory.specs.Seen.{same_or}
 use Rattle.tx_memory.specs.View.{View, RestsOn, Kept, Loaded}
 use Rattle.tx_alloc.specs.Steps.{mem, stood}
 use Rattle.tx_alloc.specs.Pool.{IsPool, HasPool, NoneFree, Taken}
-use Rattle.tx_alloc.specs.Rows.{Rows, times, put_row}
-use Rattle.tx_list.specs.declared.key.Key.{Key}
+use Rattle.tx_alloc.specs.Rows.{Rows, times}
 use Rattle.tx_list.specs.Lists.{IsListAt, HasList}
 use Rattle.tx_list.specs.Lists as list
 use Rattle.tx_tree.specs.Table.{IsTable, Table, HasTable, IsFresh, Inserted}

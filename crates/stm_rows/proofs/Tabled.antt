@@ -3,8 +3,8 @@ use Rattle.std.proofs.Common.{◌≡◌, ℕ, ◌+◌, ◌-◌, ◌*◌, ◌<◌
 use Rattle.std.proofs.Common.{slice_index, refl, sym, subst, ◌∙◌, arith}
 use Rattle.tx_memory.specs.View.{View, Loaded}
 use Rattle.tx_memory.specs.Plain.{flat_view}
-use Rattle.tx_tree.specs.Table.{IsTable, HasTable, FoundRow, FoundAt, NextFound, IsFresh, Inserted, Removed}
-use Rattle.tx_tree.proofs.Counting.{has_table, after_reads, after_put, after_cut, fresh_read, none_yet}
+use Rattle.tx_tree.specs.Table.{IsTable, FoundRow, FoundAt, IsFresh, Inserted, Removed}
+use Rattle.tx_tree.proofs.Counting.{after_reads, after_put, after_cut, fresh_read, none_yet}
 use Rattle.tx_tree.proofs.TableFrame.{table_empty}
 use Rattle.stm_rows.specs.Laws.{Fits, HoldsUnder, IsTableOfTen, HoldsTable, IsTableless}
 

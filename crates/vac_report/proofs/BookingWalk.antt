@@ -1,20 +1,20 @@
 -- A walk over a customer's bookings adds up their units and their sums.
-use Rattle.std.proofs.Common.{◌≡◌, ◌≢◌, ℕ, ◌+◌, ◌<◌, ◌≤◌, ◌^◌, List, [], ◌∷◌, length, Option, Some, None, nat_eq, true}
+use Rattle.std.proofs.Common.{◌≡◌, ◌≢◌, ℕ, ◌+◌, ◌<◌, ◌^◌, List, [], ◌∷◌, length, Option, Some, nat_eq, true}
 use Rattle.std.proofs.Common.{refl, sym, ap, ◌∙◌, subst, arith}
 use Rattle.std.proofs.lemmas.Bool.Decides.{nat_tests}
 use Rattle.tx_memory.specs.View.{View, Sees, RestsOn, Loaded}
 use Rattle.tx_alloc.specs.Pointer.{pointer, IsWithin}
 use Rattle.tx_alloc.specs.Rows.{Rows, times}
 use Rattle.tx_list.specs.Bookings.{IsList, first_block, block_behind}
-use Rattle.tx_list.specs.Lists.{HasList, First, Next, HasBooking}
+use Rattle.tx_list.specs.Lists.{HasList, Next, HasBooking}
 use Rattle.tx_list.proofs.Frame.{list_rest}
 use Rattle.vac_records.specs.Items.{mem, IsNode}
 use Rattle.vac_records.specs.Customers.{head_of}
 use Rattle.vac_records.specs.InMemory.{OnlyRead}
 use Rattle.vac_records.specs.Steps.{stood}
 use Rattle.vac_records.proofs.Counting.{some_lt}
-use Rattle.vac_report.specs.Sums.{words_at, HasSums, CanCount, customer_alone, CustomerCounted}
-use Rattle.vac_report.proofs.Held.{read_both, no_rows}
+use Rattle.vac_report.specs.Sums.{words_at, HasSums, CanCount}
+use Rattle.vac_report.proofs.Held.{read_both}
 
 -- the rest of the rows, from the block at p on: i rows, so many units and so much of the sums are
 -- behind

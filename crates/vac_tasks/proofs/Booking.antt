@@ -1,7 +1,7 @@
 -- The customer of a trip, and the bookings.
 use Rattle.std.proofs.Common.{◌≡◌, ◌≢◌, ℕ, ◌<◌, ◌^◌, List, [], ◌∷◌, length, Option, Some, None, Bool, true, false, refl}
 use Rattle.std.proofs.Common.{sym, ap, ◌∙◌, subst, inl, inr, arith}
-use Rattle.std.specs.Prelude.{◌≡◌, IfSome, MatchOption, is_some, ◌||◌, if◌then◌else◌, true}
+use Rattle.std.specs.Prelude.{◌≡◌, IfSome, is_some, ◌||◌, if◌then◌else◌, true}
 use Rattle.std.proofs.lemmas.Bool.{cases_lt}
 use Rattle.std.specs.FinMap.{empty}
 use Rattle.tx_memory.specs.View.{View, Sees, RestsOn, Kept}

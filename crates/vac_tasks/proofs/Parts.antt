@@ -21,7 +21,7 @@ use Rattle.vac_model.proofs.Ids.{both_true}
 use Rattle.vac_model.proofs.Kept.{le_true}
 use Rattle.vac_model.proofs.Noted.{noted, steps_more, length-steps}
 use Rattle.vac_records.specs.Items.{mem}
-use Rattle.vac_records.specs.Steps.{kept_none, kept_both, stood}
+use Rattle.vac_records.specs.Steps.{kept_both, stood}
 use Rattle.vac_records.specs.Represents.{IsState}
 use Rattle.vac_records.specs.InMemory.{HoldsState, OnlyRead}
 use Rattle.vac_commands.specs.Entries.{LacksCustomer}

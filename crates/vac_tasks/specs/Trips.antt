@@ -1,5 +1,5 @@
 -- What the parts of a trip do to a memory that holds a state, under every image.
-use Rattle.std.specs.Prelude.{◌≡◌, ◌≢◌, ℕ, List, Option, Some, None, IfSome, MatchOption, length, nat_lt, ◌||◌, Bool, is_some, if◌then◌else◌, true}
+use Rattle.std.specs.Prelude.{◌≡◌, ℕ, List, Option, Some, None, IfSome, MatchOption, length, nat_lt, ◌||◌, Bool, is_some, if◌then◌else◌, true}
 use Rattle.std.specs.Option.{option_map}
 use Rattle.tx_memory.specs.View.{View, Sees}
 use Rattle.vac_model.specs.declared.items.Kind.{Kind}

@@ -1,4 +1,3 @@
-use Rattle.std.proofs.Common.{arith}
 use Rattle.stm_rows.proofs.Nulled.{nulls_held, nulls_pool, nulls_took, nulls_loaded, nulls_table, nulls_fresh}
 use Rattle.stm_rows.proofs.Nulled.{head_inserted, head_loaded, head_list, head_fresh}
 use Rattle.stm_rows.proofs.lengths.take_and_hang.Goals as goal

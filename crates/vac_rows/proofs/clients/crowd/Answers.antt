@@ -1,4 +1,4 @@
-use Rattle.std.proofs.Common.{rules, ◌≡◌, All}
+use Rattle.std.proofs.Common.{rules, ◌≡◌}
 use Rattle.vac_manager.specs.declared.client.Client.{Client}
 use Rattle.vac_rows.proofs.Behind.{all_more}
 use Rattle.vac_rows.proofs.clients.crowd.Goals as goal
