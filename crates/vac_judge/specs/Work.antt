@@ -14,7 +14,7 @@ use Rattle.vac_judge.specs.declared.verdict.Verdict.{Verdict}
 use Rattle.vac_judge.specs.declared.verdict.Verdict.TheVariants.{Legal, Fault, Illegal}
 use Rattle.vac_judge.specs.declared.held.HeldVerdict.{HeldVerdict}
 use Rattle.vac_judge.specs.declared.held.HeldVerdict.TheVariants.{BadTasks, Judged, Foreign, Missing}
-use Rattle.vac_judge.specs.Call.{Call, at_client, as_call_fault, joined_words, line_call}
+use Rattle.vac_judge.specs.Call.{Call, ◌>>=◌, at_client, as_call_fault, joined_words, line_call}
 use Rattle.vac_judge.specs.Verdict.{verdict_on, verdict_text, is_legal}
 
 -- a task that was handed out to a client

@@ -3,6 +3,7 @@ use Rattle.std.specs.Prelude.{⊤, ℕ, ◌<◌, Option, Some, None, Result, Ok,
 use Rattle.std.specs.Borrow.{Bor}
 use Rattle.vac_lines.specs.declared.fault.LineFault.{LineFault}
 use Rattle.vac_lines.specs.Lines.{words_of}
+use Rattle.vac_lines.specs.LineTable.{◌>>=◌}
 use Rattle.vac_spans.specs.declared.span.Span.{Span}
 use Rattle.vac_opaque.specs.declared.attempt.Access.{Access}
 use Rattle.vac_opaque.specs.declared.attempt.Access.TheVariants.{Read, Write}
