@@ -12,7 +12,6 @@ mod gathering;
 mod load;
 mod looping;
 mod opening;
-mod phases;
 mod plan;
 mod rounds;
 mod seats;
@@ -24,7 +23,6 @@ pub use efforts::Efforts;
 pub use load::{LoadFault, LoadReport, run_load, run_load_kept, run_load_with};
 pub use looping::client_loop;
 pub use opening::open;
-pub use phases::Phases;
 pub use seats::{Keepers, no_keepers};
 pub use tally::Tally;
 pub use vac_draws::{

@@ -11,7 +11,6 @@ ghost use Rattle.vac_load.specs.Attempted.{IsEffort};
 use crate::alone::Alone;
 use crate::efforts::Efforts;
 use crate::opening::open_kept;
-use crate::phases::{NoPhases, Phases, Stages};
 use crate::plan::Plan;
 use crate::rounds::Round;
 use crate::seats::{Keepers, Seat, Sent, keepers_of, no_keepers, seats_by_seed, seats_unkept};
@@ -77,14 +76,13 @@ fn open_load<D: Draws, K: Keep>(
 
 /// Runs a load whose arguments are in their ranges, with this keeper of the opening, and hands the
 /// seats back.
-fn run_in_range<R: Threads + Wait, D: Draws + Sent, G: Gate + Sent, K: Keep + Sent, S: Stages>(
+fn run_in_range<R: Threads + Wait, D: Draws + Sent, G: Gate + Sent, K: Keep + Sent>(
     rt: &R,
     alloc: Global,
     settings: &Settings,
     opening: &mut D,
     keep: &mut K,
     seats: Vec<Seat<D, G, K>>,
-    phases: S,
 ) -> Result<(LoadReport, Efforts, Vec<Seat<D, G, K>>), LoadFault>
     requires settings { is_settings settings.now ≡ true }
     requires number { vec_len seats ≡ settings.now.clients }
@@ -100,7 +98,6 @@ fn run_in_range<R: Threads + Wait, D: Draws + Sent, G: Gate + Sent, K: Keep + Se
     let plan = Plan {
         alloc,
         settings: *settings,
-        phases,
     };
     let round = plan.run_rounds(rt, alone, seats)?;
     let Round {
@@ -147,15 +144,7 @@ pub fn run_load_with<
     let Ok(seats) = seats_unkept(rt.alloc(), clients) else {
         return Err(LoadFault::Memory);
     };
-    match run_in_range(
-        rt,
-        rt.alloc(),
-        settings,
-        &mut opening,
-        &mut Unkept,
-        seats,
-        NoPhases,
-    ) {
+    match run_in_range(rt, rt.alloc(), settings, &mut opening, &mut Unkept, seats) {
         Ok((report, _efforts, _seats)) => Ok(report),
         Err(fault) => Err(fault),
     }
@@ -179,7 +168,7 @@ pub fn run_load<R: Threads + Wait + AllocGlobal>(
     let Ok(keepers) = no_keepers(rt.alloc(), settings.clients) else {
         return Err(LoadFault::Memory);
     };
-    match run_load_kept(rt, settings, NoGate, NoPhases, keepers) {
+    match run_load_kept(rt, settings, NoGate, keepers) {
         Ok((report, _efforts, _kept)) => Ok(report),
         Err(fault) => Err(fault),
     }
@@ -188,20 +177,18 @@ pub fn run_load<R: Threads + Wait + AllocGlobal>(
 /// Runs a load as `run_load` does, each client with a copy of the gate, and with keepers of the
 /// answered calls: one of the opening's, and one of each client's, which goes on from round to
 /// round. Besides the report, returns what the calls of all clients in all rounds took. Each client
-/// tells the phases when it is ready and when it is done, in each round. Each keeper is asked for
+/// tells its gate when it is ready and when it is done, in each round. Each keeper is asked for
 /// room before a call and is handed the call once it is answered; where it has no room the call is
 /// not made, and the task counts under memory, or the opening stops with the fault of refused
 /// memory. The keepers are handed back in their order.
 pub fn run_load_kept<
     R: Threads + Wait + AllocGlobal,
     G: Gate + Copy + Send + Drop,
-    S: Phases + Copy + Send + Drop,
     K: Keep + Send + Drop,
 >(
     rt: &R,
     settings: &Settings,
     gate: G,
-    phases: S,
     keepers: Keepers<K>,
 ) -> Result<(LoadReport, Efforts, Keepers<K>), LoadFault>
     ensures arguments { IsErrOf result LoadFault.Arguments
@@ -228,7 +215,7 @@ pub fn run_load_kept<
         return Err(LoadFault::Memory);
     };
     let mut opening = PcgDraws::new(settings.seed, 0);
-    match run_in_range(rt, alloc, settings, &mut opening, &mut keep, seats, phases) {
+    match run_in_range(rt, alloc, settings, &mut opening, &mut keep, seats) {
         Ok((report, efforts, seats)) => {
             let clients = keepers_of(seats, left);
             let opening = keep;

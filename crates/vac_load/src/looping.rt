@@ -20,7 +20,7 @@ use vac_model::Task;
 
 /// Asks for a task that was drawn, as `ask_kept` does. One that was not built ends for refused
 /// memory, and took nothing.
-fn ask_for<G: Gate, K: Keep>(
+fn ask_drawn<G: Gate, K: Keep>(
     session: &mut Session<'_>,
     task: Result<Task, AllocError>,
     tries: u32,
@@ -70,7 +70,7 @@ pub(crate) fn count_loop<D: Draws, G: Gate, K: Keep>(
     let mut tally = Counts::new(settings.tries);
     'tasks: for _ in 0..settings.tasks {
         let task = draw_task(alloc, draws, settings);
-        let (end, effort) = ask_for(session, task, settings.tries, gate, keep);
+        let (end, effort) = ask_drawn(session, task, settings.tries, gate, keep);
         tally.count(&end, effort);
     }
     tally

@@ -8,7 +8,6 @@ use crate::alone::Alone;
 use crate::counts::Counts;
 use crate::gathering::{gather_all, split_crew};
 use crate::load::LoadFault;
-use crate::phases::Stages;
 use crate::plan::Plan;
 use crate::seats::{Seat, Sent};
 use std::sync::Wait;
@@ -26,7 +25,7 @@ pub(crate) struct Round<D, G, K> {
     pub(crate) tally: Counts,
 }
 
-impl<S: Stages> Plan<S> {
+impl Plan {
     /// One round: splits off a session for each seat, has them all run their tasks in threads of
     /// their own, and gathers their clients into the first.
     fn run_round<R: Threads + Wait, D: Draws + Sent, G: Gate + Sent, K: Keep + Sent>(

@@ -7,7 +7,6 @@ ghost use Rattle.vac_load.specs.Load.{DidWork, DidAllWork, IsPromise, IsLoadRefu
 use crate::counts::Counts;
 use crate::load::LoadFault;
 use crate::looping::count_loop;
-use crate::phases::{Phases, Stages};
 use crate::plan::Plan;
 use crate::seats::{Seat, Sent};
 use std::snapshot::Snapshot;
@@ -66,7 +65,7 @@ fn join_all<'m, R: Threads, D: Draws + Drop, G: Drop, K: Keep + Drop>(
     done
 }
 
-impl<S: Stages> Plan<S> {
+impl Plan {
     /// Has a worker run its tasks.
     fn work<'m, D: Draws, G: Gate, K: Keep>(
         self,
@@ -84,7 +83,7 @@ impl<S: Stages> Plan<S> {
             mut gate,
             mut keep,
         } = seat;
-        self.phases.ready();
+        gate.ready();
         let tally = count_loop(
             self.alloc,
             &mut session,
@@ -93,7 +92,7 @@ impl<S: Stages> Plan<S> {
             &mut gate,
             &mut keep,
         );
-        self.phases.done();
+        gate.done();
         let seat = Seat::of(draws, gate, keep);
         Worker {
             session,
@@ -108,8 +107,6 @@ impl<S: Stages> Plan<S> {
         scope: &Scope<'s, E>,
         worker: Worker<'m, D, G, K>,
     ) -> Result<Handle<'m, D, G, K>, LoadFault>
-    where
-        S: 's,
         ensures promise { IfOk result (λ handle.
             IsPromise self.settings worker.entry handle.promise) }
         ensures refused { IfErr result (λ fault. fault ≡ LoadFault.Spawn) }
@@ -134,8 +131,6 @@ impl<S: Stages> Plan<S> {
         workers: Vec<Worker<'m, D, G, K>>,
         handles: &mut Vec<Handle<'m, D, G, K>>,
     ) -> Result<(), LoadFault>
-    where
-        S: 's,
         requires room { vec_len workers ≤ vec_capacity handles.old }
         requires empty { handles.old.items ≡ [] }
         ensures promises { IfOk result (λ _.
@@ -167,8 +162,6 @@ impl<S: Stages> Plan<S> {
         rt: &R,
         crew: Crew<'m, D, G, K>,
     ) -> Result<Crew<'m, D, G, K>, LoadFault>
-    where
-        S: 's,
         ensures worked { IfOk result (λ r.
             DidAllWork D.leads K.notes self.settings crew.entry r) }
         ensures refused { IfErr result (λ fault. IsLoadRefusal fault) }

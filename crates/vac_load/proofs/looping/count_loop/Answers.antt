@@ -21,20 +21,20 @@ tasks-preserved g c = record {
   session = search rules;
   looped = rw c.count.ensures (looped_more g.D.Draws.leads c.args.settings.now c.args.session.now.manager.renewal
       c.tasks.counter c.args.session.now.client.value c.tasks.session.client.value
-      c.ask_for-end.new.session.client.value
+      c.ask_drawn-end.new.session.client.value
       c.args.draws.now c.tasks.draws c.draw_task-task.new.draws c.tasks.tally.tally c.draw_task-task.result
-      c.ask_for-end.result.0
+      c.ask_drawn-end.result.0
       c.tasks.invariant.looped c.draw_task-task.ensures.drawn
-      (of_manager (λ m. RanOne m.renewal c.draw_task-task.result c.args.settings.now.tries c.ask_for-end.result.0
-      c.tasks.session.client.value c.ask_for-end.new.session.client.value) c.args.session.now c.tasks.session
-      c.tasks.invariant.session c.ask_for-end.ensures.one));
-  clock = λ alone. rw c.count.ensures (clocked_more c.args.session.now.manager.last c.ask_for-end.result.0
-      c.args.session.now.client.value c.tasks.session.client.value c.ask_for-end.new.session.client.value
+      (of_manager (λ m. RanOne m.renewal c.draw_task-task.result c.args.settings.now.tries c.ask_drawn-end.result.0
+      c.tasks.session.client.value c.ask_drawn-end.new.session.client.value) c.args.session.now c.tasks.session
+      c.tasks.invariant.session c.ask_drawn-end.ensures.one));
+  clock = λ alone. rw c.count.ensures (clocked_more c.args.session.now.manager.last c.ask_drawn-end.result.0
+      c.args.session.now.client.value c.tasks.session.client.value c.ask_drawn-end.new.session.client.value
       c.tasks.tally.tally
       (c.tasks.invariant.clock alone)
-      (of_manager (λ m. Clocked m.last c.tasks.session.client.value c.ask_for-end.new.session.client.value
-      (counted c.ask_for-end.result.0 nothing)) c.args.session.now c.tasks.session c.tasks.invariant.session
-      (c.ask_for-end.ensures.clock (c.tasks.invariant.looped.answered.grants ∙ alone))));
+      (of_manager (λ m. Clocked m.last c.tasks.session.client.value c.ask_drawn-end.new.session.client.value
+      (counted c.ask_drawn-end.result.0 nothing)) c.args.session.now c.tasks.session c.tasks.invariant.session
+      (c.ask_drawn-end.ensures.clock (c.tasks.invariant.looped.answered.grants ∙ alone))));
   tries = search rules;
-  kept = kept_both _ _ _ _ _ _ c.tasks.invariant.kept c.ask_for-end.ensures.kept;
+  kept = kept_both _ _ _ _ _ _ c.tasks.invariant.kept c.ask_drawn-end.ensures.kept;
 }

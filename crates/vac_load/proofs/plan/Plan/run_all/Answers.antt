@@ -10,6 +10,5 @@ scoped-requires g c = record {
     search (sendable, crosses) depth 40,
     search (sendable, crosses) depth 40,
     search (sendable, crosses) depth 40,
-    search (sendable, crosses) depth 40,
   );
 }

@@ -2,7 +2,7 @@ use Rattle.std.proofs.Common.{refl}
 use Rattle.vac_load.proofs.Asked.{not_built, ran_built, ran_unbuilt}
 use Rattle.vac_load.proofs.Notes.{kept_none}
 use Rattle.vac_load.proofs.Clocking.{clocked_quiet}
-use Rattle.vac_load.proofs.looping.ask_for.Goals as goal
+use Rattle.vac_load.proofs.looping.ask_drawn.Goals as goal
 
 pub returns-in-Ok-clause-session : goal.returns-in-Ok-clause-session
 returns-in-Ok-clause-session g c = c.ask_kept.ensures.session
