@@ -29,15 +29,6 @@ pub(crate) struct Seat<D, G, K> {
     pub(crate) keep: K,
 }
 
-impl<D, G, K> Seat<D, G, K> {
-    /// The seat that holds these.
-    pub(crate) fn of(draws: D, gate: G, keep: K) -> Seat<D, G, K>
-        ensures { result ≡ record { draws = draws; gate = gate; keep = keep } }
-    {
-        Seat { draws, gate, keep }
-    }
-}
-
 /// The keepers of a load of `count` clients whose calls nobody wants: each keeps nothing.
 pub fn no_keepers(alloc: Global, count: u32) -> Result<Keepers<Unkept>, AllocError>
     ensures { IfOk result (λ keepers. vec_len keepers.clients ≡ count) }

@@ -75,25 +75,19 @@ impl Plan {
     {
         let Worker {
             mut session,
-            seat,
+            mut seat,
             ..
         } = worker;
-        let Seat {
-            mut draws,
-            mut gate,
-            mut keep,
-        } = seat;
-        gate.ready();
+        seat.gate.ready();
         let tally = count_loop(
             self.alloc,
             &mut session,
-            &mut draws,
+            &mut seat.draws,
             &self.settings,
-            &mut gate,
-            &mut keep,
+            &mut seat.gate,
+            &mut seat.keep,
         );
-        gate.done();
-        let seat = Seat::of(draws, gate, keep);
+        seat.gate.done();
         Worker {
             session,
             seat,
