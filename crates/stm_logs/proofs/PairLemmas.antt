@@ -1,10 +1,10 @@
 -- The words of a chain one after the other are those of its locks.
-use Rattle.std.proofs.Common.{◌≡◌, ◌⊎◌, inl, inr, ℕ, zero, suc, ◌+◌, ◌<◌, Bool, true, false, cond, nat_eq, length, List}
-use Rattle.std.proofs.Common.{[]}
-use Rattle.std.proofs.Common.{◌∷◌, ◌++◌, append_assoc, refl, sym, ap, ◌∙◌, arith, subst}
+use Rattle.std.proofs.Common.{◌≡◌, inl, inr, ℕ, zero, suc, ◌+◌, ◌<◌, Bool, false, cond, length, List, [], ◌∷◌, ◌++◌}
+use Rattle.std.proofs.Common.{append_assoc, refl}
+use Rattle.std.proofs.Common.{sym, ap, ◌∙◌, arith, subst}
 use Rattle.std.specs.List.{flat_map}
 use Rattle.stm_logs.specs.Nodes.{Node, at}
-use Rattle.stm_logs.specs.Log.{LogValue, empty_log, log_locks, pairs_of, pairs_by_lock}
+use Rattle.stm_logs.specs.Log.{empty_log, pairs_of, pairs_by_lock}
 use Rattle.stm_logs.specs.Order.{rank_in, Least, IsChained, log_value}
 use Rattle.stm_logs.specs.Chain.{EndsWithin, pair_of, goes_on, words_from, locks_from, pairs_from}
 use Rattle.stm_logs.proofs.NodeLemmas.{same_or}

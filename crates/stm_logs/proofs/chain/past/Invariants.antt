@@ -1,4 +1,4 @@
-use Rattle.std.proofs.Common.{◌≡◌, ◌<◌, ℕ}
+use Rattle.std.proofs.Common.{◌≡◌, ◌<◌}
 use Rattle.stm_logs.specs.Nodes.{at}
 use Rattle.stm_logs.specs.Chain.{EndsWithin, locks_from}
 use Rattle.stm_logs.proofs.chain.past.Given as goal
