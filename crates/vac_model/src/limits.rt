@@ -1,6 +1,6 @@
 //! The limits of the reservation system. Each number is here alone, but `MOST_BLOCKS`, which
-//! `tx_alloc` has too, and `KINDS`, which `tx_list` has. Code, contracts and definitions cite each by
-//! its name.
+//! `tx_alloc` has too, and `KINDS`, which `tx_list` has. Code, contracts and definitions cite each
+//! by its name.
 
 /// How many kinds of items there are.
 pub const KINDS: u32 = 3;

@@ -31,8 +31,8 @@ impl<M: Machine + Drop> QuickSearch<M> {
     }
 }
 
-/// Looks, in at most `steps` steps, for an order of calls, which are given in the order in which they
-/// ended, and returns their places in it. Where none was answered, it looks for none.
+/// Looks, in at most `steps` steps, for an order of calls, which are given in the order in which
+/// they ended, and returns their places in it. Where none was answered, it looks for none.
 ///
 /// Not said: anything of what it finds, and that it finds anything.
 pub fn find_quickly<M: Machine + Drop, P: Watcher>(
