@@ -135,6 +135,10 @@ room_left n k l l' room room' e f same empty less = omega arith
 pub room_taken : (l l' k k' room room' : ℕ) → k' + 1 ≡ k → l' ≡ l + 1 → room' ≡ room → l + k ≤ room → l' + k' ≤ room'
 room_taken l l' k k' room room' less e same has = omega arith
 
+-- there is a place for the one that is taken
+pub room_here : (l k k' room : ℕ) → k' + 1 ≡ k → l + k ≤ room → l < room
+room_here l k k' room less has = omega arith
+
 -- at the beginning all is left
 pub room_first : (l k n room : ℕ) → l ≡ 0 → k ≡ n → n ≤ room → l + k ≤ room
 room_first l k n room empty all fits = omega arith

@@ -55,7 +55,7 @@ pub(crate) fn seats_unkept<D: Drop, G: Drop>(
     let mut seats = Vec::with_capacity(alloc, clients.len())?;
     for (draws, gate) in clients {
         let keep = Unkept;
-        seats.push(Seat { draws, gate, keep })?;
+        seats.push_reserved(Seat { draws, gate, keep });
     }
     Ok(seats)
 }
@@ -75,7 +75,7 @@ pub(crate) fn seats_by_seed<G: Copy + Drop, K: Drop>(
     let mut seats = Vec::with_capacity(alloc, keepers.len())?;
     for keep in keepers {
         let draws = PcgDraws::new(seed, seats.len() as u64 + 1);
-        seats.push(Seat { draws, gate, keep })?;
+        seats.push_reserved(Seat { draws, gate, keep });
     }
     Ok(seats)
 }
@@ -91,9 +91,7 @@ pub(crate) fn keepers_of<D: Drop, G: Drop, K: Drop>(
 {
     for seat in seats {
         let Seat { keep, .. } = seat;
-        let Ok(()) = keepers.push(keep) else {
-            unreachable!()
-        };
+        keepers.push_reserved(keep);
     }
     keepers
 }
