@@ -1,6 +1,6 @@
 -- What a load promises.
 use Rattle.std.specs.Prelude.{◌≡◌, ◌≤◌, ◌<◌, ◌+◌, ◌*◌, ◌⊎◌, ◌++◌, ◌&&◌, nat_eq, Bool, ℕ, List, [], ◌∷◌, length}
-use Rattle.std.specs.Prelude.{All, vec_len}
+use Rattle.std.specs.Prelude.{All, vec_len, Result, IfOk, IfErr}
 use Rattle.vac_model.specs.declared.tasks.Task.{Task}
 use Rattle.stm_core.specs.Client.{Client, Record, merged}
 use Rattle.stm_core.specs.declared.limits.TheConstants.{MOST_GRANTS}
@@ -193,6 +193,12 @@ is_load s clients = is_settings s && nat_eq clients s.clients
 -- memory was refused, or a thread was not started
 abbrev pub IsLoadRefusal : LoadFault → Type 0
 IsLoadRefusal e = (e ≡ load.Memory) ⊎ (e ≡ load.Spawn)
+
+-- each worker of a crew ran its tasks of a round, or that was refused
+abbrev pub RunsCrew : {D G K : Type 0} → (D → ℕ → D → Type 0) → (K → KeptNotes) → Settings
+    → Crew D G K → Result (Crew D G K) LoadFault → Type 0
+RunsCrew leads notes s crew result =
+    IfOk result (DidAllWork leads notes s crew) × IfErr result IsLoadRefusal
 
 -- the manager of a load was made, and the opening was answered whole: from this state of its draws
 -- on all its commands were drawn, and each of them was asked for and answered, by a clock that

@@ -2,7 +2,7 @@
 
 ghost use Rattle.std.specs.Prelude.{◌≡◌, ◌≤◌, [], IfOk, IfErr, vec_len, vec_capacity};
 ghost use Rattle.vac_load.specs.Lists.{Paired};
-ghost use Rattle.vac_load.specs.Load.{DidWork, DidAllWork, IsPromise, IsLoadRefusal};
+ghost use Rattle.vac_load.specs.Load.{DidWork, IsPromise, RunsCrew};
 
 use crate::counts::Counts;
 use crate::load::LoadFault;
@@ -156,9 +156,7 @@ impl Plan {
         rt: &R,
         crew: Crew<'m, D, G, K>,
     ) -> Result<Crew<'m, D, G, K>, LoadFault>
-        ensures worked { IfOk result (λ r.
-            DidAllWork D.leads K.notes self.settings crew.entry r) }
-        ensures refused { IfErr result (λ fault. IsLoadRefusal fault) }
+        ensures { RunsCrew D.leads K.notes self.settings crew.entry result }
     {
         let Crew { first, others } = crew;
         let Ok(mut handles) = Vec::with_capacity(self.alloc, others.len()) else {
@@ -182,17 +180,13 @@ impl Plan {
         rt: &R,
         crew: Crew<'m, D, G, K>,
     ) -> Result<Crew<'m, D, G, K>, LoadFault>
-        ensures worked { IfOk result (λ r.
-            DidAllWork D.leads K.notes self.settings crew.entry r) }
-        ensures refused { IfErr result (λ fault. IsLoadRefusal fault) }
+        ensures { RunsCrew D.leads K.notes self.settings crew.entry result }
     {
         thread::scope(
             thread::scope_env(),
             rt,
             move |scope| -> Result<Crew<'_, D, G, K>, LoadFault>
-                ensures worked { IfOk result (λ r.
-                    DidAllWork D.leads K.notes self.settings crew.entry r) }
-                ensures refused { IfErr result (λ fault. IsLoadRefusal fault) }
+                ensures { RunsCrew D.leads K.notes self.settings crew.entry result }
             { self.run_in(scope, rt, crew) },
         )
     }

@@ -15,12 +15,12 @@ split_crew-requires-clause-tries g c = few_tries c.args.self.settings c.args.sel
 pub gather_all-client-requires : goal.gather_all-client-requires
 gather_all-client-requires g c =
     let most = few c.args.self.settings c.args.self.in_range in
-    let same = paired_length _ _ _ c.in_ok-crew-2.ensures.worked.others in
+    let same = paired_length _ _ _ c.in_ok-crew-2.ensures.0.others in
     let count : length c.args.seats.items ≡ c.args.self.settings.clients =
     sym c.args.seats.ok.0 ∙ c.requires.number in
     record {
       can = can_gather g.D.Draws.leads g.K.Keep.notes c.args.self.settings c.of-session.result c.args.seats.items _ _
-          most.clients most.tasks count c.in_ok-crew.ensures.crew c.in_ok-crew-2.ensures.worked;
+          most.clients most.tasks count c.in_ok-crew.ensures.crew c.in_ok-crew-2.ensures.0;
       room = omega (arith, c.in_ok-crew.ensures.number, same, c.in-Ok.ensures.capacity, c.len.ensures);
       empty = c.in-Ok.ensures.items;
     }
@@ -30,14 +30,14 @@ of-alone-requires g c =
     let same = c.of-session.ensures in
     let ready = subst (λ (y : SessionShown). IsReadyForRound c.args.self.settings y)
     (sym (same ∙ sym c.apart-manager.ensures.same)) c.requires.ready in
-    let first = ap (λ (y : SessionShown). y.manager) c.in_ok-crew-2.ensures.worked.first.session ∙
+    let first = ap (λ (y : SessionShown). y.manager) c.in_ok-crew-2.ensures.0.first.session ∙
     (c.in_ok-crew.ensures.crew.opening.manager_is ∙ ap (λ (y : SessionShown). y.manager) same) in
     record {
       own = c.gather_all-client.ensures.own ∙ ap (λ (m : RegionShown). m.table) first;
       alone = c.gather_all-client.ensures.alone;
       era = subst (λ (y : SessionShown). IsInRenewal y.manager.renewal c.gather_all-client.result.0.value.records) same
           (ran_in g.D.Draws.leads g.K.Keep.notes c.args.self.settings c.of-session.result _ _ _
-          c.gather_all-client.result.0.value _ ready c.in_ok-crew.ensures.crew c.in_ok-crew-2.ensures.worked
+          c.gather_all-client.result.0.value _ ready c.in_ok-crew.ensures.crew c.in_ok-crew-2.ensures.0
           c.gather_all-client.ensures.gathered
           (subst (λ (y : SessionShown). IsInRenewal y.manager.renewal y.client.value.records) (sym same)
           c.apart-manager.ensures.era));
@@ -45,11 +45,11 @@ of-alone-requires g c =
 
 pub returns-clause-round : goal.returns-clause-round
 returns-clause-round g c =
-    let same = paired_length _ _ _ c.in_ok-crew-2.ensures.worked.others in
+    let same = paired_length _ _ _ c.in_ok-crew-2.ensures.0.others in
     let handed = paired_length _ _ _ c.gather_all-client.ensures.seats in
     record {
       number = omega (arith, c.in_ok-crew.ensures.number, same, handed, c.requires.number);
-      tries = c.gather_all-client.ensures.tries ∙ c.in_ok-crew-2.ensures.worked.first.tries;
+      tries = c.gather_all-client.ensures.tries ∙ c.in_ok-crew-2.ensures.0.first.tries;
     }
 
 pub returns-clause-ran : goal.returns-clause-ran
@@ -60,7 +60,7 @@ returns-clause-ran g c =
     (shown g.K.Keep.notes) c.args.self.settings.tasks y.client.value.records c.args.seats.items
     c.gather_all-client.result.0.value.records c.gather_all-client.result.1.items c.gather_all-client.result.2.tally)
     same (ran_all g.D.Draws.leads g.K.Keep.notes c.args.self.settings c.of-session.result _ _ _ _
-    c.gather_all-client.result.0.value _ ready c.in_ok-crew.ensures.crew c.in_ok-crew-2.ensures.worked
+    c.gather_all-client.result.0.value _ ready c.in_ok-crew.ensures.crew c.in_ok-crew-2.ensures.0
     c.gather_all-client.ensures.gathered c.gather_all-client.ensures.seats))
 
 pub returns-clause-manager : goal.returns-clause-manager
