@@ -537,7 +537,7 @@ module _ (fits : List ℕ → Type 0) (lawful : RecordLaw) (law : Keeping fits l
         let to' : get_elem? (set h.core.clients id (with_gathered v w)) other ≡ some w =
         subst (λ vs. get_elem? (set vs id (with_gathered v w)) other ≡ some w) h.views to in
         let was : get_elem? h.core.clients other ≡ some w = sym
-            (set_else h.core.clients id other (with_gathered v w) ne) ∙
+        (set_else h.core.clients id other (with_gathered v w) ne) ∙
         to' in
         let all : with_gathered v w ≡ taking v w = joined_all lawful lk h.core h.rule id other v w
         (λ e. ne (sym e)) at' was free.0 free'.0 in record {
