@@ -26,14 +26,14 @@ pub trait Gate {
     /// Decided comes after the last validation is read in the code.
     fn at(&mut self, point: Point);
 
-    /// Called right before the first of a client's calls in a row, in each round of a load anew. A
-    /// commit never calls it: it is for callers.
+    /// Called right before the first of a client's calls in a round of a load. A commit never calls
+    /// it: it is for callers.
     ///
     /// Not said: that it is called, which is read in the code.
     fn ready(&mut self) {}
 
-    /// Called right after the last of a client's calls in a row, in each round of a load anew. A
-    /// commit never calls it: it is for callers.
+    /// Called right after the last of a client's calls in a round of a load. A commit never calls it:
+    /// it is for callers.
     ///
     /// Not said: that it is called, which is read in the code.
     fn done(&mut self) {}

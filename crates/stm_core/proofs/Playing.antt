@@ -31,7 +31,7 @@ use Rattle.stm_core.proofs.Lones.{at_map, at_unmap, goes_on}
 use Rattle.stm_core.proofs.Renewals.{step_rules, now_stepped, may_shed, pre, map_length, eqb_yes}
 use Rattle.stm_core.proofs.Renewing.{split_rules, gather_rules, renew_rules, opening_rules, now_divided, now_gathered}
 use Rattle.stm_core.proofs.Renewing.{whole, at_below, serial_append, image_append}
-use Rattle.stm_core.proofs.Dating.{Mark, IsStamped, IsDated, Dated, placed, in_placed, placed_in, placed_old, date_step}
+use Rattle.stm_core.proofs.Dating.{Mark, IsDated, Dated, placed, in_placed, placed_in, placed_old, date_step}
 use Rattle.stm_core.proofs.Dating.{date_decide, date_longer, date_join, ranked_by}
 use Rattle.stm_core.proofs.Conditions.{IsReading, CanAct, CanPlay, IsAlone, can_play}
 use Rattle.stm_core.proofs.Traced.{Trace}

@@ -1,8 +1,8 @@
 -- Each step of a client keeps the version invariant.
-use Rattle.std.proofs.Common.{◌≡◌, ◌≢◌, ℕ, suc, ◌+◌, ◌-◌, ◌*◌, ◌/◌, ◌≤◌, ◌<◌, ◌⊎◌, inl, inr, ⊎_elim, Bool, true, false}
-use Rattle.std.proofs.Common.{cond, eqb, leb, ltb, ◌&&◌, ◌||◌, List, [], ◌∷◌, ◌++◌, length, length-set, length-append}
-use Rattle.std.proofs.Common.{set, get_or, slice_index, slice_set, get_or-set_same, get_or-set_other, set-set, sum_by}
-use Rattle.std.proofs.Common.{refl, sym, ap, ◌∙◌, subst, arith, le_refl, zero-le}
+use Rattle.std.proofs.Common.{◌≡◌, ℕ, suc, ◌+◌, ◌-◌, ◌*◌, ◌≤◌, ◌<◌, ◌⊎◌, inl, inr, ⊎_elim, Bool, true, false}
+use Rattle.std.proofs.Common.{cond, eqb, leb, ◌&&◌, ◌||◌, List, [], ◌∷◌, ◌++◌, length, length-set}
+use Rattle.std.proofs.Common.{set, slice_index, slice_set, get_or-set_same, get_or-set_other, set-set, sum_by}
+use Rattle.std.proofs.Common.{refl, sym, ap, ◌∙◌, subst, arith, le_refl}
 use Rattle.std.proofs.lemmas.Bool.Decides.{nat_tests}
 use Rattle.tx_memory.specs.Image.{In}
 use Rattle.stm_core.specs.Client.{Client, Record, running, ending, committed, probed, fetched, checked, locked, ticked}
@@ -13,7 +13,7 @@ use Rattle.stm_core.specs.Event.{finish, committed_by, begun, stepping, failing,
 use Rattle.stm_core.specs.Event.{decides_at_once, won, passes, passing, after, writer_record, reader_record, with_ticks}
 use Rattle.stm_core.specs.Event.{marking, counting}
 use Rattle.stm_core.specs.Core.{Core, bounds_of, stepped}
-use Rattle.stm_core.specs.Version.{World, At, IsOpen, Claims, runs, Saw, IsSound, IsBooked, Version, Books}
+use Rattle.stm_core.specs.Version.{At, IsOpen, Claims, runs, Saw, IsSound, IsBooked}
 use Rattle.stm_core.specs.Version as version
 use Rattle.stm_core.specs.Records.{AllInside, IsFiled, Filed, value_of, wrote_in}
 use Rattle.stm_core.specs.Invariant.{world, share, Inv}

@@ -1,6 +1,6 @@
 -- Each event keeps what a list of events says of the records that it decides.
 use Rattle.std.proofs.Common.{◌≡◌, ◌≢◌, ℕ, zero, suc, ◌+◌, ◌-◌, ◌<◌, ◌≤◌, ◌⊎◌, inl, inr, ⊎_elim, Bool, true, false}
-use Rattle.std.proofs.Common.{cond, eqb, eq-eqb, List, [], ◌∷◌, ◌++◌, length, length-append, length-set}
+use Rattle.std.proofs.Common.{cond, eq-eqb, List, [], ◌∷◌, ◌++◌, length, length-append, length-set}
 use Rattle.std.proofs.Common.{ltb, set, refl, sym, ap, ◌∙◌, subst, arith}
 use mathlib.Core.Option.{some, some-injective, some-ne-none}
 use lib.ListN.{get_elem?}

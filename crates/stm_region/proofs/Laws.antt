@@ -18,7 +18,7 @@ use Rattle.stm_core.specs.Guards.{stripe_of}
 use Rattle.stm_region.specs.Traced.{Mirrors}
 use Rattle.stm_region.specs.Rule.{IsCoreState, listed}
 use Rattle.stm_region.specs.Running.{IsListed}
-use Rattle.stm_region.proofs.Moves.{joined_all}
+use Rattle.stm_region.proofs.Moves.{gathered_takes}
 
 module _ (fits : List ℕ → Type 0) (lawful : RecordLaw) (o : Opened) (s : State (Unit {0}) Client)
     (h : IsCoreState fits lawful o s) where
@@ -47,7 +47,7 @@ module _ (fits : List ℕ → Type 0) (lawful : RecordLaw) (o : Opened) (s : Sta
 
   pub takes_all : (i j : ℕ) (v w : Client) → i ≢ j → get_elem? s.views i ≡ some v → get_elem? s.views j ≡ some w →
       v.is_gathered ≡ false → w.is_gathered ≡ false → with_gathered v w ≡ taking v w
-  takes_all i j v w ne e f un un' = joined_all lawful (stripe_of o.stripes) h.core h.rule i j v w ne
+  takes_all i j v w ne e f un un' = gathered_takes lawful (stripe_of o.stripes) h.core h.rule i j v w ne
       (subst (λ cs. get_elem? cs i ≡ some v) h.views e) (subst (λ cs. get_elem? cs j ≡ some w) h.views f) un un'
 
   pub is_listed : IsListed lawful o s

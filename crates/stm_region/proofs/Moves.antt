@@ -103,10 +103,10 @@ pub record Matches (o : Opened) (c : Core) : Type 0 where
   pub locks : length c.locks ≡ o.stripes
 
 -- the bound on the grants takes none away
-pub joined_all : (lawful : RecordLaw) (l : ℕ → ℕ) (c : Core) → Rule lawful l c → (i j : ℕ) (v w : Client) → i ≢ j →
+pub gathered_takes : (lawful : RecordLaw) (l : ℕ → ℕ) (c : Core) → Rule lawful l c → (i j : ℕ) (v w : Client) → i ≢ j →
     get_elem? c.clients i ≡ some v → get_elem? c.clients j ≡ some w → v.is_gathered ≡ false → w.is_gathered ≡ false →
     with_gathered v w ≡ taking v w
-joined_all lawful l c inv i j v w ne at to un un' =
+gathered_takes lawful l c inv i j v w ne at to un un' =
     let n = grants_of_two lawful l (now c) inv.inv i j (shed c.renewal v) (shed c.renewal w) ne
     (at_map (shed c.renewal) c.clients i v at) (at_map (shed c.renewal) c.clients j w to) un un' in
     let e : min (v.grants + w.grants + 1) 63 ≡ v.grants + w.grants + 1 = omega arith in
@@ -539,7 +539,7 @@ module _ (fits : List ℕ → Type 0) (lawful : RecordLaw) (law : Keeping fits l
         let was : get_elem? h.core.clients other ≡ some w = sym
         (set_else h.core.clients id other (with_gathered v w) ne) ∙
         to' in
-        let all : with_gathered v w ≡ taking v w = joined_all lawful lk h.core h.rule id other v w
+        let all : with_gathered v w ≡ taking v w = gathered_takes lawful lk h.core h.rule id other v w
         (λ e. ne (sym e)) at' was free.0 free'.0 in record {
           core = gathered id v other w h.core;
           gap = h.gap;

@@ -1,5 +1,5 @@
 -- A memory with one list, whose head is word 5, and a block for each of 120 keys.
-use Rattle.std.specs.Prelude.{◌≡◌, ℕ, ◌+◌, ◌-◌, ◌*◌, ◌/◌, ◌%◌, ◌<◌, List, cond, nat_eq, nat_lt, length, slice_index}
+use Rattle.std.specs.Prelude.{◌≡◌, ℕ, ◌+◌, ◌-◌, ◌/◌, ◌%◌, ◌<◌, List, cond, nat_eq, nat_lt, length, slice_index}
 use Rattle.tx_memory.specs.View.{View, RestsOn}
 use Rattle.tx_alloc.specs.Steps.{mem}
 use Rattle.tx_alloc.specs.Pool.{block_place}

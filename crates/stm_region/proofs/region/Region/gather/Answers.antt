@@ -1,6 +1,6 @@
 use Rattle.std.proofs.Common.{rules, ◌⊎◌, sym, ◌∙◌, ap, subst}
 use Rattle.tx_memory.specs.Image.{In}
-use Rattle.stm_core.specs.Client.{Client, Record}
+use Rattle.stm_core.specs.Client.{Client}
 use Rattle.stm_core.specs.History.{Sub}
 use Rattle.stm_core.specs.Invariant.{Sorted}
 use Rattle.stm_core.proofs.Orders.{in_merged}
