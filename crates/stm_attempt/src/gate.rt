@@ -32,8 +32,8 @@ pub trait Gate {
     /// Not said: that it is called, which is read in the code.
     fn ready(&mut self) {}
 
-    /// Called right after the last of a client's calls in a round of a load. A commit never calls it:
-    /// it is for callers.
+    /// Called right after the last of a client's calls in a round of a load. A commit never calls
+    /// it: it is for callers.
     ///
     /// Not said: that it is called, which is read in the code.
     fn done(&mut self) {}

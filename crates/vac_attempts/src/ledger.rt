@@ -59,7 +59,7 @@ impl<W: Watch + Copy + Drop> Ledger<W> {
     }
 }
 
-impl<W: Watch + Copy + Send + Drop> Keep for Ledger<W> {
+impl<W: Watch + Copy + Drop> Keep for Ledger<W> {
     ghost use Rattle.std.specs.Prelude.{◌<◌, Some, vec_len, vec_capacity};
     ghost use Rattle.vac_attempts.specs.Known.{ended_by};
 

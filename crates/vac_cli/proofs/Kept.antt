@@ -8,8 +8,9 @@ use Rattle.vac_draws.specs.declared.settings.Settings.{Settings}
 use Rattle.vac_manager.specs.Keeping.{notes_behind, IsNoted}
 use Rattle.vac_load.specs.declared.seats.Keepers.{Keepers}
 use Rattle.vac_load.specs.declared.load.LoadReport.{LoadReport}
-use Rattle.vac_load.specs.Lists.{Paired, none, both}
-use Rattle.vac_load.specs.Keeping.{KeptNotes, AreKept, AllKept, one_kept}
+use Rattle.vac_asking.specs.Lists.{Paired, none, both}
+use Rattle.vac_asking.specs.Keeping.{KeptNotes, AreKept}
+use Rattle.vac_load.specs.Several.{AllKept, one_kept}
 use Rattle.vac_load.specs.Streams.{KeptBySeed}
 use Rattle.vac_cli.specs.Load.{calls_kept, AreNoted}
 

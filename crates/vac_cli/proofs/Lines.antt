@@ -19,9 +19,9 @@ use Rattle.vac_worklist.specs.Laws.{IsReadBack, AreReadBack}
 use Rattle.vac_worklist.proofs.ReadBack.{all_read}
 use Rattle.vac_history.specs.Numbers.{HasLine, EachHasLines}
 use Rattle.vac_history.proofs.Written.{tasks_read}
-use Rattle.vac_load.specs.Lists.{Paired, none, both}
-use Rattle.vac_load.specs.Looping.{AreOfTasks}
-use Rattle.vac_load.specs.Opening.{as_tasks}
+use Rattle.vac_asking.specs.Lists.{Paired, none, both}
+use Rattle.vac_asking.specs.Looping.{AreOfTasks}
+use Rattle.vac_asking.specs.Opening.{as_tasks}
 use Rattle.vac_load.specs.Load.{Share, HasShare}
 use Rattle.vac_cli.specs.Load.{HasNoted}
 

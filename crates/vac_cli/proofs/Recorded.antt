@@ -9,7 +9,8 @@ use Rattle.vac_history.specs.Order.{Entry, entries_of, entries_from, Interleaves
 use Rattle.vac_history.specs.History.{call_of_entry}
 use Rattle.vac_history.specs.Legal.{AreCallsOf, AreRecorded, AreLegal}
 use Rattle.vac_history.proofs.Legality.{ordered_calls_legal}
-use Rattle.vac_load.specs.Lists.{Paired, none, both, Interleaved, no_more, of_first, of_second}
+use Rattle.vac_asking.specs.Lists.{Paired, none, both}
+use Rattle.vac_load.specs.Several.{Interleaved, no_more, of_first, of_second}
 use Rattle.vac_load.specs.Load.{InterleavedAll}
 use Rattle.vac_cli.specs.Load.{HasNoted}
 

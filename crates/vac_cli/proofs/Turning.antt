@@ -15,7 +15,7 @@ use Rattle.vac_history.specs.declared.journal.Journal.{Journal}
 use Rattle.vac_history.specs.Turns.{NotesTakeTime, AreInTurn, EachInTurn}
 use Rattle.vac_history.specs.Order.{precedes, rank_of, list_at, AreOrdered, EachOrdered}
 use Rattle.vac_history.specs.History.{notes_of, kept_by}
-use Rattle.vac_load.specs.Lists.{Paired, none, both}
+use Rattle.vac_asking.specs.Lists.{Paired, none, both}
 use Rattle.vac_load.specs.Load.{InterleavedAll}
 use Rattle.vac_load.proofs.Merging.{first_sub, second_sub}
 use Rattle.vac_cli.specs.Load.{HasNoted}

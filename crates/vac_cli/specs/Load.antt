@@ -4,7 +4,7 @@ use Rattle.std.specs.Prelude.{[], Option, Some, None, codes, vec_len, Result, If
 use Rattle.std.specs.Io.KnownBytes.{Appends}
 use Rattle.vac_lines.specs.Script.{as_line}
 use Rattle.vac_lines.specs.Text.{field_text, report_text}
-use Rattle.vac_load.specs.declared.tally.Tally.{Tally}
+use Rattle.vac_asking.specs.declared.tally.Tally.{Tally}
 use Rattle.vac_load.specs.declared.load.LoadReport.{LoadReport}
 use Rattle.vac_load.specs.declared.load.LoadFault.{LoadFault}
 use Rattle.vac_load.specs.declared.load.LoadFault.TheVariants as load
@@ -20,10 +20,10 @@ use Rattle.vac_history.specs.Legal.{AreLegal, JudgedByPrecedence}
 use Rattle.vac_judge.specs.CallText.{IsTheirHistory}
 use Rattle.vac_attempts.specs.Pages.{Page}
 use Rattle.vac_attempts.specs.Text.{WroteAttempts, WroteAttemptsPrefix}
-use Rattle.vac_load.specs.Lists.{Paired}
-use Rattle.vac_load.specs.declared.efforts.Efforts.{Efforts}
+use Rattle.vac_asking.specs.Lists.{Paired}
+use Rattle.vac_asking.specs.declared.efforts.Efforts.{Efforts}
 use Rattle.vac_load.specs.declared.seats.Keepers.{Keepers}
-use Rattle.vac_load.specs.Keeping.{KeptNotes}
+use Rattle.vac_asking.specs.Keeping.{KeptNotes}
 use Rattle.vac_load.specs.Load.{IsLoadFault, is_load}
 use Rattle.vac_load.specs.Streams.{LoadedBySeed, KeptBySeed}
 use Rattle.vac_lines.specs.Writing.{AppendsPrefix}

@@ -87,7 +87,7 @@ impl<W: Watch> Transcript<W> for Journal<W> {
     }
 }
 
-impl<W: Watch + Copy + Send + Drop> Transcript<W> for Ledger<W> {
+impl<W: Watch + Copy + Drop> Transcript<W> for Ledger<W> {
     ghost use Rattle.vac_attempts.specs.Known.{are_whole_ledgers};
     ghost use Rattle.vac_cli.specs.Load.{WroteTried, WroteTriedInPart};
 
@@ -171,6 +171,8 @@ impl<'a, T: Threads + Wait + Clock + Sync + AllocGlobal> AskedLoad<'a, T> {
         output: &mut W,
         errors: &mut E,
     ) -> u8
+    where
+        K::Tracing: Send,
         requires number { IfOk keepers (λ k. vec_len k.clients ≡ self.now.settings.now.clients) }
         requires opening { IfOk keepers (λ k. K.notes k.opening ≡ Some []) }
         requires clients { IfOk keepers (λ k. All (λ x. K.notes x ≡ Some []) k.clients.items) }

@@ -67,6 +67,8 @@ impl Progress {
         keepers: Keepers<K>,
         span: &Span<T>,
     ) -> Result<(LoadReport, Efforts, Keepers<K>), LoadFault>
+    where
+        K::Tracing: Send,
         ensures { RunsKept K.notes settings.now keepers result }
     {
         let counter = Counter {
@@ -147,6 +149,8 @@ pub(crate) fn run_told<
     span: &Span<T>,
     errors: &mut E,
 ) -> Result<(LoadReport, Efforts, Keepers<K>), LoadFault>
+where
+    K::Tracing: Send,
     ensures { RunsKept K.notes settings.now keepers result }
 {
     if !how.progress {

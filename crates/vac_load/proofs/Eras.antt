@@ -11,7 +11,7 @@ use Rattle.vac_manager.specs.Called.{CallerShown}
 use Rattle.vac_manager.specs.Renewed.{ClosesSomewhere}
 use Rattle.vac_draws.specs.Draws.{Reader}
 use Rattle.vac_model.specs.declared.commands.Command.{Command}
-use Rattle.vac_load.specs.Opening.{RanDrawn}
+use Rattle.vac_asking.specs.Opening.{RanDrawn}
 use Rattle.vac_load.specs.Alone.{IsInRenewal}
 
 none_versioned : AreVersioned []

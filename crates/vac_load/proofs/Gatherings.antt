@@ -3,8 +3,9 @@ use Rattle.std.proofs.Common.{◌≡◌, ◌∙◌, ℕ, ◌+◌, min, List, [],
 use Rattle.stm_core.specs.Client.{Client, Record, merged}
 use Rattle.stm_region.specs.Shown.{with_gathered}
 use Rattle.vac_manager.specs.Session.{SessionShown}
-use Rattle.vac_load.specs.declared.tally.Tally.{Tally}
-use Rattle.vac_load.specs.Sums.{sum_of, plus, added_up}
+use Rattle.vac_asking.specs.declared.tally.Tally.{Tally}
+use Rattle.vac_asking.specs.Looping.{plus}
+use Rattle.vac_load.specs.Several.{sum_of, added_up}
 use Rattle.vac_load.specs.Load.{all_merged, Gathered}
 
 sum_more : {X : Type 0} (f : X → ℕ) (xs : List X) (x : X) → sum_of f (xs ++ (x ∷ [])) ≡ sum_of f xs + f x

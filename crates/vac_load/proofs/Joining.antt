@@ -1,5 +1,5 @@
 -- Rounds, one after the other.
-use Rattle.std.proofs.Common.{Bool, true, false, ◌&&◌, ◌≡◌, ◌∙◌, ℕ, suc, ◌+◌, ◌*◌, ◌≤◌, List, [], ◌∷◌, ◌++◌, length}
+use Rattle.std.proofs.Common.{◌≡◌, ◌∙◌, ℕ, suc, ◌+◌, ◌*◌, ◌≤◌, List, [], ◌∷◌, ◌++◌, length}
 use Rattle.std.proofs.Common.{length-append, append_assoc, refl, sym, ap, subst, arith}
 use Rattle.std.proofs.Math.Nat.{mul-le-mul}
 use Rattle.tx_memory.specs.Image.{In}
@@ -11,20 +11,16 @@ use Rattle.vac_manager.specs.Session.{SessionShown}
 use Rattle.stm_core.specs.History.{Sub, done, keep, skip}
 use Rattle.vac_draws.specs.declared.settings.Settings.{Settings}
 use Rattle.vac_load.specs.declared.rounds.Round.{Round}
-use Rattle.vac_load.specs.declared.seats.Seat.{Seat}
-use Rattle.vac_load.specs.declared.tally.Tally.{Tally}
-use Rattle.std.proofs.lemmas.Bool.Decides.{nat_tests}
-use Rattle.vac_draws.specs.Setting.{is_settings, is_work, is_system}
-use Rattle.vac_load.specs.Looping.{total}
-use Rattle.vac_load.specs.Sums.{sum_of, plus, added_up}
-use Rattle.vac_load.specs.Lists.{Paired, none, both}
-use Rattle.vac_load.specs.Alone.{AreKnown}
-use Rattle.vac_load.specs.Keeping.{KeptNotes, SeatShown, shown}
+use Rattle.vac_asking.specs.declared.tally.Tally.{Tally}
+use Rattle.vac_asking.specs.Looping.{total, AreKnown, plus}
+use Rattle.vac_load.specs.Several.{sum_of, added_up}
+use Rattle.vac_asking.specs.Lists.{Paired, none, both}
+use Rattle.vac_load.specs.Seats.{SeatShown}
 use Rattle.vac_load.specs.Load.{InterleavedAll, Share, drawn_share, HasShare, HasKeptShare, RanAll, RoundHasRun}
 use Rattle.vac_draws.proofs.Drawing.{drawn_both}
-use Rattle.vac_load.proofs.Answering.{are_of_both}
+use Rattle.vac_asking.proofs.Answering.{are_of_both}
 use Rattle.vac_load.proofs.Merging.{interleaved_both}
-use Rattle.vac_load.proofs.Notes.{are_kept_both}
+use Rattle.vac_asking.proofs.Notes.{are_kept_both}
 use Rattle.vac_load.proofs.Pairs.{paired_through, paired_length}
 
 sub_after : {A : Type 0} (us bs xs : List A) → Sub xs bs → Sub xs (us ++ bs)
@@ -157,24 +153,25 @@ module _ {D P : Type 0} (leads : D → ℕ → D → Type 0) (s : Settings) (sho
       }
 
 -- one round more
-pub ran_more : {D G K : Type 0} (leads : D → ℕ → D → Type 0) (notes : K → KeptNotes) (s : Settings) (rounds : ℕ)
-    (y ready : SessionShown) (seats : List (Seat D G K)) (r more : Round D G K) (t : Tally) →
-    RoundHasRun leads notes s (rounds * s.tasks) y seats r → ready.client.value.records ≡ r.alone.client.value.records →
-    RoundHasRun leads notes s s.tasks ready r.seats.items more → t ≡ plus r.tally.tally more.tally.tally →
-    RanAll leads s (shown notes) ((rounds + 1) * s.tasks) y.client.value.records seats
+pub ran_more : {W D : Type 0} (leads : D → ℕ → D → Type 0) (shown_of : W → SeatShown D) (s : Settings) (rounds : ℕ)
+    (y ready : SessionShown) (seats : List W) (r more : Round W) (t : Tally) →
+    RoundHasRun leads shown_of s (rounds * s.tasks) y seats r →
+    ready.client.value.records ≡ r.alone.client.value.records →
+    RoundHasRun leads shown_of s s.tasks ready r.seats.items more → t ≡ plus r.tally.tally more.tally.tally →
+    RanAll leads s shown_of ((rounds + 1) * s.tasks) y.client.value.records seats
     more.alone.client.value.records more.seats.items t
-ran_more leads notes s rounds y ready seats r more t h same k e =
+ran_more leads shown_of s rounds y ready seats r more t h same k e =
     let n : rounds * s.tasks + s.tasks ≡ (rounds + 1) * s.tasks = grind arith in
     let first = y.client.value.records in
     let middle = r.alone.client.value.records in
     let last = more.alone.client.value.records in
-    let next : RanAll leads s (shown notes) s.tasks middle r.seats.items last more.seats.items more.tally.tally =
-    subst (λ (l : List Record). RanAll leads s (shown notes) s.tasks l r.seats.items last more.seats.items
+    let next : RanAll leads s shown_of s.tasks middle r.seats.items last more.seats.items more.tally.tally =
+    subst (λ (l : List Record). RanAll leads s shown_of s.tasks l r.seats.items last more.seats.items
     more.tally.tally) same k in
-    subst (λ (j : ℕ). RanAll leads s (shown notes) j first seats last more.seats.items t) n
-    (subst (λ (u : Tally). RanAll leads s (shown notes) (rounds * s.tasks + s.tasks) first seats last
+    subst (λ (j : ℕ). RanAll leads s shown_of j first seats last more.seats.items t) n
+    (subst (λ (u : Tally). RanAll leads s shown_of (rounds * s.tasks + s.tasks) first seats last
     more.seats.items u) (sym e)
-    (ran_both leads s (shown notes) (rounds * s.tasks) s.tasks first middle last seats r.seats.items more.seats.items
+    (ran_both leads s shown_of (rounds * s.tasks) s.tasks first middle last seats r.seats.items more.seats.items
     r.tally.tally more.tally.tally h next))
 
 -- tallies of so many tasks each
@@ -201,39 +198,6 @@ ran_total leads s shown_of n before after pairs left t h = ap (λ (u : Tally). t
 -- the product of numbers below bounds
 below_both : (a b c d : ℕ) → a ≤ b → c ≤ d → a * c ≤ b * d
 below_both a b c d p q = mul-le-mul p q
-
-first_true : (a b : Bool) → (a && b) ≡ true → a ≡ true
-first_true true b e = refl
-first_true false b e = e
-
--- what may be asked for
-pub record Few (s : Settings) : Type 0 where
-  pub some : 1 ≤ s.rounds
-  pub clients : s.clients ≤ 64
-  pub rounds : s.rounds ≤ 100
-  pub tasks : s.tasks ≤ 1000000
-
-pub few : (s : Settings) → is_settings s ≡ true → Few s
-few s e =
-    let w : is_work s ≡ true = first_true (is_work s) (is_system s) e in
-    record {
-      some = grind (arith, nat_tests, w);
-      clients = grind (arith, nat_tests, w);
-      rounds = grind (arith, nat_tests, w);
-      tasks = grind (arith, nat_tests, w);
-    }
-
-second_true : (a b : Bool) → (a && b) ≡ true → b ≡ true
-second_true true b e = e
-second_true false b e = absurd (let k : false ≡ true = e in cc)
-
--- a load has items
-pub some_items : (s : Settings) → is_settings s ≡ true → 1 ≤ s.items
-some_items s e = let h : is_system s ≡ true = second_true (is_work s) (is_system s) e in grind (arith, nat_tests, h)
-
--- a task gets so many tries at most
-pub few_tries : (s : Settings) → is_settings s ≡ true → s.tries ≤ 1048576
-few_tries s e = let h : is_system s ≡ true = second_true (is_work s) (is_system s) e in grind (arith, nat_tests, h)
 
 -- no more tasks than in the most rounds by the most clients
 pub few_tasks : (clients rounds tasks : ℕ) → clients ≤ 64 → rounds ≤ 100 → tasks ≤ 1000000 →

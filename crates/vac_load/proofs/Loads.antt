@@ -1,6 +1,7 @@
 -- A load as a whole: the opening, the clients, and the report.
 use Rattle.std.proofs.lemmas.Bool.Decides.{nat_tests}
-use Rattle.std.proofs.Common.{Bool, true, ◌≡◌, ◌∙◌, ◌⊎◌, ℕ, ◌+◌, ◌*◌, ◌-◌, ◌/◌, List, [], ◌∷◌, ◌++◌, length}
+use Rattle.std.proofs.Common.{Bool, true, false, Result, Ok, Err, IsErrOf, ◌↔◌, nat_eq, ◌≡◌, ◌∙◌, ◌⊎◌, ℕ, ◌+◌, ◌*◌, ◌-◌}
+use Rattle.std.proofs.Common.{◌/◌, List, [], ◌∷◌, ◌++◌, length}
 use Rattle.std.proofs.Common.{length-append, map, refl, sym, inl, inr, ap, subst, arith}
 use Rattle.tx_memory.specs.Image.{In}
 use Rattle.stm_core.specs.Client.{Client, Record}
@@ -14,11 +15,11 @@ use Rattle.vac_manager.specs.Opening.{Opens}
 use Rattle.vac_manager.specs.Renewed.{ClosesSomewhere}
 use Rattle.vac_manager.specs.Session.{SessionShown}
 use Rattle.vac_draws.specs.declared.settings.Settings.{Settings}
-use Rattle.vac_load.specs.declared.tally.Tally.{Tally}
+use Rattle.vac_asking.specs.declared.tally.Tally.{Tally}
 use Rattle.vac_draws.specs.Tasks.{opening}
 use Rattle.vac_manager.specs.declared.fault.Fault.{Fault}
 use Rattle.vac_manager.specs.declared.fault.Fault.TheVariants as fault
-use Rattle.vac_load.specs.Opening.{Stopped}
+use Rattle.vac_asking.specs.Opening.{Stopped}
 use Rattle.rand_pcg.specs.Lcg.{Lcg}
 use Rattle.vac_load.specs.declared.seats.Keepers.{Keepers}
 use Rattle.vac_load.specs.declared.seats.Seat.{Seat}
@@ -27,16 +28,18 @@ use Rattle.vac_load.specs.declared.load.LoadFault.{LoadFault}
 use Rattle.vac_load.specs.declared.load.LoadFault.TheVariants as load
 use Rattle.vac_draws.specs.Streams.{stream_of, streams_of, gives}
 use Rattle.vac_load.specs.Streams.{KeptBySeed}
-use Rattle.vac_load.specs.Lists.{Paired, none, both}
+use Rattle.vac_asking.specs.Lists.{Paired, none, both}
 use Rattle.vac_load.specs.Alone.{IsReadyForRound}
-use Rattle.vac_load.specs.Keeping.{KeptNotes, AreKept, AllKept, none_kept, one_kept, SeatShown, shown, kept_at}
-use Rattle.vac_load.specs.Sums.{sum_of, added_up}
+use Rattle.vac_asking.specs.Keeping.{KeptNotes, AreKept}
+use Rattle.vac_load.specs.Several.{AllKept, none_kept, one_kept, sum_of, added_up}
+use Rattle.vac_load.specs.Seats.{SeatShown, shown, kept_at}
 use Rattle.vac_load.specs.Load.{InterleavedAll, Share, drawn_share, HasShare, HasKeptShare, HasOpened, RoundHasRun}
-use Rattle.vac_load.specs.Load.{is_load, LoadedKept, WasOpened, WasStopped, IsTooShort, IsStopOfLoad}
-use Rattle.vac_load.specs.Load.{IsLoadFault}
-use Rattle.vac_load.proofs.Order.{added_known}
+use Rattle.vac_load.specs.Load.{is_load, LoadedKept, WasOpened, WasStopped, IsTooShort, IsStopOfLoad, IsLoadFault}
+use Rattle.vac_asking.proofs.Order.{added_known}
 use Rattle.vac_load.proofs.Joining.{ran_total}
-use Rattle.vac_load.proofs.Beginning.{long_opening}
+use Rattle.vac_asking.proofs.Ranges.{first_true}
+use Rattle.vac_draws.specs.Setting.{is_settings}
+use Rattle.vac_asking.proofs.Beginning.{long_opening}
 
 -- after the opening the first round can begin: what the opening added is known to its client, and it
 -- took the clock on by at most one for each of its commands
@@ -101,12 +104,12 @@ module _ {D P : Type 0} (leads : D → ℕ → D → Type 0) (s : Settings) (sho
   kept_drawn (p ∷ ps) (x ∷ xs) [] hs ks = elim ks [ ]
 
 pub loaded_kept : {D G K : Type 0} (leads : D → ℕ → D → Type 0) (notes : K → KeptNotes) (s : Settings) (state last : D)
-    (seats : List (Seat D G K)) (y : SessionShown) (end : Round D G K) (before kept : KeptNotes) (words : List ℕ)
+    (seats : List (Seat D G K)) (y : SessionShown) (end : Round (Seat D G K)) (before kept : KeptNotes) (words : List ℕ)
     (r : Report) →
     length seats ≡ s.clients →
     HasOpened leads s state last y →
     AreKept y.client.value.records before kept →
-    RoundHasRun leads notes s (s.rounds * s.tasks) y seats end →
+    RoundHasRun leads (shown notes) s (s.rounds * s.tasks) y seats end →
     AreVersioned end.alone.client.value.records →
     end.alone.manager.size ≡ y.manager.size →
     ClosesSomewhere end.alone.manager end.alone.client.value words →
@@ -210,6 +213,22 @@ map_same (x ∷ xs) = ap (λ (l : List _). x ∷ l) (map_same xs)
 map_both : {A B C : Type 0} (f : A → B) (g : B → C) (xs : List A) → map (λ x. g (f x)) xs ≡ map g (map f xs)
 map_both f g [] = refl
 map_both f g (x ∷ xs) = ap (λ (l : List _). g (f x) ∷ l) (map_both f g xs)
+
+-- a load that can be run has settings in their ranges
+pub load_settings : (s : Settings) (n : ℕ) → true ≡ is_load s n → is_settings s ≡ true
+load_settings s n e = first_true (is_settings s) (nat_eq n s.clients) (sym e)
+
+-- a load that can be run is not refused for its arguments
+pub can_be_run : {R : Type 0} (s : Settings) (n m : ℕ) (r : Result R LoadFault) → n ≡ m → true ≡ is_load s n →
+    (IsErrOf r load.Arguments → ⊥) → IsErrOf r load.Arguments ↔ (is_load s m ≡ false)
+can_be_run s n m r e b never =
+    (λ x. absurd (never x), λ x. absurd (let k : true ≡ false = b ∙ (ap (λ (k : ℕ). is_load s k) e ∙ x) in cc))
+
+pub was_done : {R : Type 0} (r : Result R LoadFault) (x : R) → r ≡ Ok x → IsErrOf r load.Arguments → ⊥
+was_done r x done e = cc
+
+pub had_no_memory : {R : Type 0} (r : Result R LoadFault) → r ≡ Err load.Memory → IsErrOf r load.Arguments → ⊥
+had_no_memory r refused e = cc
 
 -- a load that can be run has as many clients as its settings say
 pub load_count : (s : Settings) (n m : ℕ) (b : Bool) → m ≡ n → b ≡ is_load s m → b ≡ true → n ≡ s.clients

@@ -1,6 +1,6 @@
 -- Lists made one, each of which keeps its order.
 use Rattle.std.proofs.Common.{◌≡◌, ◌++◌, Bool, true, false, cond, List, [], ◌∷◌, append_assoc, append-nil, ⊎_elim, refl}
-use Rattle.std.proofs.Common.{subst, suc}
+use Rattle.std.proofs.Common.{◌∙◌, subst, zero, suc, ap}
 use Rattle.tx_memory.specs.Image.{In}
 use Rattle.stm_core.specs.Client.{Record, before, inserted, merged}
 use Rattle.stm_core.specs.Invariant.{Sorted}
@@ -9,7 +9,7 @@ use Rattle.stm_core.proofs.Lists.{nothing_in, in_snoc, clash}
 use Rattle.stm_core.proofs.Orders.{before_le}
 use Rattle.stm_core.proofs.Merging.{in_sub}
 use Rattle.stm_core.proofs.Whole.{inserted_sorted}
-use Rattle.vac_load.specs.Lists.{Interleaved, no_more, of_first, of_second}
+use Rattle.vac_load.specs.Several.{Interleaved, no_more, of_first, of_second}
 
 module _ {A : Type 0} where
   pub interleaved_alone : (xs : List A) → Interleaved xs [] xs
@@ -80,3 +80,17 @@ put_all a p l (y ∷ m) s o q g =
 -- two sorted lists that are merged
 pub merged_interleaved : (l m : List Record) → Sorted l → Sorted m → Interleaved l m (merged l m)
 merged_interleaved l m o q = put_all l [] l m (interleaved_alone l) o q (λ x y i. absurd (nothing_in x i))
+
+-- a record that stands before none of the first is put behind them
+inserted_behind : (r : Record) (o l : List Record) → ((x : Record) → In x o → before r x ≡ false) →
+    inserted r (o ++ l) ≡ o ++ inserted r l
+inserted_behind r [] l f = refl
+inserted_behind r (x ∷ o) l f = rw (f x (zero, refl)) (ap (λ (m : List Record). x ∷ m)
+    (inserted_behind r o l (λ y i. f y (suc i.0, i.1))))
+
+pub merged_behind : (o l m : List Record) → ((x y : Record) → In x o → In y m → before y x ≡ false) →
+    merged (o ++ l) m ≡ o ++ merged l m
+merged_behind o l [] f = refl
+merged_behind o l (y ∷ m) f =
+    ap (λ (k : List Record). merged k m) (inserted_behind y o l (λ x i. f x y i (zero, refl)))
+    ∙ merged_behind o (inserted y l) m (λ x z i j. f x z i (suc j.0, j.1))

@@ -5,8 +5,8 @@ use Rattle.std.specs.Vec.Iter.{into_iter_items, into_iter_len}
 use Rattle.vac_draws.specs.declared.settings.Settings.{Settings}
 use Rattle.vac_load.specs.declared.workers.Worker.{Worker}
 use Rattle.vac_load.specs.declared.workers.WorkOf.{WorkOf}
-use Rattle.vac_load.specs.Lists.{Paired, none, both}
-use Rattle.vac_load.specs.Keeping.{KeptNotes}
+use Rattle.vac_asking.specs.Lists.{Paired, none, both}
+use Rattle.vac_load.specs.Seats.{SeatShown}
 use Rattle.vac_load.specs.Load.{IsPromise, DidWork}
 
 -- one place more
@@ -90,22 +90,22 @@ all_but_first P xs ys x e h = let g : All P (x ∷ ys) = subst (λ (l : List _).
     λ k d less. g (suc k) d (omega (arith, less))
 
 -- a promise of work that was kept
-pub kept_promise : {D G K : Type 0} (leads : D → ℕ → D → Type 0) (notes : K →
-    KeptNotes) (s : Settings) (w : Worker D G K) (p : WorkOf D G K) (d : Worker D G K) →
-    IsPromise s w p → DidWork leads notes p.settings p.worker.value d → DidWork leads notes s w d
-kept_promise leads notes s w p d h k =
-    subst (λ (x : Settings). DidWork leads notes x w d) h.settings_is
-    (subst (λ (x : Worker _ _ _). DidWork leads notes p.settings x d) h.worker_is k)
+pub kept_promise : {W D : Type 0} (leads : D → ℕ → D → Type 0) (shown_of : W →
+    SeatShown D) (s : Settings) (w : Worker W) (p : WorkOf W) (d : Worker W) →
+    IsPromise s w p → DidWork leads shown_of p.settings p.worker.value d → DidWork leads shown_of s w d
+kept_promise leads shown_of s w p d h k =
+    subst (λ (x : Settings). DidWork leads shown_of x w d) h.settings_is
+    (subst (λ (x : Worker _). DidWork leads shown_of p.settings x d) h.worker_is k)
 
 -- promises of work that were kept
-pub worked_through : {D G K H : Type 0} (leads : D → ℕ → D → Type 0) (notes : K →
-    KeptNotes) (s : Settings) (promise : H →
-    WorkOf D G K) (ws : List (Worker D G K)) (hs : List H) (ds : List (Worker D G K)) →
+pub worked_through : {W H D : Type 0} (leads : D → ℕ → D → Type 0) (shown_of : W →
+    SeatShown D) (s : Settings) (promise : H → WorkOf W)
+    (ws : List (Worker W)) (hs : List H) (ds : List (Worker W)) →
     Paired (λ w h. IsPromise s w (promise h)) ws hs → Paired
-    (λ h d. DidWork leads notes (promise h).settings (promise h).worker.value d) hs ds →
-    Paired (DidWork leads notes s) ws ds
-worked_through leads notes s promise ws hs ds = paired_through _ _ _
-    (λ w h d p k. kept_promise leads notes s w (promise h) d p k) ws hs ds
+    (λ h d. DidWork leads shown_of (promise h).settings (promise h).worker.value d) hs ds →
+    Paired (DidWork leads shown_of s) ws ds
+worked_through leads shown_of s promise ws hs ds = paired_through _ _ _
+    (λ w h d p k. kept_promise leads shown_of s w (promise h) d p k) ws hs ds
 
 pub all_first : {A : Type 0} (P : A → Type 0) (xs ys : List A) (x : A) → xs ≡ x ∷ ys → All P xs → P x
 all_first P xs ys x e h = let g : All P (x ∷ ys) = subst (λ (l : List _). All P l) e h in g 0 x (omega arith)

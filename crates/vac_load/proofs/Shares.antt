@@ -10,27 +10,28 @@ use Rattle.stm_region.specs.Shown.{RegionShown}
 use Rattle.vac_manager.specs.Called.{CallerShown, Splits}
 use Rattle.vac_manager.specs.Session.{SessionShown}
 use Rattle.vac_draws.specs.declared.settings.Settings.{Settings}
-use Rattle.vac_load.specs.declared.seats.Seat.{Seat}
-use Rattle.vac_load.specs.declared.tally.Tally.{Tally}
+use Rattle.vac_asking.specs.declared.tally.Tally.{Tally}
 use Rattle.vac_load.specs.declared.workers.Worker.{Worker}
 use Rattle.vac_load.specs.declared.workers.Crew.{Crew}
 use Rattle.vac_draws.specs.Draws.{Drawn, times_over}
 use Rattle.vac_draws.specs.Tasks.{task_of}
-use Rattle.vac_load.specs.Keeping.{AreKept, KeptNotes, SeatShown, shown}
-use Rattle.vac_load.specs.Sums.{sum_of, plus, added_up}
-use Rattle.vac_load.specs.Lists.{Paired, none, both, Interleaved}
-use Rattle.vac_load.specs.Load.{InterleavedAll, all_merged, Gathered, DidWork, DidAllWork, IsWorker, IsCrew, IsMember}
-use Rattle.vac_load.specs.Load.{CanGather, Share, HasKeptShare, RanAll}
-use Rattle.vac_load.specs.Alone.{AreKnown, IsInRenewal, IsReadyForRound}
-use Rattle.vac_load.proofs.Clocking.{clocked_in_time}
+use Rattle.vac_asking.specs.Keeping.{AreKept}
+use Rattle.vac_load.specs.Seats.{SeatShown}
+use Rattle.vac_asking.specs.Looping.{AreKnown, plus}
+use Rattle.vac_load.specs.Several.{sum_of, added_up, Interleaved}
+use Rattle.vac_asking.specs.Lists.{Paired, none, both}
+use Rattle.vac_load.specs.Load.{InterleavedAll, all_merged, Gathered, DidWork, DidAllWork, IsWorker, IsCrew}
+use Rattle.vac_load.specs.Load.{IsMember, CanGather, Share, HasKeptShare, RanAll}
+use Rattle.vac_load.specs.Alone.{IsInRenewal, IsReadyForRound}
+use Rattle.vac_asking.proofs.Clocking.{clocked_in_time}
 use Rattle.vac_load.proofs.Eras.{more_in}
-use Rattle.vac_load.proofs.Order.{IsLater, added_later, known_first, merged_behind}
-use Rattle.vac_load.proofs.Merging.{interleaved_alone, regrouped, merged_interleaved}
-use Rattle.vac_load.proofs.Notes.{kept_added}
+use Rattle.vac_asking.proofs.Order.{IsLater, added_later, known_first}
+use Rattle.vac_load.proofs.Merging.{merged_behind, interleaved_alone, regrouped, merged_interleaved}
+use Rattle.vac_asking.proofs.Notes.{kept_added}
 use Rattle.vac_load.proofs.Pairs.{paired_through, paired_length, all_cons}
 
 -- a worker whose session was split off
-pub split_worker : {D G K : Type 0} (y before after : SessionShown) (w : Worker D G K) →
+pub split_worker : {W : Type 0} (y before after : SessionShown) (w : Worker W) →
     Splits before.client after.client w.session.client → w.session.manager ≡ before.manager →
     before.manager ≡ y.manager → before.client.value.floor ≡ y.client.value.floor →
     IsWorker y.manager [] y.client.value.floor w.seat w
@@ -82,16 +83,17 @@ pub record Did {D : Type 0} (leads : D → ℕ → D → Type 0) (s : Settings) 
   pub later : (r : Record) → In r added → IsLater renewal floor r
   pub has : HasKeptShare leads s s.tasks state (record { records = added; tally = t; left = left })
 
-pub did : {D G K : Type 0} (leads : D → ℕ → D → Type 0) (notes : K → KeptNotes) (s : Settings) (manager : RegionShown)
-    (floor : ℕ) (before : List Record) (seat : Seat D G K) (w : Worker D G K) (r : Worker D G K) →
-    IsWorker manager before floor seat w → DidWork leads notes s w r →
-    Did leads s manager.renewal floor before (shown notes seat) (shown notes r.seat) r.session.client
+pub did : {W D : Type 0} (leads : D → ℕ → D → Type 0) (shown_of : W →
+    SeatShown D) (s : Settings) (manager : RegionShown)
+    (floor : ℕ) (before : List Record) (seat : W) (w : Worker W) (r : Worker W) →
+    IsWorker manager before floor seat w → DidWork leads shown_of s w r →
+    Did leads s manager.renewal floor before (shown_of seat) (shown_of r.seat) r.session.client
     r.tally.tally
-did leads notes s manager floor before seat w r h k =
+did leads shown_of s manager floor before seat w r h k =
     let y = w.session in
     let y' = r.session in
-    let left = shown notes r.seat in
-    let same = ap (λ (x : Seat _ _ _). shown notes x) h.seat_is in
+    let left = shown_of r.seat in
+    let same = ap (λ (x : _). shown_of x) h.seat_is in
     let l = k.looped in
     let a = l.answered in
     record {
@@ -113,7 +115,7 @@ did leads notes s manager floor before seat w r h k =
           all = l.all;
         };
         kept = subst (λ (x : SeatShown _). AreKept a.added x.kept left.kept) same
-            (kept_added y.client.value y'.client.value a.added (notes w.seat.keep) left.kept a.records k.kept);
+            (kept_added y.client.value y'.client.value a.added (shown_of w.seat).kept left.kept a.records k.kept);
       };
     }
 
@@ -160,28 +162,28 @@ no_sum : {X : Type 0} (f : X → ℕ) (xs : List X) → length xs ≡ 0 → sum_
 no_sum f [] e = refl
 no_sum f (x ∷ xs) e = absurd (omega (arith, e))
 
-module _ {D G K : Type 0} (leads : D → ℕ → D → Type 0) (notes : K →
-    KeptNotes) (s : Settings) (opener : SessionShown) where
+module _ {W D : Type 0} (leads : D → ℕ → D → Type 0) (shown_of : W → SeatShown D)
+    (s : Settings) (opener : SessionShown) where
   -- how the tasks ended
-  abbrev tally_of : Worker D G K → Tally
+  abbrev tally_of : Worker W → Tally
   tally_of r = r.tally.tally
 
   -- the records of the client
-  abbrev records_of : Worker D G K → List Record
+  abbrev records_of : Worker W → List Record
   records_of r = r.session.client.value.records
 
   -- the shares of the clients that began without records
-  record Shared (floor : ℕ) (ps : List (Seat D G K)) (rs : List (Worker D G K)) : Type 0 where
+  record Shared (floor : ℕ) (ps : List W) (rs : List (Worker W)) : Type 0 where
     shares : List (Share (SeatShown D))
-    each : Paired (λ p x. HasKeptShare leads s s.tasks (shown notes p) x) ps shares
-    left_are : Paired (λ x r. shown notes r.seat ≡ x.left) shares rs
+    each : Paired (λ p x. HasKeptShare leads s s.tasks (shown_of p) x) ps shares
+    left_are : Paired (λ x r. shown_of r.seat ≡ x.left) shares rs
     later : AreLater opener.manager.renewal floor shares
     merges : (l : List Record) → all_merged records_of l rs ≡ all_merged
         (λ (x : Share (SeatShown D)). x.records) l shares
     tallies : added_up tally_of rs ≡ added_up (λ (x : Share (SeatShown D)). x.tally) shares
 
-  shared : (floor : ℕ) (ps : List (Seat D G K)) (ws : List (Worker D G K)) (rs : List (Worker D G K)) →
-      Paired (IsWorker opener.manager [] floor) ps ws → Paired (DidWork leads notes s) ws rs → Shared floor ps rs
+  shared : (floor : ℕ) (ps : List W) (ws : List (Worker W)) (rs : List (Worker W)) →
+      Paired (IsWorker opener.manager [] floor) ps ws → Paired (DidWork leads shown_of s) ws rs → Shared floor ps rs
   shared floor [] [] [] none none = record {
     shares = [];
     each = none;
@@ -191,10 +193,10 @@ module _ {D G K : Type 0} (leads : D → ℕ → D → Type 0) (notes : K →
     tallies = refl;
   }
   shared floor (p ∷ ps) (w ∷ ws) (r ∷ rs) (both h hs) (both k ks) =
-      let d = did leads notes s opener.manager floor [] p w r h k in
+      let d = did leads shown_of s opener.manager floor [] p w r h k in
       let more = shared floor ps ws rs hs ks in
       record {
-        shares = record { records = d.added; tally = tally_of r; left = shown notes r.seat } ∷ more.shares;
+        shares = record { records = d.added; tally = tally_of r; left = shown_of r.seat } ∷ more.shares;
         each = both d.has more.each;
         left_are = both refl more.left_are;
         later = ((d.sorted, d.later), more.later);
@@ -208,28 +210,28 @@ module _ {D G K : Type 0} (leads : D → ℕ → D → Type 0) (notes : K →
   shared floor (p ∷ ps) (w ∷ ws) [] hs ks = elim ks [ ]
 
   -- what a seat that was handed back shows
-  handed : (x : Share (SeatShown D)) (r : Worker D G K) (p : Seat D G K) → shown notes r.seat ≡ x.left → p ≡ r.seat →
-      shown notes p ≡ x.left
-  handed x r p e f = ap (λ (y : Seat D G K). shown notes y) f ∙ e
+  handed : (x : Share (SeatShown D)) (r : Worker W) (p : W) → shown_of r.seat ≡ x.left → p ≡ r.seat →
+      shown_of p ≡ x.left
+  handed x r p e f = ap (λ (y : W). shown_of y) f ∙ e
 
   -- what the first one added, and the others behind it
-  record Round (seats : List (Seat D G K)) (crew : Crew D G K) (done : Crew D G K) (all : List Record)
+  record Round (seats : List W) (crew : Crew W) (done : Crew W) (all : List Record)
       (h : IsCrew opener s.tries seats crew) : Type 0 where
     mine : Did leads s opener.manager.renewal opener.client.value.floor opener.client.value.records
-        (shown notes h.seat) (shown notes done.first.seat) done.first.session.client
+        (shown_of h.seat) (shown_of done.first.seat) done.first.session.client
         done.first.tally.tally
     more : Shared opener.client.value.floor h.rest done.others.items
     behind : all ≡ opener.client.value.records
         ++ all_merged (λ (x : Share (SeatShown D)). x.records) mine.added more.shares
 
-  round : (seats : List (Seat D G K)) (crew : Crew D G K) (done : Crew D G K) (all : List Record)
+  round : (seats : List W) (crew : Crew W) (done : Crew W) (all : List Record)
       (t : Tally) → IsReadyForRound s opener → (h : IsCrew opener s.tries seats crew) →
-      DidAllWork leads notes s crew done →
+      DidAllWork leads shown_of s crew done →
       Gathered records_of tally_of done.first done.others.items all t → Round seats crew done all h
   round seats crew done all t ready h k g =
       let floor = opener.client.value.floor in
       let before = opener.client.value.records in
-      let d = did leads notes s opener.manager floor before h.seat crew.first done.first h.opening k.first in
+      let d = did leads shown_of s opener.manager floor before h.seat crew.first done.first h.opening k.first in
       let more = shared floor h.rest crew.others.items done.others.items h.others_are k.others in
       record {
         mine = d;
@@ -239,12 +241,12 @@ module _ {D G K : Type 0} (leads : D → ℕ → D → Type 0) (notes : K →
             ∙ merged_front opener.manager.renewal floor before d.added more.shares ready.known more.later));
       }
 
-  pub ran_all : (seats left : List (Seat D G K)) (crew : Crew D G K) (done : Crew D G K)
+  pub ran_all : (seats left : List W) (crew : Crew W) (done : Crew W)
       (after : Client) (t : Tally) → IsReadyForRound s opener → IsCrew opener s.tries seats crew →
-      DidAllWork leads notes s crew done →
+      DidAllWork leads shown_of s crew done →
       Gathered records_of tally_of done.first done.others.items after.records t →
       Paired (λ r p. p ≡ r.seat) (done.first ∷ done.others.items) left →
-      RanAll leads s (shown notes) s.tasks opener.client.value.records seats after.records left t
+      RanAll leads s shown_of s.tasks opener.client.value.records seats after.records left t
   ran_all seats left crew done after t ready h k g lefts =
       let r = round seats crew done after.records t ready h k g in
       let d = r.mine in
@@ -252,14 +254,14 @@ module _ {D G K : Type 0} (leads : D → ℕ → D → Type 0) (notes : K →
       let mine : Share (SeatShown D) = record {
         records = d.added;
         tally = tally_of done.first;
-        left = shown notes done.first.seat;
+        left = shown_of done.first.seat;
       } in
       -- with one client there are no others
       let none : length seats ≡ 1 → length crew.others.items ≡ 0 = λ one. (
-      let long : length seats ≡ suc (length h.rest) = ap (λ (l : List (Seat D G K)). length l) h.seats_are in
+      let long : length seats ≡ suc (length h.rest) = ap (λ (l : List W). length l) h.seats_are in
       let same = paired_length _ h.rest crew.others.items h.others_are in
       omega (arith, one, long, same)) in
-      let quiet : (f : Worker D G K → ℕ) → length seats ≡ 1 → sum_of f done.others.items ≡ 0 = λ f one. (
+      let quiet : (f : Worker W → ℕ) → length seats ≡ 1 → sum_of f done.others.items ≡ 0 = λ f one. (
       let same = paired_length _ crew.others.items done.others.items k.others in
       no_sum f done.others.items (omega (arith, none one, same))) in
       let grants : length seats ≡ 1 → crew.first.session.client.value.grants ≡ 63 = λ one. (
@@ -267,10 +269,10 @@ module _ {D G K : Type 0} (leads : D → ℕ → D → Type 0) (notes : K →
       omega (arith, none one, held, crew.others.ok.0)) in
       record {
         shares = mine ∷ more.shares;
-        each = subst (λ (l : List (Seat D G K)). Paired (λ p x. HasKeptShare leads s s.tasks (shown notes p) x) l
+        each = subst (λ (l : List W). Paired (λ p x. HasKeptShare leads s s.tasks (shown_of p) x) l
             (mine ∷ more.shares)) (sym h.seats_are) (both d.has more.each);
-        left_are = paired_through (λ x r. shown notes r.seat ≡ x.left) (λ r p. p ≡ r.seat)
-            (λ x p. shown notes p ≡ x.left) handed (mine ∷ more.shares) (done.first ∷ done.others.items) left
+        left_are = paired_through (λ x r. shown_of r.seat ≡ x.left) (λ r p. p ≡ r.seat)
+            (λ x p. shown_of p ≡ x.left) handed (mine ∷ more.shares) (done.first ∷ done.others.items) left
             (both refl more.left_are) lefts;
         rest = all_merged (λ (x : Share (SeatShown D)). x.records) d.added more.shares;
         behind = r.behind;
@@ -293,8 +295,9 @@ module _ {D G K : Type 0} (leads : D → ℕ → D → Type 0) (notes : K →
       }
 
   -- what they added is of this renewal
-  pub ran_in : (seats : List (Seat D G K)) (crew : Crew D G K) (done : Crew D G K) (after : Client)
-      (t : Tally) → IsReadyForRound s opener → IsCrew opener s.tries seats crew → DidAllWork leads notes s crew done →
+  pub ran_in : (seats : List W) (crew : Crew W) (done : Crew W) (after : Client)
+      (t : Tally) → IsReadyForRound s opener → IsCrew opener s.tries seats crew →
+      DidAllWork leads shown_of s crew done →
       Gathered records_of tally_of done.first done.others.items after.records t →
       IsInRenewal opener.manager.renewal opener.client.value.records → IsInRenewal opener.manager.renewal after.records
   ran_in seats crew done after t ready h k g in_it =
@@ -304,9 +307,9 @@ module _ {D G K : Type 0} (leads : D → ℕ → D → Type 0) (notes : K →
       (of_this opener.manager.renewal opener.client.value.floor r.mine.added r.more.shares r.mine.later r.more.later)
 
   -- workers that ran their tasks can be gathered
-  pub can_gather : (seats : List (Seat D G K)) (crew : Crew D G K) (done : Crew D G K) →
+  pub can_gather : (seats : List W) (crew : Crew W) (done : Crew W) →
       s.clients ≤ 64 → s.tasks ≤ 1000000 → length seats ≡ s.clients → IsCrew opener s.tries seats crew →
-      DidAllWork leads notes s crew done → CanGather done
+      DidAllWork leads shown_of s crew done → CanGather done
   can_gather seats crew done clients tasks number h k =
       let first = ap (λ (y : SessionShown). y.manager) k.first.session ∙ h.opening.manager_is in
       let same = paired_length _ crew.others.items done.others.items k.others in
@@ -319,11 +322,11 @@ module _ {D G K : Type 0} (leads : D → ℕ → D → Type 0) (notes : K →
             let all : crew.first.session.client.value.grants + crew.others.len ≡ 63 = h.grants in
             omega (arith, held, same, crew.others.ok.0, there, all));
         few = (
-            let long : length seats ≡ suc (length h.rest) = ap (λ (l : List (Seat D G K)). length l) h.seats_are in
+            let long : length seats ≡ suc (length h.rest) = ap (λ (l : List W). length l) h.seats_are in
             let pairs = paired_length _ h.rest crew.others.items h.others_are in
             omega (arith, long, pairs, same, there, number, clients));
         tasks = (let all = k.first.looped.all in omega (arith, all, tasks));
-        others = paired_both (DidWork leads notes s)
+        others = paired_both (DidWork leads shown_of s)
             (λ w. (w.session.manager ≡ opener.manager) × (w.session.client.value.grants ≡ 0)) (IsMember done.first)
             (λ w r e d. record {
               one = ap (λ (y : SessionShown). y.manager) d.session ∙ (e.0 ∙ sym first);

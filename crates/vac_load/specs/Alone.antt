@@ -6,16 +6,7 @@ use Rattle.vac_manager.specs.Called.{HasAllGrants}
 use Rattle.vac_manager.specs.Session.{SessionShown, IsOwn}
 use Rattle.vac_manager.specs.Legal.{AreVersioned}
 use Rattle.vac_draws.specs.declared.settings.Settings.{Settings}
-
--- the record comes after none that is added in this renewal by a client that knows this version
-pub record IsKnownRecord (renewal version : ℕ) (r : Record) : Type 0 where
-  pub present : r.renewal ≤ renewal
-  pub known : r.renewal ≡ renewal → r.version ≤ version
-  pub unplaced : r.renewal ≡ renewal → r.point ≡ 0
-
--- each of these records comes after none that such a client adds in this renewal
-abbrev pub AreKnown : ℕ → ℕ → List Record → Type 0
-AreKnown renewal version records = (r : Record) → In r records → IsKnownRecord renewal version r
+use Rattle.vac_asking.specs.Looping.{AreKnown}
 
 -- after the records of earlier renewals, which have one writer a version and readers that wrote
 -- nothing, come those of this one

@@ -1,10 +1,5 @@
 pub mod Alone
-pub mod Asking
-pub mod Attempted
-pub mod Lists
-pub mod Looping
-pub mod Opening
-pub mod Sums
-pub mod Keeping
+pub mod Seats
+pub mod Several
 pub mod Load
 pub mod Streams

@@ -14,17 +14,18 @@ use Rattle.vac_manager.specs.declared.fault.Fault.{Fault}
 use Rattle.vac_manager.specs.declared.fault.Fault.TheVariants as fault
 use Rattle.vac_draws.specs.declared.settings.Settings.{Settings}
 use Rattle.vac_draws.specs.declared.settings.TheConstants.{MOST_CLIENTS, MOST_TASKS}
-use Rattle.vac_load.specs.declared.tally.Tally.{Tally}
-use Rattle.vac_load.specs.declared.seats.Seat.{Seat}
+use Rattle.vac_asking.specs.declared.tally.Tally.{Tally}
 use Rattle.vac_load.specs.declared.workers.Worker.{Worker}
 use Rattle.vac_load.specs.declared.workers.WorkOf.{WorkOf}
 use Rattle.vac_load.specs.declared.workers.Crew.{Crew}
 use Rattle.vac_load.specs.declared.rounds.Round.{Round}
-use Rattle.vac_load.specs.Attempted.{uncounted}
-use Rattle.vac_load.specs.Looping.{Looped, Clocked, AreOfTasks, total}
-use Rattle.vac_load.specs.Lists.{Paired, Interleaved}
-use Rattle.vac_load.specs.Keeping.{KeptNotes, AreKept, AllKept, HasKeptAdded, SeatShown, shown}
-use Rattle.vac_load.specs.Opening.{as_tasks, RanDrawn, Stopped, IsAnswered}
+use Rattle.vac_asking.specs.Attempted.{TaskCountsShown, uncounted}
+use Rattle.vac_asking.specs.Looping.{Looped, Clocked, AreOfTasks, total}
+use Rattle.vac_asking.specs.Lists.{Paired}
+use Rattle.vac_load.specs.Several.{Interleaved, AllKept, added_up}
+use Rattle.vac_asking.specs.Keeping.{KeptNotes, AreKept, HasKeptAdded}
+use Rattle.vac_load.specs.Seats.{SeatShown, shown}
+use Rattle.vac_asking.specs.Opening.{as_tasks, RanDrawn, Stopped, IsAnswered}
 use Rattle.vac_draws.specs.Setting.{is_settings}
 use Rattle.vac_load.specs.declared.load.LoadFault.{LoadFault}
 use Rattle.vac_load.specs.declared.load.LoadFault.TheVariants as load
@@ -34,37 +35,41 @@ use Rattle.vac_model.specs.State.{State, empty_state, report}
 use Rattle.vac_manager.specs.Legal.{IsLegal, AreVersioned}
 use Rattle.vac_draws.specs.Draws.{Drawn, times_over}
 use Rattle.vac_draws.specs.Tasks.{task_of, opening}
-use Rattle.vac_load.specs.Sums.{added_up}
 
 -- the clock has a version for each command of the opening, and, after them, one for each task of
 -- one client in a round
 abbrev pub HasTime : Settings → Type 0
 HasTime s = 4 * s.items + s.tasks ≤ s.last
 
--- a worker ran its tasks of a round, with the settings' tries for each, and became that worker: its
--- session went on, its client's value has what its loop made of it in its manager's renewal and,
+-- the client of a seat ran its tasks of a round in the first session, with the settings' tries for
+-- each; the second session and seat are what they left, and these counts how they ended: the
+-- session went on, its client's value has what the loop made of it in its manager's renewal and,
 -- where it is alone, by its manager's clock, and its keeper kept its answered calls
-pub record DidWork {D G K : Type 0} (leads : D → ℕ → D → Type 0) (notes : K → KeptNotes)
-    (s : Settings)
-    (w d : Worker D G K) : Type 0 where
-  pub session : GoesOn w.session d.session
-  pub looped : Looped leads s w.session.manager.renewal s.tasks w.session.client.value
-      d.session.client.value w.seat.draws d.seat.draws d.tally.tally
-  pub clock : HasAllGrants w.session.client.value → Clocked w.session.manager.last
-      w.session.client.value d.session.client.value d.tally.tally
-  pub tries : d.tally.tries ≡ s.tries
-  pub kept : HasKeptAdded w.session.client.value d.session.client.value
-      (notes w.seat.keep) (notes d.seat.keep)
+pub record RanTasks {W D : Type 0} (leads : D → ℕ → D → Type 0) (shown_of : W → SeatShown D)
+    (s : Settings) (y : SessionShown) (seat : W) (z : SessionShown) (left : W) (c : TaskCountsShown)
+    : Type 0 where
+  pub session : GoesOn y z
+  pub looped : Looped leads s y.manager.renewal s.tasks y.client.value z.client.value
+      (shown_of seat).draws (shown_of left).draws c.tally
+  pub clock : HasAllGrants y.client.value → Clocked y.manager.last y.client.value z.client.value
+      c.tally
+  pub tries : c.tries ≡ s.tries
+  pub kept : HasKeptAdded y.client.value z.client.value (shown_of seat).kept (shown_of left).kept
+
+-- a worker ran its tasks of a round and became that worker
+abbrev pub DidWork : {W D : Type 0} → (D → ℕ → D → Type 0) → (W → SeatShown D) → Settings
+    → Worker W → Worker W → Type 0
+DidWork leads shown_of s w d =
+    RanTasks leads shown_of s w.session w.seat d.session d.seat d.tally
 
 -- each worker of a crew ran its tasks of a round; the workers are in their order
-pub record DidAllWork {D G K : Type 0} (leads : D → ℕ → D → Type 0) (notes : K → KeptNotes)
-    (s : Settings) (crew : Crew D G K) (done : Crew D G K) : Type 0 where
-  pub first : DidWork leads notes s crew.first done.first
-  pub others : Paired (DidWork leads notes s) crew.others.items done.others.items
+pub record DidAllWork {W D : Type 0} (leads : D → ℕ → D → Type 0) (shown_of : W → SeatShown D)
+    (s : Settings) (crew done : Crew W) : Type 0 where
+  pub first : DidWork leads shown_of s crew.first done.first
+  pub others : Paired (DidWork leads shown_of s) crew.others.items done.others.items
 
 -- the promise is of the tasks of this worker by these settings
-pub record IsPromise {D G K : Type 0} (s : Settings) (w : Worker D G K) (p : WorkOf D G K)
-    : Type 0 where
+pub record IsPromise {W : Type 0} (s : Settings) (w : Worker W) (p : WorkOf W) : Type 0 where
   pub settings_is : p.settings ≡ s
   pub worker_is : p.worker.value ≡ w
 
@@ -87,9 +92,9 @@ pub record Gathered {X : Type 0} (records_of : X → List Record) (tally_of : X 
   pub tallies : t ≡ added_up tally_of (first ∷ others)
 
 -- a worker's session is one with this manager, and its client begins with these records and this
--- floor; and the worker has this seat, with its draws, its gate and its keeper
-pub record IsWorker {D G K : Type 0} (manager : RegionShown) (records : List Record) (floor : ℕ)
-    (seat : Seat D G K) (w : Worker D G K) : Type 0 where
+-- floor; and the worker has this seat
+pub record IsWorker {W : Type 0} (manager : RegionShown) (records : List Record) (floor : ℕ)
+    (seat : W) (w : Worker W) : Type 0 where
   pub manager_is : w.session.manager ≡ manager
   pub records_are : w.session.client.value.records ≡ records
   pub knows : w.session.client.value.floor ≡ floor
@@ -98,10 +103,10 @@ pub record IsWorker {D G K : Type 0} (manager : RegionShown) (records : List Rec
 -- each seat got a session with the opening session's manager: the first that session, the others
 -- sessions of clients without records. The first one holds the grants of them all. None of them has
 -- counted a task, and each will ask for its tasks with so many tries
-pub record IsCrew {D G K : Type 0} (opener : SessionShown) (tries : ℕ)
-    (seats : List (Seat D G K)) (crew : Crew D G K) : Type 0 where
-  pub seat : Seat D G K
-  pub rest : List (Seat D G K)
+pub record IsCrew {W : Type 0} (opener : SessionShown) (tries : ℕ) (seats : List W)
+    (crew : Crew W) : Type 0 where
+  pub seat : W
+  pub rest : List W
   pub seats_are : seats ≡ seat ∷ rest
   pub opening : IsWorker opener.manager opener.client.value.records opener.client.value.floor
       seat crew.first
@@ -114,14 +119,14 @@ pub record IsCrew {D G K : Type 0} (opener : SessionShown) (tries : ℕ)
 
 -- the worker is one of those that the first one can take in: its session is with the same manager,
 -- it has no grants, and its tally can be added
-pub record IsMember {D G K : Type 0} (first w : Worker D G K) : Type 0 where
+pub record IsMember {W : Type 0} (first w : Worker W) : Type 0 where
   pub one : w.session.manager ≡ first.session.manager
   pub grants : w.session.client.value.grants ≡ 0
   pub tasks : total w.tally.tally ≤ MOST_TASKS
   pub tries : w.tally.tries ≡ first.tally.tries
 
 -- the workers of a crew can be gathered: the first one holds the grants of them all
-pub record CanGather {D G K : Type 0} (crew : Crew D G K) : Type 0 where
+pub record CanGather {W : Type 0} (crew : Crew W) : Type 0 where
   pub grants : crew.first.session.client.value.grants + vec_len crew.others ≡ MOST_GRANTS
   pub few : vec_len crew.others < MOST_CLIENTS
   pub tasks : total crew.first.tally.tally ≤ MOST_TASKS
@@ -176,13 +181,13 @@ pub record RanAll {D P : Type 0} (leads : D → ℕ → D → Type 0) (s : Setti
 
 -- all clients ran n tasks each, in one round or in several, from the records of this session's
 -- client and from these seats on; the round has what they left, and how these tasks ended
-abbrev pub RoundHasRun : {D G K : Type 0} → (D → ℕ → D → Type 0) → (K → KeptNotes) → Settings → ℕ
-    → SessionShown → List (Seat D G K) → Round D G K → Type 0
-RoundHasRun leads notes s n y seats r = RanAll leads s (shown notes) n y.client.value.records seats
+abbrev pub RoundHasRun : {W D : Type 0} → (D → ℕ → D → Type 0) → (W → SeatShown D) → Settings → ℕ
+    → SessionShown → List W → Round W → Type 0
+RoundHasRun leads shown_of s n y seats r = RanAll leads s shown_of n y.client.value.records seats
     r.alone.client.value.records r.seats.items r.tally.tally
 
 -- a round of a load with these settings: a seat for each client, and the settings' tries
-pub record IsRound {D G K : Type 0} (s : Settings) (r : Round D G K) : Type 0 where
+pub record IsRound {W : Type 0} (s : Settings) (r : Round W) : Type 0 where
   pub number : vec_len r.seats ≡ s.clients
   pub tries : r.tally.tries ≡ s.tries
 
@@ -195,10 +200,10 @@ abbrev pub IsLoadRefusal : LoadFault → Type 0
 IsLoadRefusal e = (e ≡ load.Memory) ⊎ (e ≡ load.Spawn)
 
 -- each worker of a crew ran its tasks of a round, or that was refused
-abbrev pub RunsCrew : {D G K : Type 0} → (D → ℕ → D → Type 0) → (K → KeptNotes) → Settings
-    → Crew D G K → Result (Crew D G K) LoadFault → Type 0
-RunsCrew leads notes s crew result =
-    IfOk result (DidAllWork leads notes s crew) × IfErr result IsLoadRefusal
+abbrev pub RunsCrew : {W D : Type 0} → (D → ℕ → D → Type 0) → (W → SeatShown D) → Settings
+    → Crew W → Result (Crew W) LoadFault → Type 0
+RunsCrew leads shown_of s crew result =
+    IfOk result (DidAllWork leads shown_of s crew) × IfErr result IsLoadRefusal
 
 -- the manager of a load was made, and the opening was answered whole: from this state of its draws
 -- on all its commands were drawn, and each of them was asked for and answered, by a clock that

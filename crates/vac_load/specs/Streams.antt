@@ -2,10 +2,10 @@
 use Rattle.std.specs.Prelude.{map}
 use Rattle.vac_model.specs.declared.replies.Report.{Report}
 use Rattle.vac_draws.specs.declared.settings.Settings.{Settings}
-use Rattle.vac_load.specs.declared.tally.Tally.{Tally}
+use Rattle.vac_asking.specs.declared.tally.Tally.{Tally}
 use Rattle.vac_draws.specs.Streams.{stream_of, streams_of, gives}
 use Rattle.vac_load.specs.declared.seats.Keepers.{Keepers}
-use Rattle.vac_load.specs.Keeping.{KeptNotes}
+use Rattle.vac_asking.specs.Keeping.{KeptNotes}
 use Rattle.vac_load.specs.Load.{HasLoaded, LoadedKept}
 
 -- the load of a seed: the opening draws from stream 0, and each client from the stream of its

@@ -4,22 +4,21 @@ ghost use Rattle.std.specs.Prelude.{◌≡◌, ◌≤◌, ◌<◌, ◌+◌, ◌�
 ghost use Rattle.vac_manager.specs.Called.{HasAllGrants};
 ghost use Rattle.vac_model.specs.declared.limits.TheConstants.{MOST_TRIES};
 ghost use Rattle.vac_draws.specs.declared.settings.TheConstants.{MOST_CLIENTS};
-ghost use Rattle.vac_load.specs.Lists.{Paired};
+ghost use Rattle.vac_asking.specs.Lists.{Paired};
 ghost use Rattle.vac_load.specs.Load.{Gathered, CanGather, IsCrew};
 
-use crate::counts::Counts;
 use crate::load::LoadFault;
-use crate::seats::Seat;
 use crate::workers::{Crew, Worker};
 use std::alloc::Global;
+use vac_asking::TaskCounts;
 use vac_manager::{Client, Session};
 
 /// Gathers the workers' clients into that of the first one, in their order, hands their seats back,
 /// and adds up how their tasks ended.
-pub(crate) fn gather_all<D: Drop, G: Drop, K: Drop>(
-    crew: Crew<'_, D, G, K>,
-    mut seats: Vec<Seat<D, G, K>>,
-) -> (Client, Vec<Seat<D, G, K>>, Counts)
+pub(crate) fn gather_all<W: Drop>(
+    crew: Crew<'_, W>,
+    mut seats: Vec<W>,
+) -> (Client, Vec<W>, TaskCounts)
     requires can { CanGather crew }
     requires room { vec_len crew.others < vec_capacity seats }
     requires empty { seats.items ≡ [] }
@@ -54,12 +53,12 @@ pub(crate) fn gather_all<D: Drop, G: Drop, K: Drop>(
 
 /// Splits off a session for each seat but the first one, which the opening session gets. None of
 /// the workers has run a task.
-pub(crate) fn split_crew<'m, D: Drop, G: Drop, K: Drop>(
+pub(crate) fn split_crew<'m, W: Drop>(
     alloc: Global,
     mut session: Session<'m>,
-    seats: Vec<Seat<D, G, K>>,
+    seats: Vec<W>,
     tries: u32,
-) -> Result<Crew<'m, D, G, K>, LoadFault>
+) -> Result<Crew<'m, W>, LoadFault>
     requires alone { HasAllGrants session.client.value }
     requires some { 0 < vec_len seats }
     requires few { vec_len seats ≤ MOST_CLIENTS }
@@ -82,14 +81,14 @@ pub(crate) fn split_crew<'m, D: Drop, G: Drop, K: Drop>(
         let worker = Worker {
             session: other,
             seat: another,
-            tally: Counts::new(tries),
+            tally: TaskCounts::new(tries),
         };
         others.push_reserved(worker);
     }
     let first = Worker {
         session,
         seat,
-        tally: Counts::new(tries),
+        tally: TaskCounts::new(tries),
     };
     Ok(Crew { first, others })
 }

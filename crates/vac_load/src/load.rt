@@ -2,24 +2,23 @@
 
 ghost use Rattle.std.specs.Prelude.{◌≡◌, ◌↔◌, true, false, vec_len, IfOk, IfErr, IsErrOf};
 ghost use Rattle.vac_draws.specs.Setting.{is_settings};
-ghost use Rattle.vac_load.specs.Keeping.{AreKept, kept_at};
+ghost use Rattle.vac_asking.specs.Keeping.{AreKept};
+ghost use Rattle.vac_load.specs.Seats.{kept_at};
 ghost use Rattle.vac_load.specs.Load.{HasOpened, HasLoaded, LoadedKept, is_load, IsLoadFault, IsStopOfLoad};
 ghost use Rattle.vac_draws.specs.Streams.{gives, stream_of};
 ghost use Rattle.vac_load.specs.Streams.{LoadedBySeed, KeptBySeed};
-ghost use Rattle.vac_load.specs.Attempted.{IsEffort};
+ghost use Rattle.vac_asking.specs.Attempted.{IsEffort};
 
 use crate::alone::Alone;
-use crate::efforts::Efforts;
-use crate::opening::open_kept;
 use crate::plan::Plan;
 use crate::rounds::Round;
 use crate::seats::{Keepers, Seat, Sent, keepers_of, no_keepers, seats_by_seed, seats_unkept};
-use crate::tally::Tally;
 use std::alloc::Global;
 use std::sync::Wait;
 use std::thread::Threads;
 use stm_attempt::{Gate, NoGate};
 use thiserror::Error;
+use vac_asking::{Efforts, Tally, open_kept};
 use vac_draws::{Draws, PcgDraws, Settings};
 use vac_manager::{Fault, Keep, Manager, Report, Session, Unkept, report_of};
 
@@ -84,6 +83,8 @@ fn run_in_range<R: Threads + Wait, D: Draws + Sent, G: Gate + Sent, K: Keep + Se
     keep: &mut K,
     seats: Vec<Seat<D, G, K>>,
 ) -> Result<(LoadReport, Efforts, Vec<Seat<D, G, K>>), LoadFault>
+where
+    K::Tracing: Send,
     requires settings { is_settings settings.now ≡ true }
     requires number { vec_len seats ≡ settings.now.clients }
     ensures kept { IfOk result (λ r. LoadedKept D.leads settings.now (λ seat. seat.draws)
@@ -180,7 +181,8 @@ pub fn run_load<R: Threads + Wait + AllocGlobal>(
 /// tells its gate when it is ready and when it is done, in each round. Each keeper is asked for
 /// room before a call and is handed the call once it is answered; where it has no room the call is
 /// not made, and the task counts under memory, or the opening stops with the fault of refused
-/// memory. The keepers are handed back in their order.
+/// memory. The keepers are handed back in their order. (What a keeper lends stays in its client's
+/// thread; that it is `Send` is asked for the proof.)
 pub fn run_load_kept<
     R: Threads + Wait + AllocGlobal,
     G: Gate + Copy + Send + Drop,
@@ -191,6 +193,8 @@ pub fn run_load_kept<
     gate: G,
     keepers: Keepers<K>,
 ) -> Result<(LoadReport, Efforts, Keepers<K>), LoadFault>
+where
+    K::Tracing: Send,
     ensures arguments { IsErrOf result LoadFault.Arguments
         ↔ (is_load settings.now (vec_len keepers.clients) ≡ false) }
     ensures loaded { IfOk result (λ r. LoadedBySeed settings.now r.0.tally r.0.report) }

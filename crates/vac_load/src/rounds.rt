@@ -5,40 +5,39 @@ ghost use Rattle.vac_load.specs.Alone.{IsReadyForRound};
 ghost use Rattle.vac_load.specs.Load.{RoundHasRun, IsLoadRefusal, IsRound};
 
 use crate::alone::Alone;
-use crate::counts::Counts;
 use crate::gathering::{gather_all, split_crew};
 use crate::load::LoadFault;
 use crate::plan::Plan;
-use crate::seats::{Seat, Sent};
+use crate::running::RunTasks;
+use crate::seats::Sent;
 use std::sync::Wait;
 use std::thread::Threads;
-use stm_attempt::Gate;
-use vac_draws::Draws;
-use vac_manager::{Keep, Session};
+use vac_asking::TaskCounts;
+use vac_manager::Session;
 
 /// What a round left, or several of a load: the manager with the client that took in all others,
 /// the seats of the clients in their order, and how the tasks of these rounds ended.
 #[derive(Drop)]
-pub(crate) struct Round<D, G, K> {
+pub(crate) struct Round<W> {
     pub(crate) alone: Alone,
-    pub(crate) seats: Vec<Seat<D, G, K>>,
-    pub(crate) tally: Counts,
+    pub(crate) seats: Vec<W>,
+    pub(crate) tally: TaskCounts,
 }
 
 impl Plan {
     /// One round: splits off a session for each seat, has them all run their tasks in threads of
     /// their own, and gathers their clients into the first.
-    fn run_round<R: Threads + Wait, D: Draws + Sent, G: Gate + Sent, K: Keep + Sent>(
+    fn run_round<R: Threads + Wait, W: RunTasks + Sent>(
         self,
         rt: &R,
         alone: Alone,
-        seats: Vec<Seat<D, G, K>>,
-    ) -> Result<Round<D, G, K>, LoadFault>
+        seats: Vec<W>,
+    ) -> Result<Round<W>, LoadFault>
         requires number { vec_len seats ≡ self.settings.clients }
         requires ready { IsReadyForRound self.settings alone }
         ensures manager { IfOk result (λ r. r.alone.manager ≡ alone.manager) }
         ensures round { IfOk result (λ r. IsRound self.settings r) }
-        ensures ran { IfOk result (λ r. RoundHasRun D.leads K.notes self.settings
+        ensures ran { IfOk result (λ r. RoundHasRun W.leads W.shown self.settings
             self.settings.tasks alone seats.items r) }
         ensures refused { IfErr result (λ fault. IsLoadRefusal fault) }
     {
@@ -60,18 +59,18 @@ impl Plan {
 
     /// Runs all rounds of a load, in which the seats go on. Between two of them the manager is
     /// renewed.
-    pub(crate) fn run_rounds<R: Threads + Wait, D: Draws + Sent, G: Gate + Sent, K: Keep + Sent>(
+    pub(crate) fn run_rounds<R: Threads + Wait, W: RunTasks + Sent>(
         self,
         rt: &R,
         alone: Alone,
-        seats: Vec<Seat<D, G, K>>,
-    ) -> Result<Round<D, G, K>, LoadFault>
+        seats: Vec<W>,
+    ) -> Result<Round<W>, LoadFault>
         requires renewals { alone.manager.renewal ≡ 0 }
         requires number { vec_len seats ≡ self.settings.clients }
         requires ready { IsReadyForRound self.settings alone }
         ensures size { IfOk result (λ r. r.alone.manager.size ≡ alone.manager.size) }
         ensures round { IfOk result (λ r. IsRound self.settings r) }
-        ensures ran { IfOk result (λ r. RoundHasRun D.leads K.notes self.settings
+        ensures ran { IfOk result (λ r. RoundHasRun W.leads W.shown self.settings
             (self.settings.rounds * self.settings.tasks) alone seats.items r) }
         ensures refused { IfErr result (λ fault. IsLoadRefusal fault) }
     {

@@ -7,7 +7,7 @@ use std::alloc::{AllocError, Global};
 use vac_draws::PcgDraws;
 use vac_manager::Unkept;
 
-/// What a seat holds, and so goes from thread to thread.
+/// What goes from thread to thread: a seat, and so what it holds.
 pub(crate) trait Sent: Send + Drop {}
 
 impl<T: Send + Drop> Sent for T {}

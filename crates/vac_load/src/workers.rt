@@ -1,62 +1,61 @@
 //! Clients in threads of their own.
 
 ghost use Rattle.std.specs.Prelude.{◌≡◌, ◌≤◌, [], IfOk, IfErr, vec_len, vec_capacity};
-ghost use Rattle.vac_load.specs.Lists.{Paired};
+ghost use Rattle.vac_asking.specs.Lists.{Paired};
 ghost use Rattle.vac_load.specs.Load.{DidWork, IsPromise, RunsCrew};
 
-use crate::counts::Counts;
 use crate::load::LoadFault;
-use crate::looping::count_loop;
 use crate::plan::Plan;
-use crate::seats::{Seat, Sent};
+use crate::running::RunTasks;
+use crate::seats::Sent;
 use std::snapshot::Snapshot;
 use std::sync::Wait;
 use std::thread;
 use std::thread::{Promise, PromisedHandle, Scope, Threads};
-use stm_attempt::Gate;
-use vac_draws::{Draws, Settings};
-use vac_manager::{Keep, Session};
+use vac_asking::TaskCounts;
+use vac_draws::Settings;
+use vac_manager::Session;
 
 /// A client in a session with its manager, its seat, and how the tasks ended that it ran in this
 /// round.
 #[derive(Drop)]
-pub(crate) struct Worker<'m, D, G, K> {
+pub(crate) struct Worker<'m, W> {
     pub(crate) session: Session<'m>,
-    pub(crate) seat: Seat<D, G, K>,
-    pub(crate) tally: Counts,
+    pub(crate) seat: W,
+    pub(crate) tally: TaskCounts,
 }
 
 /// The promise of a worker's thread: that the worker ran its tasks.
 #[derive(Drop)]
-struct WorkOf<'m, D, G, K> {
+struct WorkOf<'m, W> {
     settings: Settings,
-    worker: Snapshot<Worker<'m, D, G, K>>,
+    worker: Snapshot<Worker<'m, W>>,
 }
 
-impl<'m, D: Draws, G, K: Keep> Promise<Worker<'m, D, G, K>> for WorkOf<'m, D, G, K> {
-    ghost kept_by = { λ p r. DidWork D.leads K.notes p.settings p.worker.value r };
+impl<'m, W: RunTasks> Promise<Worker<'m, W>> for WorkOf<'m, W> {
+    ghost kept_by = { λ p r. DidWork W.leads W.shown p.settings p.worker.value r };
 }
 
 /// The thread of a worker.
-type Handle<'m, D, G, K> = PromisedHandle<Worker<'m, D, G, K>, WorkOf<'m, D, G, K>>;
+type Handle<'m, W> = PromisedHandle<Worker<'m, W>, WorkOf<'m, W>>;
 
 /// Workers that are to run their tasks, or that ran them, the first one apart.
 #[derive(Drop)]
-pub(crate) struct Crew<'m, D, G, K> {
-    pub(crate) first: Worker<'m, D, G, K>,
-    pub(crate) others: Vec<Worker<'m, D, G, K>>,
+pub(crate) struct Crew<'m, W> {
+    pub(crate) first: Worker<'m, W>,
+    pub(crate) others: Vec<Worker<'m, W>>,
 }
 
 /// Joins the threads in their order.
-fn join_all<'m, R: Threads, D: Draws + Drop, G: Drop, K: Keep + Drop>(
+fn join_all<'m, R: Threads, W: RunTasks + Drop>(
     rt: &R,
-    handles: Vec<Handle<'m, D, G, K>>,
-    mut done: Vec<Worker<'m, D, G, K>>,
-) -> Vec<Worker<'m, D, G, K>>
+    handles: Vec<Handle<'m, W>>,
+    mut done: Vec<Worker<'m, W>>,
+) -> Vec<Worker<'m, W>>
     requires room { vec_len handles ≤ vec_capacity done }
     requires empty { done.items ≡ [] }
     ensures { Paired
-        (λ h r. DidWork D.leads K.notes h.promise.settings h.promise.worker.value r)
+        (λ h r. DidWork W.leads W.shown h.promise.settings h.promise.worker.value r)
         handles.entry.items result.items }
 {
     for handle in handles {
@@ -67,27 +66,15 @@ fn join_all<'m, R: Threads, D: Draws + Drop, G: Drop, K: Keep + Drop>(
 
 impl Plan {
     /// Has a worker run its tasks.
-    fn work<'m, D: Draws, G: Gate, K: Keep>(
-        self,
-        worker: Worker<'m, D, G, K>,
-    ) -> Worker<'m, D, G, K>
-        ensures { DidWork D.leads K.notes self.settings worker.entry result }
+    fn work<'m, W: RunTasks>(self, worker: Worker<'m, W>) -> Worker<'m, W>
+        ensures { DidWork W.leads W.shown self.settings worker.entry result }
     {
         let Worker {
             mut session,
             mut seat,
             ..
         } = worker;
-        seat.gate.ready();
-        let tally = count_loop(
-            self.alloc,
-            &mut session,
-            &mut seat.draws,
-            &self.settings,
-            &mut seat.gate,
-            &mut seat.keep,
-        );
-        seat.gate.done();
+        let tally = seat.run_tasks(self.alloc, &mut session, &self.settings);
         Worker {
             session,
             seat,
@@ -96,11 +83,11 @@ impl Plan {
     }
 
     /// Starts the thread of a worker.
-    fn start<'s, 'm: 's, E, D: Draws + Sent + 's, G: Gate + Sent + 's, K: Keep + Sent + 's>(
+    fn start<'s, 'm: 's, E, W: RunTasks + Sent + 's>(
         self,
         scope: &Scope<'s, E>,
-        worker: Worker<'m, D, G, K>,
-    ) -> Result<Handle<'m, D, G, K>, LoadFault>
+        worker: Worker<'m, W>,
+    ) -> Result<Handle<'m, W>, LoadFault>
         ensures promise { IfOk result (λ handle.
             IsPromise self.settings worker.entry handle.promise) }
         ensures refused { IfErr result (λ fault. fault ≡ LoadFault.Spawn) }
@@ -109,8 +96,8 @@ impl Plan {
             settings: self.settings,
             worker: Snapshot::of(&worker),
         };
-        let run = move || -> Worker<'_, D, G, K>
-            ensures { DidWork D.leads K.notes self.settings worker.entry result }
+        let run = move || -> Worker<'_, W>
+            ensures { DidWork W.leads W.shown self.settings worker.entry result }
         { self.work(worker) };
         match scope.spawn_with(promise, run) {
             Ok(handle) => Ok(handle),
@@ -119,11 +106,11 @@ impl Plan {
     }
 
     /// Starts a thread for each worker, and keeps those that were started.
-    fn start_all<'s, 'm: 's, E, D: Draws + Sent + 's, G: Gate + Sent + 's, K: Keep + Sent + 's>(
+    fn start_all<'s, 'm: 's, E, W: RunTasks + Sent + 's>(
         self,
         scope: &Scope<'s, E>,
-        workers: Vec<Worker<'m, D, G, K>>,
-        handles: &mut Vec<Handle<'m, D, G, K>>,
+        workers: Vec<Worker<'m, W>>,
+        handles: &mut Vec<Handle<'m, W>>,
     ) -> Result<(), LoadFault>
         requires room { vec_len workers ≤ vec_capacity handles.old }
         requires empty { handles.old.items ≡ [] }
@@ -142,21 +129,13 @@ impl Plan {
 
     /// Starts a thread for each worker and joins them all, in the order of the workers. Their
     /// places are made first.
-    fn run_in<
-        's,
-        'm: 's,
-        E,
-        R: Threads,
-        D: Draws + Sent + 's,
-        G: Gate + Sent + 's,
-        K: Keep + Sent + 's,
-    >(
+    fn run_in<'s, 'm: 's, E, R: Threads, W: RunTasks + Sent + 's>(
         self,
         scope: &Scope<'s, E>,
         rt: &R,
-        crew: Crew<'m, D, G, K>,
-    ) -> Result<Crew<'m, D, G, K>, LoadFault>
-        ensures { RunsCrew D.leads K.notes self.settings crew.entry result }
+        crew: Crew<'m, W>,
+    ) -> Result<Crew<'m, W>, LoadFault>
+        ensures { RunsCrew W.leads W.shown self.settings crew.entry result }
     {
         let Crew { first, others } = crew;
         let Ok(mut handles) = Vec::with_capacity(self.alloc, others.len()) else {
@@ -175,18 +154,18 @@ impl Plan {
 
     /// Has each worker run its tasks in a thread of its own, all at once, and returns the workers
     /// in their order. Where a thread cannot be started, those that were started are joined first.
-    pub(crate) fn run_all<'m, R: Threads + Wait, D: Draws + Sent, G: Gate + Sent, K: Keep + Sent>(
+    pub(crate) fn run_all<'m, R: Threads + Wait, W: RunTasks + Sent>(
         self,
         rt: &R,
-        crew: Crew<'m, D, G, K>,
-    ) -> Result<Crew<'m, D, G, K>, LoadFault>
-        ensures { RunsCrew D.leads K.notes self.settings crew.entry result }
+        crew: Crew<'m, W>,
+    ) -> Result<Crew<'m, W>, LoadFault>
+        ensures { RunsCrew W.leads W.shown self.settings crew.entry result }
     {
         thread::scope(
             thread::scope_env(),
             rt,
-            move |scope| -> Result<Crew<'_, D, G, K>, LoadFault>
-                ensures { RunsCrew D.leads K.notes self.settings crew.entry result }
+            move |scope| -> Result<Crew<'_, W>, LoadFault>
+                ensures { RunsCrew W.leads W.shown self.settings crew.entry result }
             { self.run_in(scope, rt, crew) },
         )
     }

@@ -13,7 +13,7 @@ use vac_model::Task;
 /// What keeps the answered calls of a client, or does not.
 pub trait Keep {
     /// What traces the attempts of its calls.
-    type Tracing: Tracer + Send + Drop;
+    type Tracing: Tracer + Drop;
 
     /// The calls that it keeps, in their order; none where it keeps nothing.
     ghost notes: { Self → Option (List Note) };

@@ -1,11 +1,10 @@
 use Rattle.std.proofs.Common.{rules, ◌≡◌, ◌∙◌, sym, ◌≤◌, ◌<◌, ◌+◌, ◌*◌, ◌^◌, ℕ, [], ◌∷◌, List, ap, subst, refl, arith}
 use Rattle.std.specs.Vec.Iter.{into_iter_items, into_iter_len}
 use Rattle.stm_region.specs.Shown.{RegionShown}
-use Rattle.vac_load.specs.declared.tally.Tally.{Tally}
-use Rattle.vac_load.specs.Attempted.{CountsShown}
-use Rattle.vac_load.specs.Looping.{total}
-use Rattle.vac_load.specs.Sums.{plus}
-use Rattle.vac_load.specs.Lists.{Paired}
+use Rattle.vac_asking.specs.declared.tally.Tally.{Tally}
+use Rattle.vac_asking.specs.Attempted.{TaskCountsShown}
+use Rattle.vac_asking.specs.Looping.{total, plus}
+use Rattle.vac_asking.specs.Lists.{Paired}
 use Rattle.vac_load.specs.Load.{Gathered, IsMember}
 use Rattle.vac_load.proofs.Pairs.{all_met, paired_none, paired_step, one_on, all_same, all_but_first, all_first}
 use Rattle.vac_load.proofs.Pairs.{room_left, room_taken, held_back, nothing_left}
@@ -81,12 +80,12 @@ loop-worker-preserved g c =
           (into_iter_len c.next.new.self) less one.grants taken.grants i.grants;
       others = all_but_first (IsMember c.args.crew.first) (into_iter_items c.loop-worker.worker-iterator)
           (into_iter_items c.next.new.self) c.in-Some.worker split i.others;
-      tries = ap (λ (x : CountsShown). x.tries) c.plus-tally.ensures ∙ i.tries;
+      tries = ap (λ (x : TaskCountsShown). x.tries) c.plus-tally.ensures ∙ i.tries;
       gathered = gathered_more (λ w. w.session.client.value.records)
           (λ w. w.tally.tally) c.args.crew.first c.loop-worker.yielded c.in-Some.worker
           c.loop-worker.session.client.value c.gather.new.self.client.value c.loop-worker.tally.tally
           c.plus-tally.result.tally
-          i.gathered taken.records (ap (λ (x : CountsShown). x.tally) c.plus-tally.ensures);
+          i.gathered taken.records (ap (λ (x : TaskCountsShown). x.tally) c.plus-tally.ensures);
       handed = paired_step (λ w seat. seat ≡ w.seat)
           (c.args.crew.first ∷ c.loop-worker.yielded) c.loop-worker.seats.items
           c.push_reserved-in-loop-worker.new.self.items c.in-Some.worker c.in-Some.worker.seat pushed.items
@@ -96,7 +95,7 @@ loop-worker-preserved g c =
           c.push_reserved-in-loop-worker.new.self.cap less pushed.len pushed.capacity i.room;
       bound = few_more c.loop-worker.tally.tally c.in-Some.worker.tally.tally c.plus-tally.result.tally
           (into_iter_len c.loop-worker.worker-iterator) (into_iter_len c.next.new.self)
-          (ap (λ (x : CountsShown). x.tally) c.plus-tally.ensures) less one.tasks i.bound;
+          (ap (λ (x : TaskCountsShown). x.tally) c.plus-tally.ensures) less one.tasks i.bound;
     }
 
 pub returns-clause-gathered : goal.returns-clause-gathered

@@ -1,8 +1,8 @@
 use Rattle.std.proofs.Common.{◌≡◌, ◌≤◌, ◌+◌, ◌*◌, ◌++◌, ◌∷◌, All, vec_len, vec_capacity}
 use Rattle.stm_core.specs.declared.limits.TheConstants.{MOST_GRANTS}
 use Rattle.std.specs.Vec.Iter.{into_iter_items, into_iter_len}
-use Rattle.vac_load.specs.Looping.{total}
-use Rattle.vac_load.specs.Lists.{Paired}
+use Rattle.vac_asking.specs.Looping.{total}
+use Rattle.vac_asking.specs.Lists.{Paired}
 use Rattle.vac_load.specs.Load.{Gathered, IsMember}
 use Rattle.vac_load.proofs.gathering.gather_all.Given as goal
 

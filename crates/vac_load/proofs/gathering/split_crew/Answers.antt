@@ -1,7 +1,7 @@
 use Rattle.std.proofs.Common.{rules, ◌≡◌, ◌∙◌, sym, ℕ, ◌+◌, ◌≤◌, ◌∷◌, ap, refl, arith}
 use Rattle.std.specs.Vec.Iter.{into_iter_items, into_iter_len}
 use Rattle.vac_manager.specs.Called.{CallerShown}
-use Rattle.vac_load.specs.Attempted.{uncounted}
+use Rattle.vac_asking.specs.Attempted.{uncounted}
 use Rattle.vac_load.proofs.Pairs.{paired_none, paired_step, paired_all, one_on, all_more, all_none, room_taken}
 use Rattle.vac_load.proofs.Pairs.{counted_on, handed_out, nothing_left}
 use Rattle.vac_load.proofs.Shares.{split_worker, split_keeps}

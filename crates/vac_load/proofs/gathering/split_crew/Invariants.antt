@@ -1,8 +1,8 @@
 use Rattle.std.proofs.Common.{◌≡◌, ◌≤◌, ◌+◌, ◌++◌, [], All, vec_len, vec_capacity}
 use Rattle.stm_core.specs.declared.limits.TheConstants.{MOST_GRANTS}
 use Rattle.std.specs.Vec.Iter.{into_iter_items, into_iter_len}
-use Rattle.vac_load.specs.Lists.{Paired}
-use Rattle.vac_load.specs.Attempted.{uncounted}
+use Rattle.vac_asking.specs.Lists.{Paired}
+use Rattle.vac_asking.specs.Attempted.{uncounted}
 use Rattle.vac_load.specs.Load.{IsWorker}
 use Rattle.vac_load.proofs.gathering.split_crew.Given as goal
 

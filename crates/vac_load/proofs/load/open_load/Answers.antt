@@ -3,11 +3,11 @@ use Rattle.stm_core.specs.Client.{Record}
 use Rattle.vac_manager.specs.Called.{CallerShown}
 use Rattle.vac_manager.specs.Session.{SessionShown}
 use Rattle.vac_draws.specs.Tasks.{opening}
-use Rattle.vac_load.specs.Keeping.{HasKeptAdded}
-use Rattle.vac_load.specs.Opening.{RanIn, StoppedIn, IsAnswered}
+use Rattle.vac_asking.specs.Keeping.{HasKeptAdded}
+use Rattle.vac_asking.specs.Opening.{RanIn, StoppedIn, IsAnswered}
 use Rattle.vac_load.proofs.Eras.{opened_in}
 use Rattle.vac_load.proofs.Loads.{was_stopped}
-use Rattle.vac_load.proofs.Notes.{kept_added}
+use Rattle.vac_asking.proofs.Notes.{kept_added}
 use Rattle.vac_load.proofs.load.open_load.Goals as goal
 
 pub of-requires-clause-era : goal.of-requires-clause-era

@@ -1,7 +1,7 @@
 use Rattle.std.proofs.Common.{inl, ◌≡◌, ◌∙◌, length, ℕ, sym, subst}
-use Rattle.vac_load.specs.Attempted.{IsEffort}
+use Rattle.vac_asking.specs.Attempted.{IsEffort}
 use Rattle.vac_load.specs.Load.{IsStopOfLoad}
-use Rattle.vac_load.proofs.Opened.{handed_on}
+use Rattle.vac_asking.proofs.Opened.{handed_on}
 use Rattle.vac_load.proofs.Loads.{loaded_kept, opened_ready, stop_behind}
 use Rattle.vac_load.proofs.load.run_in_range.Goals as goal
 

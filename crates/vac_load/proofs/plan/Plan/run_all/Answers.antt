@@ -2,13 +2,8 @@ use Rattle.std.proofs.Crossing.{crosses}
 use denote.Param.Send.{sendable}
 use Rattle.vac_load.proofs.plan.Plan.run_all.Goals as goal
 
--- draws, gates, keepers, what traces their calls and what is told may go to another thread
+-- crews may go to another thread
 pub scoped-requires : goal.scoped-requires
 scoped-requires g c = record {
-  at = λ _. (
-    search (sendable, crosses) depth 40,
-    search (sendable, crosses) depth 40,
-    search (sendable, crosses) depth 40,
-    search (sendable, crosses) depth 40,
-  );
+  at = λ _. search (sendable, crosses) depth 40;
 }

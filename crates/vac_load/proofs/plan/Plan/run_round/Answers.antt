@@ -2,9 +2,8 @@ use Rattle.std.proofs.Common.{◌≡◌, ◌∙◌, length, sym, ap, subst, arit
 use Rattle.stm_region.specs.Shown.{RegionShown}
 use Rattle.vac_manager.specs.Session.{SessionShown}
 use Rattle.vac_load.specs.Alone.{IsInRenewal, IsReadyForRound}
-use Rattle.vac_load.specs.Keeping.{shown}
 use Rattle.vac_load.specs.Load.{RanAll}
-use Rattle.vac_load.proofs.Joining.{few, few_tries}
+use Rattle.vac_asking.proofs.Ranges.{few, few_tries}
 use Rattle.vac_load.proofs.Pairs.{paired_length}
 use Rattle.vac_load.proofs.Shares.{ran_all, ran_in, can_gather}
 use Rattle.vac_load.proofs.plan.Plan.run_round.Goals as goal
@@ -19,7 +18,8 @@ gather_all-client-requires g c =
     let count : length c.args.seats.items ≡ c.args.self.settings.clients =
     sym c.args.seats.ok.0 ∙ c.requires.number in
     record {
-      can = can_gather g.D.Draws.leads g.K.Keep.notes c.args.self.settings c.of-session.result c.args.seats.items _ _
+      can = can_gather g.W.RunTasks.leads g.W.RunTasks.shown c.args.self.settings c.of-session.result c.args.seats.items
+          _ _
           most.clients most.tasks count c.in_ok-crew.ensures.crew c.in_ok-crew-2.ensures.0;
       room = omega (arith, c.in_ok-crew.ensures.number, same, c.in-Ok.ensures.capacity, c.len.ensures);
       empty = c.in-Ok.ensures.items;
@@ -36,7 +36,7 @@ of-alone-requires g c =
       own = c.gather_all-client.ensures.own ∙ ap (λ (m : RegionShown). m.table) first;
       alone = c.gather_all-client.ensures.alone;
       era = subst (λ (y : SessionShown). IsInRenewal y.manager.renewal c.gather_all-client.result.0.value.records) same
-          (ran_in g.D.Draws.leads g.K.Keep.notes c.args.self.settings c.of-session.result _ _ _
+          (ran_in g.W.RunTasks.leads g.W.RunTasks.shown c.args.self.settings c.of-session.result _ _ _
           c.gather_all-client.result.0.value _ ready c.in_ok-crew.ensures.crew c.in_ok-crew-2.ensures.0
           c.gather_all-client.ensures.gathered
           (subst (λ (y : SessionShown). IsInRenewal y.manager.renewal y.client.value.records) (sym same)
@@ -56,10 +56,10 @@ pub returns-clause-ran : goal.returns-clause-ran
 returns-clause-ran g c =
     let same = c.of-session.ensures ∙ sym c.apart-manager.ensures.same in
     let ready = subst (λ (y : SessionShown). IsReadyForRound c.args.self.settings y) (sym same) c.requires.ready in
-    rw c.of-alone.ensures (subst (λ (y : SessionShown). RanAll g.D.Draws.leads c.args.self.settings
-    (shown g.K.Keep.notes) c.args.self.settings.tasks y.client.value.records c.args.seats.items
+    rw c.of-alone.ensures (subst (λ (y : SessionShown). RanAll g.W.RunTasks.leads c.args.self.settings
+    g.W.RunTasks.shown c.args.self.settings.tasks y.client.value.records c.args.seats.items
     c.gather_all-client.result.0.value.records c.gather_all-client.result.1.items c.gather_all-client.result.2.tally)
-    same (ran_all g.D.Draws.leads g.K.Keep.notes c.args.self.settings c.of-session.result _ _ _ _
+    same (ran_all g.W.RunTasks.leads g.W.RunTasks.shown c.args.self.settings c.of-session.result _ _ _ _
     c.gather_all-client.result.0.value _ ready c.in_ok-crew.ensures.crew c.in_ok-crew-2.ensures.0
     c.gather_all-client.ensures.gathered c.gather_all-client.ensures.seats))
 

@@ -1,8 +1,9 @@
 use Rattle.std.proofs.Common.{◌≡◌, ◌∙◌, ◌*◌, ◌≤◌, length, ℕ, sym, ap, subst, arith}
 use Rattle.stm_region.specs.Shown.{RegionShown}
-use Rattle.vac_load.specs.Attempted.{CountsShown}
+use Rattle.vac_asking.specs.Attempted.{TaskCountsShown}
 use Rattle.vac_load.specs.Load.{RoundHasRun}
-use Rattle.vac_load.proofs.Joining.{ran_more, ran_total, few, few_all, few_each}
+use Rattle.vac_load.proofs.Joining.{ran_more, ran_total, few_all, few_each}
+use Rattle.vac_asking.proofs.Ranges.{few}
 use Rattle.vac_load.proofs.plan.Plan.run_rounds.Goals as goal
 
 pub rounds-init : goal.rounds-init
@@ -15,7 +16,7 @@ rounds-init g c =
       renewals = omega (arith, first, c.requires.renewals);
       size = ap (λ (m : RegionShown). m.size) same;
       round = c.in_ok-round.ensures.round;
-      ran = subst (λ (n : ℕ). RoundHasRun g.D.Draws.leads g.K.Keep.notes c.args.self.settings n c.args.alone
+      ran = subst (λ (n : ℕ). RoundHasRun g.W.RunTasks.leads g.W.RunTasks.shown c.args.self.settings n c.args.alone
           c.args.seats.items c.in_ok-round.round) one c.in_ok-round.ensures.ran;
     }
 
@@ -59,16 +60,18 @@ rounds-preserved g c =
       size = ap (λ (m : RegionShown). m.size) more.manager ∙ (renewed.size ∙ i.size);
       round = record {
         number = more.round.number;
-        tries = ap (λ (x : CountsShown). x.tries) c.plus.ensures ∙ i.round.tries;
+        tries = ap (λ (x : TaskCountsShown). x.tries) c.plus.ensures ∙ i.round.tries;
       };
-      ran = ran_more g.D.Draws.leads g.K.Keep.notes c.args.self.settings c.rounds.done c.args.alone c.in_ok-alone.alone
+      ran = ran_more g.W.RunTasks.leads g.W.RunTasks.shown c.args.self.settings c.rounds.done c.args.alone
+          c.in_ok-alone.alone
           c.args.seats.items c.rounds.round c.in_ok-more.more c.plus.result.tally i.ran renewed.records more.ran
-          (ap (λ (x : CountsShown). x.tally) c.plus.ensures);
+          (ap (λ (x : TaskCountsShown). x.tally) c.plus.ensures);
     }
 
 pub returns-clause-ran : goal.returns-clause-ran
 returns-clause-ran g c =
     let most = few c.args.self.settings c.args.self.in_range in
     let all : c.rounds.done ≡ c.args.self.settings.rounds = omega (arith, most.some) in
-    subst (λ (n : ℕ). RoundHasRun g.D.Draws.leads g.K.Keep.notes c.args.self.settings (n * c.args.self.settings.tasks)
+    subst (λ (n : ℕ). RoundHasRun g.W.RunTasks.leads g.W.RunTasks.shown c.args.self.settings
+    (n * c.args.self.settings.tasks)
     c.args.alone c.args.seats.items c.rounds.round) all c.rounds.invariant.ran

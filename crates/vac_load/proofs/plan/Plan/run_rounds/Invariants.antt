@@ -7,7 +7,7 @@ invariant-rounds g l = record {
   renewals : l.round.alone.manager.renewal + 1 ≡ l.done;
   size : l.round.alone.manager.size ≡ l.fn.alone.manager.size;
   round : IsRound l.fn.self.settings l.round;
-  ran : RoundHasRun g.D.Draws.leads g.K.Keep.notes l.fn.self.settings
+  ran : RoundHasRun g.W.RunTasks.leads g.W.RunTasks.shown l.fn.self.settings
       (l.done * l.fn.self.settings.tasks) l.fn.alone l.fn.seats.items
       l.round;
 }

@@ -1,6 +1,6 @@
 use Rattle.std.proofs.Common.{◌≡◌, ◌≤◌, ◌++◌, vec_len, vec_capacity, ◌+◌}
 use Rattle.std.specs.Vec.Iter.{into_iter_items, into_iter_len}
-use Rattle.vac_load.specs.Lists.{Paired}
+use Rattle.vac_asking.specs.Lists.{Paired}
 use Rattle.vac_load.specs.Load.{IsPromise}
 use Rattle.vac_load.proofs.plan.Plan.start_all.Given as goal
 

@@ -1,0 +1,10 @@
+pub mod Order
+pub mod Ranges
+mod Asked
+mod Sessions
+mod Attempting
+pub mod Clocking
+pub mod Answering
+pub mod Beginning
+pub mod Opened
+pub mod Notes

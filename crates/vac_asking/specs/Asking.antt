@@ -1,0 +1,30 @@
+-- What asking for one task does, and keeping its call.
+use Rattle.std.specs.Prelude.{◌≡◌, ◌≢◌, ℕ, ◌+◌, ◌≤◌, Result, IfOk, IfErr}
+use Rattle.stm_core.specs.Client.{Client}
+use Rattle.stm_region.specs.Shown.{RegionShown}
+use Rattle.vac_model.specs.declared.tasks.Task.{Task}
+use Rattle.vac_manager.specs.Called.{HasAllGrants}
+use Rattle.vac_manager.specs.declared.fault.Fault.{Fault}
+use Rattle.vac_manager.specs.declared.fault.Fault.TheVariants as fault
+use Rattle.vac_manager.specs.declared.placed.Effort.{Effort}
+use Rattle.vac_asking.specs.Attempted.{IsEffort, no_effort, with_call}
+use Rattle.vac_asking.specs.Keeping.{KeptNotes, HasKeptAdded}
+use Rattle.vac_asking.specs.Looping.{Answered, Clocked, answered_by, counted, least_attempts_of}
+use Rattle.vac_asking.specs.Looping.{nothing}
+use Rattle.vac_asking.specs.Opening.{IsAnswered, IsOpeningFault}
+
+-- a task that is in its ranges was asked for, with this many tries, ended so and took this, or
+-- there was no room to keep its call: where it was answered, it added its record, and its keeper
+-- kept the call. A client that is alone met no conflict: where it was answered, it has a whole
+-- history, and else it is refused as a command of an opening is
+pub record WasAsked (region : RegionShown) (t : Task) (tries : ℕ) (end : Result (Unit {0}) Fault)
+    (e : Effort) (v v' : Client) (before after : KeptNotes) : Type 0 where
+  pub in_range : IfErr end (λ why. why ≢ fault.Arguments)
+  pub answered : Answered region.renewal (answered_by t end) v v'
+  pub attempts : v.attempt.number + least_attempts_of tries end ≤ v'.attempt.number
+  pub alone : HasAllGrants v → (counted end nothing).busy ≡ 0
+  pub clock : HasAllGrants v → Clocked region.last v v' (counted end nothing)
+  pub took : IsEffort tries (counted end nothing) (with_call e no_effort)
+  pub kept : HasKeptAdded v v' before after
+  pub ready : HasAllGrants v → IfOk end (λ _. IsAnswered region v')
+  pub refused : HasAllGrants v → IfErr end (λ why. IsOpeningFault region.last v.floor why)

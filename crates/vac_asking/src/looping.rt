@@ -1,0 +1,100 @@
+//! The loop of one client over its tasks.
+
+ghost use Rattle.std.specs.Prelude.{◌≡◌, ◌≢◌, true, IfErr, IfOk};
+ghost use Rattle.vac_model.specs.Ranges.{is_task};
+ghost use Rattle.vac_manager.specs.Called.{is_try_count, HasAllGrants};
+ghost use Rattle.vac_draws.specs.Setting.{is_settings};
+ghost use Rattle.vac_manager.specs.Session.{GoesOn};
+ghost use Rattle.vac_asking.specs.Looping.{Looped, RanOne, Clocked, nothing, counted};
+ghost use Rattle.vac_asking.specs.Keeping.{HasKeptAdded};
+ghost use Rattle.vac_asking.specs.Attempted.{IsEffort, no_effort, with_call};
+
+use crate::asking::ask_kept;
+use crate::counts::TaskCounts;
+use crate::tally::Tally;
+use std::alloc::{AllocError, Global};
+use stm_attempt::Gate;
+use vac_draws::{Draws, Settings, draw_task};
+use vac_manager::{Effort, Fault, Keep, Session, Unkept};
+use vac_model::Task;
+
+/// Asks for a task that was drawn, as `ask_kept` does. One that was not built ends for refused
+/// memory, and took nothing.
+fn ask_drawn<G: Gate, K: Keep>(
+    session: &mut Session<'_>,
+    task: Result<Task, AllocError>,
+    tries: u32,
+    gate: &mut G,
+    keep: &mut K,
+) -> (Result<(), Fault>, Effort)
+    requires range { IfOk task (λ t. is_task t ≡ true) }
+    requires tries { is_try_count tries ≡ true }
+    ensures session { GoesOn session.old session.new }
+    ensures in_range { IfErr result.0 (λ fault. fault ≢ Fault.Arguments) }
+    ensures one { RanOne session.old.manager.renewal task tries result.0
+        session.old.client.value session.new.client.value }
+    ensures clock { HasAllGrants session.old.client.value → Clocked session.old.manager.last
+        session.old.client.value session.new.client.value (counted result.0 nothing) }
+    ensures took { IsEffort tries (counted result.0 nothing) (with_call result.1 no_effort) }
+    ensures kept { HasKeptAdded session.old.client.value session.new.client.value
+        (K.notes keep.old) (K.notes keep.new) }
+{
+    match task {
+        Ok(task) => ask_kept(session, task, tries, gate, keep),
+        Err(_refused) => (Err(Fault::Memory), Effort::new()),
+    }
+}
+
+/// Asks for as many tasks as the settings say for a round, one after the other, each as it is
+/// drawn, and counts how they ended and what their calls took. A task that was not built counts
+/// under memory, and so does one for which the keeper has no room. Each call that was answered is
+/// kept, and then the gate is told `Answered`; `ready` and `done` it is told by who runs rounds.
+pub fn count_loop<D: Draws, G: Gate, K: Keep>(
+    alloc: Global,
+    session: &mut Session<'_>,
+    draws: &mut D,
+    settings: &Settings,
+    gate: &mut G,
+    keep: &mut K,
+) -> TaskCounts
+    requires settings { is_settings settings.now ≡ true }
+    ensures session { GoesOn session.old session.new }
+    ensures looped { Looped D.leads settings.now session.old.manager.renewal settings.now.tasks
+        session.old.client.value session.new.client.value draws.old draws.new result.tally }
+    ensures clock { HasAllGrants session.old.client.value → Clocked session.old.manager.last
+        session.old.client.value session.new.client.value result.tally }
+    ensures tries { result.tries ≡ settings.now.tries }
+    ensures kept { HasKeptAdded session.old.client.value session.new.client.value
+        (K.notes keep.old) (K.notes keep.new) }
+{
+    let mut tally = TaskCounts::new(settings.tries);
+    'tasks: for _ in 0..settings.tasks {
+        let task = draw_task(alloc, draws, settings);
+        let (end, effort) = ask_drawn(session, task, settings.tries, gate, keep);
+        tally.count(&end, effort);
+    }
+    tally
+}
+
+/// Asks for as many tasks as the settings say for a round, one after the other, each as it is
+/// drawn, and counts how they ended. A task that was not built counts under memory. The gate is
+/// told `Answered` after each call that was answered.
+pub fn client_loop<D: Draws, G: Gate>(
+    alloc: Global,
+    session: &mut Session<'_>,
+    draws: &mut D,
+    settings: &Settings,
+    gate: &mut G,
+) -> Tally
+    requires settings { is_settings settings.now ≡ true }
+    ensures session { GoesOn session.old session.new }
+    ensures looped { Looped D.leads settings.now session.old.manager.renewal settings.now.tasks
+        session.old.client.value session.new.client.value draws.old draws.new result }
+    ensures clock { HasAllGrants session.old.client.value → Clocked session.old.manager.last
+        session.old.client.value session.new.client.value result }
+{
+    let keep = &mut Unkept;
+    count_loop(alloc, session, draws, settings, gate, keep)
+        .apart()
+        .0
+}

@@ -1,0 +1,118 @@
+//! The opening of a load: its items and customers.
+
+ghost use Rattle.std.specs.Prelude.{◌≡◌, ◌≤◌, true, IfOk, IfErr};
+ghost use Rattle.vac_model.specs.Ranges.{is_command};
+ghost use Rattle.vac_manager.specs.Called.{HasAllGrants};
+ghost use Rattle.vac_manager.specs.Session.{GoesOn};
+ghost use Rattle.vac_draws.specs.Setting.{is_settings};
+ghost use Rattle.vac_asking.specs.Keeping.{HasKeptAdded};
+ghost use Rattle.vac_draws.specs.Tasks.{stock, stocks};
+ghost use Rattle.vac_asking.specs.Opening.{RanOrStopped, OpeningEnded, WasAnswered, WasRefused};
+
+use crate::asking::ask_kept;
+use stm_attempt::NoGate;
+use vac_draws::{Draws, Settings, draw_stock};
+use vac_manager::{Fault, Keep, Session, Unkept};
+use vac_model::{Command, Kind, Task};
+
+/// How many tries a command of the opening gets.
+const TRIES: u32 = 1;
+
+/// Asks for a command, and keeps the call where it is answered. Where there is no room to keep it,
+/// the command is not asked for.
+fn ask_for<K: Keep>(session: &mut Session<'_>, command: Command, keep: &mut K) -> Result<(), Fault>
+    requires alone { HasAllGrants session.old.client.value }
+    requires range { is_command command ≡ true }
+    ensures session { GoesOn session.old session.new }
+    ensures grants { HasAllGrants session.new.client.value }
+    ensures answered { IfOk result (λ _. WasAnswered command session.old session.new
+        (K.notes keep.old) (K.notes keep.new)) }
+    ensures refused { IfErr result (λ fault. WasRefused fault session.old session.new) }
+{
+    let task = Task::One(command);
+    let (end, _effort) = ask_kept(session, task, TRIES, &mut NoGate, keep);
+    end
+}
+
+/// Adds an item of this kind.
+fn add_item<D: Draws, K: Keep>(
+    session: &mut Session<'_>,
+    draws: &mut D,
+    id: u32,
+    kind: Kind,
+    keep: &mut K,
+) -> Result<(), Fault>
+    requires alone { HasAllGrants session.old.client.value }
+    requires id { 1 ≤ id }
+    ensures asked { RanOrStopped D.leads (stock id kind) result
+        session.old session.new draws.old draws.new }
+    ensures kept { IfOk result (λ _. HasKeptAdded session.old.client.value session.new.client.value
+        (K.notes keep.old) (K.notes keep.new)) }
+{
+    let command = draw_stock(draws, id, kind);
+    ask_for(session, command, keep)
+}
+
+/// Adds an item of each kind.
+fn add_items<D: Draws, K: Keep>(
+    session: &mut Session<'_>,
+    draws: &mut D,
+    id: u32,
+    keep: &mut K,
+) -> Result<(), Fault>
+    requires alone { HasAllGrants session.old.client.value }
+    requires id { 1 ≤ id }
+    ensures asked { RanOrStopped D.leads (stocks id) result
+        session.old session.new draws.old draws.new }
+    ensures kept { IfOk result (λ _. HasKeptAdded session.old.client.value session.new.client.value
+        (K.notes keep.old) (K.notes keep.new)) }
+{
+    add_item(session, draws, id, Kind::Car, keep)?;
+    add_item(session, draws, id, Kind::Flight, keep)?;
+    add_item(session, draws, id, Kind::Room, keep)
+}
+
+/// Makes the items and the customers of a load, one command after the other, each by one try, and
+/// keeps the calls. The client is alone: it has all grants. The first fault ends it, refused memory
+/// or a spent clock; what was answered before it stays. A keeper without room ends it as refused
+/// memory, and its command is not asked for.
+///
+/// Not said: what the keeper keeps where the opening stopped.
+pub fn open_kept<D: Draws, K: Keep>(
+    session: &mut Session<'_>,
+    draws: &mut D,
+    settings: &Settings,
+    keep: &mut K,
+) -> Result<(), Fault>
+    requires alone { HasAllGrants session.old.client.value }
+    requires settings { is_settings settings.now ≡ true }
+    ensures opened { OpeningEnded D.leads settings.now result
+        session.old session.new draws.old draws.new }
+    ensures kept { IfOk result (λ _. HasKeptAdded session.old.client.value session.new.client.value
+        (K.notes keep.old) (K.notes keep.new)) }
+{
+    'items: for place in 0..settings.items {
+        add_items(session, draws, place + 1, keep)?;
+    }
+    'customers: for place in 0..settings.items {
+        let command = Command::NewCustomer { id: place + 1 };
+        ask_for(session, command, keep)?;
+    }
+    Ok(())
+}
+
+/// Makes the items and the customers of a load, one command after the other, each by one try. The
+/// client is alone: it has all grants. The first fault ends it, refused memory or a spent clock;
+/// what was answered before it stays.
+pub fn open<D: Draws>(
+    session: &mut Session<'_>,
+    draws: &mut D,
+    settings: &Settings,
+) -> Result<(), Fault>
+    requires alone { HasAllGrants session.old.client.value }
+    requires settings { is_settings settings.now ≡ true }
+    ensures { OpeningEnded D.leads settings.now result
+        session.old session.new draws.old draws.new }
+{
+    open_kept(session, draws, settings, &mut Unkept)
+}

@@ -1,0 +1,66 @@
+//! What runs the tasks of a client in a round.
+
+ghost use Rattle.std.specs.Prelude.{◌≡◌, ℕ, true};
+ghost use Rattle.vac_draws.specs.declared.settings.Settings.{Settings};
+ghost use Rattle.vac_draws.specs.Setting.{is_settings};
+ghost use Rattle.vac_load.specs.Seats.{SeatShown, shown};
+ghost use Rattle.vac_load.specs.Load.{RanTasks};
+
+use crate::seats::Seat;
+use std::alloc::Global;
+use stm_attempt::Gate;
+use vac_asking::{TaskCounts, count_loop};
+use vac_draws::{Draws, Settings};
+use vac_manager::{Keep, Session};
+
+/// Runs a client's tasks, round after round. What starts threads and gathers clients knows no more
+/// of a seat.
+pub(crate) trait RunTasks {
+    /// What the words of the tasks are drawn from.
+    ghost State: { Type 0 };
+
+    /// By which words one state leads to another.
+    ghost leads: { State → ℕ → State → Type 0 };
+
+    /// The seat, as contracts see it.
+    ghost shown: { Self → SeatShown State };
+
+    /// Runs the client's tasks of a round in its session. They are built in this memory.
+    fn run_tasks(
+        &mut self,
+        alloc: Global,
+        session: &mut Session<'_>,
+        settings: &Settings,
+    ) -> TaskCounts
+        requires settings { is_settings settings.now ≡ true }
+        ensures { RanTasks leads shown settings.now session.old self.old session.new self.new
+            result };
+}
+
+impl<D: Draws, G: Gate, K: Keep> RunTasks for Seat<D, G, K> {
+    ghost State = { D };
+
+    ghost leads = { D.leads };
+
+    ghost shown = { shown K.notes };
+
+    /// Tells the gate that the client is ready, runs its tasks, and tells the gate that it is done.
+    fn run_tasks(
+        &mut self,
+        alloc: Global,
+        session: &mut Session<'_>,
+        settings: &Settings,
+    ) -> TaskCounts {
+        self.gate.ready();
+        let tally = count_loop(
+            alloc,
+            session,
+            &mut self.draws,
+            settings,
+            &mut self.gate,
+            &mut self.keep,
+        );
+        self.gate.done();
+        tally
+    }
+}
