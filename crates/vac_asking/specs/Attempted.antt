@@ -1,4 +1,4 @@
--- What the calls of a load took, and what that has to do with how they ended.
+-- What calls took, and what that has to do with how their tasks ended.
 use Rattle.std.specs.Prelude.{◌≡◌, ◌≤◌, ℕ, ◌+◌, ◌*◌}
 use Rattle.vac_manager.specs.declared.placed.Effort.{Effort}
 use Rattle.vac_asking.specs.declared.efforts.Efforts.{Efforts}
@@ -61,7 +61,7 @@ both_efforts d e = record {
   stocks = d.stocks + e.stocks;
 }
 
--- how tasks ended, each of which was asked for with this many tries
+-- how tasks ended, each of which gets this many tries
 pub record TaskCountsShown : Type 0 where
   pub tally : Tally
   pub tries : ℕ

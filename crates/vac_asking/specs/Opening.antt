@@ -74,8 +74,9 @@ pub record WasRefused (e : Fault) (y y' : SessionShown) : Type 0 where
   pub why : IsOpeningFault y.manager.last y.client.value.floor e
   pub same : y'.client.value.records ≡ y.client.value.records
 
--- commands were read from the front of drawn words, and asked for in their order: those before the
--- last one were answered, and the last one was refused with this fault and added no record
+-- commands were read from the front of drawn words, in their order: those before the last one were
+-- asked for and answered, and the last one was refused with this fault, or not asked for since its
+-- keeper had no room, and added no record
 pub record Stopped {D : Type 0} (leads : D → ℕ → D → Type 0) (renewal last : ℕ)
     (reader : Reader (List Command)) (e : Fault) (v v' : Client) (state left : D)
     : Type 0 where

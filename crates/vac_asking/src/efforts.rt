@@ -7,8 +7,8 @@ ghost use Rattle.vac_asking.specs.Attempted.{no_effort, conflicts_in, lock_confl
 use crate::sums::added_up;
 use vac_manager::Effort;
 
-/// How many attempts the calls of a load took, how many of these aborted on a conflict of each
-/// kind, and how many of the conflicts were over the lock of which word.
+/// How many attempts calls took, how many of these aborted on a conflict of each kind, and how many
+/// of the conflicts were over the lock of which word.
 #[derive(Clone, Copy, Debug, PartialEq, Eq, Default)]
 pub struct Efforts {
     /// How many attempts were begun.

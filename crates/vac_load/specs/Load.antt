@@ -24,7 +24,7 @@ use Rattle.vac_asking.specs.Looping.{Looped, Clocked, AreOfTasks, total}
 use Rattle.vac_asking.specs.Lists.{Paired}
 use Rattle.vac_load.specs.Several.{Interleaved, AllKept, added_up}
 use Rattle.vac_asking.specs.Keeping.{KeptNotes, AreKept, HasKeptAdded}
-use Rattle.vac_load.specs.Seats.{SeatShown, shown}
+use Rattle.vac_load.specs.Seats.{SeatShown}
 use Rattle.vac_asking.specs.Opening.{as_tasks, RanDrawn, Stopped, IsAnswered}
 use Rattle.vac_draws.specs.Setting.{is_settings}
 use Rattle.vac_load.specs.declared.load.LoadFault.{LoadFault}
@@ -229,8 +229,8 @@ IsTooShort s fault.Memory = Unit {0}
 IsTooShort s (fault.Busy conflict) = ⊥
 IsTooShort s (fault.Spent version) = (version ≡ s.last) × (s.last < 4 * s.items)
 
--- the manager of a load was made, and the opening stopped: its commands were asked for up to one
--- that was refused with this fault, and those before it were answered
+-- the manager of a load was made, and the opening stopped with this fault: its commands were
+-- answered up to one that was refused, or whose keeper had no room
 -- Not said: that it was the manager of this load: some region and client are named.
 pub record WasStopped {D : Type 0} (leads : D → ℕ → D → Type 0) (s : Settings) (e : Fault)
     (state left : D) : Type 0 where

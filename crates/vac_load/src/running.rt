@@ -1,7 +1,6 @@
 //! What runs the tasks of a client in a round.
 
 ghost use Rattle.std.specs.Prelude.{◌≡◌, ℕ, true};
-ghost use Rattle.vac_draws.specs.declared.settings.Settings.{Settings};
 ghost use Rattle.vac_draws.specs.Setting.{is_settings};
 ghost use Rattle.vac_load.specs.Seats.{SeatShown, shown};
 ghost use Rattle.vac_load.specs.Load.{RanTasks};
