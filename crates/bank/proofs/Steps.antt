@@ -7,15 +7,17 @@ use Rattle.tx_memory.specs.View.{View, RestsOn, Loaded}
 use Rattle.stm_core.specs.Client.{Client}
 use Rattle.stm_core.specs.History.{all_records}
 use Rattle.stm_region.specs.Shown.{RegionShown}
-use Rattle.stm_object.specs.History.{WasInOrder, Closes as ClosesObject}
+use Rattle.stm_object.specs.History.{WasInOrder, Closes as ClosesObject, answer_in}
 use Rattle.stm_object.specs.Keeping.{kept, found}
-use Rattle.stm_object.specs.Bodies.{HasFitting, Did}
-use Rattle.stm_object.specs.Steps.{WordStep, load_step, two_steps, so_step, has_done, known_le}
+use Rattle.stm_object.specs.Bodies.{HasValue, Did}
+use Rattle.stm_object.specs.declared.place.Place.{Place}
+use Rattle.stm_object.specs.Steps.{WordStep, load_step, two_steps, so_step, has_done, known_le, shows_its_words}
+use Rattle.stm_object.specs.Steps.{fits_its_words, shows_words}
 use Rattle.bank.specs.declared.entry.Entry.{Entry}
 use Rattle.bank.specs.declared.entry.Entry.TheVariants.{Transfer, Sum}
 use Rattle.bank.specs.declared.law.TheConstants.{ACCOUNTS}
-use Rattle.bank.specs.Accounts.{IsBank, Finds, after, code, ClosesBalanced}
-use Rattle.bank.specs.Keeping.{sum_taken, same_sum}
+use Rattle.bank.specs.Accounts.{IsBank, IsEntry, Finds, after, code, bank, ClosesBalanced}
+use Rattle.bank.specs.Keeping.{sum_taken, same_sum, bank_after}
 
 -- the first so many balances have this sum
 abbrev pub Counted : View → View → ℕ → ℕ → Type 0
@@ -41,7 +43,7 @@ one_more s s' s'' done total v less c l =
     so_step (λ xs. total + v ≡ sum (take (done + 1) xs)) (two_steps c (load_step l less)) (λ xs size p.
     let m = sum_by_more (λ x. x) xs done 0 (omega (arith, size, less)) in omega (arith, p.0, p.1, m))
 
-pub total_small : (s s' s'' : View) (done total v : ℕ) → HasFitting IsBank ACCOUNTS s
+pub total_small : (s s' s'' : View) (done total v : ℕ) → HasValue bank s
     → done < ACCOUNTS → Counted s s' done total → Loaded s' s'' done v →
     ∥ ((image : List ℕ) × RestsOn s'' image) ∥₁ → total + v ≤ 18446744073709551615
 total_small s s' s'' done total v held less c l some =
@@ -49,8 +51,9 @@ total_small s s' s'' done total v held less c l some =
     let le = sum_by-take-le (λ x. x) xs (done + 1) in omega (arith, t, le, b.small))
 
 pub all_counted : (s s' : View) (done total : ℕ) → ACCOUNTS ≤ done → Counted s s' done total
-    → Did IsBank Finds after s s' (Sum total)
-all_counted s s' done total all c = has_done ACCOUNTS IsBank Finds after (Sum total) (λ xs b. b.size) c (λ xs b t.
+    → Did bank s s' (Sum total)
+all_counted s s' done total all c = has_done ACCOUNTS IsBank IsEntry Finds after code bank_after (Sum total) tt
+    (λ xs b. b.size) c (λ xs b t.
     let whole : take done xs ≡ xs = take_all done xs (omega (arith, b.size, all)) in (t ∙ ap sum whole, refl))
 
 -- a record of a sum has the sum of the balances that it found
@@ -59,19 +62,27 @@ told_sum (Transfer from to amount moved) total xs same h =
     absurd (let n : 1 ≡ 0 = ap (λ (ys : List ℕ). slice_index ys 0) same in omega (arith, n))
 told_sum (Sum other) total xs same h = ap (λ (ys : List ℕ). slice_index ys 1) same ∙ h
 
-pub opening_sum : {X : Type 0} (region : RegionShown) (v v' : Client) (result : Result ℕ X) →
-    IfOk result (λ total. WasInOrder IsBank code Finds after region (Sum total) v v') →
-    IfOk result (λ total. total ≡ sum region.first)
+pub opening_sum : {X : Type 0} (region : RegionShown) (v v' : Client) (placed : Result (ℕ × Place) X) →
+    IfOk placed (λ total. WasInOrder bank region (Sum total.0) v v') →
+    IfOk (answer_in placed) (λ total. total ≡ sum region.first)
 opening_sum region v v' (Err e) w = tt
 opening_sum region v v' (Ok total) w =
-    let f = found code Finds after (λ ys. sum ys ≡ sum region.first) (λ e xs h s. same_sum e xs h ∙ s)
-    region.first (all_records w.decided.decides.core.clients) w.entries w.last w.adds.made w.history refl w.own in
-    told_sum f.entry total f.words (sym w.adds.tag_is ∙ f.told) f.found ∙ f.kept
+    let fitting = w.decided.decides.fitting in
+    let first = fits_its_words ACCOUNTS IsBank IsEntry Finds after code region.first fitting.value fitting.shown in
+    let h = w.lead region.first (shows_words ACCOUNTS IsBank IsEntry Finds after code region.first first) in
+    let f = found bank (λ ys. sum ys ≡ sum region.first) (λ e xs is h s. same_sum e xs h ∙ s)
+    region.first (all_records w.decided.decides.core.clients) h.entries h.last w.adds.made h.history refl w.own in
+    told_sum f.entry total.0 f.value (sym w.adds.tag_is ∙ f.told) f.found ∙ f.kept
 
 pub closes : (region : RegionShown) (v : Client) (words : List ℕ) (version : ℕ) →
-    ClosesObject IsBank code Finds after region v words version → ClosesBalanced region v words version
-closes region v words version k = record {
-  closes = k;
-  total = kept code Finds after (λ ys. sum ys ≡ sum region.first) (λ e xs h s. same_sum e xs h ∙ s)
-      region.first v.records k.entries words k.history refl;
-}
+    ClosesObject bank region v words version → ClosesBalanced region v words version
+closes region v words version k =
+    let first = fits_its_words ACCOUNTS IsBank IsEntry Finds after code region.first k.fitting.value k.fitting.shown in
+    let h = k.lead region.first (shows_words ACCOUNTS IsBank IsEntry Finds after code region.first first) in
+    record {
+      closes = k;
+      total = ap (λ (ys : List ℕ). sum ys) (sym (shows_its_words ACCOUNTS IsBank IsEntry Finds after code words h.last
+          h.shown))
+          ∙ kept bank (λ ys. sum ys ≡ sum region.first) (λ e xs is h s. same_sum e xs h ∙ s)
+          region.first v.records h.entries h.last h.history refl;
+    }

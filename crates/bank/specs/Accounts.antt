@@ -3,6 +3,8 @@
 use Rattle.std.specs.Prelude.{◌≡◌, ℕ, ◌+◌, ◌-◌, ◌<◌, ◌≤◌, ◌^◌, true, false, cond, List, [], ◌∷◌, length, slice_index, slice_set, sum}
 use Rattle.stm_core.specs.Client.{Client}
 use Rattle.stm_region.specs.Shown.{RegionShown}
+use Rattle.stm_object.specs.Object.{Specification}
+use Rattle.stm_object.specs.Steps.{words_object}
 use Rattle.stm_object.specs.History.{Closes as ClosesObject}
 use Rattle.bank.specs.declared.entry.Entry.{Entry}
 use Rattle.bank.specs.declared.law.TheConstants.{ACCOUNTS}
@@ -32,6 +34,11 @@ pub record IsBank (image : List ℕ) : Type 0 where
   pub size : length image ≡ ACCOUNTS
   pub small : sum image < 2 ^ 64
 
+-- a transfer is from an account to an account
+abbrev pub IsEntry : Entry → Type 0
+IsEntry (Transfer from to amount moved) = (from < ACCOUNTS) × (to < ACCOUNTS)
+IsEntry (Sum total) = Unit {0}
+
 -- no entry changes the sum of all balances
 abbrev pub KeepsSum : Type 0
 KeepsSum = (e : Entry) (xs : List ℕ) → Finds e xs → sum (after e xs) ≡ sum xs
@@ -41,9 +48,13 @@ abbrev pub code : Entry → List ℕ
 code (Transfer from to amount moved) = 0 ∷ from ∷ to ∷ amount ∷ cond moved 1 0 ∷ []
 code (Sum total) = 1 ∷ total ∷ []
 
+-- the bank as an object
+abbrev pub bank : Specification Entry
+bank = words_object ACCOUNTS Entry IsBank IsEntry Finds after code
+
 -- the closing teller's records are a history that leads from the opening to the words, which add up
 -- to the same
 pub record ClosesBalanced (region : RegionShown) (v : Client) (words : List ℕ) (version : ℕ)
     : Type 0 where
-  pub closes : ClosesObject IsBank code Finds after region v words version
+  pub closes : ClosesObject bank region v words version
   pub total : sum words ≡ sum region.first

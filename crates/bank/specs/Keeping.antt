@@ -1,9 +1,12 @@
--- The law's one proof: no entry changes the number of accounts, or the sum of all balances.
-use Rattle.std.proofs.Common.{◌≡◌, ℕ, ◌+◌, ◌-◌, ◌<◌, ◌≤◌, true, false, List, length, slice_index, slice_set, sum, refl, ◌∙◌, arith, length-set}
+-- The law's proofs: no entry changes the number of accounts, or the sum of all balances, and two
+-- entries have two codes.
+use Rattle.std.proofs.Common.{◌≡◌, ℕ, ◌+◌, ◌-◌, ◌<◌, ◌≤◌, true, false, List, length, slice_index}
+use Rattle.std.proofs.Common.{slice_set, sum, refl, sym, ap, ◌∙◌, arith, length-set}
+use Rattle.std.specs.Prelude.{◌==◌, if◌then◌else◌}
 use Rattle.std.proofs.lemmas.List.Sums.{sum_by-set}
 use Rattle.bank.specs.declared.entry.Entry.{Entry}
 use Rattle.bank.specs.declared.entry.Entry.TheVariants.{Transfer, Sum}
-use Rattle.bank.specs.Accounts.{moving, after, Finds, IsBank}
+use Rattle.bank.specs.Accounts.{moving, after, Finds, IsBank, code}
 
 pub sum_set : (xs : List ℕ) (i y : ℕ) → i < length xs →
     sum (slice_set xs i y) + slice_index xs i ≡ sum xs + y
@@ -40,3 +43,18 @@ bank_after e xs b h = record {
   size = same_length e xs ∙ b.size;
   small = let s = same_sum e xs h in omega (arith, s, b.small);
 }
+
+-- the entry of a code
+abbrev decoded : List ℕ → Entry
+decoded ns = if slice_index ns 0 == 0
+    then Transfer (slice_index ns 1) (slice_index ns 2) (slice_index ns 3) (slice_index ns 4 == 1)
+    else Sum (slice_index ns 1)
+
+decoded_back : (e : Entry) → decoded (code e) ≡ e
+decoded_back (Transfer from to amount true) = refl
+decoded_back (Transfer from to amount false) = refl
+decoded_back (Sum total) = refl
+
+-- two entries have two codes
+pub codes_determine : (e e' : Entry) → code e ≡ code e' → e ≡ e'
+codes_determine e e' same = sym (decoded_back e) ∙ (ap decoded same ∙ decoded_back e')

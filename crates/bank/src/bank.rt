@@ -1,20 +1,20 @@
 //! The bank and its tellers.
 
-ghost use Rattle.std.specs.Prelude.{◌≡◌, ◌*◌, ◌<◌, ◌≤◌, IfOk, IfErr, replicate, sum};
+ghost use Rattle.std.specs.Prelude.{◌≡◌, ◌*◌, ◌<◌, ◌≤◌, IfOk, IfErr, replicate, sum, true, false};
 ghost use Rattle.stm_core.specs.Event.{opener};
 ghost use Rattle.stm_region.specs.Shown.{HasSplit, with_gathered, opened_on};
 ghost use Rattle.stm_region.specs.Refused.{ClosesNot, IsLast, OpensNot};
 ghost use Rattle.stm_region.specs.declared.fault.RegionFault.TheVariants.{Clients};
-ghost use Rattle.stm_object.specs.History.{HasTransacted, HasAsked, IsAlone};
+ghost use Rattle.stm_object.specs.History.{HasCalled, IsAlone};
 ghost use Rattle.bank.specs.declared.entry.Entry.TheVariants.{Transfer, Sum};
 ghost use Rattle.bank.specs.declared.law.TheConstants.{ACCOUNTS};
-ghost use Rattle.bank.specs.Accounts.{IsBank, Finds, after, code, ClosesBalanced};
+ghost use Rattle.bank.specs.Accounts.{bank, ClosesBalanced};
 
 use crate::bodies::{AddUp, Move};
 use crate::law::{ACCOUNTS, BankObject};
 use std::alloc::Global;
 use std::marker::Model;
-use stm_attempt::{Conflict, Stop};
+use stm_attempt::Stop;
 use stm_object::{Shared, User};
 use stm_region::RegionFault;
 use stm_words::Version;
@@ -68,20 +68,19 @@ impl Bank {
         requires range { (from < ACCOUNTS) × (to < ACCOUNTS) }
         requires tries { 1 ≤ tries }
         ensures own { teller.new.table ≡ teller.old.table }
-        ensures call { HasTransacted IsBank code Finds after self.now
-            (λ moved. Transfer from to amount moved) (λ moved. moved) tries result
-            teller.old.value teller.new.value }
+        ensures call { HasCalled bank self.now (λ moved. Transfer from to amount moved)
+            (λ moved. moved) false tries result teller.old.value teller.new.value }
     {
         self.shared.run(teller, &Move { from, to, amount }, tries)
     }
 
     /// Adds up all balances as a transaction, by at most `tries` attempts. Whatever the other
     /// tellers do, the sum is the opening's.
-    pub fn audit(&self, teller: &mut Teller, tries: u32) -> Result<u64, Conflict>
+    pub fn audit(&self, teller: &mut Teller, tries: u32) -> Result<u64, Stop>
         requires own { teller.old.table ≡ self.now.table }
         requires tries { 1 ≤ tries }
         ensures own { teller.new.table ≡ teller.old.table }
-        ensures call { HasAsked IsBank code Finds after self.now (λ total. Sum total) tries
+        ensures call { HasCalled bank self.now (λ total. Sum total) (λ total. false) true tries
             result teller.old.value teller.new.value }
         ensures total { IfOk result (λ total. total ≡ sum self.now.first) }
     {

@@ -3,9 +3,8 @@
 ghost use Rattle.std.specs.Prelude.{◌<◌};
 ghost use Rattle.bank.specs.declared.law.TheConstants.{ACCOUNTS};
 
-use crate::entry::Entry;
 use crate::law::{ACCOUNTS, BankObject};
-use stm_object::{Body, Query};
+use stm_object::{Query, Update};
 use tx_memory::{Addr, TxMem, TxRead, load, store};
 
 /// Moves an amount from one account to another where there is enough, and returns whether it did.
@@ -17,7 +16,7 @@ pub(crate) struct Move {
     ghost range: { (from < ACCOUNTS) × (to < ACCOUNTS) },
 }
 
-impl Body<BankObject> for Move {
+impl Update<BankObject> for Move {
     ghost use Rattle.bank.specs.declared.entry.Entry.TheVariants.{Transfer};
 
     type Answer = bool;
@@ -36,15 +35,6 @@ impl Body<BankObject> for Move {
         store(memory, Addr(self.to), there + self.amount)?;
         Ok(true)
     }
-
-    fn entry(&self, moved: &bool) -> Entry {
-        Entry::Transfer {
-            from: self.from,
-            to: self.to,
-            amount: self.amount,
-            moved: *moved,
-        }
-    }
 }
 
 /// Adds up all balances.
@@ -58,16 +48,12 @@ impl Query<BankObject> for AddUp {
 
     ghost entry_of = { λ s total. Sum total };
 
-    fn run<M: TxRead>(&self, memory: &mut M) -> Result<u64, M::Stop> {
+    fn read<M: TxRead>(&self, memory: &mut M) -> Result<u64, M::Stop> {
         let mut total = 0;
         for account in 0..ACCOUNTS {
             let balance = load(memory, Addr(account))?;
             total += balance;
         }
         Ok(total)
-    }
-
-    fn entry(&self, total: &u64) -> Entry {
-        Entry::Sum { total: *total }
     }
 }

@@ -1,9 +1,6 @@
 //! What a record of the bank says.
 
-use stm_words::Tag;
-
-/// What a transaction of the bank did and what it returned: the tag of its record.
-#[derive(Clone, Copy, Debug, PartialEq, Eq)]
+/// The entry of a transaction of the bank: its operation with its answer, as its record has it.
 pub enum Entry {
     /// An amount was to go from one account to another. It did where there was enough.
     Transfer {
@@ -16,10 +13,4 @@ pub enum Entry {
     Sum {
         total: u64,
     },
-}
-
-impl Tag for Entry {
-    ghost use Rattle.bank.specs.Accounts.{code};
-
-    ghost numbers = { λ entry. code entry };
 }

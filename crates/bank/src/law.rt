@@ -13,21 +13,17 @@ pub const ACCOUNTS: u32 = 64;
 pub struct BankObject;
 
 impl Object for BankObject {
-    ghost use Rattle.bank.specs.Accounts.{IsBank, Finds, after};
-    ghost use Rattle.bank.specs.Keeping.{bank_after};
-    ghost use Rattle.bank.specs.declared.law.TheConstants.{ACCOUNTS};
+    ghost use Rattle.stm_object.specs.Steps.{words_local};
+    ghost use Rattle.bank.specs.Accounts.{bank, IsBank};
+    ghost use Rattle.bank.specs.Keeping.{codes_determine};
 
     type Entry = Entry;
 
-    ghost size = { ACCOUNTS };
+    ghost is = { bank };
 
-    ghost fits = { λ image. IsBank image };
+    ghost local = { λ m m' n xs same h. words_local IsBank m m' n xs same h };
 
-    ghost finds = { λ e image. Finds e image };
-
-    ghost after = { λ e image. after e image };
-
-    ghost keeps = { λ e image b h. bank_after e image b h };
+    ghost determined = { λ e e' same. codes_determine e e' same };
 }
 
 /// No record changes the sum of all balances, as a contract.

@@ -12,7 +12,7 @@ use Rattle.stm_region.specs.Shown.{RegionShown, with_gathered}
 use Rattle.vac_manager.specs.Called.{CallerShown, Splits}
 use Rattle.vac_manager.specs.Renewed.{ClosesSomewhere}
 use Rattle.vac_manager.specs.Session.{SessionShown}
-use Rattle.vac_manager.proofs.Adding.{not_earlier}
+use Rattle.stm_object.proofs.Adding.{not_earlier}
 use Rattle.booking_desk.specs.declared.desk.Desk.{Desk}
 use Rattle.booking_desk.specs.declared.settings.DeskSettings.{DeskSettings}
 use Rattle.booking_desk.specs.Desks.{asked, cost_of_giving_up, AreOfRenewal, BookedTrips, HasBooked, MayServe}

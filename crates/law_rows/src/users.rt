@@ -5,6 +5,7 @@ use crate::rounds::{ROUNDS, TRIES};
 use ring::{Count, Pop, Push, Ring, RingUser, close_ring, new_ring};
 use std::test::Fail;
 use std::thread;
+use stm_attempt::Stop;
 use stm_region::RegionFault;
 
 /// Puts numbers in, and takes one out after each. Returns the user, with how many of both were
@@ -98,6 +99,33 @@ fn room_for_sixteen(rt: HostRuntime) -> Result<(), Fail> {
         7, 101, 102, 103, 104, 105, 106, 107, 108, 109, 110, 111, 112, 113, 114, 115, 2, 17,
     ];
     assert_eq!(rt; words.as_slice(), expected.as_slice());
+    Ok(())
+}
+
+/// The clock ends at version 2: the third number finds it spent, and changes nothing. What was put
+/// in is there after the renewal.
+#[test]
+fn spent_clock_is_renewed(rt: HostRuntime) -> Result<(), Fail> {
+    let (ring, mut user) = new_ring(rt.alloc(), 2)?;
+    let put = fill(&ring, &mut user, 2);
+    let over = ring.run(&mut user, &Push(7), TRIES);
+    let still = ring.ask(&mut user, &Count, 1);
+    let Ok((ring, mut user)) = ring.renew(user, 100) else {
+        panic!(rt; "it was not renewed")
+    };
+    let again = ring.run(&mut user, &Push(7), 1);
+    let first = ring.run(&mut user, &Pop, 1);
+    let left = ring.ask(&mut user, &Count, 1);
+    let Ok((_words, clock)) = ring.close(user) else {
+        panic!(rt; "it stayed open")
+    };
+    assert_eq!(rt; put, 2);
+    assert!(rt; matches!(over, Err(Stop::Spent { .. })));
+    assert_eq!(rt; still, Ok(2));
+    assert_eq!(rt; again, Ok(true));
+    assert_eq!(rt; first, Ok(Some(100)));
+    assert_eq!(rt; left, Ok(2));
+    assert_eq!(rt; clock.get(), 2);
     Ok(())
 }
 

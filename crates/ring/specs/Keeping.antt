@@ -1,9 +1,12 @@
--- The law's one proof: each entry leaves a ring.
-use Rattle.std.proofs.Common.{◌≡◌, ◌≢◌, ℕ, ◌+◌, ◌%◌, true, false, List, length, slice_set, ◌∙◌, arith, length-set, get_or-set_same, get_or-set_other}
+-- The law's proofs: each entry leaves a ring, and two entries have two codes.
+use Rattle.std.proofs.Common.{◌≡◌, ◌≢◌, ℕ, ◌+◌, ◌%◌, true, false, List, length, slice_index}
+use Rattle.std.proofs.Common.{slice_set, refl, sym, ap, ◌∙◌, arith, length-set}
+use Rattle.std.proofs.Common.{get_or-set_same, get_or-set_other}
+use Rattle.std.specs.Prelude.{◌==◌, if◌then◌else◌}
 use Rattle.ring.specs.declared.entry.Entry.{Entry}
 use Rattle.ring.specs.declared.entry.Entry.TheVariants.{Push, Pop, Empty, Len}
 use Rattle.ring.specs.declared.law.TheConstants.{SLOTS, HEAD, TAIL, WORDS}
-use Rattle.ring.specs.Queue.{IsRing, head, tail, after, Finds, pushing}
+use Rattle.ring.specs.Queue.{IsRing, head, tail, after, Finds, pushing, code}
 
 pub pushing_head : (xs : List ℕ) (v : ℕ) → head (pushing xs v) ≡ head xs
 pushing_head xs v =
@@ -46,3 +49,20 @@ ring_after (Pop v) xs b h =
     }
 ring_after Empty xs b h = b
 ring_after (Len n) xs b h = b
+
+-- the entry of a code
+abbrev decoded : List ℕ → Entry
+decoded ns = if slice_index ns 0 == 0 then Push (slice_index ns 1) (slice_index ns 2 == 1)
+    else (if slice_index ns 0 == 1 then Pop (slice_index ns 1)
+    else (if slice_index ns 0 == 2 then Empty else Len (slice_index ns 1)))
+
+decoded_back : (e : Entry) → decoded (code e) ≡ e
+decoded_back (Push value true) = refl
+decoded_back (Push value false) = refl
+decoded_back (Pop value) = refl
+decoded_back Empty = refl
+decoded_back (Len count) = refl
+
+-- two entries have two codes
+pub codes_determine : (e e' : Entry) → code e ≡ code e' → e ≡ e'
+codes_determine e e' same = sym (decoded_back e) ∙ (ap decoded same ∙ decoded_back e')

@@ -1,6 +1,8 @@
 -- The queue in a ring's words, and what the ring's transactions do to it. Each example has its own
 -- `after`, `Finds` and `code`.
 use Rattle.std.specs.Prelude.{◌≡◌, ℕ, zero, suc, ◌+◌, ◌-◌, ◌%◌, ◌^◌, ◌<◌, ◌≤◌, true, false, cond, Option, None, Some, List, [], ◌∷◌, length, slice_index, slice_set}
+use Rattle.stm_object.specs.Object.{Specification}
+use Rattle.stm_object.specs.Steps.{words_object}
 use Rattle.ring.specs.declared.entry.Entry.{Entry}
 use Rattle.ring.specs.declared.entry.Entry.TheVariants.{Push, Pop, Empty, Len}
 use Rattle.ring.specs.declared.law.TheConstants.{SLOTS, HEAD, TAIL, WORDS}
@@ -79,3 +81,7 @@ pub record IsRing (image : List ℕ) : Type 0 where
   pub size : length image ≡ WORDS
   pub order : head image ≤ tail image
   pub bound : tail image ≤ head image + SLOTS
+
+-- the ring as an object: a push may be of any value
+abbrev pub ring : Specification Entry
+ring = words_object WORDS Entry IsRing (λ e. Unit {0}) Finds after code

@@ -1,22 +1,39 @@
 -- First in, first out.
-use Rattle.std.specs.Prelude.{◌≡◌, ℕ, List, ◌++◌, replicate}
+use Rattle.std.specs.Prelude.{◌≡◌, ℕ, true, false, is_some, List, [], ◌++◌, replicate, Option, Some, Ok}
 use Rattle.stm_core.specs.Client.{Client, Record}
 use Rattle.stm_region.specs.Shown.{RegionShown}
-use Rattle.stm_object.specs.History.{IsHistoryOfEntries, Closes}
+use Rattle.stm_object.specs.History.{IsHistory, IsAlone, words_after, HasCalled, Closes}
 use Rattle.ring.specs.declared.entry.Entry.{Entry}
+use Rattle.ring.specs.declared.entry.Entry.TheVariants.{Push}
 use Rattle.ring.specs.declared.law.TheConstants.{WORDS}
-use Rattle.ring.specs.Queue.{IsRing, Finds, after, code, content, pushed, popped}
+use Rattle.ring.specs.Queue.{ring, content, pushed, popped, popping}
 
 -- in every history of a ring that was opened empty, the values that were put in are, in their
 -- order, those that were taken out, and after them those that are still in
 -- Not said: that a value that was put in comes out
 abbrev pub IsFifo : Type 0
 IsFifo = (records : List Record) (entries : List Entry) (last : List ℕ) →
-    IsHistoryOfEntries code Finds after (replicate WORDS 0) records entries last →
+    IsHistory ring (replicate WORDS 0) records entries last →
     pushed entries ≡ popped entries ++ content last
+
+-- a user that is alone, and puts a value in, takes one out with its next call: where the ring was
+-- empty, that value
+pub record TakesOwn (region : RegionShown) (v : Client) (value : ℕ) (taken : Option ℕ)
+    : Type 0 where
+  pub some : is_some taken ≡ true
+  pub own : content (words_after region v) ≡ [] → taken ≡ Some value
+
+abbrev pub IsOwnTurn : Type 0
+IsOwnTurn = (region : RegionShown) (v w u : Client) (value : ℕ) (taken : Option ℕ)
+    (tries tries' : ℕ) → IsAlone v →
+    HasCalled ring region (λ room. Push value room) (λ room. room) false tries (Ok true) v w →
+    HasCalled ring region (λ x. popping x) (λ x. is_some x) false tries' (Ok taken) w u →
+    TakesOwn region v value taken
 
 -- the history of a closed ring, and its values in their turn
 pub record ClosesInOrder (region : RegionShown) (v : Client) (words : List ℕ) (version : ℕ)
     : Type 0 where
-  pub closes : Closes IsRing code Finds after region v words version
-  pub fifo : pushed closes.entries ≡ popped closes.entries ++ content words
+  pub closes : Closes ring region v words version
+  pub entries : List Entry
+  pub history : IsHistory ring region.first v.records entries words
+  pub fifo : pushed entries ≡ popped entries ++ content words

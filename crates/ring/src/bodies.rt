@@ -2,9 +2,8 @@
 
 ghost use Rattle.std.specs.Prelude.{◌≡◌, ◌%◌};
 
-use crate::entry::Entry;
 use crate::law::{HEAD, RingObject, SLOTS, TAIL};
-use stm_object::{Body, Query};
+use stm_object::{Query, Update};
 use tx_memory::{Addr, TxMem, TxRead, load, store};
 
 /// The slot of the value of this number.
@@ -18,7 +17,7 @@ fn slot(number: u64) -> Addr
 #[derive(Drop)]
 pub struct Push(pub u64);
 
-impl Body<RingObject> for Push {
+impl Update<RingObject> for Push {
     ghost use Rattle.ring.specs.declared.entry.Entry.TheVariants.{Push as Pushed};
 
     type Answer = bool;
@@ -37,20 +36,13 @@ impl Body<RingObject> for Push {
         store(memory, Addr(TAIL), tail + 1)?;
         Ok(true)
     }
-
-    fn entry(&self, room: &bool) -> Entry {
-        Entry::Push {
-            value: self.0,
-            room: *room,
-        }
-    }
 }
 
 /// Takes out the foremost value, where there is one.
 #[derive(Drop)]
 pub struct Pop;
 
-impl Body<RingObject> for Pop {
+impl Update<RingObject> for Pop {
     ghost use Rattle.std.specs.Prelude.{is_some};
     ghost use Rattle.ring.specs.Queue.{popping};
 
@@ -70,13 +62,6 @@ impl Body<RingObject> for Pop {
         store(memory, Addr(HEAD), head + 1)?;
         Ok(Some(value))
     }
-
-    fn entry(&self, taken: &Option<u64>) -> Entry {
-        match *taken {
-            Some(value) => Entry::Pop { value },
-            None => Entry::Empty,
-        }
-    }
 }
 
 /// Counts the values.
@@ -90,13 +75,9 @@ impl Query<RingObject> for Count {
 
     ghost entry_of = { λ s count. Len count };
 
-    fn run<M: TxRead>(&self, memory: &mut M) -> Result<u64, M::Stop> {
+    fn read<M: TxRead>(&self, memory: &mut M) -> Result<u64, M::Stop> {
         let head = load(memory, Addr(HEAD))?;
         let tail = load(memory, Addr(TAIL))?;
         Ok(tail - head)
-    }
-
-    fn entry(&self, count: &u64) -> Entry {
-        Entry::Len { count: *count }
     }
 }

@@ -1,9 +1,6 @@
 //! What a record of the ring says.
 
-use stm_words::Tag;
-
-/// What a transaction of the ring did and what it returned: the tag of its record.
-#[derive(Clone, Copy, Debug, PartialEq, Eq)]
+/// The entry of a transaction of the ring: its operation with its answer, as its record has it.
 pub enum Entry {
     /// A value was to be put after the others. It was where there was room.
     Push { value: u64, room: bool },
@@ -13,10 +10,4 @@ pub enum Entry {
     Empty,
     /// The values were counted.
     Len { count: u64 },
-}
-
-impl Tag for Entry {
-    ghost use Rattle.ring.specs.Queue.{code};
-
-    ghost numbers = { λ entry. code entry };
 }

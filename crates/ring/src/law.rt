@@ -20,19 +20,15 @@ pub const WORDS: u32 = 18;
 pub struct RingObject;
 
 impl Object for RingObject {
-    ghost use Rattle.ring.specs.Queue.{IsRing, Finds, after};
-    ghost use Rattle.ring.specs.Keeping.{ring_after};
-    ghost use Rattle.ring.specs.declared.law.TheConstants.{WORDS};
+    ghost use Rattle.stm_object.specs.Steps.{words_local};
+    ghost use Rattle.ring.specs.Keeping.{codes_determine};
+    ghost use Rattle.ring.specs.Queue.{ring, IsRing};
 
     type Entry = Entry;
 
-    ghost size = { WORDS };
+    ghost is = { ring };
 
-    ghost fits = { λ image. IsRing image };
+    ghost local = { λ m m' n xs same h. words_local IsRing m m' n xs same h };
 
-    ghost finds = { λ e image. Finds e image };
-
-    ghost after = { λ e image. after e image };
-
-    ghost keeps = { λ e image b h. ring_after e image b h };
+    ghost determined = { λ e e' same. codes_determine e e' same };
 }

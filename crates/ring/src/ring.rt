@@ -6,7 +6,7 @@ ghost use Rattle.stm_region.specs.Refused.{ClosesNot, IsLast, OpensNot};
 ghost use Rattle.stm_region.specs.Shown.{opened_on};
 ghost use Rattle.stm_object.specs.History.{IsAlone};
 ghost use Rattle.ring.specs.declared.law.TheConstants.{WORDS};
-ghost use Rattle.ring.specs.Turns.{ClosesInOrder, IsFifo};
+ghost use Rattle.ring.specs.Turns.{ClosesInOrder, IsFifo, IsOwnTurn};
 
 use crate::law::{RingObject, WORDS};
 use std::alloc::Global;
@@ -37,6 +37,11 @@ pub fn new_ring(alloc: Global, last: u64) -> Result<(Ring, RingUser), RegionFaul
 /// of that of a ring that was closed.
 pub fn first_in_first_out()
     ensures { IsFifo }
+{}
+
+/// A user that is alone takes out what it put in, as a contract of the two calls.
+pub fn lone_user_takes_its_own()
+    ensures { IsOwnTurn }
 {}
 
 /// Closes a ring that was opened empty: the values that were taken out are, in their order, those

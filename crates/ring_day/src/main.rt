@@ -60,6 +60,17 @@ fn take(ring: &Ring, user: &mut RingUser) -> Option<u64>
     None
 }
 
+/// Returns the number of values in the queue, or the greatest number if the question was stopped.
+fn count(ring: &Ring, user: &mut RingUser) -> u64
+    requires { user.old.table ≡ ring.now.table }
+    ensures { user.new.table ≡ user.old.table }
+{
+    match ring.ask(user, &Count, TRIES) {
+        Ok(count) => count,
+        Err(_) => u64::MAX,
+    }
+}
+
 /// Puts numbers in, from this one on, and counts them.
 fn put_many(ring: &Ring, mut user: RingUser, first: u64) -> (RingUser, u32)
     requires { user.table ≡ ring.now.table }
@@ -150,7 +161,7 @@ fn main(rt: HostRuntime) -> ExitCode {
         return ExitCode::FAILURE;
     };
     let (mut user, day) = spend(&rt, &ring, user);
-    let left = ring.ask(&mut user, &Count, TRIES).unwrap_or(u64::MAX);
+    let left = count(&ring, &mut user);
     let Ok(_) = close_ring(ring, user) else {
         let _ = eprintln!(rt; "the queue could not be closed");
         return ExitCode::FAILURE;

@@ -1,7 +1,8 @@
 -- Attempts, one after the other, and why they stopped.
-use Rattle.std.proofs.Common.{◌≡◌, ℕ, zero, suc, ◌+◌, Bool, true, false, List, [], Result, Ok, Err, IfOk, IfErr, IsOk}
-use Rattle.std.proofs.Common.{inr, refl, sym, ap, ◌∙◌, subst, arith}
-use Rattle.stm_core.specs.Client.{Client, Record, inserted}
+use Rattle.std.proofs.Common.{◌≡◌, ℕ, zero, suc, ◌+◌, ◌≤◌, Bool, true, false, List, [], ◌∷◌, ◌++◌, Option, Some, Result}
+use Rattle.std.proofs.Common.{Ok, Err}
+use Rattle.std.proofs.Common.{IfOk, IfErr, inr, refl, sym, ap, ◌∙◌, subst, arith}
+use Rattle.stm_core.specs.Client.{Client, Record}
 use Rattle.stm_core.specs.Guards.{stripe_of}
 use Rattle.stm_logs.specs.Log.{LogValue, log_pairs}
 use Rattle.stm_region.specs.Shown.{RegionShown}
@@ -11,12 +12,13 @@ use Rattle.stm_attempt.specs.Committing.{HasStopped}
 use Rattle.stm_attempt.specs.declared.conflict.Conflict.{Conflict}
 use Rattle.stm_attempt.specs.declared.conflict.Stop.{Stop}
 use Rattle.stm_attempt.specs.declared.conflict.Stop.TheVariants as stop
-use Rattle.stm_object.specs.Object.{IsLawfulEntry}
-use Rattle.stm_object.specs.History.{AddsEntry, SparesWrites, RecordsEntry, WasInOrder, IsAlone, IsNoConflict, WasRead}
-use Rattle.stm_object.specs.History.{ConflictWasShown}
-use Rattle.stm_object.specs.History.{WouldWriteEntry, IsStopOfEntry, IsConflict, Missed, Misses, AreTries}
-use Rattle.stm_object.specs.History.{HasTransacted}
-use Rattle.stm_object.specs.History.{HasAsked}
+use Rattle.stm_object.specs.declared.place.Place.{Place}
+use Rattle.stm_object.specs.Object.{Specification, Does}
+use Rattle.stm_object.specs.History.{AddsAt, SparesWrites, RecordsEntry, WasInOrder, IsAlone, IsNoConflict, WasRead}
+use Rattle.stm_object.specs.History.{ConflictWasShown, AttemptedOnce, LeadsOn, IsNear, IsUnplaced}
+use Rattle.stm_object.specs.History.{WouldWriteEntry, IsStopOfEntry, Misses, met_in, AreTries, HasCalledAt}
+use Rattle.stm_object.specs.Tracing.{conflict_in, tally_with, HasTallied}
+use Rattle.stm_object.proofs.Histories.{leads}
 
 -- a read showed the conflict that the attempt kept
 pub shown_by_read : (region region' : RegionShown) (conflict : Conflict) (v v' : Client) → region' ≡ region
@@ -33,208 +35,255 @@ misses_count Shows zero v v' h = let e = ap (λ (x : Client). x.attempt.number) 
 misses_count Shows (suc n) v v' h = let a = misses_count Shows n v h.0 h.1.0 in let b =
     h.1.1.next in omega (arith, a, b)
 
--- what was tried of so many tries, where `left` are left
-pub record Trying (Shows : Conflict → Client → Type 0) (tries left : ℕ) (v v' : Client) : Type 0 where
+-- what was tried of so many tries, where `left` are left: each met a conflict and was tallied, and a
+-- client that is alone has made none
+pub record Trying {T : Type 0} (Shows : Conflict → Client → Type 0) (more : Option Conflict → T → T)
+    (tries left : ℕ) (v v' : Client) (before now : T) : Type 0 where
   pub missed : ℕ
   pub count : missed + left ≡ tries
   pub misses : Misses Shows missed v v'
+  pub tallied : now ≡ tally_with more before (met_in Shows missed v v' misses)
+  pub grants : v'.grants ≡ v.grants
+  pub floor : v.floor ≤ v'.floor
+  pub records : v'.records ≡ v.records
+  pub unplaced : IsUnplaced v'
+  pub alone : IsAlone v → v' ≡ v
 
-pub trying_first : (Shows : Conflict → Client → Type 0) (tries : ℕ) (v : Client) → Trying Shows tries tries v v
-trying_first Shows tries v = record { missed = 0; count = omega arith; misses = refl }
-
-pub trying_next : (Shows : Conflict → Client → Type 0) (tries left left' : ℕ) (v w v' : Client)
-    → Trying Shows tries left v w → left ≡ left' + 1 → Missed Shows w v' → Trying Shows tries left' v v'
-trying_next Shows tries left left' v w v' t less m = record {
-  missed = suc t.missed;
-  count = let c = t.count in omega (arith, c, less);
-  misses = (w, (t.misses, m));
+pub trying_first : {T : Type 0} (Shows : Conflict → Client → Type 0) (more : Option Conflict → T → T) (tries : ℕ)
+    (v : Client) (t : T) → IsUnplaced v → Trying Shows more tries tries v v t t
+trying_first Shows more tries v t unplaced = record {
+  missed = 0;
+  count = omega arith;
+  misses = refl;
+  tallied = refl;
+  grants = refl;
+  floor = omega arith;
+  records = refl;
+  unplaced = unplaced;
+  alone = λ a. refl;
 }
 
-tried : (Shows : Conflict → Client → Type 0) (tries left left' : ℕ) (v w v' : Client) → Trying Shows tries left v w
-    → left ≡ left' + 1 → v'.attempt.number ≡ w.attempt.number + 1 → AreTries Shows tries v v'
-tried Shows tries left left' v w v' t less next = record {
-  missed = t.missed;
-  left = left';
-  count = let c = t.count in omega (arith, c, less);
-  before = w;
-  misses = t.misses;
-  next = next;
-  number = let n = misses_count Shows t.missed v w t.misses in omega (arith, n, next);
-}
+pub trying_next : {T : Type 0} (Shows : Conflict → Client → Type 0) (more : Option Conflict → T → T)
+    (tries left left' : ℕ) (v w v' : Client) (t0 t t' : T) (conflict : Conflict)
+    → Trying Shows more tries left v w t0 t → left ≡ left' + 1 → v'.attempt.number ≡ w.attempt.number + 1
+    → v'.records ≡ w.records → v'.grants ≡ w.grants → Shows conflict v' → t' ≡ more (Some conflict) t
+    → w.floor ≤ v'.floor → IsUnplaced v' → (IsAlone w → ⊥) → Trying Shows more tries left' v v' t0 t'
+trying_next Shows more tries left left' v w v' t0 t t' conflict h less next records grants was told low unplaced not =
+    record {
+      missed = suc h.missed;
+      count = let c = h.count in omega (arith, c, less);
+      misses = (
+        w,
+        (
+          h.misses,
+          record { next = next; records = records; grants = grants; conflict = conflict; shown = was },
+        ),
+      );
+      tallied = told ∙ ap (λ x. more (Some conflict) x) h.tallied;
+      grants = grants ∙ h.grants;
+      floor = let a = h.floor in omega (arith, a, low);
+      records = records ∙ h.records;
+      unplaced = unplaced;
+      alone = λ a. absurd (not (h.grants ∙ a));
+    }
 
-pub missed : (Shows : Conflict → Client → Type 0) (conflict : Conflict) (v v' : Client)
-    → v'.attempt.number ≡ v.attempt.number + 1 → v'.records ≡ v.records → Shows conflict v' → Missed Shows v v'
-missed Shows conflict v v' next records was =
-    record { next = next; records = records; conflict = conflict; shown = was }
+-- no attempt of a client that is alone met a conflict
+pub not_conflict : {A : Type 0} (conflict : Conflict) (result : Result A Stop) → result ≡ Err (stop.Conflict conflict)
+    → IfErr result (λ s. IsNoConflict s) → ⊥
+not_conflict conflict result is none = rw is at none
+
+pub tallied_conflict : {A T : Type 0} (more : Option Conflict → T → T) (conflict : Conflict) (result : Result A Stop)
+    (t t' : T) → result ≡ Err (stop.Conflict conflict) → t' ≡ more (conflict_in result) t
+    → t' ≡ more (Some conflict) t
+tallied_conflict more conflict result t t' is told = told ∙ ap (λ r. more (conflict_in r) t) is
+
+-- what may write does not only read
+pub not_reading : false ≡ true → ⊥
+not_reading e = absurd (let n : false ≡ true = e in cc)
 
 is_true : (b : Bool) → (b ≡ false → ⊥) → b ≡ true
 is_true true not = refl
 is_true false not = absurd (not refl)
 
-module _ {E : Type 0} (fits : List ℕ → Type 0) (code : E → List ℕ) (finds : E → List ℕ → Type 0)
-    (after : E → List ℕ → List ℕ) where
-  would_write : {A : Type 0} (entry : A → E) (changes : A → Bool) (a : A) (region : RegionShown) (log : LogValue)
-      (s : Stop) (v v' : Client) → (changes a ≡ false → log_pairs log ≡ []) → IsPlaced region log
-      → IsLawfulEntry fits code finds after (code (entry a)) v.attempt.reads (log_pairs log)
-      → HasStopped region log s v v' → WouldWriteEntry fits code finds after region entry changes log v'
-  would_write entry changes a region log s v v' wrote placed l h = record {
+module _ {E : Type 0} (o : Specification E) {A : Type 0} (region : RegionShown) (entry : A → E) (changes : A → Bool)
+    (reads : Bool) where
+  would_write : (a : A) (log : LogValue) (s : Stop) (v v' : Client) → (changes a ≡ false → log_pairs log ≡ [])
+      → IsPlaced region log → Does o (entry a) v.attempt.reads (log_pairs log)
+      → HasStopped region log s v v' → WouldWriteEntry o region entry changes log v'
+  would_write a log s v v' wrote placed l h = record {
     answer = a;
     changing = is_true (changes a) (λ no. h.written (wrote no));
     some = h.written;
     placed = placed;
-    lawful = subst (λ (rs : List (ℕ × ℕ)). IsLawfulEntry fits code finds after (code (entry a)) rs (log_pairs log))
-        (sym h.same.reads) l;
+    does = subst (λ (rs : List (ℕ × ℕ)). Does o (entry a) rs (log_pairs log)) (sym h.same.reads) l;
   }
 
   -- why a commit stopped
-  stop_is : {A : Type 0} (entry : A → E) (changes : A → Bool) (a : A) (region : RegionShown) (log : LogValue)
-      (s : Stop) (v0 v v' : Client) → v'.attempt.number ≡ v0.attempt.number + 1
-      → (changes a ≡ false → log_pairs log ≡ []) → IsPlaced region log
-      → IsLawfulEntry fits code finds after (code (entry a)) v.attempt.reads (log_pairs log)
-      → HasStopped region log s v v' → IsStopOfEntry fits code finds after region entry changes 1 s v0 v'
-  stop_is entry changes a region log stop.Memory v0 v v' next wrote placed l h = absurd h.shown
-  stop_is entry changes a region log (stop.Conflict conflict) v0 v v' next wrote placed l h = (
+  stop_is : (a : A) (log : LogValue) (s : Stop) (v0 v v' : Client) → reads ≡ false
+      → v'.attempt.number ≡ v0.attempt.number + 1 → (changes a ≡ false → log_pairs log ≡ []) → IsPlaced region log
+      → Does o (entry a) v.attempt.reads (log_pairs log) → HasStopped region log s v v'
+      → IsStopOfEntry o region entry changes reads 1 s v0 v'
+  stop_is a log stop.Memory v0 v v' writes next wrote placed l h = absurd h.shown
+  stop_is a log (stop.Conflict conflict) v0 v v' writes next wrote placed l h = (
     next,
-    inr
-        (log, (would_write entry changes a region log (stop.Conflict conflict) v v' wrote placed l h, h.shown)),
+    inr (log, writes, would_write a log (stop.Conflict conflict) v v' wrote placed l h, h.shown),
   )
-  stop_is entry changes a region log (stop.Spent version) v0 v v' next wrote placed l h = record {
-    version_is = h.shown.0;
-    from = h.shown.1;
-    gave_back = h.gave_back;
-    found = h.shown.3;
-    log = log;
-    written = would_write entry changes a region log (stop.Spent version) v v' wrote placed l h;
-  }
+  stop_is a log (stop.Spent version) v0 v v' writes next wrote placed l h = (
+    writes,
+    record {
+      version_is = h.shown.0;
+      from = h.shown.1;
+      gave_back = h.gave_back;
+      found = h.shown.3;
+      log = log;
+      written = would_write a log (stop.Spent version) v v' wrote placed l h;
+    },
+  )
 
-  pub commit_stop : {A : Type 0} (entry : A → E) (changes : A → Bool) (a : A) (region region' : RegionShown)
-      (log : LogValue) (s : Stop) (v0 v w w' : Client) → region' ≡ region
-      → w.attempt.number ≡ v0.attempt.number + 1 → (changes a ≡ false → log_pairs log ≡ [])
-      → IsPlaced region' log
-      → IsLawfulEntry fits code finds after (code (entry a)) v.attempt.reads (log_pairs log)
-      → HasStopped region' log s v w → w' ≡ w → IsStopOfEntry fits code finds after region entry changes 1 s v0 w'
-  commit_stop entry changes a region region' log s v0 v w w' same next wrote placed l h e =
-      subst (λ (x : Client). IsStopOfEntry fits code finds after region entry changes 1 s v0 x) (sym e)
-      (subst (λ (r : RegionShown). IsStopOfEntry fits code finds after r entry changes 1 s v0 w) same
-      (stop_is entry changes a region' log s v0 v w next wrote placed l h))
+  pub no_record : (conflict : Conflict) (v v' : Client) (result : Result (A × Place) Stop)
+      → result ≡ Err (stop.Conflict conflict) → RecordsEntry o region entry result v v' → v'.records ≡ v.records
+  no_record conflict v v' result is h = let k = (rw is at h) in k
 
-  pub conflict_shown : {A B : Type 0} (entry : A → E) (changes : A → Bool) (region : RegionShown)
-      (conflict : Conflict) (v v' : Client) (result : Result B Stop) → result ≡ Err (stop.Conflict conflict)
-      → IfErr result (λ s. IsStopOfEntry fits code finds after region entry changes 1 s v v')
-      → ConflictWasShown fits code finds after region entry changes conflict v'
-  conflict_shown entry changes region conflict v v' result is h = let k = (rw is at h) in k.1
+  pub conflict_shown : {B : Type 0} (conflict : Conflict) (v v' : Client) (result : Result B Stop)
+      → result ≡ Err (stop.Conflict conflict)
+      → IfErr result (λ s. IsStopOfEntry o region entry changes reads 1 s v v')
+      → ConflictWasShown o region entry changes reads conflict v'
+  conflict_shown conflict v v' result is h = let k = (rw is at h) in k.1
 
   -- where the last attempt met a conflict no other try was left
-  last_stop : {A B : Type 0} (entry : A → E) (changes : A → Bool) (region : RegionShown) (tries left : ℕ)
-      (v0 v v' : Client)
-      (result : Result B Stop) → v.attempt.number + left ≡ v0.attempt.number + tries
+  last_stop : {B : Type 0} (tries left : ℕ) (v0 v v' : Client) (result : Result B Stop)
+      → v.attempt.number + left ≡ v0.attempt.number + tries
       → ((conflict : Conflict) → result ≡ Err (stop.Conflict conflict) → left ≡ 1)
-      → IfErr result (λ s. IsStopOfEntry fits code finds after region entry changes 1 s v v')
-      → IfErr result (λ s. IsStopOfEntry fits code finds after region entry changes tries s v0 v')
-  last_stop entry changes region tries left v0 v v' (Ok moved) count last h = tt
-  last_stop entry changes region tries left v0 v v' (Err stop.Memory) count last h = h
-  last_stop entry changes region tries left v0 v v' (Err (stop.Conflict conflict)) count last h = let one =
+      → IfErr result (λ s. IsStopOfEntry o region entry changes reads 1 s v v')
+      → IfErr result (λ s. IsStopOfEntry o region entry changes reads tries s v0 v')
+  last_stop tries left v0 v v' (Ok moved) count last h = tt
+  last_stop tries left v0 v v' (Err stop.Memory) count last h = h
+  last_stop tries left v0 v v' (Err (stop.Conflict conflict)) count last h = let one =
       last conflict refl in (omega (arith, h.0, one, count), h.1)
-  last_stop entry changes region tries left v0 v v' (Err (stop.Spent version)) count last h = h
+  last_stop tries left v0 v v' (Err (stop.Spent version)) count last h = h
 
-  adds_from : (region : RegionShown) (entry : E) (v w v' : Client) → w.records ≡ v.records
-      → AddsEntry code region entry w v' → AddsEntry code region entry v v'
-  adds_from region entry v w v' start a = record {
-    made = a.made;
-    tag_is = a.tag_is;
-    attempt_is = a.attempt_is;
-    renewal_is = a.renewal_is;
-    records = a.records ∙ ap (λ (rs : List Record). inserted a.made rs) start;
+  adds_from : (tag : List ℕ) (place : Place) (v w v' : Client) → w.records ≡ v.records → v.floor ≤ w.floor
+      → AddsAt region tag place w v' → AddsAt region tag place v v'
+  adds_from tag place v w v' start low p = let a = p.adds in record {
+    adds = record {
+      made = a.made;
+      tag_is = a.tag_is;
+      attempt_is = a.attempt_is;
+      renewal_is = a.renewal_is;
+      unplaced = a.unplaced;
+      later = let l = a.later in omega (arith, low, l);
+      behind = let b = a.behind in omega (arith, low, b);
+      known = a.known;
+      records = a.records ∙ ap (λ (rs : List Record). rs ++ (a.made ∷ [])) start;
+    };
+    place_is = p.place_is;
   }
 
-  records_from : {A X : Type 0} (region : RegionShown) (entry : A → E) (v w v' : Client) (result : Result A X)
-      → w.records ≡ v.records → RecordsEntry code region entry result w v' → RecordsEntry code region entry result v v'
-  records_from region entry v w v' (Ok a) start h = adds_from region (entry a) v w v' start h
-  records_from region entry v w v' (Err e) start h = h ∙ start
+  records_from : {X : Type 0} (v w v' : Client) (result : Result (A × Place) X) → w.records ≡ v.records
+      → v.floor ≤ w.floor → RecordsEntry o region entry result w v' → RecordsEntry o region entry result v v'
+  records_from v w v' (Ok a) start low h = adds_from (o.code (entry a.0)) a.1 v w v' start low h
+  records_from v w v' (Err e) start low h = h ∙ start
 
-  order_from : {A X : Type 0} (region : RegionShown) (entry : A → E) (v w v' : Client) (result : Result A X)
-      → w.records ≡ v.records → IfOk result (λ a. WasInOrder fits code finds after region (entry a) w v')
-      → IfOk result (λ a. WasInOrder fits code finds after region (entry a) v v')
-  unfolding adds_from
-  order_from region entry v w v' (Ok a) start k = record {
-    adds = adds_from region (entry a) v w v' start k.adds;
+  order_from : {X : Type 0} (v w v' : Client) (result : Result (A × Place) X) → w.records ≡ v.records
+      → v.floor ≤ w.floor → IfOk result (λ a. WasInOrder o region (entry a.0) w v')
+      → IfOk result (λ a. WasInOrder o region (entry a.0) v v')
+  order_from v w v' (Ok a) start low k = record {
+    adds = record {
+      made = k.adds.made;
+      tag_is = k.adds.tag_is;
+      attempt_is = k.adds.attempt_is;
+      renewal_is = k.adds.renewal_is;
+      unplaced = k.adds.unplaced;
+      later = let l = k.adds.later in omega (arith, low, l);
+      behind = let b = k.adds.behind in omega (arith, low, b);
+      known = k.adds.known;
+      records = k.adds.records ∙ ap (λ (rs : List Record). rs ++ (k.adds.made ∷ [])) start;
+    };
+    does = k.does;
     decided = k.decided;
-    entries = k.entries;
-    last = k.last;
-    history = k.history;
+    lead = k.lead;
     own = k.own;
     among = k.among;
   }
-  order_from region entry v w v' (Err e) start k = tt
+  order_from v w v' (Err e) start low k = tt
 
-  spares_from : {A X : Type 0} (changes : A → Bool) (v w v' : Client) (result : Result A X) → w.records ≡ v.records
-      → SparesWrites changes result w v' → SparesWrites changes result v v'
-  spares_from changes v w v' (Ok a) start k = λ no. let r = k no in record {
+  spares_from : {X : Type 0} (v w v' : Client) (result : Result (A × Place) X) → w.records ≡ v.records
+      → SparesWrites reads changes result w v' → SparesWrites reads changes result v v'
+  spares_from v w v' (Ok a) start k = λ no. let r = k no in record {
     made = r.made;
     reader = r.reader;
     writes = r.writes;
-    records = r.records ∙ ap (λ (rs : List Record). inserted r.made rs) start;
+    records = r.records ∙ ap (λ (rs : List Record). rs ++ (r.made ∷ [])) start;
   }
-  spares_from changes v w v' (Err e) start k = tt
+  spares_from v w v' (Err e) start k = tt
+
+  -- a call of a client that is alone found the words to which its own calls had led
+  turn_of : {X : Type 0} (v v' : Client) (result : Result (A × Place) X)
+      → IfOk result (λ a. WasInOrder o region (entry a.0) v v') → v'.is_gathered ≡ false → IsAlone v'
+      → IfOk result (λ a. LeadsOn o region (entry a.0) v v')
+  turn_of v v' (Ok a) order out all = leads o region (entry a.0) v v' order out all
+  turn_of v v' (Err e) order out all = tt
+
+  abbrev Shown : Conflict → Client → Type 0
+  Shown conflict x = ConflictWasShown o region entry changes reads conflict x
+
+  tried : {T : Type 0} (more : Option Conflict → T → T) (tries left left' : ℕ) (v w v' : Client) (t0 t : T)
+      → Trying Shown more tries left v w t0 t → left ≡ left' + 1 → v'.attempt.number ≡ w.attempt.number + 1
+      → AreTries Shown tries v v'
+  tried more tries left left' v w v' t0 t h less next = record {
+    missed = h.missed;
+    left = left';
+    count = let c = h.count in omega (arith, c, less);
+    before = w;
+    misses = h.misses;
+    next = next;
+    number = let n = misses_count Shown h.missed v w h.misses in omega (arith, n, next);
+  }
+
+  pub has_tallied : {T : Type 0} (more : Option Conflict → T → T) (tries left left' : ℕ) (v w v' : Client) (t0 t t' : T)
+      (answer result : Result (A × Place) Stop) → answer ≡ result → Trying Shown more tries left v w t0 t
+      → left ≡ left' + 1 → AttemptedOnce o region entry changes reads result w v' → t' ≡ more (conflict_in result) t
+      → HasTallied Shown more tries answer v v' t0 t'
+  unfolding tried
+  has_tallied more tries left left' v w v' t0 t t' answer result is h less one told = rw is (record {
+    attempts = tried more tries left left' v w v' t0 t h less one.attempt;
+    tallied = told ∙ ap (λ x. more (conflict_in result) x) h.tallied;
+  })
 
   -- a call, by its last attempt
-  pub has_transacted : {A : Type 0} (region : RegionShown) (entry : A → E) (changes : A → Bool) (tries left left' : ℕ)
-      (v w v' : Client) (answer result : Result A Stop) → answer ≡ result
-      → Trying (λ conflict x. ConflictWasShown fits code finds after region entry changes conflict x) tries left v w
-      → left ≡ left' + 1 →
-      w.grants ≡ v.grants → w.records ≡ v.records → v'.grants ≡ w.grants → v'.attempt.number ≡ w.attempt.number + 1
-      → RecordsEntry code region entry result w v'
-      → IfOk result (λ a. WasInOrder fits code finds after region (entry a) w v') → SparesWrites changes result w v' →
-      (IsAlone w → IfErr result (λ s. IsNoConflict s))
-      → IfErr result (λ s. IsStopOfEntry fits code finds after region entry changes 1 s w v')
+  pub has_called : {T : Type 0} (more : Option Conflict → T → T) (tries left left' : ℕ) (v w v' : Client) (t0 t : T)
+      (answer result : Result (A × Place) Stop) → answer ≡ result → Trying Shown more tries left v w t0 t
+      → left ≡ left' + 1 → AttemptedOnce o region entry changes reads result w v'
       → ((conflict : Conflict) → result ≡ Err (stop.Conflict conflict) → left' ≡ 0)
-      → HasTransacted fits code finds after region entry changes tries answer v v'
-  has_transacted region entry changes tries left left' v w v' answer result is t less grants start same next records
-      order
-      spares alone stopped last = rw is (record {
-        grants = same ∙ grants;
-        records = records_from region entry v w v' result start records;
-        order = order_from region entry v w v' result start order;
-        spares = spares_from changes v w v' result start spares;
-        alone = λ a. alone (grants ∙ a);
-        attempts = tried (λ conflict x. ConflictWasShown fits code finds after region entry changes conflict x) tries
-            left left'
-            v w v'
-            t less next;
-        stopped = last_stop entry changes region tries left v w v' result
-            (let n = misses_count (λ conflict x. ConflictWasShown fits code finds after region entry changes conflict x)
-            t.missed v w
-            t.misses in let c = t.count in omega (arith, n, c))
-            (λ conflict met. let none = last conflict met in omega (arith, less, none)) stopped;
+      → HasCalledAt o region entry changes reads tries answer v v'
+  has_called more tries left left' v w v' t0 t answer result is h less one last = rw is (
+      let order = order_from v w v' result h.records h.floor one.order in
+      record {
+        grants = one.grants ∙ h.grants;
+        floor = let a = h.floor in let b = one.floor in omega (arith, a, b);
+        free_handed = one.free_handed;
+        unplaced = one.unplaced;
+        records = records_from v w v' result h.records h.floor one.records;
+        order = order;
+        spares = spares_from v w v' result h.records one.spares;
+        turn = λ a. turn_of v v' result order one.free_handed.0 (one.grants ∙ (h.grants ∙ a));
+        alone = λ a. one.alone (h.grants ∙ a);
+        once = λ a. one.attempt ∙ ap (λ (x : Client). x.attempt.number + 1) (h.alone a);
+        near = λ a. let e = ap (λ (x : Client). x.floor) (h.alone a) in let n = one.near (h.grants ∙ a) in
+            subst (λ (floor : ℕ). IsNear reads region.last floor v'.floor result) e n;
+        attempts = tried more tries left left' v w v' t0 t h less one.attempt;
+        stopped = last_stop tries left v w v' result
+            (let n = misses_count Shown h.missed v w h.misses in let c = h.count in omega (arith, n, c))
+            (λ conflict met. let none = last conflict met in omega (arith, less, none)) one.stopped;
       })
 
-  -- the same of one that only reads
-  last_conflict : {B : Type 0} (region : RegionShown) (tries left : ℕ) (v0 v v' : Client)
-      (result : Result B Conflict) → v.attempt.number + left ≡ v0.attempt.number + tries
-      → ((conflict : Conflict) → result ≡ Err conflict → left ≡ 1) → IfErr result (λ s. IsConflict region 1 s v v')
-      → IfErr result (λ s. IsConflict region tries s v0 v')
-  last_conflict region tries left v0 v v' (Ok found) count last h = tt
-  last_conflict region tries left v0 v v' (Err conflict) count last h = let one =
-      last conflict refl in (omega (arith, h.0, one, count), h.1)
-
-  pub has_asked : {A : Type 0} (region : RegionShown) (entry : A → E) (tries left left' : ℕ) (v w v' : Client)
-      (answer result : Result A Conflict) → answer ≡ result
-      → Trying (λ conflict x. WasRead region conflict x) tries left v w → left ≡ left' + 1 →
-      w.grants ≡ v.grants → w.records ≡ v.records → v'.grants ≡ w.grants → v'.attempt.number ≡ w.attempt.number + 1
-      → RecordsEntry code region entry result w v'
-      → IfOk result (λ a. WasInOrder fits code finds after region (entry a) w v') →
-      (IsAlone w → IsOk result) → IfErr result (λ s. IsConflict region 1 s w v')
-      → ((conflict : Conflict) → result ≡ Err conflict → left' ≡ 0)
-      → HasAsked fits code finds after region entry tries answer v v'
-  has_asked region entry tries left left' v w v' answer result is t less grants start same next records order alone
-      stopped last = rw is (record {
-        grants = same ∙ grants;
-        records = records_from region entry v w v' result start records;
-        order = order_from region entry v w v' result start order;
-        alone = λ a. alone (grants ∙ a);
-        attempts = tried (λ conflict x. WasRead region conflict x) tries left left' v w v' t less next;
-        stopped = last_conflict region tries left v w v' result
-            (let n = misses_count (λ conflict x. WasRead region conflict x) t.missed v w t.misses in let c =
-            t.count in omega (arith, n, c)) (λ conflict met. let none = last conflict met in omega (arith, less, none))
-            stopped;
-      })
+module _ {E : Type 0} (o : Specification E) {A : Type 0} (entry : A → E) (changes : A → Bool) (reads : Bool) where
+  pub commit_stop : (region region' : RegionShown) (a : A) (log : LogValue) (s : Stop) (v0 v w w' : Client)
+      → region' ≡ region → reads ≡ false → w.attempt.number ≡ v0.attempt.number + 1
+      → (changes a ≡ false → log_pairs log ≡ []) → IsPlaced region' log
+      → Does o (entry a) v.attempt.reads (log_pairs log) → HasStopped region' log s v w → w' ≡ w
+      → IsStopOfEntry o region entry changes reads 1 s v0 w'
+  commit_stop region region' a log s v0 v w w' same writes next wrote placed l h e =
+      subst (λ (x : Client). IsStopOfEntry o region entry changes reads 1 s v0 x) (sym e)
+      (subst (λ (r : RegionShown). IsStopOfEntry o r entry changes reads 1 s v0 w) same
+      (stop_is o region' entry changes reads a log s v0 v w writes next wrote placed l h))

@@ -1,10 +1,11 @@
 -- What is known of the records of all clients, in terms of an object's entries, and of a call's
 -- tries.
-use Rattle.std.specs.Prelude.{◌≡◌, ◌≢◌, ◌⊎◌, ℕ, zero, suc, ◌+◌, Bool, true, false, List, [], ◌∷◌, Result, Ok, Err, IfOk, IfErr, IsOk}
+use Rattle.std.specs.Prelude.{◌≡◌, ◌≢◌, ◌⊎◌, ℕ, zero, suc, ◌+◌, ◌*◌, ◌<◌, ◌≤◌, Bool, true, false}
+use Rattle.std.specs.Prelude.{List, [], ◌∷◌, ◌++◌, Result, Ok, Err, IfOk, IfErr, MatchResult}
 use Rattle.tx_memory.specs.Image.{In}
-use Rattle.stm_core.specs.Client.{Client, Record, inserted}
+use Rattle.stm_core.specs.Client.{Client, Record, rank}
 use Rattle.stm_core.specs.Core.{IsFreeHanded}
-use Rattle.stm_core.specs.History.{Sub, all_records}
+use Rattle.stm_core.specs.History.{Sub, all_records, image_after}
 use Rattle.stm_core.specs.Guards.{stripe_of}
 use Rattle.stm_logs.specs.Log.{LogValue, log_pairs}
 use Rattle.stm_region.specs.Shown.{RegionShown, ClientShown}
@@ -16,104 +17,149 @@ use Rattle.stm_attempt.specs.Committing.{WasDecided, HasWonLock, HasLostTick}
 use Rattle.stm_attempt.specs.declared.conflict.Conflict.{Conflict as ConflictMet}
 use Rattle.stm_attempt.specs.declared.conflict.Stop.{Stop}
 use Rattle.stm_attempt.specs.declared.conflict.Stop.TheVariants.{Memory, Conflict, Spent}
-use Rattle.stm_object.specs.Object.{IsLawfulEntry}
+use Rattle.stm_object.specs.declared.place.Place.{Place}
+use Rattle.stm_object.specs.Object.{Specification, Shows, IsFitting, Does, IsLawfulEntry}
+use Rattle.stm_object.specs.Places.{place_of}
 
--- one after the other, the records tell these entries, each finds what it says, and the last words
--- are these
-abbrev pub IsHistoryOfEntries : {E : Type 0} → (E → List ℕ) → (E → List ℕ → Type 0)
-    → (E → List ℕ → List ℕ) →
-    List ℕ → List Record → List E → List ℕ → Type 0
-IsHistoryOfEntries code finds after xs [] [] last = xs ≡ last
-IsHistoryOfEntries code finds after xs [] (e ∷ es) last = ⊥
-IsHistoryOfEntries code finds after xs (r ∷ rs) [] last = ⊥
-IsHistoryOfEntries code finds after xs (r ∷ rs) (e ∷ es) last =
-    (r.tag ≡ code e) × finds e xs × IsHistoryOfEntries code finds after (after e xs) rs es last
+-- one after the other, the records tell these entries, which there may be, each finds what it says,
+-- and the last value is this one
+abbrev pub IsHistory : {E : Type 0} (o : Specification E) → o.Value → List Record → List E
+    → o.Value → Type 0
+IsHistory o x [] [] last = x ≡ last
+IsHistory o x [] (e ∷ es) last = ⊥
+IsHistory o x (r ∷ rs) [] last = ⊥
+IsHistory o x (r ∷ rs) (e ∷ es) last = (r.tag ≡ o.code e) × o.IsEntry e × o.Finds e x
+    × IsHistory o (o.after e x) rs es last
 
--- a region of this size that was opened on a fitting image
-pub record IsOpenedOnFitting (fits : List ℕ → Type 0) (size : ℕ) (region : RegionShown)
+-- the records are a history from this value to one that the image holds
+pub record LeadTo {E : Type 0} (o : Specification E) (x : o.Value) (rs : List Record)
+    (image : List ℕ) : Type 0 where
+  pub entries : List E
+  pub last : o.Value
+  pub history : IsHistory o x rs entries last
+  pub shown : Shows o image last
+
+-- so they are from every value that this image holds
+abbrev pub Lead : {E : Type 0} (o : Specification E) → List ℕ → List Record → Type 0
+Lead o first rs = (x : o.Value) → Shows o first x → LeadTo o x rs (image_after first rs)
+
+-- a region of such a size that was first opened on a fitting image
+pub record IsOpenedOnFitting {E : Type 0} (o : Specification E) (region : RegionShown)
     : Type 0 where
-  pub size_is : region.size ≡ size
-  pub first : fits region.first
+  pub size : o.IsSize region.size
+  pub first : IsFitting o region.first
 
--- this is the record of the entry, by the client's last attempt, and exactly it was added
-pub record AddsEntry {E : Type 0} (code : E → List ℕ) (region : RegionShown) (entry : E)
-    (v v' : Client)
-    : Type 0 where
+-- the client's records keep no place in a list of events
+pub record IsUnplaced (v : Client) : Type 0 where
+  pub each : (r : Record) → In r v.records → r.point ≡ 0
+
+-- exactly one record was added, as the last one, with this tag, by the client's last attempt: of
+-- this renewal, of a version that the client knows now and no version below the one that it knew
+-- before, and after the writer of that version
+pub record AddsRecord (region : RegionShown) (tag : List ℕ) (v v' : Client) : Type 0 where
   pub made : Record
-  pub tag_is : made.tag ≡ code entry
+  pub tag_is : made.tag ≡ tag
   pub attempt_is : made.attempt ≡ v'.attempt.number
   pub renewal_is : made.renewal ≡ region.renewal
-  pub records : v'.records ≡ inserted made v.records
+  pub unplaced : made.point ≡ 0
+  pub later : v.floor ≤ made.version
+  pub behind : 2 * v.floor < rank made
+  pub known : made.version ≤ v'.floor
+  pub records : v'.records ≡ v.records ++ (made ∷ [])
 
--- the client is of the region, which was opened on a fitting image, and holds no lock
-pub record MayAttempt (fits : List ℕ → Type 0) (size : ℕ) (region : RegionShown)
+-- and this is its place
+pub record AddsAt (region : RegionShown) (tag : List ℕ) (place : Place) (v v' : Client) : Type 0
+  where
+    pub adds : AddsRecord region tag v v'
+    pub place_is : place ≡ place_of adds.made
+
+-- the client is of the region, which was opened on a fitting image, holds no lock, and its records
+-- keep no place
+pub record MayAttempt {E : Type 0} (o : Specification E) (region : RegionShown)
     (client : ClientShown) : Type 0 where
   pub own : client.table ≡ region.table
   pub free_handed : IsFreeHanded client.value
-  pub opened : IsOpenedOnFitting fits size region
+  pub opened : IsOpenedOnFitting o region
+  pub unplaced : IsUnplaced client.value
 
--- exactly one record was added, which writes nothing
+-- exactly one record was added, as the last one, which writes nothing
 pub record AddsWithoutWrites (v v' : Client) : Type 0 where
   pub made : Record
   pub reader : made.writer ≡ false
   pub writes : made.writes ≡ []
-  pub records : v'.records ≡ inserted made v.records
+  pub records : v'.records ≡ v.records ++ (made ∷ [])
 
--- an answer that changes nothing left a record that writes nothing
-abbrev pub SparesWrites : {A X : Type 0} → (A → Bool) → Result A X → Client → Client → Type 0
-SparesWrites changes result v v' = IfOk result (λ a. changes a ≡ false → AddsWithoutWrites v v')
+-- a transaction that only reads, and an answer that changes nothing, left a record that writes
+-- nothing
+abbrev pub SparesWrites : {A X : Type 0} → Bool → (A → Bool) → Result (A × Place) X → Client
+    → Client → Type 0
+SparesWrites reads changes result v v' = IfOk result (λ a.
+    (reads ≡ true) ⊎ (changes a.0 ≡ false) → AddsWithoutWrites v v')
 
--- at an answer the record of its entry was added, at a refusal none
-abbrev pub RecordsEntry : {E A X : Type 0} → (E → List ℕ) → RegionShown → (A → E) → Result A X →
-    Client → Client → Type 0
-RecordsEntry code region entry (Ok a) v v' = AddsEntry code region (entry a) v v'
-RecordsEntry code region entry (Err e) v v' = v'.records ≡ v.records
+-- at an answer the record of its entry was added, at the place that is given beside it, at a
+-- refusal none
+abbrev pub RecordsEntry : {A X E : Type 0} → (o : Specification E) → RegionShown → (A → E)
+    → Result (A × Place) X → Client → Client → Type 0
+RecordsEntry o region entry (Ok a) v v' = AddsAt region (o.code (entry a.0)) a.1 v v'
+RecordsEntry o region entry (Err e) v v' = v'.records ≡ v.records
 
--- the client's last attempt added the record of the entry; and in the core state of the region
--- right after the step that decided it, the records of all clients were a history from the opening,
--- and the client's own, this very record among them, were in it, each once and in their order
-pub record WasInOrder {E : Type 0} (fits : List ℕ → Type 0) (code : E → List ℕ)
-    (finds : E → List ℕ → Type 0) (after : E → List ℕ → List ℕ)
-    (region : RegionShown) (entry : E) (v v' : Client) : Type 0 where
-  pub adds : AddsEntry code region entry v v'
-  pub decided : WasDecided fits (IsLawfulEntry fits code finds after) region adds.made v'
-  pub entries : List E
-  pub last : List ℕ
-  pub history : IsHistoryOfEntries code finds after region.first
-      (all_records decided.decides.core.clients)
-      entries last
+-- the client's last attempt added the record of the entry, whose reads and writes do what the entry
+-- says; and in the core state of the region right after the step that decided it, the records of
+-- all clients were a history from the opening, and the client's own, this very record among them,
+-- were in it, each once and in their order
+pub record WasInOrder {E : Type 0} (o : Specification E) (region : RegionShown) (entry : E)
+    (v v' : Client) : Type 0 where
+  pub adds : AddsRecord region (o.code entry) v v'
+  pub does : Does o entry adds.made.reads adds.made.writes
+  pub decided : WasDecided (IsFitting o) (IsLawfulEntry o) region adds.made v'
+  pub lead : Lead o region.first (all_records decided.decides.core.clients)
   pub own : In adds.made (all_records decided.decides.core.clients)
   pub among : Sub v'.records (all_records decided.decides.core.clients)
-
--- one attempt was made: at an answer it added the record of its entry, which was then in order, and
--- at a refusal none; it left no lock held
-pub record AttemptedOnce {E A X : Type 0} (fits : List ℕ → Type 0) (code : E → List ℕ)
-    (finds : E → List ℕ → Type 0) (after : E → List ℕ → List ℕ)
-    (region : RegionShown) (entry : A → E) (result : Result A X) (v v' : Client) : Type 0 where
-  pub grants : v'.grants ≡ v.grants
-  pub free_handed : IsFreeHanded v'
-  pub attempt : v'.attempt.number ≡ v.attempt.number + 1
-  pub records : RecordsEntry code region entry result v v'
-  pub order : IfOk result (λ a. WasInOrder fits code finds after region (entry a) v v')
-
--- the words and the version are the last ones of the region, and the closing client's records are a
--- history that leads from the opening to the words
-pub record Closes {E : Type 0} (fits : List ℕ → Type 0) (code : E → List ℕ)
-    (finds : E → List ℕ → Type 0) (after : E → List ℕ → List ℕ)
-    (region : RegionShown) (v : Client) (words : List ℕ) (version : ℕ) : Type 0 where
-  pub ends : Ends (IsLawfulEntry fits code finds after) region v words version
-  pub entries : List E
-  pub history : IsHistoryOfEntries code finds after region.first v.records entries words
 
 -- no other client is out
 abbrev pub IsAlone : Client → Type 0
 IsAlone v = v.grants ≡ MOST_GRANTS
+
+-- the words to which the client's records lead, one after the other, from those of the first
+-- opening: where the client is alone, all words as they are
+abbrev pub words_after : RegionShown → Client → List ℕ
+words_after region v = image_after region.first v.records
+
+-- the words to which the client's records led before fit; and whatever value they held, the entry
+-- found what it says in it, and now the records lead to words of the value after it
+pub record LeadsOn {E : Type 0} (o : Specification E) (region : RegionShown) (entry : E)
+    (v v' : Client) : Type 0 where
+  pub fitting : IsFitting o (words_after region v)
+  pub on : (x : o.Value) → Shows o (words_after region v) x →
+      o.Finds entry x × Shows o (words_after region v') (o.after entry x)
+
+-- the words and the version are the last ones of the region, and the closing client's records are a
+-- history that leads from the opening to the words
+pub record Closes {E : Type 0} (o : Specification E) (region : RegionShown) (v : Client)
+    (words : List ℕ) (version : ℕ) : Type 0 where
+  pub fitting : IsFitting o region.first
+  pub ends : Ends (IsLawfulEntry o) region v words version
+  pub lead : (x : o.Value) → Shows o region.first x → LeadTo o x v.records words
 
 -- it was no conflict
 abbrev pub IsNoConflict : Stop → Type 0
 IsNoConflict Memory = Unit {0}
 IsNoConflict (Conflict conflict) = ⊥
 IsNoConflict (Spent version) = Unit {0}
+
+-- what a stop leaves of the version that its client knows, where that client is alone: refused
+-- memory leaves it as it was, and a spent clock was spent before
+abbrev pub IsNearStop : ℕ → ℕ → ℕ → Stop → Type 0
+IsNearStop last before now Memory = now ≡ before
+IsNearStop last before now (Conflict conflict) = ⊥
+IsNearStop last before now (Spent version) = before ≡ last
+
+-- what an attempt leaves of it: a record raises it by at most one, and not at all where the attempt
+-- only read
+abbrev pub IsNear : {A : Type 0} → Bool → ℕ → ℕ → ℕ → Result A Stop → Type 0
+IsNear reads last before now result =
+    MatchResult result (λ _. now ≤ before + 1) (λ stop. IsNearStop last before now stop)
+    × (reads ≡ true → now ≡ before)
 
 -- the client's last step showed the conflict, in a read
 abbrev pub WasRead : RegionShown → ConflictMet → Client → Type 0
@@ -123,29 +169,28 @@ WasRead region conflict v =
 -- the client's attempt was to write what this log has, which is not nothing: the record of the
 -- entry of an answer that changes something, with what the attempt has read and these writes, would
 -- have been lawful
-pub record WouldWriteEntry {E A : Type 0} (fits : List ℕ → Type 0) (code : E → List ℕ)
-    (finds : E → List ℕ → Type 0) (after : E → List ℕ → List ℕ) (region : RegionShown)
+pub record WouldWriteEntry {A E : Type 0} (o : Specification E) (region : RegionShown)
     (entry : A → E) (changes : A → Bool) (log : LogValue) (v : Client) : Type 0 where
   pub answer : A
   pub changing : changes answer ≡ true
   pub some : log_pairs log ≢ []
   pub placed : IsPlaced region log
-  pub lawful : IsLawfulEntry fits code finds after (code (entry answer)) v.attempt.reads
-      (log_pairs log)
+  pub does : Does o (entry answer) v.attempt.reads (log_pairs log)
 
--- the client's last step, but for giving back its locks, showed the conflict: in a read, or in a
--- commit, over the lock of an address that it has read or was to write, or over the clock
-abbrev pub ConflictWasShown : {E A : Type 0} → (List ℕ → Type 0) → (E → List ℕ)
-    → (E → List ℕ → Type 0) →
-    (E → List ℕ → List ℕ) → RegionShown → (A → E) → (A → Bool) → ConflictMet → Client → Type 0
-ConflictWasShown fits code finds after region entry changes conflict v = WasRead region conflict v
-    ⊎ ((log : LogValue) × (WouldWriteEntry fits code finds after region entry changes log v
-    × IsCommitConflict (stripe_of region.stripes) log conflict v))
+-- the client's last step, but for giving back its locks, showed the conflict: in a read, or, where
+-- the transaction may write, in a commit, over the lock of an address that it has read or was to
+-- write, or over the clock
+abbrev pub ConflictWasShown : {A E : Type 0} → (o : Specification E) → RegionShown → (A → E)
+    → (A → Bool) → Bool → ConflictMet → Client → Type 0
+ConflictWasShown o region entry changes reads conflict v = WasRead region conflict v
+    ⊎ ((log : LogValue) × (reads ≡ false) × WouldWriteEntry o region entry changes log v
+    × IsCommitConflict (stripe_of region.stripes) log conflict v)
 
 -- one attempt was made, which left no record, and showed a conflict
 pub record Missed (Shows : ConflictMet → Client → Type 0) (v v' : Client) : Type 0 where
   pub next : v'.attempt.number ≡ v.attempt.number + 1
   pub records : v'.records ≡ v.records
+  pub grants : v'.grants ≡ v.grants
   pub conflict : ConflictMet
   pub shown : Shows conflict v'
 
@@ -153,6 +198,12 @@ pub record Missed (Shows : ConflictMet → Client → Type 0) (v v' : Client) : 
 abbrev pub Misses : (ConflictMet → Client → Type 0) → ℕ → Client → Client → Type 0
 Misses Shows zero v v' = v' ≡ v
 Misses Shows (suc n) v v' = (w : Client) × (Misses Shows n v w × Missed Shows w v')
+
+-- their conflicts, the newest first
+abbrev pub met_in : (Shows : ConflictMet → Client → Type 0) (n : ℕ) (v v' : Client) →
+    Misses Shows n v v' → List ConflictMet
+met_in Shows zero v v' h = []
+met_in Shows (suc n) v v' h = h.1.1.conflict ∷ met_in Shows n v h.0 h.1.0
 
 -- at most `tries` attempts were made, one after the other, each of which but the last showed a
 -- conflict: `left` were not made
@@ -173,62 +224,75 @@ AreAllTries tries v v' = v'.attempt.number ≡ v.attempt.number + tries
 -- the clock was found at its last version, and there was something to write. The locks had been
 -- taken, and were given back: the last step but that won one, or is the tick that lost to that
 -- version
-pub record ClockIsSpent {E A : Type 0} (fits : List ℕ → Type 0) (code : E → List ℕ)
-    (finds : E → List ℕ → Type 0) (after : E → List ℕ → List ℕ) (region : RegionShown)
+pub record ClockIsSpent {A E : Type 0} (o : Specification E) (region : RegionShown)
     (entry : A → E) (changes : A → Bool) (version : ℕ) (v : Client) : Type 0 where
   pub version_is : version ≡ region.last
   pub from : v.attempt.next_from ≡ region.last
   pub gave_back : v.attempt.gave_back ≡ true
   pub found : HasWonLock v ⊎ HasLostTick version v
   pub log : LogValue
-  pub written : WouldWriteEntry fits code finds after region entry changes log v
+  pub written : WouldWriteEntry o region entry changes log v
 
--- why a transaction of such an entry stopped: a log could not grow, and the last step shows no
--- conflict; or all tries were made, and the last one showed the conflict; or the clock was found at
--- the last version, with something to write
+-- why a transaction of such an entry stopped: all tries were made, and the last one showed the
+-- conflict; or, where it may write, a log could not grow, and the last step shows no conflict, or
+-- the clock was found at the last version, with something to write
 -- Not said: which growth of a log was refused
-abbrev pub IsStopOfEntry : {E A : Type 0} → (List ℕ → Type 0) → (E → List ℕ)
-    → (E → List ℕ → Type 0) →
-    (E → List ℕ → List ℕ) → RegionShown → (A → E) → (A → Bool) → ℕ → Stop → Client → Client →
-    Type 0
-IsStopOfEntry fits code finds after region entry changes tries Memory v v' = IsQuiet v'
-IsStopOfEntry fits code finds after region entry changes tries (Conflict conflict) v v' =
-    AreAllTries tries v v' × ConflictWasShown fits code finds after region entry changes conflict v'
-IsStopOfEntry fits code finds after region entry changes tries (Spent version) v v' =
-    ClockIsSpent fits code finds after region entry changes version v'
+abbrev pub IsStopOfEntry : {A E : Type 0} → (o : Specification E) → RegionShown → (A → E)
+    → (A → Bool) → Bool → ℕ → Stop → Client → Client → Type 0
+IsStopOfEntry o region entry changes reads tries Memory v v' = (reads ≡ false) × IsQuiet v'
+IsStopOfEntry o region entry changes reads tries (Conflict conflict) v v' =
+    AreAllTries tries v v' × ConflictWasShown o region entry changes reads conflict v'
+IsStopOfEntry o region entry changes reads tries (Spent version) v v' =
+    (reads ≡ false) × ClockIsSpent o region entry changes version v'
 
--- why a transaction that only reads stopped: all tries were made, and the last one showed the
--- conflict
-abbrev pub IsConflict : RegionShown → ℕ → ConflictMet → Client → Client → Type 0
-IsConflict region tries conflict v v' =
-    AreAllTries tries v v' × WasRead region conflict v'
+-- one attempt was made: at an answer it added the record of its entry, which was then in order, and
+-- at a refusal none; it left no lock held
+pub record AttemptedOnce {A E : Type 0} (o : Specification E) (region : RegionShown)
+    (entry : A → E) (changes : A → Bool) (reads : Bool) (result : Result (A × Place) Stop)
+    (v v' : Client) : Type 0 where
+  pub grants : v'.grants ≡ v.grants
+  pub floor : v.floor ≤ v'.floor
+  pub free_handed : IsFreeHanded v'
+  pub unplaced : IsUnplaced v'
+  pub attempt : v'.attempt.number ≡ v.attempt.number + 1
+  pub records : RecordsEntry o region entry result v v'
+  pub order : IfOk result (λ a. WasInOrder o region (entry a.0) v v')
+  pub spares : SparesWrites reads changes result v v'
+  pub alone : IsAlone v → IfErr result (λ stop. IsNoConflict stop)
+  pub near : IsAlone v → IsNear reads region.last v.floor v'.floor result
+  pub stopped : IfErr result (λ stop. IsStopOfEntry o region entry changes reads 1 stop v v')
 
 -- what a call of a transaction does, by at most `tries` attempts: what it records and where, how
--- many attempts it makes, and why it stops
+-- many attempts it makes, and why it stops; and of a client that is alone, that it makes one
+-- attempt and finds the words to which its own calls led
 -- Not said: that it is answered in the end, however many tries it has; how long a try takes
-pub record HasTransacted {E A : Type 0} (fits : List ℕ → Type 0) (code : E → List ℕ)
-    (finds : E → List ℕ → Type 0) (after : E → List ℕ → List ℕ) (region : RegionShown)
-    (entry : A → E) (changes : A → Bool) (tries : ℕ) (result : Result A Stop) (v v' : Client)
-    : Type 0 where
+pub record HasCalledAt {A E : Type 0} (o : Specification E) (region : RegionShown) (entry : A → E)
+    (changes : A → Bool) (reads : Bool) (tries : ℕ) (result : Result (A × Place) Stop)
+    (v v' : Client) : Type 0 where
   pub grants : v'.grants ≡ v.grants
-  pub records : RecordsEntry code region entry result v v'
-  pub order : IfOk result (λ a. WasInOrder fits code finds after region (entry a) v v')
-  pub spares : SparesWrites changes result v v'
+  pub floor : v.floor ≤ v'.floor
+  pub free_handed : IsFreeHanded v'
+  pub unplaced : IsUnplaced v'
+  pub records : RecordsEntry o region entry result v v'
+  pub order : IfOk result (λ a. WasInOrder o region (entry a.0) v v')
+  pub spares : SparesWrites reads changes result v v'
+  pub turn : IsAlone v → IfOk result (λ a. LeadsOn o region (entry a.0) v v')
   pub alone : IsAlone v → IfErr result (λ stop. IsNoConflict stop)
-  pub attempts : AreTries
-      (λ conflict w. ConflictWasShown fits code finds after region entry changes conflict w)
+  pub once : IsAlone v → v'.attempt.number ≡ v.attempt.number + 1
+  pub near : IsAlone v → IsNear reads region.last v.floor v'.floor result
+  pub attempts : AreTries (λ conflict w. ConflictWasShown o region entry changes reads conflict w)
       tries v v'
-  pub stopped : IfErr result
-      (λ stop. IsStopOfEntry fits code finds after region entry changes tries stop v v')
+  pub stopped : IfErr result (λ stop. IsStopOfEntry o region entry changes reads tries stop v v')
 
--- what a call of a transaction that only reads does, by at most `tries` attempts: what it records
--- and where, how many attempts it makes, and that a conflict alone stops it
-pub record HasAsked {E A : Type 0} (fits : List ℕ → Type 0) (code : E → List ℕ)
-    (finds : E → List ℕ → Type 0) (after : E → List ℕ → List ℕ) (region : RegionShown)
-    (entry : A → E) (tries : ℕ) (result : Result A ConflictMet) (v v' : Client) : Type 0 where
-  pub grants : v'.grants ≡ v.grants
-  pub records : RecordsEntry code region entry result v v'
-  pub order : IfOk result (λ a. WasInOrder fits code finds after region (entry a) v v')
-  pub alone : IsAlone v → IsOk result
-  pub attempts : AreTries (λ conflict w. WasRead region conflict w) tries v v'
-  pub stopped : IfErr result (λ conflict. IsConflict region tries conflict v v')
+-- an answer without the place of its record
+abbrev pub answer_in : {A X : Type 0} → Result (A × Place) X → Result A X
+answer_in (Ok a) = Ok a.0
+answer_in (Err e) = Err e
+
+-- what a call does that does not give the place of its record
+pub record HasCalled {A E : Type 0} (o : Specification E) (region : RegionShown) (entry : A → E)
+    (changes : A → Bool) (reads : Bool) (tries : ℕ) (result : Result A Stop) (v v' : Client)
+    : Type 0 where
+  pub placed : Result (A × Place) Stop
+  pub result_is : result ≡ answer_in placed
+  pub call : HasCalledAt o region entry changes reads tries placed v v'

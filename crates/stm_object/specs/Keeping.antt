@@ -1,46 +1,53 @@
--- What every entry keeps, a history keeps: for what an object promises of all of its histories.
-use Rattle.std.proofs.Common.{◌≡◌, ℕ, zero, suc, List, [], ◌∷◌, sym, ap, ◌∙◌, subst}
+-- Invariants: if every entry keeps one, a history keeps it; for promises of all histories. And
+-- the record of an answer has a place.
+use Rattle.std.proofs.Common.{◌≡◌, ℕ, zero, suc, Bool, List, [], ◌∷◌, Result, Ok, Err}
+use Rattle.std.proofs.Common.{sym, ap, ◌∙◌, subst}
 use mathlib.Core.Option.{some-injective, some-ne-none}
 use Rattle.tx_memory.specs.Image.{In}
-use Rattle.stm_core.specs.Client.{Record}
-use Rattle.stm_object.specs.History.{IsHistoryOfEntries}
+use Rattle.stm_core.specs.Client.{Client, Record}
+use Rattle.stm_region.specs.Shown.{RegionShown}
+use Rattle.stm_attempt.specs.declared.conflict.Stop.{Stop}
+use Rattle.stm_object.specs.declared.place.Place.{Place}
+use Rattle.stm_object.specs.Object.{Specification}
+use Rattle.stm_object.specs.History.{IsHistory, HasCalled, HasCalledAt, answer_in}
 
--- where a history has this record, the record's entry found what it says in words with P
-pub record WasFound {E : Type 0} (code : E → List ℕ) (finds : E → List ℕ → Type 0)
-    (P : List ℕ → Type 0) (tag : List ℕ) : Type 0 where
+-- where a history has this record, the record's entry found what it says in a value with P
+pub record WasFound {E : Type 0} (o : Specification E) (P : o.Value → Type 0) (tag : List ℕ)
+    : Type 0 where
   pub entry : E
-  pub told : tag ≡ code entry
-  pub words : List ℕ
-  pub found : finds entry words
-  pub kept : P words
+  pub told : tag ≡ o.code entry
+  pub is_entry : o.IsEntry entry
+  pub value : o.Value
+  pub found : o.Finds entry value
+  pub kept : P value
 
-module _ {E : Type 0} (code : E → List ℕ) (finds : E → List ℕ → Type 0)
-    (after : E → List ℕ → List ℕ) (P : List ℕ → Type 0)
-    (keeps : (e : E) (xs : List ℕ) → finds e xs → P xs → P (after e xs)) where
-  -- the last words have what the first ones had
-  pub kept : (xs : List ℕ) (rs : List Record) (es : List E) (last : List ℕ) →
-      IsHistoryOfEntries code finds after xs rs es last → P xs → P last
-  kept xs [] [] last h p = subst P h p
-  kept xs [] (e ∷ es) last h p = absurd h
-  kept xs (r ∷ rs) [] last h p = absurd h
-  kept xs (r ∷ rs) (e ∷ es) last h p = kept (after e xs) rs es last h.2 (keeps e xs h.1 p)
+module _ {E : Type 0} (o : Specification E) (P : o.Value → Type 0)
+    (keeps : (e : E) (x : o.Value) → o.IsEntry e → o.Finds e x → P x → P (o.after e x)) where
+  -- the last value has what the first one had
+  pub kept : (x : o.Value) (rs : List Record) (es : List E) (last : o.Value) →
+      IsHistory o x rs es last → P x → P last
+  kept x [] [] last h p = subst P h p
+  kept x [] (e ∷ es) last h p = absurd h
+  kept x (r ∷ rs) [] last h p = absurd h
+  kept x (r ∷ rs) (e ∷ es) last h p =
+      kept (o.after e x) rs es last h.3 (keeps e x h.1 h.2 p)
 
-  -- and so have those that each record's entry found
-  pub found : (xs : List ℕ) (rs : List Record) (es : List E) (last : List ℕ) (r : Record) →
-      IsHistoryOfEntries code finds after xs rs es last → P xs → In r rs
-      → WasFound code finds P r.tag
-  found xs [] [] last r h p i = absurd (some-ne-none r (sym i.1))
-  found xs [] (e ∷ es) last r h p i = absurd h
-  found xs (x ∷ rs) [] last r h p i = absurd h
-  found xs (x ∷ rs) (e ∷ es) last r h p (zero, is) = record {
+  -- and so has that which each record's entry found
+  pub found : (x : o.Value) (rs : List Record) (es : List E) (last : o.Value) (r : Record) →
+      IsHistory o x rs es last → P x → In r rs → WasFound o P r.tag
+  found x [] [] last r h p i = absurd (some-ne-none r (sym i.1))
+  found x [] (e ∷ es) last r h p i = absurd h
+  found x (y ∷ rs) [] last r h p i = absurd h
+  found x (y ∷ rs) (e ∷ es) last r h p (zero, is) = record {
     entry = e;
-    told = sym (ap (λ (y : Record). y.tag) (some-injective x r is)) ∙ h.0;
-    words = xs;
-    found = h.1;
+    told = sym (ap (λ (z : Record). z.tag) (some-injective y r is)) ∙ h.0;
+    is_entry = h.1;
+    value = x;
+    found = h.2;
     kept = p;
   }
-  found xs (x ∷ rs) (e ∷ es) last r h p (suc j, is) =
-      found (after e xs) rs es last r h.2 (keeps e xs h.1 p) (j, is)
+  found x (y ∷ rs) (e ∷ es) last r h p (suc j, is) =
+      found (o.after e x) rs es last r h.3 (keeps e x h.1 h.2 p) (j, is)
 
 -- one after the other, these operations with their answers lead from a value of the object to
 -- another one
@@ -50,21 +57,38 @@ RunsOperations answers next m [] last = m ≡ last
 RunsOperations answers next m (e ∷ es) last =
     answers e m × RunsOperations answers next (next e m) es last
 
--- where the words mean a value, and each entry is an operation on it, so is each history
-module _ {E M : Type 0} (code : E → List ℕ) (finds : E → List ℕ → Type 0)
-    (after : E → List ℕ → List ℕ) (P : List ℕ → Type 0)
-    (keeps : (e : E) (xs : List ℕ) → finds e xs → P xs → P (after e xs))
-    (answers : E → M → Type 0) (next : E → M → M) (of : List ℕ → M)
-    (answered : (e : E) (xs : List ℕ) → finds e xs → P xs → answers e (of xs))
-    (moved : (e : E) (xs : List ℕ) → finds e xs → P xs → of (after e xs) ≡ next e (of xs)) where
-  pub runs : (xs : List ℕ) (rs : List Record) (es : List E) (last : List ℕ) →
-      IsHistoryOfEntries code finds after xs rs es last → P xs
-      → RunsOperations answers next (of xs) es (of last)
-  runs xs [] [] last h p = ap of h
-  runs xs [] (e ∷ es) last h p = absurd h
-  runs xs (r ∷ rs) [] last h p = absurd h
-  runs xs (r ∷ rs) (e ∷ es) last h p = (
-    answered e xs h.1 p,
-    subst (λ (m : M). RunsOperations answers next m es (of last)) (moved e xs h.1 p)
-        (runs (after e xs) rs es last h.2 (keeps e xs h.1 p)),
-  )
+-- where a value means another one, and each entry is an operation on it, so is each history
+module _ {E : Type 0} (o : Specification E) {M : Type 0} (P : o.Value → Type 0)
+    (keeps : (e : E) (x : o.Value) → o.IsEntry e → o.Finds e x → P x → P (o.after e x))
+    (answers : E → M → Type 0) (next : E → M → M) (of : o.Value → M)
+    (answered : (e : E) (x : o.Value) → o.IsEntry e → o.Finds e x → P x → answers e (of x))
+    (moved : (e : E) (x : o.Value) → o.IsEntry e → o.Finds e x → P x →
+    of (o.after e x) ≡ next e (of x))
+  where
+    pub runs : (x : o.Value) (rs : List Record) (es : List E) (last : o.Value) →
+        IsHistory o x rs es last → P x → RunsOperations answers next (of x) es (of last)
+    runs x [] [] last h p = ap of h
+    runs x [] (e ∷ es) last h p = absurd h
+    runs x (r ∷ rs) [] last h p = absurd h
+    runs x (r ∷ rs) (e ∷ es) last h p = (
+      answered e x h.1 h.2 p,
+      subst (λ (m : M). RunsOperations answers next m es (of last)) (moved e x h.1 h.2 p)
+          (runs (o.after e x) rs es last h.3 (keeps e x h.1 h.2 p)),
+    )
+
+module _ {A E : Type 0} {o : Specification E} {region : RegionShown} {entry : A → E}
+    {changes : A → Bool} {reads : Bool} {tries : ℕ} {v v' : Client} (a : A) where
+  of_placed : (placed : Result (A × Place) Stop) → Ok a ≡ answer_in placed →
+      HasCalledAt o region entry changes reads tries placed v v' →
+      (place : Place) × HasCalledAt o region entry changes reads tries (Ok (a, place)) v v'
+  of_placed (Ok b) e h =
+      let same : b.0 ≡ a = cc in (
+        b.1,
+        subst (λ (x : A). HasCalledAt o region entry changes reads tries (Ok (x, b.1)) v v') same h,
+      )
+  of_placed (Err s) e h = absurd (let n : Ok a ≡ Err s = e in cc)
+
+  -- the record of an answer has a place
+  pub placed_answer : HasCalled o region entry changes reads tries (Ok a) v v' →
+      (place : Place) × HasCalledAt o region entry changes reads tries (Ok (a, place)) v v'
+  placed_answer h = of_placed h.placed h.result_is h.call

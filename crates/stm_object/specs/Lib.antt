@@ -1,6 +1,9 @@
 pub mod Object
 pub mod Bodies
+pub mod Places
 pub mod History
+pub mod Tracing
+pub mod Renewed
 pub mod Steps
 pub mod Search
 pub mod Slots

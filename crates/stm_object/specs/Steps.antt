@@ -1,9 +1,38 @@
 -- What loads and stores are to the words of a memory, one step after the other: what a body did,
 -- from what its loads and stores did.
-use Rattle.std.proofs.Common.{◌≡◌, ℕ, ◌<◌, ◌≤◌, inl, inr, List, length, slice_index, slice_set, sym, subst, ◌∙◌, arith, length-set, get_or-set_same, get_or-set_other}
+use Rattle.std.proofs.Common.{◌≡◌, ℕ, suc, ◌<◌, ◌≤◌, inl, inr, List, [], ◌∷◌, length, slice_index, slice_set, refl, sym, subst, ◌∙◌, arith, length-set, get_or-set_same, get_or-set_other}
 use Rattle.tx_memory.specs.View.{View, Sees, RestsOn, IsWrite, Kept, Loaded, Stored, mem}
 use Rattle.tx_memory.specs.Seen.{same_or, some_le}
-use Rattle.stm_object.specs.Bodies.{Are, HasFitting, Did}
+use Rattle.stm_object.specs.Object.{Specification, Shows, IsFitting}
+use Rattle.stm_object.specs.Bodies.{HasValue, Did}
+
+-- the first n words of the memory are these
+pub record Are (xs : List ℕ) (m : ℕ → ℕ) (n : ℕ) : Type 0 where
+  pub count : length xs ≡ n
+  pub each : (a : ℕ) → a < n → slice_index xs a ≡ m a
+
+-- an object of so many words whose value is its words: which of them fit, which entries there are,
+-- what an entry says of the words before it, the words after it, and the entry as numbers
+abbrev pub words_object : (size : ℕ) (E : Type 0) (fits : List ℕ → Type 0) (is : E → Type 0)
+    (finds : E → List ℕ → Type 0) (after : E → List ℕ → List ℕ) (code : E → List ℕ) →
+    Specification E
+words_object size E fits is finds after code = record {
+  Value = List ℕ;
+  IsSize = λ n. n ≡ size;
+  Holds = λ m n xs. fits xs × Are xs m n;
+  IsEntry = is;
+  Finds = finds;
+  after = after;
+  code = code;
+}
+
+-- whether it holds its words rests on these words alone
+pub words_local : (fits : List ℕ → Type 0) (m m' : ℕ → ℕ) (n : ℕ) (xs : List ℕ) →
+    ((a : ℕ) → a < n → m' a ≡ m a) → fits xs × Are xs m n → fits xs × Are xs m' n
+words_local fits m m' n xs same h = (
+  h.0,
+  record { count = h.1.count; each = λ a less. h.1.each a less ∙ sym (same a less) },
+)
 
 -- from s to s' nothing was written
 pub record WroteNothing (s s' : View) : Type 0 where
@@ -90,32 +119,74 @@ so_step so p follows = record {
   does = λ image i xs h. let d = p.does image i xs h in (follows xs h.count d.0, d.1);
 }
 
--- a body did what its entry says, where on a fitting image the entry finds what it says, and the
--- words that the steps make are those after it
-pub has_done : {E : Type 0} (n : ℕ) (fits : List ℕ → Type 0) (finds : E → List ℕ → Type 0)
-    (after : E → List ℕ → List ℕ) (e : E) {s s' : View} {holds : List ℕ → Type 0}
-    {makes : List ℕ → List ℕ} → ((xs : List ℕ) → fits xs → length xs ≡ n) →
-    WordStep n s s' holds makes →
+-- a body did what its entry says, where on fitting words the entry finds what it says, leaves words
+-- that fit, and the words that the steps make are those
+pub has_done : {E : Type 0} (n : ℕ) (fits : List ℕ → Type 0) (is : E → Type 0)
+    (finds : E → List ℕ → Type 0) (after : E → List ℕ → List ℕ) (code : E → List ℕ)
+    (keeps : (e : E) (xs : List ℕ) → fits xs → finds e xs → fits (after e xs)) (e : E)
+    {s s' : View} {holds : List ℕ → Type 0} {makes : List ℕ → List ℕ} → is e →
+    ((xs : List ℕ) → fits xs → length xs ≡ n) → WordStep n s s' holds makes →
     ((xs : List ℕ) → fits xs → holds xs → finds e xs × (makes xs ≡ after e xs)) →
-    Did fits finds after s s' e
-has_done n fits finds after e {s} {s'} {holds} {makes} size p shown = λ image i xs b h.
-    let count : length image ≡ n = sym h.count ∙ size xs b in
-    let here : Are xs (mem s image) n = subst (λ (k : ℕ). Are xs (mem s image) k) count h in
-    let d = p.does image i xs here in
-    let found = shown xs b d.0 in (
-      found.0,
-      subst (λ (ys : List ℕ). Are ys (mem s' image) (length image)) found.1
-          (subst (λ (k : ℕ). Are (makes xs) (mem s' image) k) (sym count) d.1),
-    )
+    Did (words_object n E fits is finds after code) s s' e
+has_done n fits is finds after code keeps e {s} {s'} {holds} {makes} may size p shown = (
+  may,
+  λ image xs i h.
+      let count : length image ≡ n = sym h.1.count ∙ size xs h.0 in
+      let here : Are xs (mem s image) n =
+      subst (λ (k : ℕ). Are xs (mem s image) k) count h.1 in
+      let d = p.does image i xs here in
+      let found = shown xs h.0 d.0 in (
+        found.0,
+        (
+          keeps e xs h.0 found.0,
+          subst (λ (ys : List ℕ). Are ys (mem s' image) (length image)) found.1
+              (subst (λ (k : ℕ). Are (makes xs) (mem s' image) k) (sym count) d.1),
+        ),
+      ),
+)
 
--- an order that follows on each fitting image from what holds, follows: some image there is
-pub known_le : {n : ℕ} {fits : List ℕ → Type 0} {s s' : View} {holds : List ℕ → Type 0}
-    {makes : List ℕ → List ℕ} (a b : ℕ) → HasFitting fits n s → WordStep n s s' holds makes →
-    ∥ ((image : List ℕ) × RestsOn s' image) ∥₁ →
-    ((xs : List ℕ) → fits xs → holds xs → a ≤ b) → a ≤ b
+-- an order that follows on all fitting words from what holds, follows: some image there is
+pub known_le : {E : Type 0} {n : ℕ} {fits : List ℕ → Type 0} {is : E → Type 0}
+    {finds : E → List ℕ → Type 0} {after : E → List ℕ → List ℕ} {code : E → List ℕ} {s s' : View}
+    {holds : List ℕ → Type 0} {makes : List ℕ → List ℕ} (a b : ℕ) →
+    HasValue (words_object n E fits is finds after code) s → WordStep n s s' holds makes →
+    ∥ ((image : List ℕ) × RestsOn s' image) ∥₁ → ((xs : List ℕ) → fits xs → holds xs → a ≤ b) →
+    a ≤ b
 known_le {n = n} {s = s} a b held p some follows = some_le a b some (λ w.
     let under = held.under w.0 (p.kept.seen w.0 w.1.sees) in
-    let count : length w.0 ≡ n = w.1.size ∙ (p.kept.size ∙ held.size_is) in
+    let count : length w.0 ≡ n = w.1.size ∙ (p.kept.size ∙ held.size) in
     let here : Are under.0 (mem s w.0) n =
     subst (λ (k : ℕ). Are under.0 (mem s w.0) k) count under.1.1 in
     follows under.0 under.1.0 (p.does w.0 w.1.sees under.0 here).0)
+
+same_list : (xs ys : List ℕ) → length xs ≡ length ys →
+    ((a : ℕ) → a < length ys → slice_index xs a ≡ slice_index ys a) → xs ≡ ys
+same_list [] [] l same = refl
+same_list [] (y ∷ ys) l same = absurd (omega (arith, l))
+same_list (x ∷ xs) [] l same = absurd (omega (arith, l))
+same_list (x ∷ xs) (y ∷ ys) l same =
+    let head : x ≡ y = same 0 (omega arith) in
+    let tail : xs ≡ ys =
+    same_list xs ys (omega (arith, l)) (λ a less. same (suc a) (omega (arith, less))) in
+    rw (head, tail) refl
+
+module _ {E : Type 0} (n : ℕ) (fits : List ℕ → Type 0) (is : E → Type 0)
+    (finds : E → List ℕ → Type 0) (after : E → List ℕ → List ℕ) (code : E → List ℕ) where
+  -- the value that an image holds is its words
+  pub shows_its_words : (image xs : List ℕ) →
+      Shows (words_object n E fits is finds after code) image xs → xs ≡ image
+  shows_its_words image xs h = same_list xs image h.1.count h.1.each
+
+  pub fits_its_words : (image xs : List ℕ) →
+      Shows (words_object n E fits is finds after code) image xs → fits image
+  fits_its_words image xs h = subst fits (shows_its_words image xs h) h.0
+
+  -- which it holds where they fit
+  pub shows_words : (image : List ℕ) → fits image →
+      Shows (words_object n E fits is finds after code) image image
+  shows_words image f = (f, record { count = refl; each = λ a less. refl })
+
+  -- so it fits
+  pub fits_words : (image : List ℕ) → fits image →
+      IsFitting (words_object n E fits is finds after code) image
+  fits_words image f = record { value = image; shown = shows_words image f }

@@ -1,12 +1,20 @@
 //! Objects: laws that are given by entries, and transactions over them.
 #![tactic(auto)]
 
+mod attempts;
+mod body;
 mod object;
-mod run;
+mod pauses;
+mod place;
+mod renew;
 mod search;
 mod shared;
+mod tracer;
 
+pub use body::{Body, Query, Update};
 pub use object::{Object, ObjectLaw};
-pub use run::{Body, Query, ask, ask_once, attempt_once, transact};
+pub use place::Place;
+pub use renew::RenewFault;
 pub use search::{find, seek};
 pub use shared::{Shared, User};
+pub use tracer::{Tracer, Untraced};

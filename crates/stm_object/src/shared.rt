@@ -1,25 +1,35 @@
 //! A memory that many use at once, with transactions over an object.
 
-ghost use Rattle.std.specs.Prelude.{◌≡◌, ◌≤◌, IfOk, IfErr, length};
+ghost use Rattle.std.specs.Prelude.{◌≡◌, ◌≤◌, ◌⊎◌, IfOk, IfErr, length, true, false};
+ghost use Rattle.tx_memory.specs.Image.{In};
+ghost use Rattle.stm_core.specs.Client.{Record};
+ghost use Rattle.stm_core.specs.History.{Sub};
 ghost use Rattle.stm_core.specs.Event.{opener};
 ghost use Rattle.stm_region.specs.Shown.{HasSplit, with_gathered, opened_on};
 ghost use Rattle.stm_region.specs.Refused.{ClosesNot, IsLast, OpensNot};
 ghost use Rattle.stm_region.specs.declared.fault.RegionFault.TheVariants.{Clients};
-ghost use Rattle.stm_object.specs.History.{Closes, HasTransacted, HasAsked, IsAlone};
+ghost use Rattle.stm_object.specs.Object.{IsFitting};
+ghost use Rattle.stm_object.specs.History.{Closes, ConflictWasShown, IsAlone};
+ghost use Rattle.stm_object.specs.History.{HasCalled, HasCalledAt, answer_in};
+ghost use Rattle.stm_object.specs.Tracing.{HasTraced, HasTallied};
 
+use crate::attempts::try_once;
+use crate::body::{Asking, Body, Query, Update, Updating};
 use crate::object::{Object, ObjectLaw};
-use crate::run::{Body, Query, ask, transact};
+use crate::pauses::Pauses;
+use crate::place::Place;
+use crate::tracer::{Tracer, Untraced};
 use std::alloc::Global;
 use std::marker::Model;
-use stm_attempt::{Conflict, Logs, Stop};
+use stm_attempt::{Gate, Logs, NoGate, Stop};
 use stm_region::{Client, Region, RegionFault};
 use stm_words::Version;
 
 /// A memory of an object, which many users use at once. Contracts see its region.
 #[derive(Drop)]
 pub struct Shared<S: Object> {
-    alloc: Global,
-    region: Region<ObjectLaw<S>>,
+    pub(crate) alloc: Global,
+    pub(crate) region: Region<ObjectLaw<S>>,
 }
 
 impl<S: Object> Model for Shared<S> {
@@ -30,25 +40,37 @@ impl<S: Object> Model for Shared<S> {
 
     ghost view = { λ b. b.region };
 
-    ghost invariant = { λ b. IsOpenedOnFitting S.fits S.size b.region };
+    ghost invariant = { λ b. IsOpenedOnFitting S.is b.region };
 }
 
 /// A user: the right to use the memory, from one thread at a time. Between calls it holds no lock.
 #[derive(Drop)]
 pub struct User<S: Object> {
-    client: Client<ObjectLaw<S>>,
-    logs: Logs,
+    pub(crate) client: Client<ObjectLaw<S>>,
+    pub(crate) logs: Logs,
+    pub(crate) pauses: Pauses,
 }
 
 impl<S: Object> Model for User<S> {
     ghost use Rattle.stm_core.specs.Core.{IsFreeHanded};
     ghost use Rattle.stm_region.specs.Shown.{ClientShown};
+    ghost use Rattle.stm_object.specs.History.{IsUnplaced};
 
     ghost Value = { ClientShown };
 
     ghost view = { λ t. t.client };
 
-    ghost invariant = { λ t. IsFreeHanded t.client.value };
+    ghost invariant = { λ t. IsFreeHanded t.client.value × IsUnplaced t.client.value };
+}
+
+/// The answer of a call, without the place of its record.
+fn answer_of<A: Drop>(placed: Result<(A, Place), Stop>) -> Result<A, Stop>
+    ensures { result ≡ answer_in placed }
+{
+    match placed {
+        Ok((answer, _place)) => Ok(answer),
+        Err(stop) => Err(stop),
+    }
 }
 
 impl<S: Object> Shared<S> {
@@ -59,8 +81,8 @@ impl<S: Object> Shared<S> {
         last: u64,
         stripes: u32,
     ) -> Result<(Shared<S>, User<S>), RegionFault>
-        requires size { length words.now ≡ S.size }
-        requires fits { S.fits words.now }
+        requires size { S.is.IsSize (length words.now) }
+        requires fits { IsFitting S.is words.now }
         ensures region { IfOk result (λ r.
             r.0 ≡ opened_on r.0.table words.now last stripes) }
         ensures user { IfOk result (λ r.
@@ -72,41 +94,85 @@ impl<S: Object> Shared<S> {
         let user = User {
             client,
             logs: Logs::new(alloc),
+            pauses: Pauses::new(0),
         };
         Ok((Shared { alloc, region }, user))
     }
 
-    /// A transaction, by at most `tries` attempts. A stopped one changes nothing.
-    pub fn run<B: Body<S>>(
+    /// Runs an update as a transaction, by at most `tries` attempts. A stopped one changes nothing.
+    ///
+    /// Not said: that a call comes to its end.
+    pub fn run<U: Update<S>>(
         &self,
         user: &mut User<S>,
-        body: &B,
+        update: &U,
         tries: u32,
-    ) -> Result<B::Answer, Stop>
+    ) -> Result<U::Answer, Stop>
         requires own { user.old.table ≡ self.now.table }
         requires tries { 1 ≤ tries }
         ensures own { user.new.table ≡ user.old.table }
-        ensures call { HasTransacted S.fits S.Entry.numbers S.finds S.after self.now
-            (λ a. B.entry_of body.now a) (λ a. B.changes body.now a) tries result user.old.value
-            user.new.value }
+        ensures call { HasCalled S.is self.now (λ a. U.entry_of update.now a)
+            (λ a. U.changes update.now a) false tries result user.old.value user.new.value }
     {
-        transact(&self.region, &mut user.client, &mut user.logs, body, tries)
+        let body = Updating { update };
+        answer_of(self.call(user, &body, tries, &mut NoGate, &mut Untraced))
     }
 
-    /// A transaction that only reads, by at most `tries` attempts.
-    pub fn ask<B: Query<S>>(
+    /// Asks a query as a transaction, by at most `tries` attempts. Only a conflict stops it.
+    ///
+    /// Not said: that a call comes to its end.
+    pub fn ask<Q: Query<S>>(
+        &self,
+        user: &mut User<S>,
+        query: &Q,
+        tries: u32,
+    ) -> Result<Q::Answer, Stop>
+        requires own { user.old.table ≡ self.now.table }
+        requires tries { 1 ≤ tries }
+        ensures own { user.new.table ≡ user.old.table }
+        ensures call { HasCalled S.is self.now (λ a. Q.entry_of query.now a) (λ a. false) true
+            tries result user.old.value user.new.value }
+    {
+        let body = Asking { query };
+        answer_of(self.call(user, &body, tries, &mut NoGate, &mut Untraced))
+    }
+
+    /// Runs a transaction, by at most `tries` attempts, and returns its answer and the place of its
+    /// record. A stopped one changes nothing. Each attempt tells the gate how far its commit is,
+    /// one that only reads when its reads are done, and the tracer traces them.
+    ///
+    /// Not said: of a gate that it does not wait; that a call comes to its end.
+    pub fn call<B: Body<S>, G: Gate, T: Tracer>(
         &self,
         user: &mut User<S>,
         body: &B,
         tries: u32,
-    ) -> Result<B::Answer, Conflict>
+        gate: &mut G,
+        tracer: &mut T,
+    ) -> Result<(B::Answer, Place), Stop>
         requires own { user.old.table ≡ self.now.table }
         requires tries { 1 ≤ tries }
         ensures own { user.new.table ≡ user.old.table }
-        ensures call { HasAsked S.fits S.Entry.numbers S.finds S.after self.now
-            (λ a. B.entry_of body.now a) tries result user.old.value user.new.value }
+        ensures frame { T.frame tracer.new ≡ T.frame tracer.old }
+        ensures call { HasCalledAt S.is self.now (λ a. B.entry_of body.now a)
+            (λ a. B.changes body.now a) (B.reads body.now) tries result
+            user.old.value user.new.value }
+        ensures traced { HasTraced result user.old.value user.new.value
+            (T.ended tracer.old) (T.ended tracer.new) }
+        ensures tallied { HasTallied (λ conflict v. ConflictWasShown S.is self.now
+            (λ a. B.entry_of body.now a) (λ a. B.changes body.now a) (B.reads body.now)
+            conflict v) T.more tries result user.old.value user.new.value
+            (T.tally tracer.old) (T.tally tracer.new) }
     {
-        ask(&self.region, &mut user.client, body, tries)
+        let mut left = tries;
+        'tries: loop {
+            left -= 1;
+            let (client, logs) = (&mut user.client, &mut user.logs);
+            match try_once(&self.region, client, logs, body, gate, tracer) {
+                Err(Stop::Conflict(_)) if left > 0 => user.pauses.wait(tries - left),
+                answer => return answer,
+            }
+        }
     }
 
     /// Splits off a new user, which costs a grant: 63 times in all.
@@ -120,16 +186,25 @@ impl<S: Object> Shared<S> {
         Ok(User {
             client,
             logs: Logs::new(self.alloc),
+            pauses: user.pauses.split(),
         })
     }
 
     /// Gathers another user: this one gets its records, its grants and one grant more.
     pub fn gather(&self, user: &mut User<S>, other: User<S>)
         requires { (user.old.table ≡ self.now.table) × (other.table ≡ self.now.table) }
-        ensures { user.new
+        ensures user { user.new
             ≡ record user.old { value = with_gathered user.old.value other.value } }
+        ensures mine { Sub user.old.value.records user.new.value.records }
+        ensures theirs { Sub other.value.records user.new.value.records }
+        ensures only { (r : Record) → In r user.new.value.records
+            → In r user.old.value.records ⊎ In r other.value.records }
     {
-        let User { client, logs: _ } = other;
+        let User {
+            client,
+            logs: _,
+            pauses: _,
+        } = other;
         self.region.gather(&mut user.client, client);
     }
 
@@ -139,19 +214,28 @@ impl<S: Object> Shared<S> {
         user: User<S>,
     ) -> Result<(Vec<u64>, Version), (Shared<S>, User<S>, RegionFault)>
         requires { user.table ≡ self.table }
-        ensures closes { IfOk result (λ r. Closes S.fits S.Entry.numbers S.finds S.after
-            self user.value r.0.items r.1) }
+        ensures closes { IfOk result (λ r. Closes S.is self user.value r.0.items r.1) }
         ensures alone { IfOk result (λ _. IsAlone user.value) }
         ensures kept { IfErr result
             (λ r. (r.0 ≡ self) × (r.1 ≡ user) × ClosesNot user.value.grants r.2) }
     {
         let Shared { alloc, region } = self;
-        let User { client, logs } = user;
+        let User {
+            client,
+            logs,
+            pauses,
+        } = user;
         match region.close(alloc, client) {
             Ok(closed) => Ok(closed),
-            Err((region, client, fault)) => {
-                Err((Shared { alloc, region }, User { client, logs }, fault))
-            }
+            Err((region, client, fault)) => Err((
+                Shared { alloc, region },
+                User {
+                    client,
+                    logs,
+                    pauses,
+                },
+                fault,
+            )),
         }
     }
 }

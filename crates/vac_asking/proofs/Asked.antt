@@ -81,7 +81,7 @@ pub asked_answered : (region : RegionShown) (t : Task) (tries : ℕ) (end : Resu
 asked_answered region t tries end p e c c' a b k before traced is h told same kept =
     let called : HasCalledPlaced region t tries (Ok p) e c c' =
     subst (λ (r : Result Placed Fault). HasCalledPlaced region t tries r e c c') is h in
-    let attempts : HasTraced {E = Fault} (Ok p.reply) c.value c'.value before traced =
+    let attempts : HasTraced {X = Fault} (Ok p.reply) c.value c'.value before traced =
     subst (λ (r : Result Placed Fault). HasTraced (replied r) c.value c'.value before traced) is told in
     record {
       in_range = tt;

@@ -62,9 +62,9 @@ same_last xs ys x y e = sym (last_is x xs x) ∙ (ap (λ (l : List _). last_or x
 
 -- the last attempt that was traced is the one that was answered
 is_of_answer : (reply : Reply) (v v' : Client) (before traced : Option (List Trace)) (t : Trace) →
-    HasTraced {E = Fault} (Ok reply) v v' before traced → IsLastTraced traced t → IsOfAdded v v' t
+    HasTraced {X = Fault} (Ok reply) v v' before traced → IsLastTraced traced t → IsOfAdded v v' t
 is_of_answer reply v v' before traced t h last =
-    let k = h (last.0 ++ (t ∷ [])) last.1 in
+    let k = h.each (last.0 ++ (t ∷ [])) last.1 in
     let a = k.4 in
     let e : last.0 ++ (t ∷ []) ≡ (k.0 ++ a.0) ++ (a.1 ∷ []) =
     k.3 ∙ (ap (λ (l : List Trace). k.0 ++ l) a.2 ∙ sym (append_assoc k.0 a.0 (a.1 ∷ []))) in
@@ -79,7 +79,7 @@ is_of_record v v' r t e h = subst (λ (x : Record). IsTraceOf t x)
 -- so did the one that is noted, if any is
 noted_made : (o : Option (Box AttemptNote)) (reply : Reply) (v v' : Client) (r : Record)
     (before traced : Option (List Trace)) → v'.records ≡ v.records ++ (r ∷ []) →
-    HasTraced {E = Fault} (Ok reply) v v' before traced →
+    HasTraced {X = Fault} (Ok reply) v v' before traced →
     IfSome o (λ a. IsLastTraced traced (trace_of a.value)) → IfSome o (λ a. IsTraceOf (trace_of a.value) r)
 noted_made (Some a) reply v v' r before traced e h last = is_of_record v v' r (trace_of a.value) e
     (is_of_answer reply v v' before traced (trace_of a.value) h last)
@@ -88,7 +88,7 @@ noted_made None reply v v' r before traced e h last = tt
 -- the call that added a record was kept
 pub kept_one : (renewal : ℕ) (t : Task) (p : Placed) (v v' : Client) (a b c : KeptNotes)
     (before traced : Option (List Trace)) → AddsAt renewal (code t p.reply) p.place v v' →
-    HasTraced {E = Fault} (Ok p.reply) v v' before traced → b ≡ a → HasKept t p traced b c → HasKeptAdded v v' a c
+    HasTraced {X = Fault} (Ok p.reply) v v' before traced → b ≡ a → HasKept t p traced b c → HasKeptAdded v v' a c
 kept_one renewal t p v v' a b c before traced adds attempts same h = record {
   added = adds.adds.added ∷ [];
   records = adds.adds.records;

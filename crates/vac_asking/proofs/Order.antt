@@ -1,7 +1,7 @@
 -- Which records stand before which, and records put behind others.
 use Rattle.std.proofs.Common.{◌≡◌, ◌∙◌, ℕ, ◌*◌, ◌<◌, ◌≤◌, false, arith}
 use Rattle.stm_core.specs.Client.{Record, before, rank}
-use Rattle.vac_manager.proofs.Adding.{not_earlier, rank_small}
+use Rattle.stm_object.proofs.Adding.{not_earlier, rank_small}
 use Rattle.vac_asking.specs.Looping.{IsAdded, IsKnownRecord}
 
 -- what a client added, it knows

@@ -7,14 +7,12 @@ use crate::accesses::Accesses;
 use crate::places::first_place;
 use std::alloc::{AllocError, Global};
 use std::mem;
+use stm_attempt::Stop;
 use stm_words::Version;
-use tx_alloc::FreeList;
 use tx_memory::{TxMem, TxRead};
 use tx_observed::Observed;
 use vac_history::{Watch, stamp};
-use vac_manager::{AttemptNote, Place, Tracer};
-use vac_model::{Reply, Task};
-use vac_tasks::{read_task, run_task};
+use vac_manager::{AttemptNote, Body, Object, Place, Tracer};
 
 /// Traces the attempts of a client's calls, with readings of a watch before each of them and after
 /// it. Those that were given up gather in it; the one that committed stays at hand until it is
@@ -143,6 +141,16 @@ impl<W: Watch> Tracer for Trail<W> {
     ghost use Rattle.vac_attempts.specs.Known.{known, ended_by};
     ghost use Rattle.vac_attempts.specs.Stamped.{IsStamped};
 
+    ghost Frame = { Unit {0} };
+
+    ghost frame = { λ _. tt };
+
+    ghost Tally = { Unit {0} };
+
+    ghost tally = { λ _. tt };
+
+    ghost more = { λ _ t. t };
+
     ghost ended = { λ t. ended_by t };
 
     ghost accesses = { λ t. known t.accesses.is_whole t.accesses.items.items };
@@ -178,31 +186,40 @@ impl<W: Watch> Tracer for Trail<W> {
         };
     }
 
-    fn run_task<M: TxMem>(
+    fn run<S: Object, B: Body<S>, M: TxMem>(
         &mut self,
         memory: &mut M,
-        task: &Task,
-        start: FreeList,
-    ) -> Result<Reply, M::Stop> {
+        body: &B,
+    ) -> Result<B::Answer, M::Stop> {
         let mut observed = Observed::new(memory, &mut self.accesses);
-        run_task(&mut observed, task, start)
+        let Some(answer) = body.run(&mut observed) else {
+            unreachable!();
+        };
+        answer
     }
 
-    fn read_task<M: TxRead>(&mut self, memory: &mut M, task: &Task) -> Result<Reply, M::Stop> {
+    fn read<S: Object, B: Body<S>, M: TxRead>(
+        &mut self,
+        memory: &mut M,
+        body: &B,
+    ) -> Result<B::Answer, M::Stop> {
         let mut observed = Observed::new(memory, &mut self.accesses);
-        read_task(&mut observed, task)
+        let Some(answer) = body.read(&mut observed) else {
+            unreachable!();
+        };
+        answer
     }
 
     /// Not said: that `prepare` was called since the last attempt ended, and that this one ended
     /// right before it. Its caller sees to that.
-    fn commit(&mut self, place: Place)
-        ensures ended { HasTracedCommit place
+    fn commit(&mut self, place: &Place)
+        ensures ended { HasTracedCommit place.now
             (known self.old.accesses.is_whole self.old.accesses.items.items)
             (ended_by self.old) (ended_by self.new) }
         ensures stamped { self.old.committed ≡ None →
             IfSome self.new.committed (λ a. IsStamped W.shows self.old self.new a) }
     {
-        match self.end(true, place) {
+        match self.end(true, *place) {
             Ok(note) if self.committed.is_none() => self.committed = Some(note),
             _ => self.is_whole = false,
         }
@@ -211,7 +228,7 @@ impl<W: Watch> Tracer for Trail<W> {
     /// Its place is that of a record which read the version that it read.
     ///
     /// Not said: as of `commit`.
-    fn give_up(&mut self)
+    fn give_up(&mut self, _stop: &Stop)
         ensures ended { HasGivenUp
             (known self.old.accesses.is_whole self.old.accesses.items.items)
             (ended_by self.old) (ended_by self.new) }

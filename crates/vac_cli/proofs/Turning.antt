@@ -8,7 +8,7 @@ use Rattle.stm_core.specs.History.{Sub, done, keep, skip}
 use Rattle.stm_core.specs.Invariant.{Sorted}
 use Rattle.stm_core.proofs.Merging.{in_sub}
 use Rattle.vac_draws.specs.declared.settings.Settings.{Settings}
-use Rattle.vac_manager.specs.declared.placed.Place.{Place}
+use Rattle.vac_manager.specs.Placed.{Place}
 use Rattle.vac_manager.specs.declared.note.Note.{Note}
 use Rattle.vac_manager.specs.Keeping.{IsNoted}
 use Rattle.vac_history.specs.declared.journal.Journal.{Journal}

@@ -18,7 +18,7 @@ use Rattle.vac_model.proofs.Codes.{code_determines}
 use Rattle.vac_lines.specs.Text.{reply_text}
 use Rattle.vac_manager.specs.Legal.{RecordRuns, IsLegal, AreNoRivals, HaveOneWriter, AreVersioned}
 use Rattle.vac_manager.specs.declared.note.Note.{Note}
-use Rattle.vac_manager.specs.declared.placed.Place.{Place}
+use Rattle.vac_manager.specs.Placed.{Place}
 use Rattle.vac_manager.specs.Keeping.{IsNoted}
 use Rattle.vac_judge.specs.Laws.{GiveReplies, state_after}
 use Rattle.vac_history.specs.Order.{Entry, rank_of, precedes, AreOrdered}

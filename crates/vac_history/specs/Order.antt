@@ -2,7 +2,7 @@
 use Rattle.std.specs.Prelude.{◌≡◌, ℕ, suc, ◌+◌, ◌*◌, ◌||◌, ◌&&◌, Bool, false, cond, eqb, ltb}
 use Rattle.std.specs.Prelude.{List, [], ◌∷◌, map, slice_index_or, slice_set}
 use Rattle.std.specs.List.{AllPairs}
-use Rattle.vac_manager.specs.declared.placed.Place.{Place}
+use Rattle.vac_manager.specs.Placed.{Place}
 use Rattle.vac_manager.specs.declared.note.Note.{Note}
 
 -- a call that was kept, and the number of its client

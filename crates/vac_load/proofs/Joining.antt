@@ -156,15 +156,15 @@ module _ {D P : Type 0} (leads : D → ℕ → D → Type 0) (s : Settings) (sho
 pub ran_more : {W D : Type 0} (leads : D → ℕ → D → Type 0) (shown_of : W → SeatShown D) (s : Settings) (rounds : ℕ)
     (y ready : SessionShown) (seats : List W) (r more : Round W) (t : Tally) →
     RoundHasRun leads shown_of s (rounds * s.tasks) y seats r →
-    ready.client.value.records ≡ r.alone.client.value.records →
+    ready.client.value.records ≡ r.client.value.records →
     RoundHasRun leads shown_of s s.tasks ready r.seats.items more → t ≡ plus r.tally.tally more.tally.tally →
     RanAll leads s shown_of ((rounds + 1) * s.tasks) y.client.value.records seats
-    more.alone.client.value.records more.seats.items t
+    more.client.value.records more.seats.items t
 ran_more leads shown_of s rounds y ready seats r more t h same k e =
     let n : rounds * s.tasks + s.tasks ≡ (rounds + 1) * s.tasks = grind arith in
     let first = y.client.value.records in
-    let middle = r.alone.client.value.records in
-    let last = more.alone.client.value.records in
+    let middle = r.client.value.records in
+    let last = more.client.value.records in
     let next : RanAll leads s shown_of s.tasks middle r.seats.items last more.seats.items more.tally.tally =
     subst (λ (l : List Record). RanAll leads s shown_of s.tasks l r.seats.items last more.seats.items
     more.tally.tally) same k in

@@ -110,9 +110,9 @@ pub loaded_kept : {D G K : Type 0} (leads : D → ℕ → D → Type 0) (notes :
     HasOpened leads s state last y →
     AreKept y.client.value.records before kept →
     RoundHasRun leads (shown notes) s (s.rounds * s.tasks) y seats end →
-    AreVersioned end.alone.client.value.records →
-    end.alone.manager.size ≡ y.manager.size →
-    ClosesSomewhere end.alone.manager end.alone.client.value words →
+    AreVersioned end.client.value.records →
+    end.manager.size ≡ y.manager.size →
+    ClosesSomewhere end.manager end.client.value words →
     ((x : State) → Shows words x → report x ≡ r) →
     LoadedKept leads s (λ seat. seat.draws) state seats end.tally.tally r before kept (kept_at notes seats)
     (kept_at notes end.seats.items)
@@ -120,12 +120,12 @@ loaded_kept leads notes s state last seats y end before kept words r n opened ke
     let ran = opened.ran in
     let closes = closed.1 in
     let added = ran.answered.added in
-    let after = end.alone.client.value in
+    let after = end.client.value in
     let left = end.seats.items in
     let n_of = s.rounds * s.tasks in
     let records : y.client.value.records ≡ added = ran.answered.records ∙
     ap (λ (c : CallerShown). c.value.records ++ added) opened.opens.client_is in
-    let capacity : capacity_of end.alone.manager ≡ s.blocks = ap (λ (k : ℕ). (k - 16) / 8) size ∙
+    let capacity : capacity_of end.manager ≡ s.blocks = ap (λ (k : ℕ). (k - 16) / 8) size ∙
     opened.opens.capacity in
     let count : s.clients * (s.rounds * s.tasks) ≡ s.rounds * s.clients * s.tasks = grind arith in
     record {

@@ -2,7 +2,8 @@
 use Rattle.std.specs.Prelude.{◌≡◌, ◌≤◌, ◌<◌, ◌+◌, ◌*◌, ◌++◌, ℕ, List}
 use Rattle.tx_memory.specs.Image.{In}
 use Rattle.stm_core.specs.Client.{Record}
-use Rattle.vac_manager.specs.Called.{HasAllGrants}
+use Rattle.stm_region.specs.Shown.{RegionShown}
+use Rattle.vac_manager.specs.Called.{CallerShown, HasAllGrants}
 use Rattle.vac_manager.specs.Session.{SessionShown, IsOwn}
 use Rattle.vac_manager.specs.Legal.{AreVersioned}
 use Rattle.vac_draws.specs.declared.settings.Settings.{Settings}
@@ -18,6 +19,10 @@ pub record IsInRenewal (renewal : ℕ) (records : List Record) : Type 0 where
   pub earlier : (r : Record) → In r past → r.renewal < renewal
   pub now : (r : Record) → In r present → r.renewal ≡ renewal
 
+-- a manager with its client, as the contracts of a session see both
+abbrev pub session_of : RegionShown → CallerShown → SessionShown
+session_of region client = record { manager = region; client = client }
+
 -- the client is of this manager, has all its grants, and has records of its renewal and of earlier
 -- ones
 pub record IsAloneInRenewal (y : SessionShown) : Type 0 where
@@ -32,9 +37,11 @@ pub record IsReadyForRound (s : Settings) (y : SessionShown) : Type 0 where
   pub known : AreKnown y.manager.renewal y.client.value.floor y.client.value.records
   pub early : y.client.value.floor ≤ 4 * s.items
 
--- the manager was renewed, with the records of its client, and the next round can begin
+-- the manager was renewed, with the records of its client, which is alone, and the next round can
+-- begin
 pub record IsRenewed (s : Settings) (y y' : SessionShown) : Type 0 where
   pub renewal : y'.manager.renewal ≡ y.manager.renewal + 1
   pub size : y'.manager.size ≡ y.manager.size
   pub records : y'.client.value.records ≡ y.client.value.records
+  pub alone : IsAloneInRenewal y'
   pub ready : IsReadyForRound s y'

@@ -19,6 +19,7 @@ use Rattle.vac_load.specs.declared.workers.Worker.{Worker}
 use Rattle.vac_load.specs.declared.workers.WorkOf.{WorkOf}
 use Rattle.vac_load.specs.declared.workers.Crew.{Crew}
 use Rattle.vac_load.specs.declared.rounds.Round.{Round}
+use Rattle.vac_load.specs.Alone.{IsAloneInRenewal, session_of}
 use Rattle.vac_asking.specs.Attempted.{TaskCountsShown, uncounted}
 use Rattle.vac_asking.specs.Looping.{Looped, Clocked, AreOfTasks, total}
 use Rattle.vac_asking.specs.Lists.{Paired}
@@ -184,12 +185,14 @@ pub record RanAll {D P : Type 0} (leads : D → ℕ → D → Type 0) (s : Setti
 abbrev pub RoundHasRun : {W D : Type 0} → (D → ℕ → D → Type 0) → (W → SeatShown D) → Settings → ℕ
     → SessionShown → List W → Round W → Type 0
 RoundHasRun leads shown_of s n y seats r = RanAll leads s shown_of n y.client.value.records seats
-    r.alone.client.value.records r.seats.items r.tally.tally
+    r.client.value.records r.seats.items r.tally.tally
 
--- a round of a load with these settings: a seat for each client, and the settings' tries
+-- a round of a load with these settings: a seat for each client, the settings' tries, and a client
+-- that is alone
 pub record IsRound {W : Type 0} (s : Settings) (r : Round W) : Type 0 where
   pub number : vec_len r.seats ≡ s.clients
   pub tries : r.tally.tries ≡ s.tries
+  pub alone : IsAloneInRenewal (session_of r.manager r.client)
 
 -- a load can be run with these settings and this many clients
 abbrev pub is_load : Settings → ℕ → Bool

@@ -3,13 +3,14 @@
 ghost use Rattle.std.specs.Prelude.{◌≡◌, ◌↔◌, true, false, vec_len, IfOk, IfErr, IsErrOf};
 ghost use Rattle.vac_draws.specs.Setting.{is_settings};
 ghost use Rattle.vac_asking.specs.Keeping.{AreKept};
+ghost use Rattle.vac_load.specs.Alone.{IsAloneInRenewal, session_of};
 ghost use Rattle.vac_load.specs.Seats.{kept_at};
 ghost use Rattle.vac_load.specs.Load.{HasOpened, HasLoaded, LoadedKept, is_load, IsLoadFault, IsStopOfLoad};
 ghost use Rattle.vac_draws.specs.Streams.{gives, stream_of};
 ghost use Rattle.vac_load.specs.Streams.{LoadedBySeed, KeptBySeed};
 ghost use Rattle.vac_asking.specs.Attempted.{IsEffort};
 
-use crate::alone::Alone;
+use crate::alone::close;
 use crate::plan::Plan;
 use crate::rounds::Round;
 use crate::seats::{Keepers, Seat, Sent, keepers_of, no_keepers, seats_by_seed, seats_unkept};
@@ -20,7 +21,7 @@ use stm_attempt::{Gate, NoGate};
 use thiserror::Error;
 use vac_asking::{Efforts, Tally, open_kept};
 use vac_draws::{Draws, PcgDraws, Settings};
-use vac_manager::{Fault, Keep, Manager, Report, Session, Unkept, report_of};
+use vac_manager::{Client, Fault, Keep, Manager, Report, Session, Unkept, report_of};
 
 /// What a load leaves: how its tasks ended, over all rounds, and the report of the words after all
 /// clients were gathered for the last time.
@@ -54,10 +55,12 @@ fn open_load<D: Draws, K: Keep>(
     settings: &Settings,
     opening: &mut D,
     keep: &mut K,
-) -> Result<Alone, LoadFault>
+) -> Result<(Manager, Client), LoadFault>
     requires settings { is_settings settings.now ≡ true }
-    ensures opened { IfOk result (λ r. HasOpened D.leads settings.now opening.old opening.new r) }
-    ensures kept { IfOk result (λ r. AreKept r.client.value.records
+    ensures opened { IfOk result (λ r. HasOpened D.leads settings.now opening.old opening.new
+        (session_of r.0 r.1)) }
+    ensures alone { IfOk result (λ r. IsAloneInRenewal (session_of r.0 r.1)) }
+    ensures kept { IfOk result (λ r. AreKept r.1.value.records
         (K.notes keep.old) (K.notes keep.new)) }
     ensures stopped { IfErr result (λ fault.
         IsStopOfLoad D.leads settings.now opening.old opening.new fault) }
@@ -70,7 +73,7 @@ fn open_load<D: Draws, K: Keep>(
         return Err(LoadFault::Opening(fault));
     }
     let client = session.into_client();
-    Ok(Alone::of(manager, client))
+    Ok((manager, client))
 }
 
 /// Runs a load whose arguments are in their ranges, with this keeper of the opening, and hands the
@@ -95,18 +98,19 @@ where
     ensures stopped { IfErr result (λ fault.
         IsStopOfLoad D.leads settings.now opening.old opening.new fault) }
 {
-    let alone = open_load(alloc, settings, opening, keep)?;
+    let (manager, client) = open_load(alloc, settings, opening, keep)?;
     let plan = Plan {
         alloc,
         settings: *settings,
     };
-    let round = plan.run_rounds(rt, alone, seats)?;
+    let round = plan.run_rounds(rt, manager, client, seats)?;
     let Round {
-        alone,
+        manager,
+        client,
         seats,
         tally,
     } = round;
-    let words = alone.close()?;
+    let words = close(manager, client)?;
     let report = report_of(words);
     let (tally, efforts) = tally.apart();
     Ok((LoadReport { tally, report }, efforts, seats))

@@ -1,10 +1,10 @@
 //! The rounds of a load, with a renewal of the clock between two of them.
 
 ghost use Rattle.std.specs.Prelude.{◌≡◌, ◌*◌, vec_len, IfOk, IfErr};
-ghost use Rattle.vac_load.specs.Alone.{IsReadyForRound};
+ghost use Rattle.vac_load.specs.Alone.{IsAloneInRenewal, IsReadyForRound, session_of};
 ghost use Rattle.vac_load.specs.Load.{RoundHasRun, IsLoadRefusal, IsRound};
 
-use crate::alone::Alone;
+use crate::alone::renewed;
 use crate::gathering::{gather_all, split_crew};
 use crate::load::LoadFault;
 use crate::plan::Plan;
@@ -13,13 +13,14 @@ use crate::seats::Sent;
 use std::sync::Wait;
 use std::thread::Threads;
 use vac_asking::TaskCounts;
-use vac_manager::Session;
+use vac_manager::{Client, Manager, Session};
 
 /// What a round left, or several of a load: the manager with the client that took in all others,
 /// the seats of the clients in their order, and how the tasks of these rounds ended.
 #[derive(Drop)]
 pub(crate) struct Round<W> {
-    pub(crate) alone: Alone,
+    pub(crate) manager: Manager,
+    pub(crate) client: Client,
     pub(crate) seats: Vec<W>,
     pub(crate) tally: TaskCounts,
 }
@@ -30,28 +31,29 @@ impl Plan {
     fn run_round<R: Threads + Wait, W: RunTasks + Sent>(
         self,
         rt: &R,
-        alone: Alone,
+        manager: Manager,
+        client: Client,
         seats: Vec<W>,
     ) -> Result<Round<W>, LoadFault>
         requires number { vec_len seats ≡ self.settings.clients }
-        requires ready { IsReadyForRound self.settings alone }
-        ensures manager { IfOk result (λ r. r.alone.manager ≡ alone.manager) }
+        requires alone { IsAloneInRenewal (session_of manager client) }
+        requires ready { IsReadyForRound self.settings (session_of manager client) }
+        ensures manager { IfOk result (λ r. r.manager ≡ manager) }
         ensures round { IfOk result (λ r. IsRound self.settings r) }
         ensures ran { IfOk result (λ r. RoundHasRun W.leads W.shown self.settings
-            self.settings.tasks alone seats.items r) }
+            self.settings.tasks (session_of manager client) seats.items r) }
         ensures refused { IfErr result (λ fault. IsLoadRefusal fault) }
     {
         let Ok(left) = Vec::with_capacity(self.alloc, seats.len()) else {
             return Err(LoadFault::Memory);
         };
-        let (manager, client) = alone.apart();
         let session = Session::of(&manager, client);
         let crew = split_crew(self.alloc, session, seats, self.settings.tries)?;
         let crew = self.run_all(rt, crew)?;
         let (client, seats, tally) = gather_all(crew, left);
-        let alone = Alone::of(manager, client);
         Ok(Round {
-            alone,
+            manager,
+            client,
             seats,
             tally,
         })
@@ -62,29 +64,34 @@ impl Plan {
     pub(crate) fn run_rounds<R: Threads + Wait, W: RunTasks + Sent>(
         self,
         rt: &R,
-        alone: Alone,
+        manager: Manager,
+        client: Client,
         seats: Vec<W>,
     ) -> Result<Round<W>, LoadFault>
-        requires renewals { alone.manager.renewal ≡ 0 }
+        requires renewals { manager.renewal ≡ 0 }
         requires number { vec_len seats ≡ self.settings.clients }
-        requires ready { IsReadyForRound self.settings alone }
-        ensures size { IfOk result (λ r. r.alone.manager.size ≡ alone.manager.size) }
+        requires alone { IsAloneInRenewal (session_of manager client) }
+        requires ready { IsReadyForRound self.settings (session_of manager client) }
+        ensures size { IfOk result (λ r. r.manager.size ≡ manager.size) }
         ensures round { IfOk result (λ r. IsRound self.settings r) }
         ensures ran { IfOk result (λ r. RoundHasRun W.leads W.shown self.settings
-            (self.settings.rounds * self.settings.tasks) alone seats.items r) }
+            (self.settings.rounds * self.settings.tasks) (session_of manager client)
+            seats.items r) }
         ensures refused { IfErr result (λ fault. IsLoadRefusal fault) }
     {
-        let mut round = self.run_round(rt, alone, seats)?;
+        let mut round = self.run_round(rt, manager, client, seats)?;
         'rounds: for done in 1..self.settings.rounds {
             let Round {
-                alone,
+                manager,
+                client,
                 seats,
                 tally,
             } = round;
-            let alone = alone.renewed(&self.settings)?;
-            let more = self.run_round(rt, alone, seats)?;
+            let (manager, client) = renewed(manager, client, &self.settings)?;
+            let more = self.run_round(rt, manager, client, seats)?;
             round = Round {
-                alone: more.alone,
+                manager: more.manager,
+                client: more.client,
                 seats: more.seats,
                 tally: tally.plus(more.tally),
             };

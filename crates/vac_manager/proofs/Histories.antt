@@ -1,13 +1,7 @@
 -- A client that is alone has the whole history, and each call leads it on.
-use Rattle.std.proofs.Common.{◌≡◌, ◌≢◌, ℕ, zero, suc, List, [], ◌∷◌, ◌++◌, append_assoc, append-nil, false, inl, inr}
-use Rattle.std.proofs.Common.{Result, Ok, Err, IfOk, refl, sym, ap, subst, ◌∙◌, arith}
-use mathlib.Core.Option.{some, some-injective, some-ne-none}
-use lib.ListN.{get_elem?}
-use Rattle.tx_memory.specs.Image.{In}
-use Rattle.stm_core.specs.Client.{Client, Record, before, merged}
-use Rattle.stm_core.specs.History.{all_records}
-use Rattle.stm_core.specs.Invariant.{Sorted}
-use Rattle.stm_core.proofs.Lists.{nothing_in}
+use Rattle.std.proofs.Common.{◌≡◌, ℕ, List, [], ◌∷◌, ◌++◌, false}
+use Rattle.std.proofs.Common.{Result, Ok, Err, IfOk, refl, sym, ap, subst, ◌∙◌}
+use Rattle.stm_core.specs.Client.{Client, Record}
 use Rattle.stm_core.proofs.Whole.{all_grants, own_sorted}
 use Rattle.stm_region.specs.Shown.{RegionShown}
 use Rattle.stm_core.specs.Guards.{stripe_of}
@@ -20,38 +14,7 @@ use Rattle.vac_model.proofs.Codes.{code_determines}
 use Rattle.vac_manager.specs.Law.{IsLawful}
 use Rattle.vac_manager.specs.Legal.{RecordRuns, IsLegal, IsHistoryTo, WasLegal, capacity_of}
 use Rattle.vac_manager.specs.Called.{HasAllGrants, Adds, Records, Continues, LeadsOn, HasWholeHistory}
-use Rattle.vac_manager.proofs.Adding.{in_snoc, inserted_last}
-
--- a sorted list of which nothing stands before what is in another is put behind it
-merged_last : (l m : List Record) → Sorted m → ((x y : Record) → In x l → In y m → before y x ≡ false) →
-    merged l m ≡ l ++ m
-merged_last l [] s f = sym (append-nil l)
-merged_last l (y ∷ m) s f =
-    ap (λ (k : List Record). merged k m) (inserted_last y l (λ x i. f x y i (zero, refl)))
-    ∙ (merged_last (l ++ (y ∷ [])) m s.1 (λ x z i j. elim (in_snoc l y x i) [
-      | inl k ↦ f x z k (suc j.0, j.1)
-      | inr e ↦ subst (λ (w : Record). before z w ≡ false) e (s.0 z j)
-    ])
-    ∙ append_assoc l (y ∷ []) m)
-
-all_none : (cs : List Client) → ((i : ℕ) (v : Client) → get_elem? cs i ≡ some v → v.records ≡ []) → all_records cs ≡ []
-all_none [] f = refl
-all_none (v ∷ cs) f =
-    ap (λ (l : List Record). merged l (all_records cs)) (f 0 v refl) ∙ ap (λ (l : List Record). merged [] l)
-    (all_none cs (λ i w e. f (suc i) w e))
-
--- where the others have none, one client's records are all there are
-all_of_one : (cs : List Client) (i : ℕ) (v : Client) → get_elem? cs i ≡ some v → Sorted v.records →
-    ((j : ℕ) (w : Client) → get_elem? cs j ≡ some w → j ≢ i → w.records ≡ []) → all_records cs ≡ v.records
-all_of_one [] i v e s f = absurd (some-ne-none v (sym e))
-all_of_one (x ∷ cs) zero v e s f =
-    ap (λ (l : List Record). merged x.records l) (all_none cs (λ i w t. f (suc i) w t (λ z. omega (arith, z))))
-    ∙ ap (λ (c : Client). c.records) (some-injective x v e)
-all_of_one (x ∷ cs) (suc i) v e s f =
-    ap (λ (l : List Record). merged l (all_records cs)) (f zero x refl (λ z. omega (arith, z)))
-    ∙ (ap (λ (l : List Record). merged [] l) (all_of_one cs i v e s
-    (λ j w t n. f (suc j) w t (λ z. n (omega (arith, z)))))
-    ∙ merged_last [] v.records s (λ x y i j. absurd (nothing_in x i)))
+use Rattle.stm_object.proofs.Histories.{all_of_one}
 
 -- the records of a client with all grants are a history
 pub whole : (region : RegionShown) (v : Client) → WasLegal region v → HasAllGrants v → HasWholeHistory region v

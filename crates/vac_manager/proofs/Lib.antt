@@ -5,8 +5,7 @@ pub mod Openings
 pub mod Adding
 pub mod Counting
 pub mod Placing
-pub mod Leaving
-pub mod Tracing
+pub mod Calling
 pub mod Histories
 pub mod Versions
 mod Words

@@ -1,7 +1,6 @@
 -- How a manager begins and ends.
-use Rattle.std.proofs.Common.{◌≡◌, ◌⊎◌, ℕ, ◌+◌, ◌*◌, ◌≤◌, List, length, slice_index, sym, ap, subst, ◌∙◌, arith}
-use Rattle.tx_memory.specs.Image.{In}
-use Rattle.stm_core.specs.Client.{Client, Record}
+use Rattle.std.proofs.Common.{◌≡◌, ℕ, ◌+◌, ◌*◌, ◌≤◌, List, length, slice_index, refl, sym, ap, subst, ◌∙◌, arith}
+use Rattle.stm_core.specs.Client.{Client}
 use Rattle.stm_core.specs.Event.{opener}
 use Rattle.stm_region.specs.Shown.{RegionShown, ClientShown}
 use Rattle.stm_region.specs.Closed.{Ends}
@@ -10,7 +9,7 @@ use Rattle.tx_alloc.specs.Pool.{IsPool}
 use Rattle.tx_alloc.specs.Spread.{IsSpreadHeap, spread_lists}
 use Rattle.vac_records.proofs.Fresh.{spread_state}
 use Rattle.vac_model.proofs.Empty.{empty-balanced}
-use Rattle.vac_manager.specs.Law.{Shows, IsFitting, IsLawful}
+use Rattle.vac_manager.specs.Law.{Shows, IsFitting, IsLawful, vacation}
 use Rattle.vac_manager.specs.Legal.{capacity_of}
 use Rattle.vac_manager.specs.Called.{IsOpened}
 use Rattle.vac_manager.specs.Opening.{Opens, ClosesInState}
@@ -31,7 +30,7 @@ fresh_shows xs ys n e h = subst (λ (zs : List ℕ). Shows zs (empty_state n)) (
 
 -- the words of an empty heap fit
 pub fresh_fits : (xs ys : List ℕ) (n : ℕ) → ys ≡ xs → IsFresh xs n → IsFitting ys
-fresh_fits xs ys n e h = record { state = empty_state n; shown = fresh_shows xs ys n e h }
+fresh_fits xs ys n e h = record { value = empty_state n; shown = fresh_shows xs ys n e h }
 
 fresh_size : (xs ys : List ℕ) (n size : ℕ) → ys ≡ xs → IsFresh xs n → size ≡ length ys → size ≡ 16 + 8 * n
 fresh_size xs ys n size e h same = same ∙ (ap (λ (zs : List ℕ). length zs) e ∙ h.empty.size)
@@ -39,14 +38,20 @@ fresh_size xs ys n size e h same = same ∙ (ap (λ (zs : List ℕ). length zs) 
 capacity_is : (region : RegionShown) (n : ℕ) → region.size ≡ 16 + 8 * n → capacity_of region ≡ n
 capacity_is region n e = omega (arith, e)
 
+-- and are so many
+pub fresh_words : (xs ys : List ℕ) (n : ℕ) → ys ≡ xs → IsFresh xs n → vacation.IsSize (length ys)
+fresh_words xs ys n e h =
+    let all = fresh_size xs ys n (length ys) e h refl in
+    (omega (arith, all), omega (arith, all, h.few))
+
 pub opened_on : (region : RegionShown) (xs ys : List ℕ) (n : ℕ) → ys ≡ xs → IsFresh xs n → region.size ≡ length ys →
-    region.first ≡ ys → length ys ≤ 4194304 → IsOpened region
-opened_on region xs ys n e h size first few =
+    region.first ≡ ys → IsOpened region
+opened_on region xs ys n e h size first =
     let all = fresh_size xs ys n region.size e h size in
     let capacity = capacity_is region n all in
     record {
       size = omega (arith, all, capacity);
-      small = omega (arith, size, few);
+      small = omega (arith, all, h.few);
       shown = subst (λ (k : ℕ). Shows region.first (empty_state k)) (sym capacity)
           (subst (λ (zs : List ℕ). Shows zs (empty_state n)) (sym first) (fresh_shows xs ys n e h));
     }
@@ -98,9 +103,3 @@ pub closes : (region region' : RegionShown) (v v' : Client) (words : List ℕ) (
 closes region region' v v' words version h k e f =
     subst (λ (r : RegionShown). ClosesInState r v' words version) (sym e)
     (subst (λ (x : Client). ClosesInState region x words version) (sym f) (closes_in region v words version h k))
-
-pub only_of : (rs xs xs' ys ys' : List Record) → ((r : Record) → In r rs → In r xs ⊎ In r ys) → xs' ≡ xs → ys' ≡ ys →
-    (r : Record) → In r rs → In r xs' ⊎ In r ys'
-only_of rs xs xs' ys ys' h e f =
-    subst (λ (zs : List Record). (r : Record) → In r rs → In r zs ⊎ In r ys') (sym e)
-    (subst (λ (zs : List Record). (r : Record) → In r rs → In r xs ⊎ In r zs) (sym f) h)

@@ -1,140 +1,180 @@
--- Places of records, and what attempts took.
-use Rattle.std.proofs.Common.{◌≡◌, ◌+◌, ◌≤◌, List, [], ◌∷◌, length, Result, Ok, Err, Some, IfErr, refl, sym, ap, subst}
-use Rattle.std.proofs.Common.{◌∙◌, arith}
+-- What a call took.
+use Rattle.std.proofs.Common.{◌≡◌, ℕ, zero, suc, ◌+◌, ◌≤◌, ◌<◌, nat_lt, List, [], ◌∷◌, length, Option, Some, None}
+use Rattle.std.proofs.Common.{Result, Ok, Err, true, not, refl, ap, ◌∙◌, arith}
+use Rattle.std.proofs.lemmas.Bool.Decides.{nat_tests}
 use Rattle.stm_core.specs.Client.{Client}
 use Rattle.stm_region.specs.Shown.{RegionShown}
 use Rattle.stm_attempt.specs.declared.conflict.Conflict.{Conflict}
 use Rattle.stm_attempt.specs.declared.conflict.Stop.{Stop}
 use Rattle.stm_attempt.specs.declared.conflict.Stop.TheVariants as stop
+use Rattle.stm_object.specs.declared.place.Place.{Place}
+use Rattle.stm_object.specs.History.{ConflictWasShown, HasCalledAt, Misses, met_in}
+use Rattle.stm_object.specs.Tracing.{conflict_in, tally_with, HasTallied}
+use Rattle.vac_model.specs.declared.limits.TheConstants.{MOST_TRIES}
 use Rattle.vac_model.specs.declared.replies.Reply.{Reply}
 use Rattle.vac_model.specs.declared.tasks.Task.{Task}
+use Rattle.vac_tasks.specs.Reading.{only_reads}
+use Rattle.vac_manager.specs.Law.{vacation}
+use Rattle.vac_manager.specs.Called.{changes_nothing}
+use Rattle.vac_manager.specs.Ended.{placed_in}
 use Rattle.vac_manager.specs.declared.placed.Effort.{Effort}
-use Rattle.vac_manager.specs.Called.{Tried, IsStop, WasShown}
-use Rattle.vac_manager.proofs.Counting.{one_conflict, each_located}
-use Rattle.vac_manager.specs.Placed.{conflicted, conflicts_of, locks_of, effort_of, ended, effort_left_by, newest}
-use Rattle.vac_manager.specs.Placed.{StopsWith}
-use Rattle.vac_manager.specs.Placed.{HasShown, HaveShown, Tallies}
-
--- all attempts so far met conflicts
-pub record Met (region : RegionShown) (v v' : Client) (e : Effort) : Type 0 where
-  pub conflicts : List Conflict
-  pub shown : HaveShown region v conflicts
-  pub effort : e ≡ effort_of conflicts
-  pub begun : v.attempt.number + e.attempts ≡ v'.attempt.number
-  pub all : conflicts_of e ≡ e.attempts
-  pub locks : locks_of e ≤ e.attempts
-
-pub none_met : (region : RegionShown) (v : Client) (e : Effort) → e ≡ effort_of [] → Met region v v e
-none_met region v e same = record {
-  conflicts = [];
-  shown = tt;
-  effort = same;
-  begun = let z : e.attempts ≡ 0 = ap (λ (x : Effort). x.attempts) same in omega (arith, z);
-  all = ap (λ (x : Effort). conflicts_of x) same ∙ sym (ap (λ (x : Effort). x.attempts) same);
-  locks = let z : locks_of e ≡ 0 = ap (λ (x : Effort). locks_of x) same in omega (arith, z);
-}
+use Rattle.vac_manager.specs.Placed.{nothing_done, counted, conflicted, one_more, effort_of}
+use Rattle.vac_manager.specs.Placed.{HaveShown, TookEffort}
+use Rattle.vac_manager.proofs.Counting.{one_conflict}
+use Rattle.vac_manager.proofs.Trying.{was_shown}
 
 attempts_are : (cs : List Conflict) → (effort_of cs).attempts ≡ length cs
 attempts_are [] = refl
 attempts_are (c ∷ cs) = let k = one_conflict c (effort_of cs) in let e = attempts_are cs in omega (arith, k.attempts, e)
 
--- the next attempt met one more
-pub met_more : (region : RegionShown) (v w w' : Client) (e : Effort) (c : Conflict) → Met region v w e →
-    w'.attempt.number ≡ w.attempt.number + 1 → w'.records ≡ v.records → w'.grants ≡ v.grants → WasShown region c w' →
-    Met region v w' (conflicted c e)
-met_more region v w w' e c h next records grants shown =
-    let long = attempts_are h.conflicts in
-    let few : e.attempts ≡ length h.conflicts = ap (λ (x : Effort). x.attempts) h.effort ∙ long in
-    let k = one_conflict c e in
-    let one = k.attempts in
-    let b = h.begun in
-    let last : HasShown region v (length (c ∷ h.conflicts)) c = record {
-      client = w';
-      number = omega (arith, next, b, few);
-      records = records;
-      grants = grants;
-      shown = shown;
-    } in
-    record {
-      conflicts = c ∷ h.conflicts;
-      shown = (last, h.shown);
-      effort = ap (λ (x : Effort). conflicted c x) h.effort;
-      begun = omega (arith, one, b, next);
-      all = let a = h.all in omega (arith, k.kinds, a, one);
-      locks = let t = each_located (c ∷ h.conflicts) in let f : conflicted c e ≡ effort_of (c ∷ h.conflicts) =
-          ap (λ (x : Effort). conflicted c x) h.effort in
-          let q : locks_of (conflicted c e) + (conflicted c e).lost_tick ≡ conflicts_of (conflicted c e) = rw f t in
-          let a = h.all in omega (arith, q, k.kinds, a, one);
-    }
+-- so few are all counted
+counted_few : (c : Option Conflict) (e : Effort) → e.attempts < MOST_TRIES → nat_lt e.attempts MOST_TRIES ≡ true
+counted_few c e few = grind (arith, nat_tests)
 
--- and that one is the newest
-met_newest : (region : RegionShown) (v w w' : Client) (e : Effort) (c : Conflict) (h : Met region v w e)
-    (next : w'.attempt.number ≡ w.attempt.number + 1) (records : w'.records ≡ v.records) (grants : w'.grants ≡ v.grants)
-    (shown : WasShown region c w') → newest (met_more region v w w' e c h next records grants shown).conflicts ≡ Some c
-unfolding met_more
-met_newest region v w w' e c h next records grants shown = refl
+all_counted : (cs : List Conflict) → length cs ≤ MOST_TRIES →
+    tally_with (λ c e. counted c e) nothing_done cs ≡ effort_of cs
+all_counted [] few = refl
+all_counted (c ∷ cs) few =
+    let rest = all_counted cs (omega (arith, few)) in
+    let n = attempts_are cs in
+    let t = counted_few (Some c) (effort_of cs) (omega (arith, n, few)) in
+    rw (rest, t) refl
 
--- how the last attempt ended, where it met no conflict
-pub tallied_one : (region : RegionShown) (v w w' : Client) (e : Effort) (end : Result Reply Stop) (h : Met region v w e)
-    → w'.attempt.number ≡ w.attempt.number + 1 → ((x : Effort) →
-    effort_left_by end x ≡ record x { attempts = x.attempts + 1 })
-    → ended end e ≡ record e { attempts = e.attempts + 1 } → IfErr end (λ s. StopsWith s h.conflicts) →
-    Tallies region v w' end (ended end e)
-tallied_one region v w w' e end h next left is closes =
-    record {
-      conflicts = h.conflicts;
-      shown = h.shown;
-      closes = closes;
-      effort = is ∙ (ap (λ (x : Effort). record x { attempts = x.attempts + 1 }) h.effort ∙
-          sym (left (effort_of h.conflicts)));
-      begun = let b = h.begun in let k : (ended end e).attempts ≡ e.attempts + 1 = ap (λ (x : Effort). x.attempts) is in
-          omega (arith, b, next, k);
-    }
+module _ (region : RegionShown) (t : Task) where
+  abbrev pub Shown : Conflict → Client → Type 0
+  Shown conflict v = ConflictWasShown {A = Reply} vacation region (λ r. (t, r)) (λ r. not (changes_nothing t r))
+      (only_reads t) conflict v
 
--- how the last attempt ended
-pub tallied : (region : RegionShown) (v w w' : Client) (e : Effort) (end : Result Reply Stop) → Met region v w e →
-    w'.attempt.number ≡ w.attempt.number + 1 →
-    ((c : Conflict) → end ≡ Err (stop.Conflict c) → (w'.records ≡ v.records) × (w'.grants ≡ v.grants) ×
-    WasShown region c w') → Tallies region v w' end (ended end e)
-tallied region v w w' e (Ok reply) h next shown = tallied_one region v w w' e (Ok reply) h next (λ x. refl) refl tt
-tallied region v w w' e (Err stop.Memory) h next shown = tallied_one region v w w' e (Err stop.Memory) h next
-    (λ x. refl) refl tt
-tallied region v w w' e (Err (stop.Conflict c)) h next shown =
-    let s = shown c refl in
-    let m = met_more region v w w' e c h next s.0 s.1 s.2 in
-    record {
-      conflicts = m.conflicts;
-      shown = m.shown;
-      closes = met_newest region v w w' e c h next s.0 s.1 s.2;
-      effort = m.effort;
-      begun = m.begun;
-    }
-tallied region v w w' e (Err (stop.Spent version)) h next shown =
-    tallied_one region v w w' e (Err (stop.Spent version)) h next (λ x. refl) refl tt
+  missed_many : (n : ℕ) (v w : Client) (h : Misses Shown n v w) → (w.attempt.number ≡ v.attempt.number + n)
+      × (w.records ≡ v.records) × (w.grants ≡ v.grants) × (length (met_in Shown n v w h) ≡ n)
+  missed_many zero v w h =
+      let e = ap (λ (x : Client). x.attempt.number) h in
+      (omega (arith, e), ap (λ (x : Client). x.records) h, ap (λ (x : Client). x.grants) h, refl)
+  missed_many (suc n) v w h =
+      let k = missed_many n v h.0 h.1.0 in
+      let m = h.1.1 in
+      let next = m.next in
+      let long = k.3 in
+      (omega (arith, next, k.0), m.records ∙ k.1, m.grants ∙ k.2, omega (arith, long))
 
--- an attempt that met a conflict, after others that did
-pub met_next : (region : RegionShown) (t : Task) (v w w' : Client) (e e' : Effort) (end : Result Reply Stop)
-    (c : Conflict) → end ≡ Err (stop.Conflict c) → Met region v w e → w.records ≡ v.records → w.grants ≡ v.grants →
-    Tried region t w w' end →
-    IfErr end (λ s. IsStop region t s w') → e' ≡ ended end e → Met region v w' e'
-met_next region t v w w' e e' end c is m records grants tried stopped counted =
-    let one : Tried region t w w' (Err (stop.Conflict c)) = subst
-    (λ (x : Result Reply Stop). Tried region t w w' x) is tried in
-    let shown : WasShown region c w' = subst (λ (x : Result Reply Stop). IfErr x (λ s. IsStop region t s w')) is stopped
-    in
-    subst (λ (x : Effort). Met region v w' x) (sym (counted ∙ ap (λ (x : Result Reply Stop). ended x e) is))
-    (met_more region v w w' e c m one.attempt (one.records ∙ records) (one.grants ∙ grants) shown)
+  -- each of them was shown
+  have_shown : (n : ℕ) (v w : Client) (h : Misses Shown n v w) → HaveShown region v (met_in Shown n v w h)
+  have_shown zero v w h = tt
+  have_shown (suc n) v w h =
+      let k = missed_many n v h.0 h.1.0 in
+      let m = h.1.1 in
+      let next = m.next in
+      let long = k.3 in (
+        record {
+          client = w;
+          number = omega (arith, next, k.0, long);
+          records = m.records ∙ k.1;
+          grants = m.grants ∙ k.2;
+          shown = was_shown region t m.conflict w m.shown;
+        },
+        have_shown n v h.0 h.1.0,
+      )
 
--- the last attempt, after others that met conflicts
-pub tallied_last : (region : RegionShown) (t : Task) (v w w' : Client) (e e' : Effort) (end : Result Reply Stop) →
-    Met region v w e → w.records ≡ v.records → w.grants ≡ v.grants → Tried region t w w' end →
-    IfErr end (λ s. IsStop region t s w') → e' ≡ ended end e →
-    Tallies region v w' end e'
-tallied_last region t v w w' e e' end m records grants tried stopped counted =
-    subst (λ (x : Effort). Tallies region v w' end x) (sym counted)
-    (tallied region v w w' e end m tried.attempt (λ c is.
-    let one : Tried region t w w' (Err (stop.Conflict c)) = subst
-    (λ (x : Result Reply Stop). Tried region t w w' x) is tried in
-    let shown : WasShown region c w' = subst (λ (x : Result Reply Stop). IfErr x (λ s. IsStop region t s w')) is stopped
-    in
-    (one.records ∙ records, one.grants ∙ grants, shown)))
+  abbrev Called : ℕ → Result (Reply × Place) Stop → Client → Client → Type 0
+  Called tries result v v' = HasCalledAt {A = Reply} vacation region (λ r. (t, r)) (λ r. not (changes_nothing t r))
+      (only_reads t) tries result v v'
+
+  abbrev pub Tallied : ℕ → Result (Reply × Place) Stop → Client → Client → Effort → Type 0
+  Tallied tries result v v' e = HasTallied Shown (λ c o. counted c o) tries result v v' nothing_done e
+
+  -- the conflicts of a call's earlier attempts, and how many they are
+  module _ (tries : ℕ) (result : Result (Reply × Place) Stop) (v v' : Client) (e : Effort) (few : tries ≤ MOST_TRIES)
+      (h : Tallied tries result v v' e) where
+    abbrev met : List Conflict
+    met = met_in Shown h.attempts.missed v h.attempts.before h.attempts.misses
+
+    long : length met ≡ h.attempts.missed
+    long = (missed_many h.attempts.missed v h.attempts.before h.attempts.misses).3
+
+    told : e ≡ counted (conflict_in result) (effort_of met)
+    told =
+        let c = h.attempts.count in
+        let l = long in
+        h.tallied ∙ ap (λ (o : Effort). counted (conflict_in result) o) (all_counted met (omega (arith, l, c, few)))
+
+    room : nat_lt (effort_of met).attempts MOST_TRIES ≡ true
+    room =
+        let c = h.attempts.count in
+        let l = long in
+        let n = attempts_are met in
+        counted_few None (effort_of met) (omega (arith, l, n, c, few))
+
+    -- one that met no conflict is counted as one more
+    counted_one : conflict_in result ≡ None → (e ≡ one_more (effort_of met))
+        × (v.attempt.number + e.attempts ≡ v'.attempt.number)
+    counted_one none =
+        let r = room in
+        let is : e ≡ one_more (effort_of met) = told ∙ rw (none, r) refl in
+        let n = attempts_are met in
+        let l = long in
+        let at = h.attempts.number in
+        let k = ap (λ (o : Effort). o.attempts) is in
+        (is, omega (arith, k, n, l, at))
+
+    counted_conflict : (c : Conflict) → conflict_in result ≡ Some c → (e ≡ conflicted c (effort_of met))
+        × (v.attempt.number + e.attempts ≡ v'.attempt.number)
+    counted_conflict c some =
+        let r = room in
+        let is : e ≡ conflicted c (effort_of met) = told ∙ rw (some, r) refl in
+        let n = attempts_are met in
+        let l = long in
+        let at = h.attempts.number in
+        let k = ap (λ (o : Effort). o.attempts) is in
+        let one = (one_conflict c (effort_of met)).attempts in
+        (is, omega (arith, k, one, n, l, at))
+
+  -- what the attempts of a call took
+  pub took : (tries : ℕ) (result : Result (Reply × Place) Stop) (v v' : Client) (e : Effort) → tries ≤ MOST_TRIES →
+      Called tries result v v' → Tallied tries result v v' e → TookEffort region v v' (placed_in result) e
+  took tries (Ok a) v v' e few g h =
+      let one = counted_one tries (Ok a) v v' e few h refl in
+      record {
+        conflicts = met_in Shown h.attempts.missed v h.attempts.before h.attempts.misses;
+        shown = have_shown h.attempts.missed v h.attempts.before h.attempts.misses;
+        closes = tt;
+        effort = one.0;
+        begun = one.1;
+      }
+  took tries (Err stop.Memory) v v' e few g h =
+      let one = counted_one tries (Err stop.Memory) v v' e few h refl in
+      record {
+        conflicts = met_in Shown h.attempts.missed v h.attempts.before h.attempts.misses;
+        shown = have_shown h.attempts.missed v h.attempts.before h.attempts.misses;
+        closes = tt;
+        effort = one.0;
+        begun = one.1;
+      }
+  took tries (Err (stop.Conflict c)) v v' e few g h =
+      let one = counted_conflict tries (Err (stop.Conflict c)) v v' e few h c refl in
+      let k = missed_many h.attempts.missed v h.attempts.before h.attempts.misses in
+      let at = h.attempts.number in
+      record {
+        conflicts = c ∷ met_in Shown h.attempts.missed v h.attempts.before h.attempts.misses;
+        shown = (
+          record {
+            client = v';
+            number = omega (arith, at, k.3);
+            records = g.records;
+            grants = g.grants;
+            shown = was_shown region t c v' g.stopped.1;
+          },
+          have_shown h.attempts.missed v h.attempts.before h.attempts.misses,
+        );
+        closes = refl;
+        effort = one.0;
+        begun = one.1;
+      }
+  took tries (Err (stop.Spent version)) v v' e few g h =
+      let one = counted_one tries (Err (stop.Spent version)) v v' e few h refl in
+      record {
+        conflicts = met_in Shown h.attempts.missed v h.attempts.before h.attempts.misses;
+        shown = have_shown h.attempts.missed v h.attempts.before h.attempts.misses;
+        closes = tt;
+        effort = one.0;
+        begun = one.1;
+      }

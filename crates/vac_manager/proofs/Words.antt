@@ -35,7 +35,7 @@ fitting_holds words xs same fitting =
     record {
       inside = omega (arith, f.shown.represents.size);
       small = omega (arith, f.shown.represents.size, f.shown.small.small);
-      under = λ image i. (f.state, rw (flat_mem xs image i.sees.fits, i.sees.fits) f.shown);
+      under = λ image i. (f.value, rw (flat_mem xs image i.sees.fits, i.sees.fits) f.shown);
     }
 
 -- the report over them is that of their state

@@ -9,15 +9,13 @@ use Rattle.stm_core.specs.Client.{Client, Record, rank}
 use Rattle.stm_core.specs.Core.{IsFreeHanded}
 use Rattle.stm_logs.specs.Log.{LogValue}
 use Rattle.stm_core.specs.Event.{giving, fresh}
-use Rattle.stm_region.specs.Shown.{RegionShown, ClientShown}
+use Rattle.stm_region.specs.Shown.{RegionShown}
 use Rattle.stm_core.specs.Guards.{stripe_of}
 use Rattle.stm_region.specs.declared.fault.RegionFault.{RegionFault}
 use Rattle.stm_region.specs.declared.fault.RegionFault.TheVariants.{Clients}
 use Rattle.stm_attempt.specs.Committing.{HasWonLock, HasLostTick}
 use Rattle.stm_attempt.specs.Conflicts.{IsReadConflict, IsCommitConflict}
 use Rattle.stm_attempt.specs.declared.conflict.Conflict.{Conflict}
-use Rattle.stm_attempt.specs.declared.conflict.Stop.{Stop}
-use Rattle.stm_attempt.specs.declared.conflict.Stop.TheVariants as stop
 use Rattle.tx_alloc.specs.Pool.{heap_words}
 use Rattle.tx_alloc.specs.declared.place.TheConstants.{LISTS}
 use Rattle.vac_model.specs.declared.commands.Command.{Command}
@@ -29,7 +27,6 @@ use Rattle.vac_model.specs.State.{State, empty_state}
 use Rattle.vac_model.specs.Run.{run, refusal_of}
 use Rattle.vac_model.specs.Ranges.{is_task}
 use Rattle.vac_model.specs.Code.{code}
-use Rattle.vac_manager.specs.declared.client.Belongings.{Belongings}
 use Rattle.vac_manager.specs.declared.fault.Fault.{Fault}
 use Rattle.vac_manager.specs.declared.fault.Fault.TheVariants as fault
 use Rattle.vac_tasks.specs.Reading.{only_reads}
@@ -45,10 +42,6 @@ pub record CallerShown : Type 0 where
   pub start : ℕ
   pub next : ℕ
 
--- the new entries of this client, and of the next one that it splits off, go on with their lists
-abbrev pub KeepsLists : Belongings → Belongings → Type 0
-KeepsLists own own' = (own'.start ≡ own.start) × (own'.next ≡ own.next)
-
 -- the region was first opened on words that represent the empty state
 pub record IsOpened (region : RegionShown) : Type 0 where
   pub size : region.size ≡ heap_words (capacity_of region)
@@ -58,19 +51,6 @@ pub record IsOpened (region : RegionShown) : Type 0 where
 -- the client has all grants of its region: no other client is out, so it is alone
 abbrev pub HasAllGrants : Client → Type 0
 HasAllGrants v = v.grants ≡ MOST_GRANTS
-
--- the client's records keep no place in a list of events
-pub record IsUnplaced (v : Client) : Type 0 where
-  pub each : (r : Record) → In r v.records → r.point ≡ 0
-
--- what an attempt of a task asks for: a manager's region, a client of it which holds no lock and
--- whose records keep no place, and a task that can be asked for
-pub record MayTry (region : RegionShown) (client : ClientShown) (t : Task) : Type 0 where
-  pub own : client.table ≡ region.table
-  pub free_handed : IsFreeHanded client.value
-  pub opened : IsOpened region
-  pub unplaced : IsUnplaced client.value
-  pub range : is_task t ≡ true
 
 -- this many tries may be asked for
 abbrev pub is_try_count : ℕ → Bool
@@ -153,14 +133,6 @@ Continues region t (Err e) v v' =
 abbrev pub HasWholeHistory : RegionShown → Client → Type 0
 HasWholeHistory region v = (last : State) × IsHistoryTo region v.records last
 
--- one attempt was made
-pub record Tried {E : Type 0} (region : RegionShown) (t : Task) (v v' : Client)
-    (result : Result Reply E) : Type 0 where
-  pub attempt : v'.attempt.number ≡ v.attempt.number + 1
-  pub grants : v'.grants ≡ v.grants
-  pub floor : v.floor ≤ v'.floor
-  pub records : Records region t result v v'
-
 -- the client's last step showed the conflict: in a read, or in a commit
 abbrev pub WasShown : RegionShown → Conflict → Client → Type 0
 WasShown region conflict v =
@@ -193,47 +165,10 @@ pub record IsSpent (region : RegionShown) (t : Task) (version : ℕ) (v : Client
   pub found : HasWonLock v ⊎ HasLostTick version v
   pub written : WouldWrite t v
 
--- why an attempt of a task stopped: for a conflict that was shown, or, where the task may write,
--- for refused memory, where the last step showed no conflict, or for a spent clock
-abbrev pub IsStop : RegionShown → Task → Stop → Client → Type 0
-IsStop region t stop.Memory v = (only_reads t ≡ false) × ShowsNone region v
-IsStop region t (stop.Conflict conflict) v = WasShown region conflict v
-IsStop region t (stop.Spent version) v = (only_reads t ≡ false) × IsSpent region t version v
-
--- the attempt stopped for another reason than a conflict
-abbrev pub IsStopWithoutConflict : Stop → Type 0
-IsStopWithoutConflict stop.Memory = Unit {0}
-IsStopWithoutConflict (stop.Conflict conflict) = ⊥
-IsStopWithoutConflict (stop.Spent version) = Unit {0}
-
--- how many attempts were made, where each stop but a conflict ends the call: all of them where the
--- last one met a conflict
-abbrev pub IsCount : ℕ → ℕ → ℕ → Result Reply Stop → Type 0
-IsCount tries before now (Ok reply) = (before < now) × (now ≤ before + tries)
-IsCount tries before now (Err stop.Memory) = (before < now) × (now ≤ before + tries)
-IsCount tries before now (Err (stop.Conflict conflict)) = now ≡ before + tries
-IsCount tries before now (Err (stop.Spent version)) = (before < now) × (now ≤ before + tries)
-
--- what an attempt leaves of the version that its client knows, where that client is alone: a record
--- raises it by at most one, refused memory leaves it as it was, and a spent clock was spent before
-abbrev pub IsNear : ℕ → ℕ → ℕ → Result Reply Stop → Type 0
-IsNear last before now (Ok reply) = now ≤ before + 1
-IsNear last before now (Err stop.Memory) = now ≡ before
-IsNear last before now (Err (stop.Conflict conflict)) = ⊥
-IsNear last before now (Err (stop.Spent version)) = before ≡ last
-
--- some attempts were made, one after the other
-pub record Repeated (region : RegionShown) (t : Task) (tries : ℕ) (v v' : Client)
-    (result : Result Reply Stop) : Type 0 where
-  pub count : IsCount tries v.attempt.number v'.attempt.number result
-  pub grants : v'.grants ≡ v.grants
-  pub floor : v.floor ≤ v'.floor
-  pub records : Records region t result v v'
-
 -- how many attempts a call made: at most as many as tries, all of them where it returns Busy, none
 -- where it returns Arguments
 -- Not said: of a client that is not alone, that refused memory and a spent clock end the call at
--- once: `TookEffort` of `call_placed` says it, by its counts.
+-- once: `TookEffort` of `trace_call` says it, by its counts.
 abbrev pub Attempts : ℕ → ℕ → ℕ → Result Reply Fault → Type 0
 Attempts tries before now (Ok reply) = (before < now) × (now ≤ before + tries)
 Attempts tries before now (Err fault.Arguments) = now ≡ before

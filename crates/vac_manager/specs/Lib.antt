@@ -9,3 +9,4 @@ pub mod Faults
 pub mod Opening
 pub mod Renewed
 pub mod Session
+pub mod Ended

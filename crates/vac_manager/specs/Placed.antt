@@ -1,30 +1,24 @@
 -- The place of a call's record, and what the call took.
-use Rattle.std.specs.Prelude.{◌≡◌, ℕ, ◌+◌, List, [], ◌∷◌, length, Option, Some, None, Result, Ok, Err, IfOk, IfErr}
-use Rattle.stm_core.specs.Client.{Client, Record}
-use Rattle.stm_core.specs.Core.{IsFreeHanded}
-use Rattle.stm_region.specs.Shown.{RegionShown, ClientShown}
+use Rattle.std.specs.Prelude.{◌≡◌, ℕ, ◌+◌, List, [], ◌∷◌, length, Option, Some, None, Result, Ok, Err, IfErr}
+use Rattle.std.specs.Prelude.{nat_lt, if◌then◌else◌}
+use Rattle.stm_core.specs.Client.{Client}
+use Rattle.stm_region.specs.Shown.{RegionShown}
 use Rattle.stm_attempt.specs.declared.conflict.Conflict.{Conflict}
 use Rattle.stm_attempt.specs.declared.conflict.Conflict.TheVariants.{Held, Newer, Moved, LostLock, LostTick}
-use Rattle.stm_attempt.specs.declared.conflict.Stop.{Stop}
-use Rattle.stm_attempt.specs.declared.conflict.Stop.TheVariants as stop
 use Rattle.vac_model.specs.declared.tasks.Task.{Task}
 use Rattle.vac_model.specs.declared.replies.Reply.{Reply}
 use Rattle.vac_model.specs.Code.{code}
 use Rattle.vac_manager.specs.declared.fault.Fault.{Fault}
 use Rattle.vac_manager.specs.declared.fault.Fault.TheVariants as fault
-use Rattle.vac_manager.specs.declared.placed.Place.{Place}
+pub use Rattle.stm_object.specs.declared.place.Place.{Place}
+pub use Rattle.stm_object.specs.Places.{place_of}
 use Rattle.vac_manager.specs.declared.placed.Placed.{Placed}
 use Rattle.vac_manager.specs.declared.placed.Effort.{Effort}
 use Rattle.vac_manager.specs.declared.sites.Site.{Site}
 use Rattle.vac_manager.specs.declared.sites.Site.TheVariants.{Root, Head, Node, Use, Stock}
 use Rattle.vac_manager.specs.Sites.{site_of}
-use Rattle.vac_manager.specs.Called.{Adds, CallerShown, HasAllGrants, HasCalled, IsNear, IsStop, IsStopWithoutConflict}
-use Rattle.vac_manager.specs.Called.{IsUnplaced, Spares, Tried, WasShown}
-use Rattle.vac_manager.specs.Legal.{WasLegal}
-
--- the place of a record
-abbrev pub place_of : Record → Place
-place_of r = record { renewal = r.renewal; version = r.version; wrote = r.writer }
+use Rattle.vac_model.specs.declared.limits.TheConstants.{MOST_TRIES}
+use Rattle.vac_manager.specs.Called.{Adds, CallerShown, HasCalled, WasShown}
 
 -- exactly one record was added, with this tag, and this is its place
 pub record AddsAt (renewal : ℕ) (tag : List ℕ) (place : Place) (v v' : Client) : Type 0 where
@@ -42,37 +36,6 @@ abbrev pub IsAddedAtPlace : {E : Type 0} → RegionShown → Task → Result Pla
 IsAddedAtPlace region t (Ok placed) v v' =
     AddsAt region.renewal (code t placed.reply) placed.place v v'
 IsAddedAtPlace region t (Err e) v v' = v'.records ≡ v.records
-
--- at an answer the record of the task and its reply was added, at the place that is given beside
--- the reply
-abbrev pub WasPlaced : {E : Type 0} → RegionShown → Task → Result Reply E → Option Place
-    → Client → Client → Type 0
-WasPlaced region t (Ok reply) (Some place) v v' = AddsAt region.renewal (code t reply) place v v'
-WasPlaced region t (Ok reply) None v v' = ⊥
-WasPlaced region t (Err e) place v v' = v'.records ≡ v.records
-
--- what one attempt of a task leaves, or several in a row: the client is still one of its region,
--- holds no lock, and its records keep no place; at an answer the record that was added is at the
--- place that is left, is a reader's where the command changes nothing, and was legal; at a refusal
--- none was added
-pub record Leaves {E : Type 0} (region : RegionShown) (t : Task) (client client' : ClientShown)
-    (result : Result Reply E) (place : Option Place) : Type 0 where
-  pub own : client'.table ≡ client.table
-  pub free_handed : IsFreeHanded client'.value
-  pub unplaced : IsUnplaced client'.value
-  pub placed : WasPlaced region t result place client.value client'.value
-  pub spares : Spares t result client.value client'.value
-  pub legal : IfOk result (λ _. WasLegal region client'.value)
-
--- one attempt of a task, and why it stopped; that of a client that is alone meets no conflict
-pub record HasTried (region : RegionShown) (t : Task) (client client' : ClientShown)
-    (result : Result Reply Stop) (place : Option Place) : Type 0 where
-  pub leaves : Leaves region t client client' result place
-  pub tried : Tried region t client.value client'.value result
-  pub stopped : IfErr result (λ stop. IsStop region t stop client'.value)
-  pub lone : HasAllGrants client.value → IfErr result (λ stop. IsStopWithoutConflict stop)
-  pub near : HasAllGrants client.value
-      → IsNear region.last client.value.floor client'.value.floor result
 
 -- no attempt
 abbrev pub nothing_done : Effort
@@ -123,12 +86,10 @@ conflicted (LostLock lock found) e =
     one_more_over (site_of lock) (record (one_more e) { lost_lock = e.lost_lock + 1 })
 conflicted (LostTick found) e = record (one_more e) { lost_tick = e.lost_tick + 1 }
 
--- one more attempt, which ended so
-abbrev pub ended : {R : Type 0} → Result R Stop → Effort → Effort
-ended (Ok reply) e = one_more e
-ended (Err stop.Memory) e = one_more e
-ended (Err (stop.Conflict conflict)) e = conflicted conflict e
-ended (Err (stop.Spent version)) e = one_more e
+-- one more attempt, which ended with this conflict, if with any; there is room for 1,048,576
+abbrev pub counted : Option Conflict → Effort → Effort
+counted None e = if nat_lt e.attempts MOST_TRIES then one_more e else e
+counted (Some conflict) e = if nat_lt e.attempts MOST_TRIES then conflicted conflict e else e
 
 -- attempts that aborted on these conflicts, the newest first
 abbrev pub effort_of : List Conflict → Effort
@@ -154,33 +115,10 @@ HaveShown region v [] = Unit {0}
 HaveShown region v (conflict ∷ earlier) =
     HasShown region v (length (conflict ∷ earlier)) conflict × HaveShown region v earlier
 
--- one more attempt, unless that one met a conflict too
-abbrev pub effort_left_by : {R : Type 0} → Result R Stop → Effort → Effort
-effort_left_by (Ok reply) e = one_more e
-effort_left_by (Err stop.Memory) e = one_more e
-effort_left_by (Err (stop.Conflict conflict)) e = e
-effort_left_by (Err (stop.Spent version)) e = one_more e
-
 -- the newest of these conflicts, the first one
 abbrev pub newest : List Conflict → Option Conflict
 newest [] = None
 newest (conflict ∷ earlier) = Some conflict
-
--- an attempt that stopped for a conflict met the newest of these
-abbrev pub StopsWith : Stop → List Conflict → Type 0
-StopsWith stop.Memory conflicts = Unit {0}
-StopsWith (stop.Conflict conflict) conflicts = newest conflicts ≡ Some conflict
-StopsWith (stop.Spent version) conflicts = Unit {0}
-
--- attempts, the last of which ended so: each is counted, and all but the last one, and that one too
--- where it met a conflict, are counted by the conflict that they ended with
-pub record Tallies {R : Type 0} (region : RegionShown) (v v' : Client) (result : Result R Stop)
-    (e : Effort) : Type 0 where
-  pub conflicts : List Conflict
-  pub shown : HaveShown region v conflicts
-  pub closes : IfErr result (λ stop. StopsWith stop conflicts)
-  pub effort : e ≡ effort_left_by result (effort_of conflicts)
-  pub begun : v.attempt.number + e.attempts ≡ v'.attempt.number
 
 -- one more attempt of a call, unless the call made none, or that one met a conflict too
 abbrev pub closed_by : {R : Type 0} → Result R Fault → Effort → Effort

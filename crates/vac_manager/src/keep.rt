@@ -6,8 +6,8 @@ ghost use Rattle.vac_manager.specs.Tracing.{Trace};
 ghost use Rattle.vac_manager.specs.Keeping.{HasKept, HasTakenOut};
 
 use crate::placed::Placed;
-use crate::tracer::{Tracer, Untraced};
 use std::alloc::AllocError;
+use stm_object::{Tracer, Untraced};
 use vac_model::Task;
 
 /// What keeps the answered calls of a client, or does not.

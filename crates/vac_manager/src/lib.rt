@@ -5,35 +5,32 @@
 //! Olukotun, IISWC 2008); their definitions are in `vac_model`.
 #![tactic(auto)]
 
-mod attempts;
 mod client;
 mod fault;
 mod keep;
 mod law;
 mod manager;
 mod note;
-mod pauses;
 mod placed;
 mod renew;
 mod report;
 mod session;
 mod sites;
-mod told;
-mod tracer;
+mod watching;
+mod work;
 
 pub use client::Client;
 pub use fault::Fault;
 pub use keep::{Keep, Unkept};
-pub use law::{ManagerLaw, serial_records_are_legal};
+pub use law::{Vacation, serial_records_are_legal};
 pub use manager::Manager;
 pub use note::{AttemptNote, Note};
-pub use placed::{Effort, Place, Placed};
+pub use placed::{Effort, Placed};
 pub use renew::RenewFault;
 pub use report::report_of;
 pub use session::Session;
+pub use stm_object::{Body, Object, Place, Tracer, Untraced};
 pub use stm_region::MOST_STRIPES;
-pub use told::Told;
-pub use tracer::{Tracer, Untraced};
 pub use vac_model::limits::MOST_TRIES;
 pub use vac_model::{
     Asks, Changes, Command, Item, Joined, Kind, Pick, Reply, Report, Task, TripReply, UpdateReply,

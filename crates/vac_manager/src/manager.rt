@@ -6,22 +6,23 @@ ghost use Rattle.stm_core.specs.History.{Sub};
 ghost use Rattle.stm_region.specs.Shown.{with_gathered};
 ghost use Rattle.stm_region.specs.Refused.{ClosesNot};
 ghost use Rattle.tx_alloc.specs.Pool.{heap_words};
-ghost use Rattle.vac_manager.specs.Called.{HasAllGrants, HasCalled, Splits, SplitsNot, OnlyOf};
-ghost use Rattle.vac_manager.specs.Placed.{HasCalledPlaced, TookEffort, WasPlaced, nothing_done, replied};
+ghost use Rattle.vac_manager.specs.Called.{HasAllGrants, HasCalled, Splits, SplitsNot, OnlyOf, is_call};
+ghost use Rattle.vac_manager.specs.Ended.{reply_in, placed_in};
+ghost use Rattle.vac_manager.specs.Placed.{HasCalledPlaced, replied};
 ghost use Rattle.vac_manager.specs.Tracing.{HasTraced};
 ghost use Rattle.vac_manager.specs.Opening.{is_opening, Opens, ClosesInState};
 
-use crate::attempts::run_in_attempts;
-use crate::client::{Belongings, Client};
+use crate::client::Client;
 use crate::fault::Fault;
-use crate::law::ManagerLaw;
-use crate::pauses::Pauses;
-use crate::placed::{Effort, Placed, Traced};
-use crate::tracer::{Tracer, Untraced};
+use crate::law::Vacation;
+use crate::placed::{Effort, Placed};
+use crate::watching::Counting;
+use crate::work::Work;
 use std::alloc::Global;
 use std::marker::Model;
-use stm_attempt::{Gate, Logs, NoGate};
-use stm_region::{MOST_STRIPES, Region, RegionFault};
+use stm_attempt::{Gate, NoGate, Stop};
+use stm_object::{Place, Shared, Tracer, Untraced};
+use stm_region::{MOST_STRIPES, RegionFault};
 use stm_words::{VERSION_LIMIT, Version};
 use tx_alloc::place::{BLOCK_WORDS, FIRST_BLOCK};
 use tx_alloc::{FreeList, spread_words};
@@ -34,8 +35,7 @@ type Kept = (Manager, Client, RegionFault);
 /// A manager of reservations, which many clients call at once. Contracts see its region.
 #[derive(Drop)]
 pub struct Manager {
-    pub(crate) alloc: Global,
-    pub(crate) region: Region<ManagerLaw>,
+    pub(crate) shared: Shared<Vacation>,
 }
 
 impl Model for Manager {
@@ -44,9 +44,37 @@ impl Model for Manager {
 
     ghost Value = { RegionShown };
 
-    ghost view = { λ m. m.region };
+    ghost view = { λ m. m.shared };
 
-    ghost invariant = { λ m. IsOpened m.region };
+    ghost invariant = { λ m. IsOpened m.shared };
+}
+
+/// Returns whether the task can be issued, with this many tries.
+fn can_ask(task: &Task, tries: u32) -> bool
+    ensures { result ≡ is_call task.now tries }
+{
+    task.is_in_range() && 1 <= tries && tries <= MOST_TRIES
+}
+
+/// The end of a call, without the place of its record.
+#[inline]
+fn reply_of(answer: Result<(Reply, Place), Stop>) -> Result<Reply, Fault>
+    ensures { result ≡ reply_in answer }
+{
+    match answer {
+        Ok((reply, _place)) => Ok(reply),
+        Err(stop) => Err(Fault::from(stop)),
+    }
+}
+
+/// The end of a call, with the place of its record.
+fn placed_of(answer: Result<(Reply, Place), Stop>) -> Result<Placed, Fault>
+    ensures { result ≡ placed_in answer }
+{
+    match answer {
+        Ok((reply, place)) => Ok(Placed { reply, place }),
+        Err(stop) => Err(Fault::from(stop)),
+    }
 }
 
 impl Manager {
@@ -89,16 +117,11 @@ impl Manager {
         let Ok(words) = spread_words(alloc, blocks as usize) else {
             return Err(Fault::Memory);
         };
-        let Ok((region, client)) = Region::new(alloc, words.as_slice(), last, stripes) else {
+        let Ok((shared, user)) = Shared::new(alloc, words.as_slice(), last, stripes) else {
             return Err(Fault::Memory);
         };
-        let own = Belongings {
-            logs: Logs::new(alloc),
-            pauses: Pauses::new(0),
-            start: FreeList::new(0),
-            next: FreeList::new(1),
-        };
-        Ok((Manager { alloc, region }, Client { client, own }))
+        let (start, next) = (FreeList::new(0), FreeList::new(1));
+        Ok((Manager { shared }, Client { user, start, next }))
     }
 
     /// Runs a task as a transaction, by at most this many attempts, 1 to 1,048,576, and returns its
@@ -126,27 +149,16 @@ impl Manager {
         requires own { client.old.table ≡ self.now.table }
         ensures called { HasCalled self.now task.now tries result client.old client.new }
     {
-        let mut traced = Traced::new();
-        self.call_traced(client, task, tries, gate, &mut traced, &mut Untraced)
+        let (user, start) = (&mut client.user, client.start);
+        if !can_ask(task, tries) {
+            return Err(Fault::Arguments);
+        }
+        let work = Work { task, start };
+        reply_of(self.shared.call(user, &work, tries, gate, &mut Untraced))
     }
 
     /// Runs a task as `call_gated` does, and also returns the place of the call's record and what
-    /// the call took.
-    pub fn call_placed<G: Gate>(
-        &self,
-        client: &mut Client,
-        task: &Task,
-        tries: u32,
-        gate: &mut G,
-    ) -> (Result<Placed, Fault>, Effort)
-        requires own { client.old.table ≡ self.now.table }
-        ensures called { HasCalledPlaced self.now task.now tries result.0 result.1
-            client.old client.new }
-    {
-        self.trace_call(client, task, tries, gate, &mut Untraced)
-    }
-
-    /// Runs a task as `call_placed` does, and lets a tracer trace its attempts.
+    /// the call took. A tracer traces its attempts.
     pub fn trace_call<G: Gate, T: Tracer>(
         &self,
         client: &mut Client,
@@ -161,56 +173,16 @@ impl Manager {
         ensures traced { HasTraced (replied result.0) client.old.value client.new.value
             (T.ended tracer.old) (T.ended tracer.new) }
     {
-        let mut traced = Traced::new();
-        let answer = self.call_traced(client, task, tries, gate, &mut traced, tracer);
-        let end = match (answer, traced.place) {
-            (Ok(reply), Some(place)) => Ok(Placed { reply, place }),
-            (Ok(_), None) => unreachable!(),
-            (Err(fault), _) => Err(fault),
-        };
-        (end, traced.effort)
-    }
-
-    /// Runs a task as `call_gated` does, and leaves in `traced` the place of the record and what
-    /// the call took.
-    fn call_traced<G: Gate, T: Tracer>(
-        &self,
-        client: &mut Client,
-        task: &Task,
-        tries: u32,
-        gate: &mut G,
-        traced: &mut Traced,
-        tracer: &mut T,
-    ) -> Result<Reply, Fault>
-        requires own { client.old.table ≡ self.now.table }
-        requires none { traced.old.effort ≡ nothing_done }
-        ensures called { HasCalled self.now task.now tries result client.old client.new }
-        ensures placed { WasPlaced self.now task.now result traced.new.place
-            client.old.value client.new.value }
-        ensures took { TookEffort self.now client.old.value client.new.value
-            result traced.new.effort }
-        ensures traced { HasTraced result client.old.value client.new.value
-            (T.ended tracer.old) (T.ended tracer.new) }
-    {
-        let own = &mut client.own;
-        let tries_fit = 1 <= tries && tries <= MOST_TRIES;
-        if !(task.is_in_range() && tries_fit) {
-            return Err(Fault::Arguments);
+        let (user, start) = (&mut client.user, client.start);
+        let effort = Effort::new();
+        if !can_ask(task, tries) {
+            return (Err(Fault::Arguments), effort);
         }
-        let answer = run_in_attempts(
-            &self.region,
-            &mut client.client,
-            own,
-            task,
-            tries,
-            gate,
-            traced,
-            tracer,
-        );
-        match answer {
-            Ok(reply) => Ok(reply),
-            Err(stop) => Err(Fault::from(stop)),
-        }
+        let work = Work { task, start };
+        let mut counting = Counting { effort, tracer };
+        let answer = self.shared.call(user, &work, tries, gate, &mut counting);
+        let Counting { effort, tracer: _ } = counting;
+        (placed_of(answer), effort)
     }
 
     /// Splits off a new client, which costs a grant: 63 times in all. Its new entries begin with
@@ -220,16 +192,14 @@ impl Manager {
         ensures ok { IfOk result (λ other. Splits client.old client.new other) }
         ensures refused { IfErr result (λ fault. SplitsNot fault client.old client.new) }
     {
-        let other = self.region.split(&mut client.client)?;
-        let start = client.own.next;
-        client.own.next = start.next();
-        let own = Belongings {
-            logs: Logs::new(self.alloc),
-            pauses: client.own.pauses.split(),
+        let user = self.shared.split(&mut client.user)?;
+        let start = client.next;
+        client.next = start.next();
+        Ok(Client {
+            user,
             start,
-            next: client.own.next,
-        };
-        Ok(Client { client: other, own })
+            next: client.next,
+        })
     }
 
     /// Takes in another client: its records, its grants and one more grant.
@@ -242,10 +212,11 @@ impl Manager {
         ensures only { OnlyOf client.old.value other.value client.new.value }
     {
         let Client {
-            client: other,
-            own: _,
+            user,
+            start: _,
+            next: _,
         } = other;
-        self.region.gather(&mut client.client, other);
+        self.shared.gather(&mut client.user, user);
     }
 
     /// Ends the manager: its words and its clock, once every other client was gathered. Where that
@@ -257,12 +228,12 @@ impl Manager {
         ensures kept { IfErr result
             (λ r. (r.0 ≡ self) × (r.1 ≡ client) × ClosesNot client.value.grants r.2) }
     {
-        let Manager { alloc, region } = self;
-        let Client { client, own } = client;
-        match region.close(alloc, client) {
+        let Manager { shared } = self;
+        let Client { user, start, next } = client;
+        match shared.close(user) {
             Ok(closed) => Ok(closed),
-            Err((region, client, fault)) => {
-                Err((Manager { alloc, region }, Client { client, own }, fault))
+            Err((shared, user, fault)) => {
+                Err((Manager { shared }, Client { user, start, next }, fault))
             }
         }
     }

@@ -1,6 +1,6 @@
 //! A call that was answered, and an attempt that was traced.
 
-use crate::placed::Place;
+use stm_object::Place;
 use tx_observed::Access;
 use vac_model::{Reply, Task};
 

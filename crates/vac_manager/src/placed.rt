@@ -1,27 +1,17 @@
 //! The place of a call's record, and what the call took.
 
-ghost use Rattle.std.specs.Prelude.{◌≡◌, ◌≤◌, ◌<◌};
+ghost use Rattle.std.specs.Prelude.{◌≡◌, ◌≤◌, ◌<◌, None};
+ghost use Rattle.stm_object.specs.Tracing.{conflict_of};
 ghost use Rattle.vac_model.specs.declared.limits.TheConstants.{MOST_TRIES};
 ghost use Rattle.vac_manager.specs.Placed.{nothing_done, conflicts_of, locks_of};
-ghost use Rattle.vac_manager.specs.Placed.{one_more_over, conflicted, ended};
+ghost use Rattle.vac_manager.specs.Placed.{one_more_over, conflicted, counted};
 ghost use Rattle.vac_manager.specs.Sites.{site_of};
 
 use crate::sites::{Site, site_of};
 use stm_attempt::{Conflict, Stop};
-use stm_words::Version;
+use stm_object::Place;
 use vac_model::Reply;
-
-/// The place of a call's record among those of its manager: records are ordered by renewal, then by
-/// version, the writer of a version before its readers.
-#[derive(Clone, Copy, Debug, PartialEq, Eq)]
-pub struct Place {
-    /// How often the manager had been renewed.
-    pub renewal: u32,
-    /// The write version of the call, or, where it wrote nothing, its read version.
-    pub version: Version,
-    /// Whether it wrote.
-    pub wrote: bool,
-}
+use vac_model::limits::MOST_TRIES;
 
 /// A reply, and the place of its call's record.
 #[derive(Debug, PartialEq, Eq)]
@@ -56,26 +46,6 @@ pub struct Effort {
     pub uses: u32,
     /// How many were over that of one of its last three words.
     pub stocks: u32,
-}
-
-/// What a call leaves besides its reply: the place of its record, if it was answered, and what it
-/// took.
-#[derive(Drop)]
-pub(crate) struct Traced {
-    pub(crate) place: Option<Place>,
-    pub(crate) effort: Effort,
-}
-
-impl Traced {
-    /// What there is before a call.
-    pub(crate) fn new() -> Traced
-        ensures { result.effort ≡ nothing_done }
-    {
-        Traced {
-            place: None,
-            effort: Effort::new(),
-        }
-    }
 }
 
 impl Effort {
@@ -124,16 +94,32 @@ impl Effort {
         }
     }
 
-    /// Counts an attempt by how it ended.
-    pub(crate) fn count(&mut self, end: &Result<Reply, Stop>)
-        requires few { self.old.attempts < MOST_TRIES }
+    /// Counts an attempt that was answered.
+    pub(crate) fn count_answer(&mut self)
         requires conflicts { conflicts_of self.old ≤ self.old.attempts }
         requires locks { locks_of self.old ≤ self.old.attempts }
-        ensures { self.new ≡ ended end.now self.old }
+        ensures counted { self.new ≡ counted None self.old }
+        ensures conflicts { conflicts_of self.new ≤ self.new.attempts }
+        ensures locks { locks_of self.new ≤ self.new.attempts }
     {
-        match end {
-            Err(Stop::Conflict(conflict)) => self.count_conflict(*conflict),
-            Ok(_) | Err(Stop::Memory) | Err(Stop::Spent { .. }) => self.attempts += 1,
+        if self.attempts < MOST_TRIES {
+            self.attempts += 1;
+        }
+    }
+
+    /// Counts an attempt that stopped, by the conflict that it met, if it met one.
+    pub(crate) fn count_stop(&mut self, stop: &Stop)
+        requires conflicts { conflicts_of self.old ≤ self.old.attempts }
+        requires locks { locks_of self.old ≤ self.old.attempts }
+        ensures counted { self.new ≡ counted (conflict_of stop.now) self.old }
+        ensures conflicts { conflicts_of self.new ≤ self.new.attempts }
+        ensures locks { locks_of self.new ≤ self.new.attempts }
+    {
+        if self.attempts < MOST_TRIES {
+            match stop {
+                Stop::Conflict(conflict) => self.count_conflict(*conflict),
+                Stop::Memory | Stop::Spent { .. } => self.attempts += 1,
+            }
         }
     }
 }

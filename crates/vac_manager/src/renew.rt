@@ -5,7 +5,8 @@ ghost use Rattle.vac_manager.specs.Renewed.{Renews, StaysUnrenewed};
 
 use crate::client::Client;
 use crate::manager::Manager;
-use stm_region::{RegionFault, RenewFault as RegionRenewFault};
+use stm_object::RenewFault as ObjectRenewFault;
+use stm_region::RegionFault;
 use stm_words::Version;
 
 /// Why a manager was not renewed.
@@ -26,16 +27,16 @@ impl Manager {
         ensures renewed { IfOk result (λ r. Renews last self client r.0 r.1) }
         ensures refused { IfErr result (λ fault. StaysUnrenewed self client last fault) }
     {
-        let Manager { alloc, region } = self;
-        let Client { client, own } = client;
-        match region.renew(alloc, client, last) {
-            Ok((region, client)) => Ok((Manager { alloc, region }, Client { client, own })),
-            Err(RegionRenewFault::Kept(region, client, fault)) => Err(RenewFault::Kept(
-                Manager { alloc, region },
-                Client { client, own },
+        let Manager { shared } = self;
+        let Client { user, start, next } = client;
+        match shared.renew(user, last) {
+            Ok((shared, user)) => Ok((Manager { shared }, Client { user, start, next })),
+            Err(ObjectRenewFault::Kept(shared, user, fault)) => Err(RenewFault::Kept(
+                Manager { shared },
+                Client { user, start, next },
                 fault,
             )),
-            Err(RegionRenewFault::Closed(words, last)) => Err(RenewFault::Closed(words, last)),
+            Err(ObjectRenewFault::Closed(words, last)) => Err(RenewFault::Closed(words, last)),
         }
     }
 }

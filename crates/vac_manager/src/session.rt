@@ -12,9 +12,9 @@ use crate::client::Client;
 use crate::fault::Fault;
 use crate::manager::Manager;
 use crate::placed::{Effort, Placed};
-use crate::tracer::Tracer;
 use std::marker::Model;
 use stm_attempt::{Gate, NoGate};
+use stm_object::Tracer;
 use stm_region::RegionFault;
 use vac_model::{Reply, Task};
 
@@ -60,7 +60,8 @@ impl<'a> Session<'a> {
         ensures called { HasCalled self.old.manager task.now tries result
             self.old.client self.new.client }
     {
-        self.call_gated(task, tries, &mut NoGate)
+        self.manager
+            .call_gated(&mut self.client, task, tries, &mut NoGate)
     }
 
     /// Runs a task as `Manager::call_gated` does.
@@ -75,21 +76,6 @@ impl<'a> Session<'a> {
             self.old.client self.new.client }
     {
         self.manager.call_gated(&mut self.client, task, tries, gate)
-    }
-
-    /// Runs a task as `Manager::call_placed` does.
-    pub fn call_placed<G: Gate>(
-        &mut self,
-        task: &Task,
-        tries: u32,
-        gate: &mut G,
-    ) -> (Result<Placed, Fault>, Effort)
-        ensures session { GoesOn self.old self.new }
-        ensures called { HasCalledPlaced self.old.manager task.now tries result.0 result.1
-            self.old.client self.new.client }
-    {
-        self.manager
-            .call_placed(&mut self.client, task, tries, gate)
     }
 
     /// Runs a task as `Manager::trace_call` does.

@@ -17,13 +17,13 @@ pub record Applied (y y' : SessionShown) (t : Task) (reply : Reply) : Type 0 whe
   pub goes : GoesOnBy y y' 1
 
 -- a call of a client that is alone, in the words of a state
-pub applied : (x y y' : SessionShown) (t : Task) (tries : ℕ) (reply : Reply) (r : Result Reply Fault) → r ≡ Ok reply →
-    x ≡ y → IsLoneSession x → GoesOn x y' → HasCalled x.manager t tries r x.client y'.client → Applied y y' t reply
-applied x y y' t tries reply r e f alone on h =
+pub applied : (x y' : SessionShown) (t : Task) (tries : ℕ) (reply : Reply) (r : Result Reply Fault) → r ≡ Ok reply →
+    IsLoneSession x → GoesOn x y' → HasCalled x.manager t tries r x.client y'.client → Applied x y' t reply
+applied x y' t tries reply r e alone on h =
     let called = subst (λ q. HasCalled x.manager t tries q x.client y'.client) e h in
-    subst (λ z. Applied z y' t reply) f (record {
+    record {
       told = λ s st. (called.history alone.all s st).reply_is;
       state = λ s st. subst (λ region. IsHistoryTo region y'.client.value.records (run s t).0)
           (sym (ap (λ z. z.manager) on)) ((called.history alone.all s st).history);
       goes = record { same = ap (λ z. z.manager) on; ticks = called.next alone.all };
-    })
+    }

@@ -8,11 +8,12 @@ ghost use Rattle.vac_lines.specs.Writing.{AppendsPrefix};
 ghost use Rattle.vac_script.specs.Dump.{Dumped, DumpStopped};
 
 use crate::script::run_input;
-use crate::system::{System, close, open};
+use crate::system::{close, open};
 use std::alloc::Global;
 use std::io;
 use std::io::{Read, Write};
 use vac_lines::print_word;
+use vac_manager::Session;
 use vac_streams::{StreamFault, send_chunk, send_rest};
 
 /// Runs a script for a system of `blocks` blocks, 1 to 262,144, and dumps its memory: reads the
@@ -35,7 +36,7 @@ pub fn dump_script<R: Read, W: Write>(
 {
     let mut replies = io::sink();
     let (manager, client) = open(alloc, blocks)?;
-    let client = run_input(alloc, System::of(&manager, client), input, &mut replies)?;
+    let client = run_input(alloc, Session::of(&manager, client), input, &mut replies)?;
     let words = close(manager, client)?;
     write_words(alloc, words.as_slice(), output)
 }

@@ -7,14 +7,14 @@ ghost use Rattle.vac_manager.specs.Legal.{capacity_of};
 ghost use Rattle.vac_lines.specs.LineTable.{line_task};
 ghost use Rattle.vac_lines.specs.Writing.{AppendsPrefix};
 ghost use Rattle.vac_streams.specs.declared.fault.StreamFault.TheVariants.{Memory};
-ghost use Rattle.vac_script.specs.System.{AnsweredLine, AnsweredInPart, RanScript, IsNew, Lasts};
+ghost use Rattle.vac_script.specs.System.{AnsweredLine, AnsweredInPart, RanScript, IsLoneSession, IsNew, Lasts};
 ghost use Rattle.vac_script.specs.Script.{WroteAll, WrotePrefix};
 
-use crate::system::{System, open};
+use crate::system::{apply, open};
 use std::alloc::{AllocError, Global};
 use std::io::{Read, Write};
 use vac_lines::{CHUNK_BYTES, LINE_BYTES, LineFault, print_fault, print_reply, read_line};
-use vac_manager::Client;
+use vac_manager::{Client, Session};
 use vac_model::Task;
 use vac_streams::{Next, Sink, StreamFault, read_lines, send_all, send_rest};
 
@@ -22,28 +22,31 @@ use vac_streams::{Next, Sink, StreamFault, read_lines, send_all, send_rest};
 #[derive(Drop)]
 struct Script<'a> {
     alloc: Global,
-    system: System<'a>,
+    session: Session<'a>,
     /// The output lines that are not yet written.
     out: Vec<u8>,
+    ghost lone: { IsLoneSession session },
 }
 
 /// Runs the task of a line that was read, and prints its reply; or prints its fault.
 fn run_read(
-    system: &mut System<'_>,
+    session: &mut Session<'_>,
     read: &Result<Task, LineFault>,
     out: &mut Vec<u8>,
 ) -> Result<(), StreamFault>
     requires in_range { IfOk read.now (λ task. is_task task ≡ true) }
-    requires lasts { Lasts system.old 1 }
+    requires lone { IsLoneSession session.old }
+    requires lasts { Lasts session.old 1 }
+    ensures lone { IsLoneSession session.new }
     ensures ok { OnOk result
-        (AnsweredLine system.old system.new out.old.items out.new.items read.now) }
+        (AnsweredLine session.old session.new out.old.items out.new.items read.now) }
     ensures err { OnErr result
-        (AnsweredInPart system.old out.old.items out.new.items read.now) }
+        (AnsweredInPart session.old out.old.items out.new.items read.now) }
     ensures memory { IfErr result (λ fault. fault ≡ Memory) }
 {
     match read {
         Ok(task) => {
-            let reply = system.apply(task)?;
+            let reply = apply(session, task)?;
             print_reply(&reply, out)?;
         }
         Err(fault) => print_fault(*fault, out)?,
@@ -55,22 +58,24 @@ fn run_read(
 /// Reads and runs a line, and prints its output line.
 fn run_line(
     alloc: Global,
-    system: &mut System<'_>,
+    session: &mut Session<'_>,
     line: &[u8],
     out: &mut Vec<u8>,
 ) -> Result<(), StreamFault>
-    requires lasts { Lasts system.old 1 }
+    requires lone { IsLoneSession session.old }
+    requires lasts { Lasts session.old 1 }
+    ensures lone { IsLoneSession session.new }
     ensures ok { OnOk result
-        (AnsweredLine system.old system.new out.old.items out.new.items (line_task line.now)) }
+        (AnsweredLine session.old session.new out.old.items out.new.items (line_task line.now)) }
     ensures err { OnErr result
-        (AnsweredInPart system.old out.old.items out.new.items (line_task line.now)) }
+        (AnsweredInPart session.old out.old.items out.new.items (line_task line.now)) }
     ensures memory { IfErr result (λ fault. fault ≡ Memory) }
 {
     let read = read_line(alloc, line);
     if matches!(read, Err(LineFault::Memory)) {
         return Err(StreamFault::Memory);
     }
-    run_read(system, &read, out)
+    run_read(session, &read, out)
 }
 
 /// Writes the text at hand before a fault ends the script.
@@ -89,12 +94,17 @@ fn halt<W: Write>(
 
 impl<'a> Script<'a> {
     /// A script of which nothing was read.
-    fn new(alloc: Global, system: System<'a>) -> Result<Script<'a>, AllocError>
-        ensures system { IfOk result (λ script. script.system ≡ system.entry) }
+    fn new(alloc: Global, session: Session<'a>) -> Result<Script<'a>, AllocError>
+        requires lone { IsLoneSession session }
+        ensures session { IfOk result (λ script. script.session ≡ session.entry) }
         ensures out { IfOk result (λ script. script.out.items ≡ []) }
     {
         let out = Vec::with_capacity(alloc, CHUNK_BYTES)?;
-        Ok(Script { alloc, system, out })
+        Ok(Script {
+            alloc,
+            session,
+            out,
+        })
     }
 }
 
@@ -103,20 +113,20 @@ impl<'a, W: Write> Sink<W> for Script<'a> {
     ghost use Rattle.vac_script.specs.declared.system.TheConstants.{LAST_VERSION};
     ghost use Rattle.vac_script.specs.Hearing.{Hears};
 
-    ghost room = { λ script. LAST_VERSION - script.system.client.value.floor };
+    ghost room = { λ script. LAST_VERSION - script.session.client.value.floor };
 
-    ghost hears = { λ x o told answer y p. Hears x.system x.out.items (W.contents o) told answer
-        y.system y.out.items (W.contents p) };
+    ghost hears = { λ x o told answer y p. Hears x.session x.out.items (W.contents o) told answer
+        y.session y.out.items (W.contents p) };
 
     fn line(&mut self, line: &[u8], output: &mut W) -> Result<Next, StreamFault> {
-        match run_line(self.alloc, &mut self.system, line, &mut self.out) {
+        match run_line(self.alloc, &mut self.session, line, &mut self.out) {
             Ok(()) => Ok(Next::GoOn),
             Err(fault) => halt(&mut self.out, fault, output),
         }
     }
 
     fn long_line(&mut self, output: &mut W) -> Result<Next, StreamFault> {
-        match run_read(&mut self.system, &Err(LineFault::LongLine), &mut self.out) {
+        match run_read(&mut self.session, &Err(LineFault::LongLine), &mut self.out) {
             Ok(()) => Ok(Next::GoOn),
             Err(fault) => halt(&mut self.out, fault, output),
         }
@@ -132,25 +142,26 @@ impl<'a, W: Write> Sink<W> for Script<'a> {
 /// lines to the end of the input and writes an output line for each.
 pub(crate) fn run_input<R: Read, W: Write>(
     alloc: Global,
-    system: System<'_>,
+    session: Session<'_>,
     input: &mut R,
     output: &mut W,
 ) -> Result<Client, StreamFault>
-    requires fresh { IsNew system }
-    ensures own { IfOk result (λ client. client.table ≡ system.entry.manager.table) }
+    requires lone { IsLoneSession session }
+    requires fresh { IsNew session }
+    ensures own { IfOk result (λ client. client.table ≡ session.entry.manager.table) }
     ensures alone { IfOk result (λ client. HasAllGrants client.value) }
-    ensures ok { IfOk result (λ client. RanScript (capacity_of system.entry.manager)
-        (record { manager = system.entry.manager; client = client })
+    ensures ok { IfOk result (λ client. RanScript (capacity_of session.entry.manager)
+        (record { manager = session.entry.manager; client = client })
         (R.remaining input.old) (R.remaining input.new)
         (W.contents output.old) (W.contents output.new)) }
-    ensures err { OnErr result (WrotePrefix (capacity_of system.entry.manager)
+    ensures err { OnErr result (WrotePrefix (capacity_of session.entry.manager)
         (R.remaining input.old) (R.remaining input.new)
         (W.contents output.old) (W.contents output.new)) }
 {
-    let mut script = Script::new(alloc, system)?;
+    let mut script = Script::new(alloc, session)?;
     let _next = read_lines(alloc, LINE_BYTES, input, &mut script, output)?;
     send_rest(output, script.out.as_slice())?;
-    Ok(script.system.into_client())
+    Ok(script.session.into_client())
 }
 
 /// Runs a script for a system of `blocks` blocks: reads its lines to the end of the input and
@@ -171,6 +182,6 @@ pub fn run_script<R: Read, W: Write>(
         (W.contents output.old) (W.contents output.new)) }
 {
     let (manager, client) = open(alloc, blocks)?;
-    run_input(alloc, System::of(&manager, client), input, output)?;
+    run_input(alloc, Session::of(&manager, client), input, output)?;
     Ok(())
 }

@@ -1,4 +1,4 @@
-//! A manager and the session of the one client that calls it.
+//! A manager and the one client that calls it.
 
 ghost use Rattle.std.specs.Prelude.{◌≡◌, true, IfOk, IfErr};
 ghost use Rattle.vac_model.specs.State.{State};
@@ -11,7 +11,6 @@ ghost use Rattle.vac_streams.specs.declared.fault.StreamFault.TheVariants.{Memor
 ghost use Rattle.vac_script.specs.System.{IsLoneSession, OpensAlone, StandsInState, Lasts, GoesOnBy};
 
 use std::alloc::Global;
-use std::marker::Model;
 use stm_region::{RegionFault, VERSION_LIMIT};
 use vac_manager::{Client, Fault, Manager, Session};
 use vac_model::{Reply, Task};
@@ -20,61 +19,25 @@ use vac_streams::StreamFault;
 /// The version that the clock ends at: the last one that there is.
 pub(crate) const LAST_VERSION: u64 = VERSION_LIMIT - 1;
 
-/// The session of a manager's one client, which runs each task as a transaction and commits it.
-#[derive(Drop)]
-pub(crate) struct System<'a> {
-    session: Session<'a>,
-}
-
-impl<'a> Model for System<'a> {
-    ghost use Rattle.vac_manager.specs.Session.{SessionShown};
-    ghost use Rattle.vac_script.specs.System.{IsLoneSession};
-
-    ghost Value = { SessionShown };
-
-    ghost view = { λ y. y.session };
-
-    ghost invariant = { λ y. IsLoneSession y.session };
-}
-
-impl<'a> System<'a> {
-    /// The session of a client that is alone.
-    pub(crate) fn of(manager: &'a Manager, client: Client) -> System<'a>
-        requires own { client.table ≡ manager.now.table }
-        requires alone { IsLoneSession (record { manager = manager.now; client = client }) }
-        ensures { result ≡ record { manager = manager.now; client = client } }
-    {
-        let session = Session::of(manager, client);
-        System { session }
-    }
-
-    /// Ends the session and returns its client.
-    pub(crate) fn into_client(self) -> Client
-        ensures client { result ≡ self.entry.client }
-        ensures own { result.table ≡ self.entry.manager.table }
-        ensures alone { HasAllGrants result.value }
-    {
-        self.session.into_client()
-    }
-
-    /// Runs a task as a transaction and returns its reply. A client that is alone meets no
-    /// conflict, and while the clock has a version left it is not at its end.
-    #[tactic(auto, using(crate::proofs::Causes::only_memory))]
-    pub(crate) fn apply(&mut self, task: &Task) -> Result<Reply, StreamFault>
-        requires in_range { is_task task.now ≡ true }
-        requires lasts { Lasts self.old 1 }
-        ensures reply { IfOk result (λ reply. (s : State) → StandsInState self.old s
-            → reply ≡ (run s task.now).1) }
-        ensures state { IfOk result (λ _. (s : State) → StandsInState self.old s
-            → StandsInState self.new (run s task.now).0) }
-        ensures goes { IfOk result (λ _. GoesOnBy self.old self.new 1) }
-        ensures memory { IfErr result (λ fault. fault ≡ Memory) }
-    {
-        match self.session.call(task, 1) {
-            Ok(reply) => Ok(reply),
-            Err(Fault::Memory) => Err(StreamFault::Memory),
-            Err(_) => unreachable!(),
-        }
+/// Runs a task as a transaction and returns its reply. A client that is alone meets no conflict,
+/// and while the clock has a version left it is not at its end.
+#[tactic(auto, using(crate::proofs::Causes::only_memory))]
+pub(crate) fn apply(session: &mut Session<'_>, task: &Task) -> Result<Reply, StreamFault>
+    requires in_range { is_task task.now ≡ true }
+    requires lone { IsLoneSession session.old }
+    requires lasts { Lasts session.old 1 }
+    ensures lone { IsLoneSession session.new }
+    ensures reply { IfOk result (λ reply. (s : State) → StandsInState session.old s
+        → reply ≡ (run s task.now).1) }
+    ensures state { IfOk result (λ _. (s : State) → StandsInState session.old s
+        → StandsInState session.new (run s task.now).0) }
+    ensures goes { IfOk result (λ _. GoesOnBy session.old session.new 1) }
+    ensures memory { IfErr result (λ fault. fault ≡ Memory) }
+{
+    match session.call(task, 1) {
+        Ok(reply) => Ok(reply),
+        Err(Fault::Memory) => Err(StreamFault::Memory),
+        Err(_) => unreachable!(),
     }
 }
 

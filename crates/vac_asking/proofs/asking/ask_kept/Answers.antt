@@ -1,5 +1,5 @@
 use Rattle.std.proofs.Common.{refl, ◌∙◌}
-use Rattle.vac_asking.proofs.Asked.{asked_none, asked_answered, asked_refused}
+use Rattle.vac_asking.proofs.Asked.{asked_none, asked_answered, asked_refused, traced_by}
 use Rattle.vac_asking.proofs.asking.ask_kept.Goals as goal
 
 pub returns-in_default-clause-session : goal.returns-in_default-clause-session
@@ -10,22 +10,23 @@ returns-in_default-clause-asked g c = asked_none c.args.session.now.manager c.ar
     c.args.session.now.client.value _ _ c.requires.tries c.new.ensures c.begin.ensures.same
 
 pub keep-requires : goal.keep-requires
-keep-requires g c = c.call_lent-end.ensures.room c.in-Ok.ensures.room
+keep-requires g c = c.take_back.ensures.room (c.lend-tracer.ensures.room c.in-Ok.ensures.room)
 
 pub returns-in-Ok-end-clause-session : goal.returns-in-Ok-end-clause-session
-returns-in-Ok-end-clause-session g c = c.call_lent-end.ensures.session
+returns-in-Ok-end-clause-session g c = c.trace_call-end.ensures.session
 
 pub returns-in-Ok-end-clause-asked : goal.returns-in-Ok-end-clause-asked
 returns-in-Ok-end-clause-asked g c = asked_answered c.args.session.now.manager c.args.task c.args.tries
-    c.call_lent-end.result.0 c.in-Ok-end.placed _ c.args.session.now.client c.call_lent-end.new.session.client _ _ _ _ _
-    c.in-Ok-end.is c.call_lent-end.ensures.called c.call_lent-end.ensures.traced
-    (c.call_lent-end.ensures.same ∙ c.begin.ensures.same) c.keep.ensures.kept
+    c.trace_call-end.result.0 c.in-Ok-end.placed _ c.args.session.now.client c.trace_call-end.new.self.client
+    _ _ _ _ _ c.in-Ok-end.is c.trace_call-end.ensures.called
+    (traced_by _ _ _ _ _ _ _ c.lend-tracer.ensures.traced c.take_back.ensures.traced c.trace_call-end.ensures.traced)
+    (c.take_back.ensures.same ∙ (c.lend-tracer.ensures.same ∙ c.begin.ensures.same)) c.keep.ensures.kept
 
 pub returns-in-Err-clause-session : goal.returns-in-Err-clause-session
-returns-in-Err-clause-session g c = c.call_lent-end.ensures.session
+returns-in-Err-clause-session g c = c.trace_call-end.ensures.session
 
 pub returns-in-Err-clause-asked : goal.returns-in-Err-clause-asked
 returns-in-Err-clause-asked g c = asked_refused c.args.session.now.manager c.args.task c.args.tries
-    c.call_lent-end.result.0 c.in-Err.fault _ c.args.session.now.client c.call_lent-end.new.session.client _ _
-    c.requires.range c.requires.tries c.in-Err.is c.call_lent-end.ensures.called
-    (c.call_lent-end.ensures.same ∙ c.begin.ensures.same)
+    c.trace_call-end.result.0 c.in-Err.fault _ c.args.session.now.client c.trace_call-end.new.self.client _ _
+    c.requires.range c.requires.tries c.in-Err.is c.trace_call-end.ensures.called
+    (c.take_back.ensures.same ∙ (c.lend-tracer.ensures.same ∙ c.begin.ensures.same))

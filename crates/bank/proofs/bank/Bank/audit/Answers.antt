@@ -7,5 +7,6 @@ returns-clause-call c = rw (sym c.self.view_is) c.ask.ensures.call
 
 pub returns-clause-total : goal.returns-clause-total
 returns-clause-total c =
-    opening_sum c.args.self.now c.args.teller.now.value c.ask.new.user.value c.ask.result
-    (rw (sym c.self.view_is) c.ask.ensures.call.order)
+    let h = c.ask.ensures.call in
+    rw h.result_is (opening_sum c.args.self.now c.args.teller.now.value c.ask.new.user.value h.placed
+    (rw (sym c.self.view_is) h.call.order))

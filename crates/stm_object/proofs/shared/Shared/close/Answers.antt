@@ -3,5 +3,5 @@ use Rattle.stm_object.proofs.Histories.{closes}
 use Rattle.stm_object.proofs.shared.Shared.close.Goals as goal
 
 pub returns-in-Ok-clause-closes : goal.returns-in-Ok-clause-closes
-returns-in-Ok-clause-closes g c = closes g.S.Object.fits g.S.Entry.Tag.numbers g.S.Object.finds g.S.Object.after
-    g.S.Object.keeps g.S.Object.size _ _ _ _ _ _ c.self.invariant c.in-Ok.ensures.ends (search rules) (search rules)
+returns-in-Ok-clause-closes g c =
+    closes g.S.Object.is _ _ _ _ _ _ c.self.invariant.first c.in-Ok.ensures.ends (search rules) (search rules)

@@ -3,7 +3,7 @@ use denote.Param.Send.{sendable}
 use Rattle.std.proofs.Crossing.{crosses}
 use Rattle.vac_history.proofs.journal.Journal.TheSendSync as journal
 use Rattle.vac_history.proofs.watch.Since.TheSendSync as since
-use Rattle.vac_manager.proofs.tracer.Untraced.TheSendSync as untraced
+use Rattle.stm_object.proofs.tracer.Untraced.TheSendSync as untraced
 use Rattle.vac_cli.proofs.load.AskedLoad.note.Goals as goal
 
 pub keep-requires : goal.keep-requires

@@ -25,44 +25,37 @@ gather_all-client-requires g c =
       empty = c.in-Ok.ensures.items;
     }
 
-pub of-alone-requires : goal.of-alone-requires
-of-alone-requires g c =
-    let same = c.of-session.ensures in
-    let ready = subst (λ (y : SessionShown). IsReadyForRound c.args.self.settings y)
-    (sym (same ∙ sym c.apart-manager.ensures.same)) c.requires.ready in
-    let first = ap (λ (y : SessionShown). y.manager) c.in_ok-crew-2.ensures.0.first.session ∙
-    (c.in_ok-crew.ensures.crew.opening.manager_is ∙ ap (λ (y : SessionShown). y.manager) same) in
-    record {
-      own = c.gather_all-client.ensures.own ∙ ap (λ (m : RegionShown). m.table) first;
-      alone = c.gather_all-client.ensures.alone;
-      era = subst (λ (y : SessionShown). IsInRenewal y.manager.renewal c.gather_all-client.result.0.value.records) same
-          (ran_in g.W.RunTasks.leads g.W.RunTasks.shown c.args.self.settings c.of-session.result _ _ _
-          c.gather_all-client.result.0.value _ ready c.in_ok-crew.ensures.crew c.in_ok-crew-2.ensures.0
-          c.gather_all-client.ensures.gathered
-          (subst (λ (y : SessionShown). IsInRenewal y.manager.renewal y.client.value.records) (sym same)
-          c.apart-manager.ensures.era));
-    }
-
 pub returns-clause-round : goal.returns-clause-round
 returns-clause-round g c =
     let same = paired_length _ _ _ c.in_ok-crew-2.ensures.0.others in
     let handed = paired_length _ _ _ c.gather_all-client.ensures.seats in
+    let opened = c.of-session.ensures in
+    let ready = subst (λ (y : SessionShown). IsReadyForRound c.args.self.settings y) (sym opened) c.requires.ready in
+    let first = ap (λ (y : SessionShown). y.manager) c.in_ok-crew-2.ensures.0.first.session ∙
+    (c.in_ok-crew.ensures.crew.opening.manager_is ∙ ap (λ (y : SessionShown). y.manager) opened) in
     record {
       number = omega (arith, c.in_ok-crew.ensures.number, same, handed, c.requires.number);
       tries = c.gather_all-client.ensures.tries ∙ c.in_ok-crew-2.ensures.0.first.tries;
+      alone = record {
+        own = c.gather_all-client.ensures.own ∙ ap (λ (m : RegionShown). m.table) first;
+        alone = c.gather_all-client.ensures.alone;
+        era = subst (λ (y : SessionShown). IsInRenewal y.manager.renewal c.gather_all-client.result.0.value.records)
+            opened
+            (ran_in g.W.RunTasks.leads g.W.RunTasks.shown c.args.self.settings c.of-session.result _ _ _
+            c.gather_all-client.result.0.value _ ready c.in_ok-crew.ensures.crew c.in_ok-crew-2.ensures.0
+            c.gather_all-client.ensures.gathered
+            (subst (λ (y : SessionShown). IsInRenewal y.manager.renewal y.client.value.records) (sym opened)
+            c.requires.alone.era));
+      };
     }
 
 pub returns-clause-ran : goal.returns-clause-ran
 returns-clause-ran g c =
-    let same = c.of-session.ensures ∙ sym c.apart-manager.ensures.same in
-    let ready = subst (λ (y : SessionShown). IsReadyForRound c.args.self.settings y) (sym same) c.requires.ready in
-    rw c.of-alone.ensures (subst (λ (y : SessionShown). RanAll g.W.RunTasks.leads c.args.self.settings
+    let opened = c.of-session.ensures in
+    let ready = subst (λ (y : SessionShown). IsReadyForRound c.args.self.settings y) (sym opened) c.requires.ready in
+    subst (λ (y : SessionShown). RanAll g.W.RunTasks.leads c.args.self.settings
     g.W.RunTasks.shown c.args.self.settings.tasks y.client.value.records c.args.seats.items
     c.gather_all-client.result.0.value.records c.gather_all-client.result.1.items c.gather_all-client.result.2.tally)
-    same (ran_all g.W.RunTasks.leads g.W.RunTasks.shown c.args.self.settings c.of-session.result _ _ _ _
+    opened (ran_all g.W.RunTasks.leads g.W.RunTasks.shown c.args.self.settings c.of-session.result _ _ _ _
     c.gather_all-client.result.0.value _ ready c.in_ok-crew.ensures.crew c.in_ok-crew-2.ensures.0
-    c.gather_all-client.ensures.gathered c.gather_all-client.ensures.seats))
-
-pub returns-clause-manager : goal.returns-clause-manager
-returns-clause-manager g c = rw c.of-alone.ensures (sym
-    (ap (λ (y : SessionShown). y.manager) c.apart-manager.ensures.same))
+    c.gather_all-client.ensures.gathered c.gather_all-client.ensures.seats)

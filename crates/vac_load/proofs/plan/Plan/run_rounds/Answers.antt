@@ -1,6 +1,7 @@
 use Rattle.std.proofs.Common.{◌≡◌, ◌∙◌, ◌*◌, ◌≤◌, length, ℕ, sym, ap, subst, arith}
 use Rattle.stm_region.specs.Shown.{RegionShown}
 use Rattle.vac_asking.specs.Attempted.{TaskCountsShown}
+use Rattle.vac_load.specs.Alone.{session_of}
 use Rattle.vac_load.specs.Load.{RoundHasRun}
 use Rattle.vac_load.proofs.Joining.{ran_more, ran_total, few_all, few_each}
 use Rattle.vac_asking.proofs.Ranges.{few}
@@ -10,13 +11,14 @@ pub rounds-init : goal.rounds-init
 rounds-init g c =
     let one : c.args.self.settings.tasks ≡ 1 * c.args.self.settings.tasks = omega arith in
     let same = c.in_ok-round.ensures.manager in
-    let first : c.in_ok-round.round.alone.manager.renewal ≡ c.args.alone.manager.renewal =
+    let first : c.in_ok-round.round.manager.renewal ≡ c.args.manager.renewal =
     ap (λ (m : RegionShown). m.renewal) same in
     record {
       renewals = omega (arith, first, c.requires.renewals);
       size = ap (λ (m : RegionShown). m.size) same;
       round = c.in_ok-round.ensures.round;
-      ran = subst (λ (n : ℕ). RoundHasRun g.W.RunTasks.leads g.W.RunTasks.shown c.args.self.settings n c.args.alone
+      ran = subst (λ (n : ℕ). RoundHasRun g.W.RunTasks.leads g.W.RunTasks.shown c.args.self.settings n
+          (session_of c.args.manager c.args.client)
           c.args.seats.items c.in_ok-round.round) one c.in_ok-round.ensures.ran;
     }
 
@@ -24,6 +26,7 @@ pub renewed-requires : goal.renewed-requires
 renewed-requires g c =
     let most = few c.args.self.settings c.args.self.in_range in
     record {
+      alone = c.rounds.invariant.round.alone;
       renewals = omega (arith, c.rounds.invariant.renewals, c.rounds-test.true, most.rounds);
       settings = c.args.self.in_range;
     }
@@ -32,7 +35,10 @@ pub run_round-requires-in-rounds-clause-number : goal.run_round-requires-in-roun
 run_round-requires-in-rounds-clause-number g c = λ _ _. c.rounds.invariant.round.number
 
 pub run_round-requires-in-rounds-clause-ready : goal.run_round-requires-in-rounds-clause-ready
-run_round-requires-in-rounds-clause-ready g c = λ _ _. c.in_ok-alone.ensures.renewed.ready
+run_round-requires-in-rounds-clause-ready g c = λ _ _. c.in_ok-manager.ensures.renewed.ready
+
+pub run_round-requires-in-rounds-clause-alone : goal.run_round-requires-in-rounds-clause-alone
+run_round-requires-in-rounds-clause-alone g c = λ _ _. c.in_ok-manager.ensures.renewed.alone
 
 pub plus-requires : goal.plus-requires
 plus-requires g c =
@@ -53,7 +59,7 @@ plus-requires g c =
 pub rounds-preserved : goal.rounds-preserved
 rounds-preserved g c =
     let i = c.rounds.invariant in
-    let renewed = c.in_ok-alone.ensures.renewed in
+    let renewed = c.in_ok-manager.ensures.renewed in
     let more = c.in_ok-more.ensures in
     record {
       renewals = omega (arith, ap (λ (m : RegionShown). m.renewal) more.manager ∙ renewed.renewal, i.renewals);
@@ -61,9 +67,10 @@ rounds-preserved g c =
       round = record {
         number = more.round.number;
         tries = ap (λ (x : TaskCountsShown). x.tries) c.plus.ensures ∙ i.round.tries;
+        alone = more.round.alone;
       };
-      ran = ran_more g.W.RunTasks.leads g.W.RunTasks.shown c.args.self.settings c.rounds.done c.args.alone
-          c.in_ok-alone.alone
+      ran = ran_more g.W.RunTasks.leads g.W.RunTasks.shown c.args.self.settings c.rounds.done
+          (session_of c.args.manager c.args.client) (session_of c.in_ok-manager.manager c.in_ok-manager.client)
           c.args.seats.items c.rounds.round c.in_ok-more.more c.plus.result.tally i.ran renewed.records more.ran
           (ap (λ (x : TaskCountsShown). x.tally) c.plus.ensures);
     }
@@ -74,4 +81,4 @@ returns-clause-ran g c =
     let all : c.rounds.done ≡ c.args.self.settings.rounds = omega (arith, most.some) in
     subst (λ (n : ℕ). RoundHasRun g.W.RunTasks.leads g.W.RunTasks.shown c.args.self.settings
     (n * c.args.self.settings.tasks)
-    c.args.alone c.args.seats.items c.rounds.round) all c.rounds.invariant.ran
+    (session_of c.args.manager c.args.client) c.args.seats.items c.rounds.round) all c.rounds.invariant.ran

@@ -1,13 +1,14 @@
 use Rattle.std.proofs.Common.{◌≡◌, ◌+◌, ◌*◌}
+use Rattle.vac_load.specs.Alone.{session_of}
 use Rattle.vac_load.specs.Load.{RoundHasRun, IsRound}
 use Rattle.vac_load.proofs.plan.Plan.run_rounds.Given as goal
 
 abbrev pub invariant-rounds : goal.invariant-rounds
 invariant-rounds g l = record {
-  renewals : l.round.alone.manager.renewal + 1 ≡ l.done;
-  size : l.round.alone.manager.size ≡ l.fn.alone.manager.size;
+  renewals : l.round.manager.renewal + 1 ≡ l.done;
+  size : l.round.manager.size ≡ l.fn.manager.size;
   round : IsRound l.fn.self.settings l.round;
   ran : RoundHasRun g.W.RunTasks.leads g.W.RunTasks.shown l.fn.self.settings
-      (l.done * l.fn.self.settings.tasks) l.fn.alone l.fn.seats.items
-      l.round;
+      (l.done * l.fn.self.settings.tasks) (session_of l.fn.manager l.fn.client)
+      l.fn.seats.items l.round;
 }

@@ -1,10 +1,17 @@
 use Rattle.std.proofs.Common.{rules, arith, ap}
 use Rattle.stm_region.specs.Shown.{RegionShown}
-use Rattle.vac_manager.proofs.Openings.{fresh_fits, opened_on, opens}
+use Rattle.vac_manager.proofs.Openings.{fresh_fits, fresh_words, opened_on, opens}
 use Rattle.vac_manager.proofs.manager.Manager.with_stripes.Goals as goal
 
-pub new-requires : goal.new-requires
-new-requires c = fresh_fits _ _ _ c.as_slice.ensures.value (record {
+pub new-requires-clause-fits : goal.new-requires-clause-fits
+new-requires-clause-fits c = fresh_fits _ _ _ c.as_slice.ensures.value (record {
+  empty = c.in-Ok.ensures.words;
+  pool = c.in-Ok.ensures.pool;
+  few = search (rules, arith);
+})
+
+pub new-requires-clause-size : goal.new-requires-clause-size
+new-requires-clause-size c = fresh_words _ _ _ c.as_slice.ensures.value (record {
   empty = c.in-Ok.ensures.words;
   pool = c.in-Ok.ensures.pool;
   few = search (rules, arith);
@@ -18,10 +25,10 @@ invariant_of-result c =
       few = search (rules, arith);
     })
     (ap (λ (r : RegionShown). r.size) c.in-Ok-new.ensures.region)
-    (ap (λ (r : RegionShown). r.first) c.in-Ok-new.ensures.region) c.in-Ok-new.ensures.ranges.0.1
+    (ap (λ (r : RegionShown). r.first) c.in-Ok-new.ensures.region)
 
 pub returns-clause-ok : goal.returns-clause-ok
 returns-clause-ok c =
-    rw (c.new-4.ensures, c.new-5.ensures) (opens _ _ _ _ _ _ _ c.as_slice.ensures.value
+    rw (c.new-start.ensures, c.new-next.ensures) (opens _ _ _ _ _ _ _ c.as_slice.ensures.value
     (record { empty = c.in-Ok.ensures.words; pool = c.in-Ok.ensures.pool; few = search (rules, arith) })
-    c.in-Ok-new.ensures.region c.in-Ok-new.ensures.client)
+    c.in-Ok-new.ensures.region c.in-Ok-new.ensures.user)

@@ -1,5 +1,5 @@
 use Rattle.std.proofs.Common.{rules}
-use Rattle.vac_manager.proofs.Openings.{only_of}
+use Rattle.stm_object.proofs.Adding.{only_of}
 use Rattle.vac_manager.proofs.session.Session.gather.Goals as goal
 
 pub returns-clause-only : goal.returns-clause-only

@@ -1,0 +1,68 @@
+//! The renewal of a shared object's clock.
+
+ghost use Rattle.std.specs.Prelude.{◌≡◌, ◌+◌, IfOk, IfErr};
+ghost use Rattle.stm_core.specs.Event.{renewing};
+ghost use Rattle.stm_region.specs.Refused.{MayRenew};
+ghost use Rattle.stm_object.specs.Renewed.{ClosesSomewhere, StaysUnrenewed};
+
+use crate::object::Object;
+use crate::shared::{Shared, User};
+use stm_region::{RegionFault, RenewFault as RegionRenewFault};
+use stm_words::Version;
+
+/// Why a memory was not renewed.
+#[derive(Drop)]
+pub enum RenewFault<S: Object> {
+    /// The memory and its user are as they were.
+    Kept(Shared<S>, User<S>, RegionFault),
+    /// Memory for the new words was refused after the old ones had been taken out: the memory is
+    /// closed, and these are its words and its clock.
+    Closed(Vec<u64>, Version),
+}
+
+impl<S: Object> Shared<S> {
+    /// Goes on with the value on a new version clock, which may reach this last version, once every
+    /// other user was gathered. The user keeps its records and its grants.
+    pub fn renew(self, user: User<S>, last: u64) -> Result<(Shared<S>, User<S>), RenewFault<S>>
+        requires { user.table ≡ self.table }
+        ensures region { IfOk result (λ r. r.0 ≡ record self {
+          table = r.0.table;
+          last = last;
+          opening = r.0.opening;
+          renewal = self.renewal + 1;
+          start = renewing user.value;
+        }) }
+        ensures user { IfOk result (λ r. r.1
+            ≡ record { table = r.0.table; value = renewing user.value }) }
+        ensures words { IfOk result (λ r. ClosesSomewhere S.is self user.value r.0.opening) }
+        ensures refused { IfErr result (λ fault. StaysUnrenewed S.is self user last fault) }
+        ensures ranges { IfOk result (λ _. MayRenew self.renewal last user.value.grants) }
+    {
+        let Shared { alloc, region } = self;
+        let User {
+            client,
+            logs,
+            pauses,
+        } = user;
+        match region.renew(alloc, client, last) {
+            Ok((region, client)) => Ok((
+                Shared { alloc, region },
+                User {
+                    client,
+                    logs,
+                    pauses,
+                },
+            )),
+            Err(RegionRenewFault::Kept(region, client, fault)) => Err(RenewFault::Kept(
+                Shared { alloc, region },
+                User {
+                    client,
+                    logs,
+                    pauses,
+                },
+                fault,
+            )),
+            Err(RegionRenewFault::Closed(words, last)) => Err(RenewFault::Closed(words, last)),
+        }
+    }
+}

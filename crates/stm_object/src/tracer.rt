@@ -1,0 +1,167 @@
+//! Tracers of the attempts of a call.
+
+ghost use Rattle.std.specs.Prelude.{◌≡◌, List, Option, None, IfOk, IfErr, true, false};
+ghost use Rattle.tx_observed.specs.declared.access.Access.{Access};
+ghost use Rattle.tx_observed.specs.Accesses.{IsTracked};
+ghost use Rattle.stm_attempt.specs.declared.conflict.Conflict.{Conflict as ConflictMet};
+ghost use Rattle.stm_object.specs.Bodies.{HasValue, Did};
+ghost use Rattle.stm_object.specs.Tracing.{Trace, HasNoAccess, HasTracedCommit, HasGivenUp, conflict_of};
+
+use crate::body::Body;
+use crate::object::Object;
+use crate::place::Place;
+use stm_attempt::Stop;
+use stm_words::Version;
+use tx_memory::{TxMem, TxRead};
+
+/// A tracer of the attempts of a call, or none. A tracer runs the bodies, so that it can look on at
+/// their reads and writes.
+pub trait Tracer {
+    /// The part of the tracer that none of its calls changes.
+    ghost Frame: { Type 0 };
+
+    ghost frame: { Self → Frame };
+
+    /// The counts of the tracer.
+    ghost Tally: { Type 0 };
+
+    ghost tally: { Self → Tally };
+
+    /// A tally with one attempt more, which ended with this conflict, if with any.
+    ghost more: { Option ConflictMet → Tally → Tally };
+
+    /// The attempts that have ended, in their order; none where none are traced, or where there was
+    /// no room for all.
+    ghost ended: { Self → Option (List Trace) };
+
+    /// The reads and writes of the attempt that runs, in their order; none as above.
+    ghost accesses: { Self → Option (List Access) };
+
+    /// An attempt is about to begin.
+    fn prepare(&mut self)
+        ensures frame { frame self.new ≡ frame self.old }
+        ensures ended { ended self.new ≡ ended self.old }
+        ensures tally { tally self.new ≡ tally self.old }
+        ensures fresh { HasNoAccess (accesses self.new) };
+
+    /// The attempt has begun, in this renewal and with this read version.
+    ///
+    /// Not said: what is made of them. One that is given up is put at their place.
+    fn begun(&mut self, renewal: u32, version: Version)
+        ensures frame { frame self.new ≡ frame self.old }
+        ensures ended { ended self.new ≡ ended self.old }
+        ensures tally { tally self.new ≡ tally self.old }
+        ensures accesses { accesses self.new ≡ accesses self.old };
+
+    /// Runs its body.
+    fn run<S: Object, B: Body<S>, M: TxMem>(
+        &mut self,
+        memory: &mut M,
+        body: &B,
+    ) -> Result<B::Answer, M::Stop>
+        requires writes { B.reads body.now ≡ false }
+        requires value { HasValue S.is (M.view memory.old) }
+        requires tracked { IsTracked (accesses self.old)
+            (M.view memory.old).reads (M.view memory.old).writes }
+        ensures origin { M.origin memory.new ≡ M.origin memory.old }
+        ensures answer { IfOk result (λ a. Did S.is (M.view memory.old) (M.view memory.new)
+            (B.entry_of body.now a)) }
+        ensures wrote { IfOk result (λ a. B.changes body.now a ≡ false →
+            (M.view memory.new).writes ≡ (M.view memory.old).writes) }
+        ensures frame { frame self.new ≡ frame self.old }
+        ensures ended { ended self.new ≡ ended self.old }
+        ensures tally { tally self.new ≡ tally self.old }
+        ensures tracked { IsTracked (accesses self.new)
+            (M.view memory.new).reads (M.view memory.new).writes };
+
+    /// Runs its body, which only reads.
+    fn read<S: Object, B: Body<S>, M: TxRead>(
+        &mut self,
+        memory: &mut M,
+        body: &B,
+    ) -> Result<B::Answer, M::Stop>
+        requires reads { B.reads body.now ≡ true }
+        requires value { HasValue S.is (M.view memory.old) }
+        requires tracked { IsTracked (accesses self.old)
+            (M.view memory.old).reads (M.view memory.old).writes }
+        ensures origin { M.origin memory.new ≡ M.origin memory.old }
+        ensures answer { IfOk result (λ a. Did S.is (M.view memory.old) (M.view memory.new)
+            (B.entry_of body.now a)) }
+        ensures stopped { IfErr result (λ stop. M.stopped_for memory.new stop) }
+        ensures frame { frame self.new ≡ frame self.old }
+        ensures ended { ended self.new ≡ ended self.old }
+        ensures tally { tally self.new ≡ tally self.old }
+        ensures tracked { IsTracked (accesses self.new)
+            (M.view memory.new).reads (M.view memory.new).writes };
+
+    /// The attempt has committed, or finished, and its record stands at this place.
+    fn commit(&mut self, place: &Place)
+        ensures frame { frame self.new ≡ frame self.old }
+        ensures ended { HasTracedCommit place.now (accesses self.old)
+            (ended self.old) (ended self.new) }
+        ensures tally { tally self.new ≡ more None (tally self.old) };
+
+    /// The attempt was given up for this reason, and has left no record.
+    fn give_up(&mut self, stop: &Stop)
+        ensures frame { frame self.new ≡ frame self.old }
+        ensures ended { HasGivenUp (accesses self.old) (ended self.old) (ended self.new) }
+        ensures tally { tally self.new ≡ more (conflict_of stop.now) (tally self.old) };
+}
+
+/// Traces nothing.
+#[derive(Clone, Copy, Drop)]
+pub struct Untraced;
+
+impl Tracer for Untraced {
+    ghost use Rattle.std.specs.Prelude.{None};
+
+    ghost Frame = { Unit {0} };
+
+    ghost frame = { λ _. tt };
+
+    ghost Tally = { Unit {0} };
+
+    ghost tally = { λ _. tt };
+
+    ghost more = { λ _ t. t };
+
+    ghost ended = { λ _. None };
+
+    ghost accesses = { λ _. None };
+
+    #[inline]
+    fn prepare(&mut self) {}
+
+    #[inline]
+    fn begun(&mut self, _renewal: u32, _version: Version) {}
+
+    #[inline]
+    fn run<S: Object, B: Body<S>, M: TxMem>(
+        &mut self,
+        memory: &mut M,
+        body: &B,
+    ) -> Result<B::Answer, M::Stop> {
+        let Some(answer) = body.run(memory) else {
+            unreachable!();
+        };
+        answer
+    }
+
+    #[inline]
+    fn read<S: Object, B: Body<S>, M: TxRead>(
+        &mut self,
+        memory: &mut M,
+        body: &B,
+    ) -> Result<B::Answer, M::Stop> {
+        let Some(answer) = body.read(memory) else {
+            unreachable!();
+        };
+        answer
+    }
+
+    #[inline]
+    fn commit(&mut self, _place: &Place) {}
+
+    #[inline]
+    fn give_up(&mut self, _stop: &Stop) {}
+}

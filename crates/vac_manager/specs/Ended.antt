@@ -1,0 +1,18 @@
+-- How a call ended.
+use Rattle.std.specs.Prelude.{Result, Ok, Err}
+use Rattle.stm_attempt.specs.declared.conflict.Stop.{Stop}
+use Rattle.stm_object.specs.declared.place.Place.{Place}
+use Rattle.vac_model.specs.declared.replies.Reply.{Reply}
+use Rattle.vac_manager.specs.declared.fault.Fault.{Fault}
+use Rattle.vac_manager.specs.declared.placed.Placed.{Placed}
+use Rattle.vac_manager.specs.Faults.{fault_of}
+
+-- without the place of its record
+abbrev pub reply_in : Result (Reply × Place) Stop → Result Reply Fault
+reply_in (Ok a) = Ok a.0
+reply_in (Err stop) = Err (fault_of stop)
+
+-- with it
+abbrev pub placed_in : Result (Reply × Place) Stop → Result Placed Fault
+placed_in (Ok a) = Ok (record { reply = a.0; place = a.1 })
+placed_in (Err stop) = Err (fault_of stop)

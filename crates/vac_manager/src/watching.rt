@@ -1,0 +1,78 @@
+//! The counting of what a call takes.
+
+ghost use Rattle.std.specs.Prelude.{◌≤◌};
+ghost use Rattle.vac_manager.specs.Placed.{conflicts_of, locks_of};
+
+use crate::placed::Effort;
+use stm_attempt::Stop;
+use stm_object::{Body, Object, Place, Tracer};
+use stm_words::Version;
+use tx_memory::{TxMem, TxRead};
+
+/// Counts what a call takes, and lets a tracer trace its attempts.
+pub(crate) struct Counting<'a, T: Tracer> {
+    pub(crate) effort: Effort,
+    pub(crate) tracer: &'a mut T,
+    ghost conflicts: { conflicts_of effort ≤ effort.attempts },
+    ghost locks: { locks_of effort ≤ effort.attempts },
+}
+
+impl<'a, T: Tracer> Tracer for Counting<'a, T> {
+    ghost use Rattle.std.specs.Prelude.{ℕ};
+    ghost use Rattle.vac_manager.specs.declared.placed.Effort.{Effort};
+    ghost use Rattle.vac_manager.specs.Placed.{counted};
+
+    ghost Frame = { ℕ × T.Frame };
+
+    ghost frame = { λ c. (c.tracer.ghost_name, T.frame c.tracer.now) };
+
+    ghost Tally = { Effort };
+
+    ghost tally = { λ c. c.effort };
+
+    ghost more = { λ conflict e. counted conflict e };
+
+    ghost ended = { λ c. T.ended c.tracer.now };
+
+    ghost accesses = { λ c. T.accesses c.tracer.now };
+
+    #[inline]
+    fn prepare(&mut self) {
+        self.tracer.prepare();
+    }
+
+    #[inline]
+    fn begun(&mut self, renewal: u32, version: Version) {
+        self.tracer.begun(renewal, version);
+    }
+
+    #[inline]
+    fn run<S: Object, B: Body<S>, M: TxMem>(
+        &mut self,
+        memory: &mut M,
+        body: &B,
+    ) -> Result<B::Answer, M::Stop> {
+        self.tracer.run(memory, body)
+    }
+
+    #[inline]
+    fn read<S: Object, B: Body<S>, M: TxRead>(
+        &mut self,
+        memory: &mut M,
+        body: &B,
+    ) -> Result<B::Answer, M::Stop> {
+        self.tracer.read(memory, body)
+    }
+
+    #[inline]
+    fn commit(&mut self, place: &Place) {
+        self.effort.count_answer();
+        self.tracer.commit(place);
+    }
+
+    #[inline]
+    fn give_up(&mut self, stop: &Stop) {
+        self.effort.count_stop(stop);
+        self.tracer.give_up(stop);
+    }
+}
