@@ -1,0 +1,67 @@
+//! The operations of a key-value store.
+
+ghost use Rattle.std.specs.Prelude.{◌≡◌};
+ghost use Rattle.judge_kv.specs.Commands.{does};
+
+use crate::value::Value;
+use std::marker::Model;
+use std::rc::Rc;
+
+/// An operation on a key.
+#[derive(Drop)]
+pub enum Command {
+    /// Returns its value.
+    Get,
+    /// Sets its value.
+    Put(Rc<Value>),
+    /// Removes its value.
+    Delete,
+    /// Sets the second value if it has the first.
+    CompareAndSet(Rc<Value>, Rc<Value>),
+    /// Sets this behind the value it has.
+    Append(Rc<Value>),
+    /// Sets its value if it has none.
+    PutIfAbsent(Rc<Value>),
+    /// Sets its value and returns the one before.
+    GetAndSet(Rc<Value>),
+}
+
+/// An operation: a command and the key that it is for. Contracts see both.
+#[derive(Drop)]
+pub struct Operation {
+    key: Vec<u8>,
+    command: Command,
+}
+
+impl Model for Operation {
+    ghost use Rattle.judge_kv.specs.Operations.{Asked};
+
+    ghost Value = { Asked };
+
+    ghost use Rattle.judge_kv.specs.Commands.{does};
+
+    ghost view = { λ o. record { key = o.key.items; does = does o.command } };
+}
+
+impl Operation {
+    /// Returns the operation of a command for a key.
+    pub fn new(key: Vec<u8>, command: Command) -> Operation
+        ensures { result ≡ record { key = key.items; does = does command } }
+    {
+        Operation { key, command }
+    }
+
+    /// The key.
+    pub fn key(&self) -> &[u8]
+        ensures { result.now ≡ self.now.key }
+    {
+        self.key.as_slice()
+    }
+
+    /// The command.
+    pub fn command(&self) -> &Command
+        ensures { does result.now ≡ self.now.does }
+    {
+        &self.command
+    }
+}

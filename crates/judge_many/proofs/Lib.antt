@@ -1,0 +1,4 @@
+pub mod OfOne
+pub mod Whole
+pub mod ByNames
+pub mod Ends

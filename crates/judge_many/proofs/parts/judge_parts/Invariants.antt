@@ -1,0 +1,12 @@
+use Rattle.std.proofs.Common.{length}
+use Rattle.judge_many.specs.Runs.{AreByName}
+use Rattle.judge_many.proofs.ByNames.{AreJudged}
+use Rattle.judge_many.proofs.parts.judge_parts.Given as goal
+
+abbrev pub invariant-runs : goal.invariant-runs
+invariant-runs g l =
+    AreByName (g.M.Named.name) l.left.items
+    × AreJudged (g.M.Object.rules) (g.M.Named.name) l.machine l.fn.lines.items l.left.items
+
+abbrev pub decreases-runs : goal.decreases-runs
+decreases-runs g l = length l.left.items

@@ -1,0 +1,74 @@
+-- The findings on the calls of one object, and on those of many.
+use Rattle.std.specs.Prelude.{◌≡◌, ℕ, true, List}
+use Rattle.std.specs.Ordering.{is_lt, nat_cmp}
+use Rattle.std.specs.Cmp.Lexicographic.{slice_cmp}
+use Rattle.judge_object.specs.Rules.{Rules}
+use Rattle.judge_object.specs.Call.{Call}
+use Rattle.judge_object.specs.declared.line.Line.{Line}
+use Rattle.judge_object.specs.Orders.{IsMerge, IsLinearizable}
+use Rattle.judge_search.specs.Calls.{calls_of}
+use Rattle.judge_search.specs.Configurations.{start}
+use Rattle.judge_search.specs.Judging.{HasNoOrder}
+use Rattle.judge_search.specs.Point.{point_at}
+use Rattle.judge_search.specs.Searching.{IsUndecided}
+use Rattle.judge_search.specs.Sorting.{AreSortOf}
+use Rattle.judge_many.specs.declared.parts.Blocked.{Blocked}
+use Rattle.judge_many.specs.declared.parts.Undecided.{Undecided}
+use Rattle.judge_many.specs.declared.parts.Judged.{Judged}
+use Rattle.judge_many.specs.declared.parts.Judged.TheVariants as judged
+use Rattle.judge_many.specs.Many.{part}
+use Rattle.judge_many.specs.Runs.{lines_for}
+
+-- a name comes before another in the order of bytes
+abbrev pub IsNameBefore : List ℕ → List ℕ → Type 0
+IsNameBefore a b = is_lt (slice_cmp nat_cmp a b) ≡ true
+
+module _ {S O R : Type 0} (X : Rules S O R) where
+  -- no order of the calls of these lines is a linearization. The lines are kept by their ends, each
+  -- client's in their order; at most `most` completed calls can be placed one after the other, and
+  -- at the point that many are
+  pub record IsBlocked (s : S) (lines : List (Line O)) (blocked : Blocked O S) : Type 0 where
+    pub none : IsLinearizable X s (calls_of lines) → ⊥
+    pub kept : AreSortOf lines blocked.calls.lines.items
+    pub merges : IsMerge (calls_of lines) (calls_of blocked.calls.lines.items)
+    pub found : HasNoOrder X s (calls_of blocked.calls.lines.items) blocked.most
+        (point_at X blocked.calls blocked.point)
+
+  -- the search among the calls of these lines made all its steps, and neither found a linearization
+  -- nor saw that there is none
+  pub record IsOpen (s : S) (steps : ℕ) (lines : List (Line O)) (open_ : Undecided O) : Type 0 where
+    pub kept : AreSortOf lines open_.calls.lines.items
+    pub merges : IsMerge (calls_of lines) (calls_of open_.calls.lines.items)
+    pub spent : IsUndecided X (start s (calls_of open_.calls.lines.items)) steps open_.most
+
+  -- what is found of the calls of one object
+  abbrev pub JudgesRun : S → ℕ → List (Line O) → Judged O S → Type 0
+  JudgesRun s steps lines judged.Linearizable = IsLinearizable X s (calls_of lines)
+  JudgesRun s steps lines (judged.NotLinearizable blocked) = IsBlocked s lines blocked
+  JudgesRun s steps lines (judged.Unknown open_) = IsOpen s steps lines open_
+
+  module _ (name : O → List ℕ) where
+    -- the calls of each object with an earlier name have a linearization
+    abbrev pub AreDoneBefore : S → List (Line O) → List ℕ → Type 0
+    AreDoneBefore s lines k = (j : List ℕ) → IsNameBefore j k →
+        IsLinearizable X s (part name j (calls_of lines))
+
+    -- the first object, in the order of names, whose calls have no linearization
+    pub record IsFirstBlocked (s : S) (lines : List (Line O)) (blocked : Blocked O S) : Type 0 where
+      pub for : List ℕ
+      pub before : AreDoneBefore s lines for
+      pub is : IsBlocked s (lines_for name for lines) blocked
+
+    -- the first object, in the order of names, that is undecided
+    pub record IsFirstOpen (s : S) (steps : ℕ) (lines : List (Line O)) (open_ : Undecided O) :
+        Type 0 where
+      pub for : List ℕ
+      pub before : AreDoneBefore s lines for
+      pub is : IsOpen s steps (lines_for name for lines) open_
+
+    -- what is found of the calls of many objects, judged in the order of their names
+    abbrev pub JudgesParts : S → ℕ → List (Line O) → Judged O S → Type 0
+    JudgesParts s steps lines judged.Linearizable =
+        (k : List ℕ) → IsLinearizable X s (part name k (calls_of lines))
+    JudgesParts s steps lines (judged.NotLinearizable blocked) = IsFirstBlocked s lines blocked
+    JudgesParts s steps lines (judged.Unknown open_) = IsFirstOpen s steps lines open_

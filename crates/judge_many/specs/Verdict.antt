@@ -1,0 +1,35 @@
+-- The verdicts on a history of many objects.
+use Rattle.std.specs.Prelude.{ℕ, List}
+use Rattle.judge_object.specs.Rules.{Rules}
+use Rattle.judge_object.specs.declared.line.Line.{Line}
+use Rattle.judge_object.specs.Orders.{IsLinearizable}
+use Rattle.judge_search.specs.Calls.{calls_of}
+use Rattle.judge_search.specs.Walk.{IsWhole}
+use Rattle.judge_many.specs.declared.judging.Verdict.{Verdict}
+use Rattle.judge_many.specs.declared.judging.Verdict.TheVariants as verdict
+use Rattle.judge_many.specs.Many.{many, part, AreStrict}
+use Rattle.judge_many.specs.Judging.{IsFirstBlocked, IsFirstOpen}
+use Rattle.judge_many.specs.Turns.{IsFirstOutOfTurn}
+
+module _ {S O R : Type 0} (X : Rules S O R) (name : O → List ℕ) where
+  -- some order of all calls is a linearization; each object begins in the state s
+  abbrev pub IsManyLinearizable : S → List (Line O) → Type 0
+  IsManyLinearizable s lines = IsLinearizable (many X name) (λ k. s) (calls_of lines)
+
+  -- each object's calls have a linearization, but some client began a call at the very time at
+  -- which an earlier one of its own ended, so that locality says nothing of all calls together
+  pub record IsTouching (s : S) (lines : List (Line O)) : Type 0 where
+    pub parts : (k : List ℕ) → IsLinearizable X s (part name k (calls_of lines))
+    pub touches : AreStrict (calls_of lines) → ⊥
+
+  -- what a verdict says of the calls of lines, each object beginning in the state s
+  abbrev pub IsVerdictOn : S → ℕ → List (Line O) → Verdict O S → Type 0
+  IsVerdictOn s steps lines (verdict.OutOfTurn place) = IsFirstOutOfTurn (calls_of lines) place
+  IsVerdictOn s steps lines verdict.Linearizable =
+      IsWhole (calls_of lines) × IsManyLinearizable s lines
+  IsVerdictOn s steps lines (verdict.NotLinearizable blocked) =
+      IsWhole (calls_of lines) × IsFirstBlocked X name s lines blocked
+      × (IsManyLinearizable s lines → ⊥)
+  IsVerdictOn s steps lines (verdict.Unknown open_) =
+      IsWhole (calls_of lines) × IsFirstOpen X name s steps lines open_
+  IsVerdictOn s steps lines verdict.Touching = IsWhole (calls_of lines) × IsTouching s lines

@@ -1,0 +1,58 @@
+//! Judging a history of many objects.
+
+ghost use Rattle.std.specs.Prelude.{◌≡◌, IfOk};
+ghost use Rattle.judge_many.specs.Verdict.{IsVerdictOn};
+
+use crate::named::Named;
+use crate::parts::{Blocked, Judged, Undecided, judge_parts};
+use crate::turns::{Turns, find_turns};
+use judge_object::{Line, Watcher};
+use std::alloc::{AllocError, Global};
+
+/// The verdict on a history of many objects.
+#[derive(Drop)]
+pub enum Verdict<O, M> {
+    /// The call at this position is the first that is out of turn: it ends before it begins, or
+    /// begins before an earlier call of its client has ended.
+    OutOfTurn(usize),
+    /// Some order of all calls is a linearization.
+    Linearizable,
+    /// No order is one: the calls of this object have none. It is the first such object in the
+    /// order of names.
+    NotLinearizable(Blocked<O, M>),
+    /// Neither is known: the search among the calls of this object made all its steps. All objects
+    /// with earlier names have a linearization.
+    Unknown(Undecided<O>),
+    /// Neither is known: each object's calls have a linearization, but some client began a call at
+    /// the very time at which an earlier one of its own ended.
+    Touching,
+}
+
+/// Judges a history of many objects, each of which begins in the state of a machine, in at most
+/// `steps` steps for each object.
+pub fn judge_many<M: Named + Drop, P: Watcher>(
+    alloc: Global,
+    lines: Vec<Line<M::Op>>,
+    machine: &M,
+    steps: u64,
+    watcher: &mut P,
+) -> Result<Verdict<M::Op, M>, AllocError>
+    ensures { IfOk result (λ verdict.
+        IsVerdictOn M.rules M.name machine.now steps lines.items verdict) }
+{
+    let is_strict = match find_turns(alloc, lines.as_slice())? {
+        Turns::Broken(place) => return Ok(Verdict::OutOfTurn(place)),
+        Turns::Held(is_strict) => is_strict,
+    };
+    match judge_parts(alloc, lines, machine, steps, watcher)? {
+        Judged::Linearizable => {
+            if is_strict {
+                Ok(Verdict::Linearizable)
+            } else {
+                Ok(Verdict::Touching)
+            }
+        }
+        Judged::NotLinearizable(blocked) => Ok(Verdict::NotLinearizable(blocked)),
+        Judged::Unknown(undecided) => Ok(Verdict::Unknown(undecided)),
+    }
+}

@@ -1,0 +1,16 @@
+//! Many objects of one kind, each with a name: their histories are linearizable exactly where each
+//! object's is.
+#![tactic(auto)]
+
+mod judging;
+mod laws;
+mod named;
+mod parts;
+mod runs;
+mod turns;
+
+pub use judging::{Verdict, judge_many};
+pub use laws::{a_linearizable_history_has_linearizable_parts, parts_make_a_linearizable_history};
+pub use named::Named;
+pub use parts::{Blocked, Judged, Undecided, judge_parts};
+pub use turns::{Turns, find_turns};

@@ -1,0 +1,30 @@
+-- A call of a client.
+use Rattle.std.specs.Prelude.{◌≡◌, ◌≤◌, ⊤, ℕ, Bool, Option, is_some, List, [], ◌∷◌}
+use Rattle.judge_time.specs.declared.span.Span.{Span}
+
+-- a call of a client: readings of the clock before the call began and after it returned, its
+-- operation and the text of its reply. A pending call ends later than all readings and has no reply
+pub record Call (O : Type 0) : Type 0 where
+  pub client : ℕ
+  pub begin : ℕ
+  pub end : ℕ
+  pub op : O
+  pub reply : Option (List ℕ)
+
+module _ {O : Type 0} where
+  -- the interval of a call, with its client
+  abbrev pub span_of : Call O → Span
+  span_of call = record { client = call.client; begin = call.begin; end = call.end }
+
+  -- an earlier call of the same client had ended when a call began
+  abbrev pub IsBehind : Call O → Call O → Type 0
+  IsBehind call earlier = earlier.client ≡ call.client → earlier.end ≤ call.begin
+
+  -- a fact of each call
+  abbrev pub EachCall : (Call O → Type 0) → List (Call O) → Type 0
+  EachCall P [] = ⊤
+  EachCall P (call ∷ earlier) = P call × EachCall P earlier
+
+  -- the call is completed
+  abbrev pub is_answered : Call O → Bool
+  is_answered call = is_some call.reply

@@ -1,0 +1,4 @@
+pub mod Rules
+pub mod Call
+pub mod Linear
+pub mod Orders

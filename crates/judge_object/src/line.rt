@@ -1,0 +1,26 @@
+//! A line of a history, as a search keeps it.
+
+ghost use Rattle.std.specs.Prelude.{◌≡◌, nat_lt, is_some};
+ghost use Rattle.judge_time.specs.declared.span.TheConstants.{NEVER};
+
+/// A call of a client, with the line of the history that holds it.
+#[derive(Drop)]
+pub struct Line<O> {
+    /// The number of the line, the first being 1.
+    pub number: u64,
+    /// The bytes of the line, without the line end.
+    pub text: Vec<u8>,
+    /// The number of the client.
+    pub client: u32,
+    /// A reading of the clock before the call began.
+    pub begin: u64,
+    /// A reading of the clock after the call returned; later than all readings if it is pending.
+    pub end: u128,
+    /// The operation.
+    pub op: O,
+    /// The text of the reply, unless the call is pending.
+    pub reply: Option<Vec<u8>>,
+    /// A lower bound on BEGIN of this line and of all lines after it, set by a search.
+    pub soonest: u64,
+    ghost ended: { nat_lt end NEVER ≡ is_some reply },
+}

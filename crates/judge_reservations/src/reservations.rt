@@ -1,0 +1,75 @@
+//! The reservation system as a sequential object.
+
+ghost use Rattle.std.specs.Prelude.{◌≡◌, ◌≤◌, true, IfOk};
+ghost use Rattle.vac_model.specs.State.{empty_state};
+ghost use Rattle.judge_reservations.specs.Reserving.{reserving};
+
+use crate::asked::Asked;
+use judge_object::Object;
+use std::alloc::{AllocError, Global};
+use std::marker::Model;
+use vac_lines::print_reply;
+use vac_model::Reply;
+use vac_sequential::{Sequential, SequentialFault};
+
+/// A state of the reservation system, as a sequential object. Contracts see the state.
+#[derive(Drop)]
+pub struct Reservations {
+    manager: Sequential,
+}
+
+impl Model for Reservations {
+    ghost use Rattle.vac_model.specs.State.{State};
+    ghost use Rattle.vac_model.specs.Coded.{state_coded};
+
+    ghost Value = { State };
+
+    ghost coded = { state_coded };
+
+    ghost view = { λ r. r.manager };
+}
+
+impl Reservations {
+    /// Returns the state without entries of a system of `blocks` blocks.
+    pub fn new(alloc: Global, blocks: u32) -> Result<Reservations, SequentialFault>
+        ensures { IfOk result (λ made. made ≡ empty_state blocks) }
+    {
+        Ok(Reservations {
+            manager: Sequential::new(alloc, blocks)?,
+        })
+    }
+}
+
+impl Object for Reservations {
+    type Op = Asked;
+
+    type Reply = Reply;
+
+    ghost rules = { reserving };
+
+    fn copy(&self) -> Result<Reservations, AllocError> {
+        Ok(Reservations {
+            manager: self.manager.copy()?,
+        })
+    }
+
+    fn made(self, op: &Asked) -> Result<(Reservations, Reply), AllocError> {
+        match self.manager.after(op.task()) {
+            Ok((manager, reply)) => Ok((Reservations { manager }, reply)),
+            Err(SequentialFault::Memory) => Err(AllocError),
+            Err(SequentialFault::Arguments) => unreachable!(),
+        }
+    }
+
+    fn is_same(&self, other: &Reservations) -> bool {
+        self.manager.is_same(&other.manager)
+    }
+
+    fn hash(&self) -> u64 {
+        self.manager.hash()
+    }
+
+    fn print(reply: &Reply, out: &mut Vec<u8>) -> Result<(), AllocError> {
+        print_reply(reply, out)
+    }
+}

@@ -1,0 +1,71 @@
+use Rattle.std.proofs.Common.{◌≡◌, ◌+◌, ◌<◌, ℕ, is_some, Option, Some, None, length, refl, sym}
+use Rattle.std.proofs.Common.{ap, ◌∙◌, subst, arith}
+use Rattle.std.specs.Global.{Vec}
+use Rattle.judge_object.specs.Rules.{given_text}
+use Rattle.judge_object.specs.Call.{Call}
+use Rattle.judge_object.specs.declared.line.Line.{Line}
+use Rattle.judge_search.specs.declared.stuck.Stuck.{Stuck}
+use Rattle.judge_object.specs.Call.{is_answered}
+use Rattle.judge_search.specs.Marks.{is_made}
+use Rattle.judge_search.specs.Calls.{calls_of}
+use Rattle.judge_search.proofs.Tries.{at}
+use Rattle.judge_search.proofs.Sorted.{call_here, length_calls}
+use Rattle.judge_search.proofs.StuckCalls.{AreFound, found_none, found_more, found_less, found_all}
+use Rattle.judge_search.proofs.stuck.stuck_lines.Goals as goal
+use Rattle.judge_search.proofs.stuck.stuck_lines.Goals.{then-is_some+in_ok-expected+in_ok-push, else-is_some}
+
+given : (reply : Option (Vec ℕ)) → is_some (given_text reply) ≡ is_some reply
+given None = refl
+given (Some text) = refl
+
+pub calls-init : goal.calls-init
+calls-init g c =
+    let s = c.args.machine.now in
+    let made = is_made c.args.low c.args.beyond.now in
+    let cs = calls_of c.args.lines.now in
+    subst (λ l. AreFound (g.M.Object.rules) s made cs l 0) (sym c.new-found.ensures.items)
+    (found_none (g.M.Object.rules) s made cs)
+
+pub bounds-lines-place : goal.bounds-lines-place
+bounds-lines-place g c =
+    subst (λ n. c.in-Some.place < n) (length_calls (g.M.Object.rules) c.args.lines.now) c.in-Some.ensures.next.within
+
+pub returns : goal.returns
+returns g c = found_all (g.M.Object.rules) c.args.machine.now (is_made c.args.low c.args.beyond.now)
+    (calls_of c.args.lines.now) c.calls.found.items c.calls.from c.in_default.ensures.next c.calls.invariant
+
+pub calls-preserved : goal.calls-preserved
+calls-preserved g c =
+    let s = c.args.machine.now in
+    let made = is_made c.args.low c.args.beyond.now in
+    let lines = c.args.lines.now in
+    let cs = calls_of lines in
+    let p = c.in-Some.place in
+    let next = c.in-Some.ensures.next in
+    let line = c.index-lines-place.result in
+    let long = length_calls (g.M.Object.rules) lines in
+    let within : p < length lines = (let l = next.within in omega arith) in
+    let here = call_here (g.M.Object.rules) lines p line within c.index-lines-place.is in
+    let some : is_answered (at (g.M.Object.rules) cs p) ≡ is_some line.reply = ap is_answered here ∙ given line.reply in
+    let same : c.is_some.result ≡ is_some line.reply = c.is_some.ensures ∙
+    sym (ap (λ (x : Line _). is_some x.reply) c.index-lines-place.is) in
+    elim c.if-is_some.branch [
+      | then-is_some+in_ok-expected+in_ok-push w ↦
+          let x : Stuck _ = record { place = p; expected = w.in_ok-expected.expected } in
+          subst (λ l. AreFound (g.M.Object.rules) s made cs l (p + 1))
+          (sym (ap (λ (v : Vec (Stuck _)). v.items) w.found-is ∙
+          w.in_ok-push.ensures.items))
+          (found_more (g.M.Object.rules) s made cs c.calls.found.items c.calls.from p x next
+          (some ∙ sym same ∙ w.if-is_some.true) refl
+          (sym (ap (λ (y : Call _). (g.M.Object.rules.run s y.op).1)
+          (call_here (g.M.Object.rules) lines p w.index-lines-place-then-is_some.result within
+          w.index-lines-place-then-is_some.is)
+          ∙ ap (λ (y : Line _). (g.M.Object.rules.run s y.op).1) w.index-lines-place-then-is_some.is ∙
+          ap (λ (y : _ × _). y.1) w.in_ok-expected.ensures))
+          c.calls.invariant)
+      | else-is_some w ↦
+          subst (λ l. AreFound (g.M.Object.rules) s made cs l (p + 1))
+          (sym (ap (λ (v : Vec (Stuck _)). v.items) w.found-is))
+          (found_less (g.M.Object.rules) s made cs c.calls.found.items c.calls.from p next
+          (some ∙ sym same ∙ w.if-is_some.false) c.calls.invariant)
+    ]

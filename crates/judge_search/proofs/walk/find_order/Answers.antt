@@ -1,0 +1,67 @@
+use Rattle.std.proofs.Common.{◌≤◌, ◌<◌, suc, sym, subst, arith, add-one}
+use Rattle.std.specs.Prelude.{vec_len}
+use Rattle.judge_search.specs.Configurations.{answered}
+use Rattle.judge_search.specs.Views.{TellsLeft}
+use Rattle.judge_search.specs.Searching.{IsUndecided}
+use Rattle.judge_search.specs.Walking.{CompletesBy, StaysWithin, StepsTo, Walks}
+use Rattle.judge_search.proofs.Placing.{distinct_none}
+use Rattle.std.proofs.lemmas.List.Elements.{All-nil}
+use Rattle.judge_search.proofs.Walking.{starts, no_calls, undecided}
+use Rattle.judge_search.proofs.walk.find_order.Goals as goal
+
+pub returns-then-is_done : goal.returns-then-is_done
+returns-then-is_done g c =
+    let views = g.W.World.view c.args.ground.now in
+    let start = views.at c.args.start in
+    subst (CompletesBy (g.W.Of.Object.rules) views start) (sym c.new.ensures.items) (record {
+      completes = no_calls (g.W.Of.Object.rules) start (subst
+          (TellsLeft (answered start.rest)) c.if-is_done.true c.is_done.ensures.left);
+      distinct = distinct_none;
+      within = All-nil (λ p. p < views.count);
+    })
+
+pub walk-init : goal.walk-init
+walk-init g c =
+    let views = g.W.World.view c.args.ground.now in
+    let start = views.at c.args.start in
+    let within : 0 ≤ vec_len c.new-3.result.worlds = omega arith in (
+      within,
+      starts (g.W.Of.Object.rules) views c.args.start c.new-2.result c.new-3.result c.new-2.ensures.items
+          c.new-3.ensures c.requires
+          (subst (TellsLeft (answered start.rest)) c.if-is_done.false c.is_done.ensures.left) c.is_done.ensures.all
+          c.is_done.ensures.apart,
+    )
+
+pub returns-in-Found : goal.returns-in-Found
+returns-in-Found g c =
+    let views = g.W.World.view c.args.ground.now in
+    let start = views.at c.args.start in
+    subst (StepsTo (g.W.Of.Object.rules) views start (suc c.walk.made)) c.in-Found.is
+    (c.in_ok-next.ensures.steps start c.walk.made c.walk.invariant.1)
+
+pub returns-in-NoOrder : goal.returns-in-NoOrder
+returns-in-NoOrder g c =
+    let views = g.W.World.view c.args.ground.now in
+    let start = views.at c.args.start in
+    subst (StepsTo (g.W.Of.Object.rules) views start (suc c.walk.made)) c.in-NoOrder.is
+    (c.in_ok-next.ensures.steps start c.walk.made c.walk.invariant.1)
+
+pub walk-preserved : goal.walk-preserved
+walk-preserved g c =
+    let views = g.W.World.view c.args.ground.now in
+    let start = views.at c.args.start in (
+      subst StaysWithin c.in-On.is c.in_ok-next.ensures.within,
+      subst (λ n. Walks (g.W.Of.Object.rules) views start n c.in-On.next) (sym (add-one c.walk.made))
+          (subst (StepsTo (g.W.Of.Object.rules) views start (suc c.walk.made)) c.in-On.is
+          (c.in_ok-next.ensures.steps start c.walk.made c.walk.invariant.1)),
+    )
+
+pub returns : goal.returns
+returns g c =
+    let views = g.W.World.view c.args.ground.now in
+    let start = views.at c.args.start in
+    let walk = c.walk.walk in
+    subst (λ n. IsUndecided (g.W.Of.Object.rules) start n c.most_of.result) (omega arith)
+    (undecided (g.W.Of.Object.rules) views start c.walk.made walk
+    (views.tries walk.world walk.next) c.most_of.result c.walk.invariant.1
+    c.most_of.ensures)

@@ -1,0 +1,12 @@
+pub mod Configurations
+pub mod Views
+pub mod Walk
+pub mod Searching
+pub mod Walking
+pub mod Marks
+pub mod Calls
+pub mod Sorting
+pub mod Point
+pub mod Stuck
+pub mod Judging
+pub mod Checking

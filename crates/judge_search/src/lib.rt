@@ -1,0 +1,22 @@
+//! The exact search for a linearization of the calls of several clients, for any sequential object,
+//! and the check of a proposed order.
+#![tactic(auto)]
+
+mod calls;
+mod checking;
+mod known;
+mod marks;
+mod order;
+mod path;
+mod point;
+mod sorting;
+mod stuck;
+mod walk;
+mod world;
+
+pub use calls::Calls;
+pub use order::{find_linearization, is_linearization};
+pub use point::Point;
+pub use stuck::{Stuck, stuck_calls};
+pub use walk::{Finding, find_order};
+pub use world::World;

@@ -1,0 +1,193 @@
+//! A point of a search among the calls of a history.
+
+ghost use Rattle.std.specs.Prelude.{◌≡◌, ◌⊎◌, ◌==◌, [], ◌≤◌, ◌<◌, ℕ, IfOk, IfSome, length, take, true};
+ghost use Rattle.std.specs.List.{list_any};
+ghost use Rattle.judge_search.specs.Marks.{is_made};
+ghost use Rattle.judge_search.specs.Calls.{calls_of, are_sorted, rest_of};
+ghost use Rattle.judge_search.specs.Calls.{can_come, TellsTry};
+ghost use Rattle.judge_search.specs.Configurations.{answered};
+ghost use Rattle.judge_search.specs.Views.{TellsLeft, LedTo};
+ghost use Rattle.judge_search.specs.Point.{point_views, RunsTo};
+ghost use Rattle.judge_object.specs.Call.{Call};
+
+use crate::calls::Calls;
+use crate::marks::{first_left, is_made, mark};
+use crate::world::World;
+use judge_object::{Line, Object, is_right};
+use std::alloc::{AllocError, Global};
+
+/// The marks of the calls that have a position in the order, and the state after them.
+#[derive(Drop)]
+pub struct Point<M> {
+    /// All calls before this place have a position.
+    pub(crate) low: usize,
+    /// So have the calls at these places, which ascend.
+    pub(crate) beyond: Vec<usize>,
+    pub(crate) machine: M,
+}
+
+impl<M: Drop> Point<M> {
+    /// Returns the point at which no call has a position, in this state.
+    pub(crate) fn new(alloc: Global, machine: M) -> Point<M>
+        ensures low { result.low ≡ 0 }
+        ensures beyond { result.beyond.items ≡ [] }
+        ensures machine { result.machine ≡ machine }
+    {
+        Point {
+            low: 0,
+            beyond: Vec::new(alloc),
+            machine,
+        }
+    }
+}
+
+/// Returns whether a call of a client between two places has no position.
+fn has_earlier<M: Object>(
+    low: usize,
+    beyond: &[usize],
+    lines: &[Line<M::Op>],
+    from: usize,
+    place: usize,
+    client: u32,
+) -> bool
+    requires within { place ≤ length lines.now }
+    requires made { (other : ℕ) → other < from → is_made low beyond.now other ≡ true }
+    ensures { result ≡ list_any (λ (other : Call M.Op). other.client == client)
+        (rest_of (is_made low beyond.now) 0 (take place (calls_of lines.now))) }
+{
+    'lines: for earlier in from..place {
+        if lines[earlier].client == client && !is_made(low, beyond, earlier) {
+            return true;
+        }
+    }
+    false
+}
+
+/// Returns whether no completed call is left.
+pub(crate) fn is_finished<M: Object>(low: usize, beyond: &[usize], lines: &[Line<M::Op>]) -> bool
+    requires { are_sorted lines.now ≡ true }
+    ensures { TellsLeft
+        (answered (rest_of (is_made low beyond.now) 0 (calls_of lines.now))) result }
+{
+    let first = first_left(low, beyond, lines.len());
+    if first == lines.len() {
+        return true;
+    }
+    !lines[first].reply.is_some()
+}
+
+/// Returns the place from which the next call is looked for: a given place, but not before the
+/// first call that is left.
+fn start_of(from: usize, first: usize) -> usize
+    ensures either { (result ≡ from) ⊎ ((result ≡ first) × (from ≤ first)) }
+    ensures later { from ≤ result }
+{
+    if from < first { first } else { from }
+}
+
+/// Returns the place of the first call from a place on that may come next.
+pub(crate) fn next_call<M: Object>(
+    low: usize,
+    beyond: &[usize],
+    lines: &[Line<M::Op>],
+    from: usize,
+) -> Option<usize>
+    requires { are_sorted lines.now ≡ true }
+    ensures next { TellsTry M.rules (is_made low beyond.now) (calls_of lines.now) from result }
+    ensures small { IfSome result (λ place. place < usize.MAX) }
+    ensures after { IfSome result (λ place. from ≤ place) }
+{
+    let first = first_left(low, beyond, lines.len());
+    if first == lines.len() {
+        return None;
+    }
+    let end = lines[first].end;
+    'lines: for place in start_of(from, first)..lines.len() {
+        let line = &lines[place];
+        if end < u128::from(line.soonest) {
+            return None;
+        }
+        if is_made(low, beyond, place) || end < u128::from(line.begin) {
+            continue;
+        }
+        if !has_earlier::<M>(low, beyond, lines, first, place, line.client) {
+            return Some(place);
+        }
+    }
+    None
+}
+
+/// Returns the point after the call at a place, which may come next and led to this state and
+/// reply, if the reply is the correct one.
+fn point_after<M: Object + Drop>(
+    alloc: Global,
+    calls: &Calls<M::Op>,
+    low: usize,
+    beyond: &[usize],
+    place: usize,
+    made: (M, M::Reply),
+) -> Result<Option<Point<M>>, AllocError>
+    requires within { place < length calls.now.lines.items }
+    requires can { can_come M.rules (is_made low beyond.now) (calls_of calls.now.lines.items) place
+        ≡ true }
+    ensures { IfOk result (λ next. (point : Point M) → point.low ≡ low →
+        point.beyond.items ≡ beyond.now → RunsTo M.rules calls.now point place made →
+        LedTo M.rules (point_views M.rules calls.now) point place next) }
+{
+    let (machine, reply) = made;
+    let line = &calls.as_slice()[place];
+    if !is_right::<M>(&mut Vec::new(alloc), &line.reply, &reply)? {
+        return Ok(None);
+    }
+    let (low, beyond) = mark(low, Vec::from_slice(alloc, beyond)?, place)?;
+    Ok(Some(Point {
+        low,
+        beyond,
+        machine,
+    }))
+}
+
+impl<M: Object + Drop> World for Point<M> {
+    type Ground = Calls<M::Op>;
+
+    type Of = M;
+
+    ghost view = { λ calls. point_views M.rules calls };
+
+    fn is_done(&self, calls: &Calls<M::Op>) -> bool {
+        is_finished::<M>(self.low, self.beyond.as_slice(), calls.as_slice())
+    }
+
+    fn next_try(&self, calls: &Calls<M::Op>, from: usize) -> Option<usize> {
+        next_call::<M>(self.low, self.beyond.as_slice(), calls.as_slice(), from)
+    }
+
+    fn after(
+        &self,
+        alloc: Global,
+        calls: &Calls<M::Op>,
+        place: usize,
+    ) -> Result<Option<Self>, AllocError> {
+        let made = self.machine.make(&calls.as_slice()[place].op)?;
+        let next = point_after(alloc, calls, self.low, self.beyond.as_slice(), place, made)?;
+        Ok(next)
+    }
+
+    fn is_answered(&self, calls: &Calls<M::Op>, place: usize) -> bool {
+        calls.as_slice()[place].reply.is_some()
+    }
+
+    fn is_same(&self, _calls: &Calls<M::Op>, other: &Self) -> bool {
+        self.low == other.low
+            && self.beyond.as_slice() == other.beyond.as_slice()
+            && self.machine.is_same(&other.machine)
+    }
+
+    fn hash(&self, _calls: &Calls<M::Op>) -> u64 {
+        let mut hash = self.machine.hash() ^ self.low as u64;
+        for place in self.beyond.as_slice() {
+            hash = hash.wrapping_mul(0x9e37_79b9_7f4a_7c15) ^ *place as u64;
+        }
+        hash
+    }
+}

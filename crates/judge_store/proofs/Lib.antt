@@ -1,0 +1,4 @@
+pub mod Cutting
+pub mod Histories
+pub mod WordPlaces
+pub mod Legal

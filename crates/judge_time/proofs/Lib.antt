@@ -1,0 +1,4 @@
+pub mod Trees
+pub mod Tests
+pub mod Keeping
+pub mod Order
