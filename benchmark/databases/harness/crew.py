@@ -1,0 +1,203 @@
+"""All clients of a run, each in a process of its own: started, killed, and started again by this module."""
+
+import multiprocessing
+import os
+import signal
+import threading
+import time
+from collections import Counter
+from collections.abc import Iterator
+from contextlib import contextmanager
+from dataclasses import dataclass
+
+from harness.clients import Behaviour, Client
+from harness.database import Address, Database, Setting
+from harness.outcomes import CutShort, Damaged, Lost
+from harness.records import Recorder, Seat
+from harness.sessions import Session, open_session
+
+# How long the clients may take to connect before the run, and to end after it, in seconds.
+CONNECT_PATIENCE = 90.0
+END_PATIENCE = 60.0
+# Histories with more pending calls are mostly not decided by the judge.
+MOST_PENDING = 10
+
+
+@dataclass(frozen=True)
+class Target:
+    """The database that clients connect to."""
+    database: Database
+    setting: Setting
+    addresses: tuple[Address, ...]
+
+    def connect(self, number: int, is_split: bool = False) -> Session:
+        """Connects client `number`."""
+        return open_session(self.database, self.setting, self.addresses, number, is_split)
+
+    @contextmanager
+    def environment(self) -> Iterator[None]:
+        """Sets the variables with which clients of a database without a server are started."""
+        variables = self.setting.environment if self.database.is_embedded else {}
+        os.environ.update(variables)
+        try:
+            yield
+        finally:
+            for name in variables:
+                del os.environ[name]
+
+
+def _work(target: Target, behaviour: Behaviour, seat: Seat, lines: list[str], pipe, deadline) -> None:
+    """Runs a client in its process. The clients begin when their deadline is set."""
+    signal.signal(signal.SIGINT, signal.SIG_IGN)
+    signal.signal(signal.SIGTERM, signal.SIG_DFL)
+    is_split = behaviour.mistake is not None and behaviour.mistake.value == "split"
+    client = Client(behaviour, seat, lambda: target.connect(seat.number, is_split), pipe.send)
+    try:
+        if deadline.value == 0:
+            _connect_first(client)
+            pipe.send("connected")
+        while deadline.value == 0:
+            time.sleep(0.005)
+        client.run(lines, lambda: time.monotonic() < deadline.value)
+    except BrokenPipeError:
+        pass  # the harness has ended
+
+
+def _connect_first(client: Client) -> None:
+    limit = time.monotonic() + CONNECT_PATIENCE / 2
+    while True:
+        try:
+            client.reach()
+            return
+        except (Lost, Damaged):
+            if time.monotonic() > limit:
+                raise
+            time.sleep(0.05)
+
+
+class Crew:
+    """The clients of a run. A thread for each client starts its process, records what it reports, and starts
+    a successor if it was killed."""
+
+    def __init__(self, target: Target, behaviour: Behaviour, tasks: dict[int, list[str]]):
+        self._context = multiprocessing.get_context("spawn")
+        self._target, self._behaviour, self._tasks = target, behaviour, tasks
+        self.recorders = {number: Recorder(Seat(number), behaviour.policy, behaviour.mistake)
+                          for number in tasks}
+        self._processes: dict[int, multiprocessing.Process] = {}
+        self._threads: list[threading.Thread] = []
+        self._lock = threading.Lock()
+        self._may_start = threading.Event()
+        self._may_start.set()
+        # Without a lock, which a killed client might hold.
+        self._deadline = self._context.RawValue("d", 0.0)
+        self._connected: set[int] = set()
+        self.failure: str | None = None
+
+    def start(self) -> None:
+        """Starts all clients, and waits until each is connected."""
+        for number in self._tasks:
+            thread = threading.Thread(target=self._keep, args=(number,), daemon=True)
+            thread.start()
+            self._threads.append(thread)
+        limit = time.monotonic() + CONNECT_PATIENCE
+        while len(self._connected) < len(self._tasks):
+            if self.failure or time.monotonic() > limit:
+                raise CutShort(self.failure or "the clients could not connect")
+            time.sleep(0.01)
+
+    def begin(self, seconds: float) -> None:
+        """Lets the clients make calls for so many seconds."""
+        self._deadline.value = time.monotonic() + seconds
+
+    def finish(self) -> None:
+        """Lets the clients end after their current calls, and waits for them."""
+        self._deadline.value = min(self._deadline.value, time.monotonic()) or time.monotonic()
+        limit = time.monotonic() + END_PATIENCE
+        for thread in self._threads:
+            thread.join(max(0.1, limit - time.monotonic()))
+        if self.failure or any(thread.is_alive() for thread in self._threads):
+            raise CutShort(self.failure or f"a client did not end within {END_PATIENCE:.0f} seconds")
+
+    def is_working(self) -> bool:
+        """Returns whether some client still makes calls, and none has failed."""
+        return self.failure is None and any(thread.is_alive() for thread in self._threads)
+
+    def counts(self) -> Counter:
+        """Returns how the calls and tries of all clients ended so far."""
+        return sum((recorder.counts for recorder in self.recorders.values()), Counter())
+
+    def has_enough_pending(self) -> bool:
+        """Returns whether the judge may not decide the history with one more pending call of each client."""
+        return self.counts()["pending"] + len(self._tasks) >= MOST_PENDING
+
+    def pids(self) -> list[int]:
+        """Returns the processes of the clients."""
+        with self._lock:
+            return [process.pid for process in self._processes.values() if process.is_alive()]
+
+    def hold(self) -> None:
+        """Starts no client until `release`."""
+        self._may_start.clear()
+
+    def release(self) -> None:
+        """Lets successors of killed clients start."""
+        self._may_start.set()
+
+    def end(self) -> None:
+        """Kills all clients for good."""
+        for recorder in self.recorders.values():
+            recorder.is_over = True
+        self._may_start.set()
+        for pid in self.pids():
+            try:
+                os.kill(pid, signal.SIGKILL)
+            except ProcessLookupError:
+                pass
+
+    def _keep(self, number: int) -> None:
+        recorder = self.recorders[number]
+        while not recorder.is_over and self.failure is None:
+            self._may_start.wait()
+            found = self._start_process(number)
+            if found is None:
+                continue
+            process, pipe = found
+            self._listen(recorder, pipe)
+            process.join()
+            if recorder.is_over:
+                return
+            if process.exitcode != -signal.SIGKILL:
+                self.failure = f"client {number} ended with status {process.exitcode}"
+                return
+            recorder.killed()
+
+    def _start_process(self, number: int):
+        """Starts the process of a client, unless clients are held."""
+        ours, theirs = self._context.Pipe(duplex=False)
+        process = self._context.Process(
+            target=_work, daemon=True, args=(self._target, self._behaviour, self.recorders[number].seat,
+                                             self._tasks[number], theirs, self._deadline))
+        with self._lock:
+            if self._may_start.is_set():
+                with self._target.environment():
+                    process.start()
+                self._processes[number] = process
+        theirs.close()
+        if process.pid is None:
+            ours.close()
+            return None
+        return process, ours
+
+    def _listen(self, recorder: Recorder, pipe) -> None:
+        try:
+            while True:
+                message = pipe.recv()
+                if message == "connected":
+                    self._connected.add(recorder.seat.number)
+                else:
+                    recorder.take(message)
+        except (EOFError, OSError):
+            pass
+        finally:
+            pipe.close()

@@ -1,0 +1,56 @@
+"""Calls of the program's proved judge, bounded in time and memory."""
+
+import subprocess
+import time
+from dataclasses import dataclass
+from enum import Enum
+from pathlib import Path
+
+from harness.outcomes import CutShort
+
+# Blocks with which a history without a bound is judged.
+NO_BOUND = 262144
+# How long the judge may search, in seconds, and how much memory it may have, in kilobytes.
+PATIENCE = 60.0
+MEMORY = 6_000_000
+# Lines that a verdict's record keeps.
+MOST_LINES = 5
+
+
+class Verdict(Enum):
+    """How a run ends."""
+    LEGAL = "legal"
+    ILLEGAL = "illegal"
+    UNDECIDED = "undecided"
+    DAMAGED = "damaged"
+    CUT_SHORT = "cut short"
+
+
+@dataclass(frozen=True)
+class Judgement:
+    """What the judge says of a history: its first lines, and how long it took in seconds."""
+    verdict: Verdict
+    lines: list[str]
+    seconds: float
+
+
+def words_for(program: str) -> list[str]:
+    """Returns the command that judges a history on its standard input."""
+    return [program, "judge", "--any-order", "--blocks", str(NO_BOUND)]
+
+
+def judge(program: str, history: Path, patience: float = PATIENCE) -> Judgement:
+    """Judges a history. Without a verdict in time, or in memory, it is undecided."""
+    bounded = ["sh", "-c", f'ulimit -v {MEMORY}; exec "$@"', "judge", *words_for(program)]
+    began = time.monotonic()
+    try:
+        with open(history, "rb") as calls:
+            done = subprocess.run(bounded, stdin=calls, capture_output=True, text=True, timeout=patience,
+                                  check=False)
+        lines = done.stdout.splitlines() or [f"undecided: the judge ended with status {done.returncode}"]
+    except subprocess.TimeoutExpired:
+        lines = [f"undecided: no verdict within {patience:.0f} seconds"]
+    said = lines[0].split(" ")[0].rstrip(":")
+    if said not in ("legal", "illegal", "undecided"):
+        raise CutShort(f"the judge does not read the history: {lines[0]}")
+    return Judgement(Verdict(said), lines[:MOST_LINES], time.monotonic() - began)

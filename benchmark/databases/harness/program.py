@@ -1,0 +1,238 @@
+"""The command line: which databases are run how, and what is printed."""
+
+import argparse
+import importlib
+import importlib.util
+import json
+import os
+import shutil
+import signal
+import sys
+import tempfile
+from collections import Counter
+from collections.abc import Iterator
+from datetime import date
+from pathlib import Path
+
+from harness import disk, spaces
+from harness.database import Database, Setting, Strength, program
+from harness.faults import FAULTS, NO_FAULT
+from harness.judge import NO_BOUND, Verdict, words_for
+from harness.outcomes import CutShort, Missing
+from harness.progress import Progress
+from harness.records import Mistake, Policy
+from harness.runs import Plan, Result, run
+from harness.summary import Summary
+
+HOME = Path(__file__).resolve().parent.parent
+ROOT = HOME.parent.parent
+ALL = "all"
+# Marks in a page between which the table of results stands.
+TABLE_BEGINS, TABLE_ENDS = "<!-- results: begin -->", "<!-- results: end -->"
+
+
+def databases() -> dict[str, Database]:
+    """Returns the databases of the folder `servers` by name."""
+    names = sorted(file.stem for file in (HOME / "servers").glob("[a-z]*.py"))
+    return {name: importlib.import_module(f"servers.{name}").DATABASE for name in names}
+
+
+def _settings_text() -> str:
+    lines = ["databases, settings and their faults:"]
+    for name, database in databases().items():
+        for setting, options in database.settings.items():
+            lines.append(f"  {name}:{setting}  {' '.join(options.promises)}")
+    return "\n".join(lines)
+
+
+def _positive(word: str) -> int:
+    if not word.isdecimal() or int(word) < 1:
+        raise argparse.ArgumentTypeError("a number of 1 or more is wanted")
+    return int(word)
+
+
+def read_options(arguments: list[str]) -> argparse.Namespace:
+    """Reads the command line; ends the program if it asks for help or is wrong."""
+    parser = argparse.ArgumentParser(
+        prog="run", formatter_class=argparse.RawDescriptionHelpFormatter, epilog=_settings_text(),
+        description="Runs the reservation tasks on databases while faults are injected, and has the proved\n"
+        "judge decide whether the history of all calls is linearizable.")
+    parser.add_argument("database", metavar="DATABASE[:SETTING]", help="a database, one of its settings, or 'all'")
+    parser.add_argument("--fault", choices=[NO_FAULT, *FAULTS],
+                        help="the fault of all runs (default: the runs of a setting take its faults in turn)")
+    parser.add_argument("--policy", choices=[policy.value for policy in Policy], default=Policy.ASK.value,
+                        help="what clients do after an unknown outcome (default: ask); 'again' is wrong on purpose")
+    parser.add_argument("--runs", type=_positive, default=1, help="runs of each setting (default: 1)")
+    parser.add_argument("--seed", type=_positive, default=1, help="seed of the first run (default: 1)")
+    parser.add_argument("--seconds", type=float, default=6.0, help="length of the workload (default: 6)")
+    parser.add_argument("--clients", type=_positive, default=4, help="number of clients (default: 4)")
+    parser.add_argument("--lag", type=float, default=0.5,
+                        help="seconds in which nothing reaches the standby before a failover (default: 0.5)")
+    parser.add_argument("--keep", type=Path, metavar="FOLDER", help="keeps histories, records and server logs")
+    parser.add_argument("--table", type=Path, metavar="PAGE", help="writes the table of results into a page; with --keep, of all runs that the folder keeps")
+    parser.add_argument("--mistake", choices=[mistake.value for mistake in Mistake],
+                        help="WRONG ON PURPOSE: tasks split in two transactions; a recorder that forgets pending"
+                        " calls, takes the end before the commit, or goes on with a client after a pending call")
+    parser.add_argument("--program", default=str(_own_program()), help="the proved program (default: %(default)s)")
+    options = parser.parse_args(arguments)
+    try:
+        _chosen(options.database)
+    except ValueError as error:
+        parser.error(str(error))
+    return options
+
+
+def _own_program() -> Path:
+    """Returns the program of this checkout, or of this unpacked tarball."""
+    return next((file for file in (ROOT / "vacation", ROOT / "bin/vacation") if file.exists()), ROOT / "vacation")
+
+
+def _chosen(word: str) -> list[tuple[str, Database, Setting]]:
+    """Returns the settings that a word of the command line names."""
+    name, _, wanted = word.partition(":")
+    found = databases()
+    if name != ALL and name not in found:
+        raise ValueError(f"there is no database {name}")
+    chosen = [(f"{one}:{setting}", database, options) for one, database in found.items()
+              for setting, options in database.settings.items()
+              if name in (ALL, one) and wanted in ("", setting)]
+    if not chosen:
+        raise ValueError(f"{name} has no setting {wanted}")
+    return chosen
+
+
+def check_installed(database: Database) -> None:
+    """Raises `Missing` unless a database can be run here."""
+    packages = f"(Debian: apt-get install {' '.join(database.packages)})"
+    for module in database.modules:
+        if importlib.util.find_spec(module) is None:
+            raise Missing(f"there is no Python module {module} {packages}")
+    try:
+        for name in database.programs:
+            program(name)
+        database.version()
+    except Missing as missing:
+        raise Missing(f"{missing} {packages}") from None
+    if not database.is_embedded:
+        spaces.check_private()
+
+
+def check_rights(setting: Setting, fault: str) -> None:
+    """Raises `Missing` unless a fault can be injected into a setting here."""
+    needs = FAULTS[fault].needs if fault != NO_FAULT else None
+    if needs and needs.disk:
+        spaces.check_private()
+        disk.check_rights()
+    library = setting.environment.get("LD_PRELOAD")
+    if library and not any(Path("/usr/lib").glob(f"*/{library}")):
+        raise Missing(f"there is no library {library} (Debian: apt-get install libeatmydata1)")
+
+
+def plans(options: argparse.Namespace) -> Iterator[Plan]:
+    """Returns all runs that the options ask for, and reports what is skipped."""
+    reported = set()
+    for number in range(options.runs):
+        for name, database, setting in _chosen(options.database):
+            faults = [options.fault] if options.fault else list(setting.promises)
+            fault = faults[number % len(faults)]
+            try:
+                if fault not in setting.promises:
+                    raise Missing(f"the setting has no fault {fault}")
+                check_installed(database)
+                check_rights(setting, fault)
+            except Missing as missing:
+                text = f"{name} fault={fault} skipped: {missing}"
+                if text not in reported:
+                    reported.add(text)
+                    print(text, flush=True)
+                continue
+            yield Plan(database, name, setting, fault, options.seed + number, Policy(options.policy),
+                       Mistake(options.mistake) if options.mistake else None, options.seconds,
+                       options.clients, options.lag)
+
+
+def line_of(result: Result) -> str:
+    """Returns the line of a run."""
+    plan, counts = result.plan, Counter(result.record["counts"])
+    injected = sum("no effect" not in fault for fault in result.record["faults"])
+    more = f" mistake={plan.mistake.value}" if plan.mistake else ""
+    text = (f"{plan.name} fault={plan.fault} policy={plan.policy.value}{more} seed={plan.seed}"
+            f" faults={injected} completed={counts['completed']} refused={counts['refused']}"
+            f" lost={counts['lost']} pending={counts['pending']} verdict={result.verdict.value}")
+    return text + (f" ({result.reason})" if result.reason else "")
+
+
+def keep(result: Result, folder: Path) -> Path:
+    """Copies what a run left to a folder, and returns its history there."""
+    folder.mkdir(parents=True, exist_ok=True)
+    plan = result.plan
+    mistake = f"-{plan.mistake.value}" if plan.mistake else ""
+    prefix = f"{plan.name.replace(':', '-')}-{plan.fault}-{plan.policy.value}{mistake}-{plan.seed}"
+    for file in result.history.parent.glob("run.*"):
+        shutil.copyfile(file, folder / f"{prefix}{file.name.removeprefix('run')}")
+    return folder / f"{prefix}.calls"
+
+
+def summary_of(folder: Path) -> Summary:
+    """Returns the summary of all runs whose records a folder keeps, in the order of settings and faults."""
+    order = [f"{name}:{setting}" for name, database in databases().items() for setting in database.settings]
+    records = [json.loads(file.read_text(encoding="utf-8")) for file in sorted(folder.glob("*.json"))]
+    summary = Summary()
+    faults = [*FAULTS, NO_FAULT]
+    records.sort(key=lambda record: (order.index(record["database"]), faults.index(record["fault"])))
+    for record in records:
+        summary.add(record)
+    return summary
+
+
+def write_table(page: Path, text: str) -> None:
+    """Replaces the table between the marks of a page."""
+    before, begin, rest = page.read_text(encoding="utf-8").partition(TABLE_BEGINS)
+    _, end, after = rest.partition(TABLE_ENDS)
+    if not begin or not end:
+        raise CutShort(f"{page} has no marks {TABLE_BEGINS} and {TABLE_ENDS}")
+    page.write_text(f"{before}{begin}\n\n{text}\n{end}{after}", encoding="utf-8")
+
+
+def _do(plan: Plan, options: argparse.Namespace, folder: Path, progress: Progress) -> Result:
+    """Does a run, prints its line, and keeps what must be kept."""
+    progress.about = f"{plan.name} {plan.fault} seed {plan.seed}"
+    place = folder / "run"
+    result = run(plan, options.program, place, progress)
+    print(line_of(result), flush=True)
+    is_wanted = result.verdict in (Verdict.ILLEGAL, Verdict.DAMAGED)
+    if options.keep or is_wanted:
+        kept = keep(result, options.keep or Path(tempfile.mkdtemp(prefix="vacation-history-")))
+        if is_wanted:
+            print(f"  history: {kept}\n  judge it: {' '.join(words_for(options.program))} < {kept}\n"
+                  f"  explain it: {ROOT / 'explain'} --blocks {NO_BOUND} {kept}", flush=True)
+    shutil.rmtree(place)
+    return result
+
+
+def _give_temporary_folder(folder: Path) -> None:
+    """Makes a temporary folder for servers, whose users may not write to that of the harness."""
+    folder.mkdir()
+    folder.chmod(0o1777)
+    os.environ["TMPDIR"] = str(folder)
+
+
+def main(arguments: list[str]) -> int:
+    """Does all runs, and returns the status."""
+    options = read_options(arguments)
+    signal.signal(signal.SIGTERM, lambda *_: sys.exit(128 + signal.SIGTERM))
+    spaces.furnish()
+    spaces.remove_leftovers()
+    if not os.access(options.program, os.X_OK):
+        sys.exit(f"databases: there is no program at {options.program}")
+    summary, progress = Summary(), Progress()
+    with spaces.Folder() as folder:
+        (folder / "templates").mkdir()
+        _give_temporary_folder(folder / "tmp")
+        for plan in plans(options):
+            summary.add(_do(plan, options, folder, progress).record)
+    print(summary.text())
+    if options.table:
+        kept = summary_of(options.keep) if options.keep else summary
+        write_table(options.table, kept.markdown(date.today()))
+    return summary.status
