@@ -1,5 +1,13 @@
-"""A small model of the tasks of a load and of the rules, written from docs/RULES.md and apart from the
-program; the scripts of this folder hold the program against it."""
+"""A small model of the tasks that a load draws, written from docs/RULES.md and apart from the program; the
+scripts of this folder hold the program against it. What a task does is told by the model of the manager that all
+scripts share, tools/explaining/model.py."""
+
+import sys
+from pathlib import Path
+
+sys.path.insert(0, str(Path(__file__).resolve().parent.parent / "tools"))
+from explaining.model import run
+from explaining.tasks import Task, read_task
 
 CAR, FLIGHT, ROOM = 0, 1, 2
 MASK = (1 << 64) - 1
@@ -22,77 +30,6 @@ class Pcg32:
         word = ((state >> 18 ^ state) >> 27) & 0xFFFFFFFF
         turn = state >> 59
         return ((word >> turn | word << (32 - turn)) & 0xFFFFFFFF) % n
-
-
-class System:
-    """Items as [used, free, total, price] by kind and id; bookings as [units, sum] by customer."""
-
-    def __init__(self, blocks):
-        self.blocks, self.items, self.customers = blocks, {}, {}
-
-    def is_full(self):
-        bookings = sum(len(b) for b in self.customers.values())
-        return len(self.items) + len(self.customers) + bookings >= self.blocks
-
-    def add(self, place, num, price):
-        item = self.items.get(place)
-        if item is None:
-            if num > 0 and not self.is_full():
-                self.items[place] = [0, num, num, price]
-        elif item[2] + num <= 1_000_000_000:
-            item[1], item[2], item[3] = item[1] + num, item[2] + num, price
-
-    def delete(self, place, num):
-        item = self.items.get(place)
-        if item and num <= item[1]:
-            item[1], item[2] = item[1] - num, item[2] - num
-            if item[2] == 0:
-                del self.items[place]
-
-    def drop_flight(self, place):
-        if place in self.items and self.items[place][0] == 0:
-            del self.items[place]
-
-    def new_customer(self, customer):
-        if customer not in self.customers and not self.is_full():
-            self.customers[customer] = {}
-
-    def reserve(self, customer, place):
-        bookings, item = self.customers.get(customer), self.items.get(place)
-        if bookings is None or item is None or item[1] < 1:
-            return
-        if place in bookings:
-            if bookings[place][0] + 1 > 10_000:
-                return
-        elif self.is_full():
-            return
-        booking = bookings.setdefault(place, [0, 0])
-        booking[0], booking[1] = booking[0] + 1, booking[1] + item[3]
-        item[0], item[1] = item[0] + 1, item[1] - 1
-
-    def leave(self, customer):
-        for place, booking in self.customers.pop(customer, {}).items():
-            item = self.items[place]
-            item[0], item[1] = item[0] - booking[0], item[1] + booking[0]
-
-    def trip(self, customer, asks):
-        picks = {}
-        for place in asks:
-            item, best = self.items.get(place), picks.get(place[0])
-            if item and (best is None or item[3] > best[1]):
-                picks[place[0]] = (place, item[3])
-        if picks:
-            self.new_customer(customer)
-        for kind in sorted(picks):
-            self.reserve(customer, picks[kind][0])
-
-    def report(self):
-        bookings = [b for c in self.customers.values() for b in c.values()]
-        numbers = [sum(1 for p in self.items if p[0] == kind) for kind in (CAR, FLIGHT, ROOM)]
-        numbers += [len(self.customers), sum(b[0] for b in bookings)]
-        numbers += [sum(i[place] for i in self.items.values()) for place in range(3)]
-        numbers.append(sum(b[1] for b in bookings))
-        return numbers
 
 
 KINDS = ("car", "flight", "room")
@@ -138,25 +75,6 @@ def tasks_of(settings, client):
         yield drawn_task(draws, settings["items"], settings["asks"], settings["user"])
 
 
-def run_task(system, task):
-    if task[0] == "add":
-        system.add(*task[1:])
-    elif task[0] == "customer":
-        system.new_customer(task[1])
-    elif task[0] == "trip":
-        system.trip(task[1], task[2])
-    elif task[0] == "leave":
-        system.leave(task[1])
-    else:
-        for place, paid in task[1]:
-            if paid is not None:
-                system.add(place, 100, paid)
-            elif place[0] == FLIGHT:
-                system.drop_flight(place)
-            else:
-                system.delete(place, 100)
-
-
 def change_line(place, paid):
     kind, id = place
     if paid is not None:
@@ -176,3 +94,11 @@ def line_of(task):
     if task[0] == "leave":
         return f"leave {task[1]}"
     return "update " + " ; ".join(change_line(*change) for change in task[1])
+
+
+def report_after(tasks, blocks):
+    """The report of the state that tasks leave, one after the other."""
+    state = {}
+    for task in tasks:
+        _, state = run(state, read_task(line_of(task)), blocks)
+    return run(state, Task("audit"))[0]

@@ -1,0 +1,1 @@
+"""Explains illegal histories of the reservation system: which calls contradict each other, and why."""
