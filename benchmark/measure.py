@@ -16,17 +16,17 @@ import tempfile
 from pathlib import Path
 
 import estimates
+import pages
 from picture import picture
 # (tests/stats takes `numbers_told` from here)
-from programs import (OURS, PARTS, ROOT, TRIED, Judge, Ours, Peer, Pinner, give_up, has_option,
+from programs import (IS_CLONE, OURS, PARTS, PROGRAM, ROOT, TRIED, Judge, Ours, Peer, Pinner, give_up, has_option,
                       lines_of, numbers_told, options_of)
 
-PROGRAM = ROOT / "crates/vacation/out/vacation"
-
-# Names and options of a load.
+# Names and options of a load. In each the bookings come to a steady number, for which there are more than
+# enough blocks: leaves give back as much as trips take, and no call is ever answered `full`.
 SETTINGS = {
-    "low": {"items": 16384, "blocks": 262144, "asks": 4, "user": 90},
-    "high": {"items": 64, "blocks": 1024, "asks": 8, "user": 60},
+    "large": {"items": 16384, "blocks": 262144, "asks": 4, "user": 60},
+    "crowded": {"items": 64, "blocks": 1024, "asks": 8, "user": 60},
     "defaults": {"items": 16, "blocks": 1024, "asks": 4, "user": 80},
     "apart": {"items": 2048, "blocks": 131070, "asks": 4, "user": 60},
     "readers": {"items": 256, "blocks": 8192, "asks": 4, "user": 80, "reads": 50},
@@ -37,8 +37,8 @@ TRIES = 1_048_576
 # How often each program is run, and the others of those beside which the program is set.
 ROUNDS, ROUNDS_OF_OTHERS = 4, 2
 # Tasks of all clients in the run that finds out how many take the seconds asked for, and in the
-# runs that are judged.
-FIRST_TASKS, JUDGED_TASKS = 100_000, 4_000
+# runs that are judged, and tasks of the one client whose accesses are counted.
+FIRST_TASKS, JUDGED_TASKS, COUNTED_TASKS = 100_000, 4_000, 20_000
 
 # The peers whose algorithm is the program's own: with as little order as it must have, and with
 # every step sequentially consistent, as the program's steps are.
@@ -82,6 +82,14 @@ class Measured:
         sums = [sum(counts) for counts in zip(*(run.parts for run in self.runs if run.parts))]
         return [100 * count / sum(sums) for count in sums] if sum(sums) > 0 else None
 
+    def kinds(self):
+        """How many conflicts of each kind there were in a hundred tasks."""
+        sums = {}
+        for run in self.runs:
+            for name, count in run.kinds.items():
+                sums[name] = sums.get(name, 0) + count
+        return {name: 100 * count / self.tasks() for name, count in sums.items()}
+
     def busy(self):
         return sum(run.busy for run in self.runs)
 
@@ -124,7 +132,7 @@ class Plan:
             name, _, command = text.partition("=")
             if not name or not command:
                 give_up(f"'--peer {text}' is not NAME=COMMAND")
-            found.append(Peer(name, shlex.split(command), self.tries))
+            found.append(Peer(name, peer_command(folder, command), self.tries))
         tried = subprocess.run([self.ours.program, "tasks", *options_of(TRIED)], capture_output=True)
         for peer in found:
             peer.find_whether_it_draws(tried.stdout)
@@ -149,6 +157,12 @@ class Plan:
             yield programs[first:] + programs[:first]
 
 
+def peer_command(folder, command):
+    """The words of a command; a shared object is run by the program `peer`."""
+    words = shlex.split(command)
+    return [folder / "peer", Path(words[0]).resolve(), *words[1:]] if words[0].endswith(".so") else words
+
+
 def draw_tasks(program, settings, path):
     with open(path, "wb") as output:
         done = subprocess.run([program, "tasks", *options_of(settings)], stdout=output)
@@ -162,27 +176,45 @@ def with_tasks(options, clients, all_tasks):
 
 def check(plan, name, clients, tasks):
     """Has each program's history of a short run judged, which is its warming up, too. With one
-    client all must leave the same state. The longest task of each, in milliseconds, is found."""
+    client all must leave the same state. The times of each one's tasks are found, in microseconds."""
     settings = with_tasks(plan.settings[name], clients, JUDGED_TASKS)
     draw_tasks(plan.ours.program, settings, tasks)
-    reports, longest = set(), {}
+    reports, found = set(), {}
     for program in plan.programs:
         history, report = program.history(settings, tasks)
         plan.judge.want_legal(program.name, history, report, settings, tasks)
         times = [line.split(" ", 3) for line in history.splitlines()]
-        longest[program.name] = max(int(end) - int(begin)
-                                    for who, begin, end, _ in times if who != "0") / 1e6
+        found[program.name] = sorted((int(end) - int(begin)) / 1e3 for who, begin, end, _ in times if who != "0")
         reports.add(report)
     if clients == 1 and len(reports) != 1:
         give_up(f"one client left different states: {' | '.join(sorted(reports))}")
-    return longest
+    return found
 
 
-def measure(plan, name, clients, tasks):
-    """The runs of all programs on the same tasks, so many as take the program the seconds asked
-    for; one program after the other, round by round."""
-    first = plan.ours.run(with_tasks(plan.settings[name], clients, FIRST_TASKS), None)
-    settings = with_tasks(plan.settings[name], clients, first.answered / first.seconds * plan.seconds)
+def accesses(plan, name):
+    """The mean numbers of words that a task reads and writes, of one client, whose attempts all commit."""
+    settings = with_tasks(plan.settings[name], 1, COUNTED_TASKS)
+    words = [ROOT / "benchmark/out/peers/tl2", "--draw", "--attempts", *options_of(settings)]
+    reads, writes, count = 0, 0, 0
+    with subprocess.Popen(words, stdout=subprocess.PIPE, stderr=subprocess.DEVNULL, text=True) as process:
+        for line in process.stdout:
+            if line.startswith("1 "):
+                reads, writes, count = reads + line.count(" r "), writes + line.count(" w "), count + 1
+    if process.returncode != 0 or count < settings["tasks"]:
+        give_up(f"the accesses of '{name}' cannot be counted")
+    return reads / count, writes / count
+
+
+def tasks_of(plan, name):
+    """How many tasks the runs of a setting have, in all clients together and for each number of clients: as
+    many as take the program the seconds asked for with the first number."""
+    first = plan.ours.run(with_tasks(plan.settings[name], plan.clients[0], FIRST_TASKS), None)
+    return first.answered / first.seconds * plan.seconds
+
+
+def measure(plan, name, clients, tasks, all_tasks):
+    """The runs of all programs on the same tasks, one program after the other, round by round."""
+    settings = with_tasks(plan.settings[name], clients, all_tasks)
     if plan.readers():
         draw_tasks(plan.ours.program, settings, tasks)
     found = {program.name: Measured() for program in plan.programs}
@@ -195,16 +227,17 @@ def measure(plan, name, clients, tasks):
 
 
 def measure_all(plan):
-    """By setting and number of clients, what each program came to, and its longest tasks."""
-    found, longest = {}, {}
+    """By setting and number of clients, what each program came to, and the times of its tasks."""
+    found, times = {}, {}
     with tempfile.TemporaryDirectory() as folder:
         tasks = os.path.join(folder, "tasks")
         for name in plan.settings:
+            all_tasks = tasks_of(plan, name)
             for clients in plan.clients:
                 say(f"{name}, {clients} clients")
-                longest[name, clients] = check(plan, name, clients, tasks)
-                found[name, clients] = measure(plan, name, clients, tasks)
-    return found, longest
+                times[name, clients] = check(plan, name, clients, tasks)
+                found[name, clients] = measure(plan, name, clients, tasks, all_tasks)
+    return found, times
 
 
 # ---- what is written
@@ -269,12 +302,14 @@ def heading(plan, load):
         f"| peers | {compiler[0]}, {os.environ.get('CXXFLAGS', '-O3')} |", "",
         "Answered tasks a second, in thousands, from when all clients stand ready to the last answer: "
         f"medians, and their intervals by bootstrap ({estimates.SURE} of a hundred). All programs had the "
-        f"same tasks, so many as take {OURS} about {plan.seconds:g} seconds, and their runs were "
-        f"interleaved. Each client draws its tasks within the time{but}. "
+        f"same tasks, in all clients together as many for each number of clients: those that take {OURS} about "
+        f"{plan.seconds:g} seconds by {named(plan.clients[0])}. Their runs were interleaved. Each client draws its tasks within the time{but}. "
         f"{tries}. Attempts a task are medians, for each number of clients. The history of a "
         "short run of each program was judged legal"
-        f"{' and whole' if plan.judge.knows_work else ''} for each cell; the longest task is of that run. "
-        "Raw numbers: `measured.csv`.", "",
+        f"{' and whole' if plan.judge.knows_work else ''} for each cell; the times of tasks are of that run, in "
+        "which calls are recorded. Raw numbers: `measured.csv`.", "",
+        "Not measured: more than the processors above, hardware transactions where they are not named, and "
+        "the programs of STAMP itself.", "",
     ]
 
 
@@ -322,16 +357,41 @@ def rates_table(plan, name, found):
     return lines + [""]
 
 
-def conflicts_table(plan, name, found, longest):
-    """Where the most clients met, and the longest task."""
+def conflicts_table(plan, name, found):
+    """Where, and by which kinds of conflict, the most clients met."""
     clients = plan.clients[-1]
-    lines = [f"With {named(clients)}, of a hundred conflicts, and the longest task in milliseconds:", "",
-             row(["Program", *PARTS, "longest"]), "|---|" + "--:|" * (len(PARTS) + 1)]
+    lines = [f"With {named(clients)}, the parts of the heap in which a hundred conflicts were, and conflicts of each "
+             "kind in a hundred tasks:", "",
+             row(["Program", *PARTS, "kinds"]), "|---|" + "--:|" * len(PARTS) + "---|"]
     for program in plan.programs:
-        parts = found[name, clients][program.name].parts()
+        measured = found[name, clients][program.name]
+        parts, kinds = measured.parts(), measured.kinds()
         cells = [f"{part:.0f}" for part in parts] if parts else [""] * len(PARTS)
-        lines.append(row([program.name, *cells, f"{longest[name, clients][program.name]:.1f}"]))
+        lines.append(row([program.name, *cells, ", ".join(f"{kind} {count:.1f}" for kind, count in kinds.items())]))
     return lines + [""]
+
+
+def share(times, part):
+    """The time that this part of all tasks do not exceed."""
+    return times[min(len(times) - 1, int(part * len(times)))]
+
+
+def times_table(plan, name, times):
+    """How long tasks took with the most clients."""
+    clients = plan.clients[-1]
+    lines = [f"With {named(clients)}, microseconds that half of the tasks do not exceed, 99 and 99.9 of a hundred, and "
+             "the longest:", "",
+             row(["Program", "p50", "p99", "p99.9", "longest"]), "|---|--:|--:|--:|--:|"]
+    for program in plan.programs:
+        of_program = times[name, clients][program.name]
+        found = [share(of_program, part) for part in (0.5, 0.99, 0.999, 1)]
+        lines.append(row([program.name, *(f"{microseconds:,.1f}" for microseconds in found)]))
+    return lines + [""]
+
+
+def accesses_line(plan, name):
+    reads, writes = accesses(plan, name)
+    return [f"A task reads {reads:.1f} words and writes {writes:.1f}, in the mean of {COUNTED_TASKS:,} by one client.", ""]
 
 
 def given_up(plan, name, found):
@@ -366,11 +426,38 @@ def draw_pictures(folder, plan, found):
         (folder / f"measured-{name}.svg").write_text(drawn, encoding="utf-8")
 
 
-def write_all(folder, plan, found, longest, load):
+def readme_lines(plan, found):
+    """The picture of the first setting, and for each one the program's rates beside those of its algorithm in C++."""
+    name, options = next(iter(plan.settings.items()))
+    counts = ", ".join(map(str, plan.clients))
+    lines = [f"![completed tasks a second over clients: {title_of(name, options)}](docs/measured-{name}.svg)", "",
+             f"Completed tasks a second, as a ratio to the same TL2 in C++ without a proof, by {counts} clients, with "
+             f"bootstrap intervals of {estimates.SURE} of a hundred:", "",
+             "| Setting | TL2 in C++ | TL2 in C++, sequentially consistent |", "|---|---|---|"]
+    for name, options in plan.settings.items():
+        cells = [", ".join(ratio_cell(found[name, clients][OURS], found[name, clients][beside])
+                           for clients in plan.clients) for beside in BESIDE]
+        lines.append(row([title_of(name, options), *cells]))
+    return lines
+
+
+def write_pages(plan, found, lines):
+    """Puts all into docs/MEASURED.md and README.md, with the raw numbers and the pictures beside the first."""
+    docs = ROOT / "docs"
+    pages.put(docs / "MEASURED.md", pages.below(lines))
+    pages.put(ROOT / "README.md", readme_lines(plan, found))
+    for old in docs.glob("measured-*.svg"):
+        old.unlink()
+    write_raw(docs / "measured.csv", plan, found)
+    draw_pictures(docs, plan, found)
+
+
+def write_all(folder, plan, found, times, load):
     lines = heading(plan, load)
     for name, options in plan.settings.items():
         lines += [f"## {title_of(name, options)}", "", f"![{name}](measured-{name}.svg)", ""]
-        lines += rates_table(plan, name, found) + conflicts_table(plan, name, found, longest)
+        lines += accesses_line(plan, name) + rates_table(plan, name, found)
+        lines += conflicts_table(plan, name, found) + times_table(plan, name, times)
         lines += given_up(plan, name, found)
     whole = "\n".join(lines).rstrip("\n") + "\n"
     folder.mkdir(parents=True, exist_ok=True)
@@ -378,13 +465,12 @@ def write_all(folder, plan, found, longest, load):
     write_raw(folder / "measured.csv", plan, found)
     draw_pictures(folder, plan, found)
     print(whole, end="")
+    return lines
 
 
 def program_to_measure(given):
-    if given:
-        program = Path(given).resolve()
-    else:
-        program = PROGRAM
+    program = Path(given).resolve() if given else PROGRAM
+    if IS_CLONE and not given:
         say("the program (./vacation builds it where that is needed)")
         with open(os.devnull, "rb") as nothing:
             if subprocess.run([ROOT / "vacation", "run"], stdin=nothing).returncode != 0:
@@ -419,9 +505,12 @@ def read_arguments():
     parser.add_argument("--tries", type=int, default=TRIES, metavar="N",
                         help="after so many attempts a task is given up, where a program does that (default: never)")
     parser.add_argument("--peer", action="append", default=[], metavar="NAME=COMMAND",
-                        help="one more program, with the options of a peer; may be given several times")
+                        help="one more program, with the options of a peer, or a shared object (.so) with the C "
+                        "interface; may be given several times")
     parser.add_argument("--to", type=Path, default=ROOT / "benchmark/out", metavar="FOLDER",
                         help="where the table, the raw numbers and the pictures go (default: benchmark/out)")
+    parser.add_argument("--pages", action="store_true",
+                        help="puts the table, the raw numbers and the pictures into docs and README.md, too")
     parser.add_argument("--program", metavar="FILE", help="a program that is built already")
     return parser.parse_args()
 
@@ -432,8 +521,10 @@ def main():
     if load > 0.5:
         say(f"the machine is not quiet (load average {load:.1f}): the numbers will be lower")
     plan = Plan(arguments, program_to_measure(arguments.program))
-    found, longest = measure_all(plan)
-    write_all(arguments.to, plan, found, longest, load)
+    found, times = measure_all(plan)
+    lines = write_all(arguments.to, plan, found, times, load)
+    if arguments.pages:
+        write_pages(plan, found, lines)
     say(f"the table, the raw numbers and the pictures are in {arguments.to}")
 
 

@@ -1,6 +1,7 @@
 """The programs that are measured, and single runs of them."""
 
 import os
+import re
 import shlex
 import subprocess
 import sys
@@ -9,11 +10,16 @@ import time
 from pathlib import Path
 
 ROOT = Path(__file__).resolve().parent.parent
+# The program, where a clone has it once it is built, and where the unpacked tarball has it.
+IS_CLONE = (ROOT / "crates.txt").exists()
+PROGRAM = ROOT / ("crates/vacation/out/vacation" if IS_CLONE else "vacation")
 # The longest that one run of one program may take, in seconds.
 PATIENCE = 300
 OURS = "vacation"
 # What all programs have in common of a conflict's place: the numbers that they tell by these names.
 PARTS = ("heads", "roots", "nodes", "uses", "stocks")
+# The numbers that are told beside these and the conflicts by their kinds.
+OTHERS = ("seconds", "tasks-per-second", "attempts", "attempts-per-task")
 
 
 def give_up(why):
@@ -51,7 +57,7 @@ def numbers_told(errors):
 
 class Run:
     """What one run of a program told: the seconds of its clients, how many tasks were answered and
-    given up, how many attempts that took and where these met conflicts (where it tells them), the
+    given up, how many attempts that took and by which and where these met conflicts (where it tells them), the
     answers of each whole second (the same), and the report of what it left."""
 
     def __init__(self, tally, report, errors):
@@ -63,6 +69,7 @@ class Run:
         self.seconds = told.get("seconds")
         self.attempts = int(told["attempts"]) if "attempts" in told else None
         self.parts = [int(told[part]) for part in PARTS] if all(part in told for part in PARTS) else None
+        self.kinds = {name: int(count) for name, count in told.items() if name not in (*PARTS, *OTHERS)}
         self.by_second = next((line.split(" ")[1:] for line in errors.splitlines()
                                if line.startswith("each-second")), [])
 
@@ -220,5 +227,18 @@ class Judge:
         verdict = done.stdout.splitlines()
         is_whole = verdict and verdict[0].startswith(f"legal calls={calls} ")
         if not is_whole or verdict[1:] != [report]:
+            if verdict and verdict[0].startswith("illegal"):
+                self.explain(name, history, settings)
             give_up(f"of {name} the judge says '{done.stdout.strip()}'; the work has {calls} calls, "
                     f"the report is '{report}'")
+
+    def explain(self, name, history, settings):
+        """Keeps a history that is illegal, and tells on standard error which of its calls contradict each other."""
+        folder = ROOT / "benchmark/out/illegal"
+        folder.mkdir(parents=True, exist_ok=True)
+        log = folder / f"{re.sub(r'[^A-Za-z0-9]+', '-', name)}.log"
+        log.write_text(history, encoding="ascii")
+        words = [ROOT / "explain", log, "--blocks", str(settings["blocks"]), "--html", log.with_suffix(".html"),
+                 "--program", self.program]
+        print("bench: " + " ".join(map(str, words)), file=sys.stderr, flush=True)
+        subprocess.run(words, stdout=sys.stderr, check=False)

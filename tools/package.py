@@ -1,6 +1,6 @@
 #!/usr/bin/env python3
-"""Packs a program that is built already, with its pages, its manual and the harnesses, as a tarball and as a
-package for Debian, with their sums. Its arguments are the program and the folder that gets them. The same
+"""Packs a program that is built already, with its pages, its manual, the benchmark with its peers, the
+interface and the templates, as a tarball and as a package for Debian, with their sums. Its arguments are the program and the folder that gets them. The same
 commit and the same program give the same bytes: owners, modes, times and orders are fixed."""
 
 import gzip
@@ -19,9 +19,12 @@ from shutil import which
 import manual
 
 ROOT = Path(__file__).resolve().parent.parent
-PAGES = ("JUDGE.md", "USING.md", "RULES.md")
+PAGES = ("JUDGE.md", "DATABASES.md", "USING.md", "RULES.md", "PROMISES.md", "THEOREM.md", "GLOSSARY.md",
+         "MEASURED.md")
 LICENSES = ("LICENSE-MIT", "LICENSE-APACHE")
-PEER = "tl2.cpp"
+# What is packed as it stands in the tree, beside pages and licenses: folders, files and pictures.
+AS_IT_STANDS = ("bench", "benchmark", "explain", "tools/explaining", "include", "share", "docs/*.svg", "docs/anomaly",
+                "docs/measured.csv")
 # Debian has a package named vacation already, which answers letters.
 DEBIAN_NAME = "pighvelo"
 PROGRAM_MODE, TEXT_MODE = 0o755, 0o644
@@ -87,21 +90,30 @@ def proved(release):
     return text
 
 
-def peer_files():
-    """The peer that is an example, and the headers that it and they include."""
-    found, left = [], [PEER]
-    while left:
-        name = left.pop()
-        if name not in found:
-            found.append(name)
-            left += re.findall(r'^#include "(.+)"$', page(f"benchmark/peers/{name}"), flags=re.M)
-    return [f"benchmark/peers/{name}" for name in sorted(found)]
+def files_as_they_stand():
+    """The files of the tree that are packed without a change, each with its mode."""
+    git = ("git", "-c", f"safe.directory={ROOT}", "ls-files", "--cached", "--others", "--exclude-standard")
+    names = [name for name in said(*git, *AS_IT_STANDS).splitlines() if not name.endswith(".md")]
+    return {name: PROGRAM_MODE if os.access(ROOT / name, os.X_OK) else TEXT_MODE for name in names}
 
 
-def harness_files():
-    """The files of both harnesses, each with whether it is a program."""
-    databases = sorted(file.relative_to(ROOT) for file in (ROOT / "benchmark/databases").glob("*.py"))
-    return {str(name): os.access(ROOT / name, os.X_OK) for name in [*peer_files(), *databases]}
+def without_dead_links(name, packed):
+    """A page whose links to what is not packed are plain words."""
+    def kept(link):
+        mark, words, target = link.groups()
+        path = os.path.normpath(os.path.join(os.path.dirname(name), target.partition("#")[0] or os.path.basename(name)))
+        if re.match(r"https?:", target) or path in packed:
+            return link.group(0)
+        return "" if mark else words
+
+    return re.sub(r"(!?)\[([^\]]*)\]\(([^)\s]+)\)", kept, page(name))
+
+
+def pages():
+    """The pages that are packed."""
+    names = ["benchmark/README.md", *(f"docs/{name}" for name in PAGES)]
+    packed = {*names, *files_as_they_stand()}
+    return {name: without_dead_links(name, packed) for name in names}
 
 
 def texts(release):
@@ -117,10 +129,12 @@ def texts(release):
     made = {f"share/{name}": text.encode() for name, text in share.items()}
     made["PROVED"] = proved(release).encode()
     files = {name: (data, TEXT_MODE) for name, data in made.items()}
-    for name in [*LICENSES, *[f"docs/{name}" for name in PAGES]]:
+    for name in LICENSES:
         files[name] = ((ROOT / name).read_bytes(), TEXT_MODE)
-    for name, is_program in harness_files().items():
-        files[name] = ((ROOT / name).read_bytes(), PROGRAM_MODE if is_program else TEXT_MODE)
+    for name, text in pages().items():
+        files[name] = (text.encode(), TEXT_MODE)
+    for name, mode in files_as_they_stand().items():
+        files[name] = ((ROOT / name).read_bytes(), mode)
     return files
 
 
@@ -190,6 +204,8 @@ def debian_files(release, files):
             found[f"usr/{name}.gz"] = (zipped(data, release.seconds), mode)
         else:
             found[f"usr/{name}" if name.startswith("share/") else f"{documents}/{name}"] = (data, mode)
+        if name.startswith("include/"):
+            found[f"usr/include/vacation/{Path(name).name}"] = (data, mode)
     return found
 
 

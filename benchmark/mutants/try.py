@@ -17,14 +17,16 @@ from pathlib import Path
 
 HERE = Path(__file__).resolve().parent
 PEERS = HERE.parent / "peers"
-PROGRAM = HERE.parent.parent / "crates/vacation/out/vacation"
-# Few items and long tasks: clients meet often.
+ROOT = HERE.parent.parent
+# The program, where a clone has it once it is built, or the unpacked tarball.
+PROGRAM = ROOT / ("crates/vacation/out/vacation" if (ROOT / "crates.txt").exists() else "vacation")
+# Few items and long tasks: clients meet often. The options of `vacation tasks` may be given others (--work).
 LOAD = {"clients": 4, "tasks": 1000, "items": 8, "asks": 6, "user": 60, "blocks": 256}
-WORDS = 16 + 8 * LOAD["blocks"]
 TRIES, PATIENCE = 100_000, 2
 # A runtime that has lost its way may log reads without end.
 MOST_MEMORY = 3 << 30
 COMPILERS = 2
+FLAGS = os.environ.get("CXXFLAGS", "-O2").split()
 
 
 class Mutant:
@@ -52,7 +54,7 @@ class Mutant:
         shutil.copytree(PEERS, sources)
         (sources / self.file).write_text(self.text(), encoding="utf-8")
         program = folder / f"{self.name}.out"
-        words = [os.environ.get("CXX", "g++"), "-std=c++17", "-O2", "-w", "-pthread",
+        words = [os.environ.get("CXX", "g++"), "-std=c++17", *FLAGS, "-w", "-pthread",
                  sources / f"{self.peer}.cpp", "-o", program]
         subprocess.run(words, check=True)
         return program
@@ -66,17 +68,17 @@ def limit():
 class Trial:
     """Runs of one kind: whether histories or attempts are judged, and with pauses or without."""
 
-    def __init__(self, program, mode, jitters, runs):
-        self.program, self.mode, self.jitters, self.runs = program, mode, jitters, runs
+    def __init__(self, program, load, mode, jitters, runs):
+        self.program, self.load, self.mode, self.jitters, self.runs = program, load, mode, jitters, runs
         told = subprocess.run([program, "judge", "--help"], capture_output=True, text=True, check=True)
         self.knows_work = "--tasks" in told.stdout
 
     def judge(self, lines, tasks):
         """What is wrong with the lines, or nothing, and how many were looked at until then."""
         if self.mode == "--attempts":
-            words = [self.program, "opaque", "--words", str(WORDS)]
+            words = [self.program, "opaque", "--words", str(16 + 8 * self.load["blocks"])]
         else:
-            words = [self.program, "judge", "--blocks", str(LOAD["blocks"])]
+            words = [self.program, "judge", "--blocks", str(self.load["blocks"])]
             words += ["--tasks", tasks] if self.knows_work else []
         done = subprocess.run(words, input=lines, capture_output=True, text=True)
         verdict = done.stdout.split("\n")[0].split(" ")
@@ -89,7 +91,7 @@ class Trial:
     def run(self, mutant, tasks, seed):
         """What was wrong with a run, or nothing, and how many lines were looked at until then."""
         jitter = ["--jitter", str(seed)] if self.jitters else []
-        words = [mutant, "--blocks", str(LOAD["blocks"]), "--tries", str(TRIES), "--patience", str(PATIENCE),
+        words = [mutant, "--blocks", str(self.load["blocks"]), "--tries", str(TRIES), "--patience", str(PATIENCE),
                  self.mode, *jitter]
         with open(tasks, "rb") as stdin:
             done = subprocess.run(words, stdin=stdin, capture_output=True, text=True, preexec_fn=limit)
@@ -109,11 +111,28 @@ class Trial:
         return f"not in {self.runs} runs, {count:,}"
 
 
-def draw_tasks(program, runs, folder):
-    options = [word for name, value in LOAD.items() for word in (f"--{name}", str(value))]
+def draw_tasks(program, load, runs, folder):
+    options = [word for name, value in load.items() for word in (f"--{name}", str(value))]
     for seed in range(1, runs + 1):
         with open(folder / f"tasks-{seed}", "wb") as output:
             subprocess.run([program, "tasks", *options, "--seed", str(seed)], stdout=output, check=True)
+
+
+def build_all(mutants, folder):
+    """The programs of the mutants, in the folder, where those that are there already stay."""
+    built = [folder / f"{mutant.name}.out" for mutant in mutants]
+    if all(program.exists() for program in built):
+        return built
+    with ThreadPoolExecutor(COMPILERS) as compilers:
+        return list(compilers.map(lambda mutant: mutant.build(folder), mutants))
+
+
+def read_load(text):
+    """The options NAME=NUMBER,.. over those of the load."""
+    given = dict(part.split("=") for part in text.split(",")) if text else {}
+    if not given.keys() <= LOAD.keys():
+        raise ValueError(text)
+    return LOAD | {name: int(value) for name, value in given.items()}
 
 
 def read_arguments():
@@ -121,6 +140,12 @@ def read_arguments():
     parser.add_argument("--program", type=Path, default=PROGRAM, help="the program that judges")
     parser.add_argument("--runs", type=int, default=20, help="the most runs of each kind (default: 20)")
     parser.add_argument("--only", action="append", metavar="NAME", help="one of the edits")
+    parser.add_argument("--work", type=read_load, default="", metavar="NAME=N,..",
+                        help=f"options of the drawn tasks, in the place of {LOAD}")
+    parser.add_argument("--built", type=Path, metavar="FOLDER", help="where --build has built the edits")
+    parser.add_argument("--histories", action="store_true", help="judges no attempts")
+    parser.add_argument("--build", type=Path, metavar="FOLDER",
+                        help="builds each edit into a folder, as NAME.out, and runs none")
     parser.add_argument("--check", action="store_true", help="looks whether each edit can be made, and runs none")
     return parser.parse_args()
 
@@ -132,17 +157,20 @@ def main():
     if arguments.check:
         print(f"mutants: {len([mutant.text() for mutant in mutants])} edits can be made")
         return
+    if arguments.build:
+        build_all(mutants, arguments.build)
+        return
     has_opaque = subprocess.run([arguments.program, "opaque", "--help"], capture_output=True).returncode == 0
-    modes = ["--history"] + (["--attempts"] if has_opaque else [])
-    trials = [Trial(arguments.program, mode, jitters, arguments.runs) for mode in modes for jitters in (False, True)]
+    modes = ["--history"] + (["--attempts"] if has_opaque and not arguments.histories else [])
+    trials = [Trial(arguments.program, arguments.work, mode, jitters, arguments.runs)
+              for mode in modes for jitters in (False, True)]
     heads = [("history" if trial.mode == "--history" else "attempts") + (", jitter" if trial.jitters else "")
              for trial in trials]
     print(f"| Mistake | Peer | {' | '.join(heads)} |\n|---|---|{'---|' * len(heads)}", flush=True)
     with tempfile.TemporaryDirectory() as name:
         folder = Path(name)
-        draw_tasks(arguments.program, arguments.runs, folder)
-        with ThreadPoolExecutor(COMPILERS) as compilers:
-            built = list(compilers.map(lambda mutant: mutant.build(folder), mutants))
+        draw_tasks(arguments.program, arguments.work, arguments.runs, folder)
+        built = build_all(mutants, arguments.built or folder)
         for mutant, program in zip(mutants, built):
             cells = [trial.cell(program, folder) for trial in trials]
             print(f"| {mutant.name} | {mutant.peer} | {' | '.join(cells)} |", flush=True)

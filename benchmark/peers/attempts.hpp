@@ -28,8 +28,15 @@ inline unsigned part_of(Addr addr)
     return word < 4 ? 2 : word == 4 ? 3 : 4;
 }
 
+constexpr Word MOST_ABANDONED_IN_TURN = 3;
+
 struct Attempts {
     Word begun = 0;
+    // Those that the driver ended, because what they had read was of no one state of the heap.
+    Word abandoned = 0;
+    // One call was abandoned so often in turn that the heap itself must be broken: its client does no
+    // more.
+    bool is_lost = false;
     std::array<Word, MOST_CONFLICTS> conflicts{};
     std::array<Word, PART_NAMES.size()> parts{};
 
@@ -44,6 +51,7 @@ struct Attempts {
     Attempts& operator+=(const Attempts& other)
     {
         begun += other.begun;
+        abandoned += other.abandoned;
         for (std::size_t i = 0; i < conflicts.size(); ++i)
             conflicts[i] += other.conflicts[i];
         for (std::size_t i = 0; i < parts.size(); ++i)
@@ -67,6 +75,8 @@ std::string text_of(const Attempts& attempts, const Names& names)
     append_counts(text, names, attempts.conflicts);
     if (!names.empty())
         append_counts(text, PART_NAMES, attempts.parts);
+    if (attempts.abandoned != 0)
+        text.append(" abandoned ").append(std::to_string(attempts.abandoned));
     return text;
 }
 

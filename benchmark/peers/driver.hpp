@@ -38,6 +38,7 @@
 #include <cstdio>
 #include <exception>
 #include <optional>
+#include <stdexcept>
 #include <string>
 #include <thread>
 #include <vector>
@@ -100,8 +101,11 @@ void run_call(Client& client, const Task& task, const Call* call, const Options&
 template <class Client>
 void run_read(Client& client, const Run& run, std::size_t number)
 {
-    for (const Call& call : run.calls[number].calls)
+    for (const Call& call : run.calls[number].calls) {
         run_call(client, call.task, &call, run.options, run.progress[number]);
+        if (client.attempts().is_lost)
+            break;
+    }
 }
 
 // The same, each task drawn right before its call. Those of a history are there as calls, too.
@@ -110,7 +114,7 @@ void run_drawn(Client& client, const Run& run, std::size_t number)
 {
     const Call* calls = run.options.history ? run.calls[number].calls.data() : nullptr;
     TaskDraws draws(run.options.drawn, run.calls[number].client);
-    for (std::uint64_t i = 0; i < run.options.drawn.tasks; ++i) {
+    for (std::uint64_t i = 0; i < run.options.drawn.tasks && !client.attempts().is_lost; ++i) {
         const Call* call = calls == nullptr ? nullptr : calls + i;
         run_call(client, draws.next(), call, run.options, run.progress[number]);
     }
@@ -122,7 +126,7 @@ void run_client(Runtime& runtime, const Run& run, std::size_t number, StartLine&
 {
     const std::uint32_t name = run.calls[number].client;
     Jittered::seed(run.options.jitter * 1'000'003 + number);
-    Watch watch(name, run.options.jitter != 0, run.files[number]);
+    Watch watch(name, run.options.jitter != 0, run.files[number], words_of(run.options.blocks));
     const Seat seat{static_cast<std::uint32_t>(number),
                     number == 0 ? 0 : static_cast<unsigned>(number - 1) % LISTS,
                     run.options.is_watched() ? &watch : nullptr};
@@ -153,6 +157,29 @@ void run_clients(Runtime& runtime, const Run& run)
         thread.join();
 }
 
+// The words that the clients left, for the report. A memory that is wrong may have left words that
+// are no state of the heap: then a walk leads out of it, or around in a circle.
+class LeftMemory {
+public:
+    LeftMemory(const Words& words, std::size_t& accesses) : words_(&words), accesses_(&accesses) {}
+
+    Word read(Addr addr) const
+    {
+        if (addr >= words_->size() || ++*accesses_ > most_accesses(words_->size()))
+            abandon();
+        return (*words_)[addr];
+    }
+
+    [[noreturn]] void abandon() const
+    {
+        throw std::runtime_error("the words that the clients left are no state of the heap");
+    }
+
+private:
+    const Words* words_;
+    std::size_t* accesses_;
+};
+
 // All of the child process: the opening, the clients, and the report of what they left.
 template <class Runtime>
 int run_child(const Run& run)
@@ -162,8 +189,9 @@ int run_child(const Run& run)
     StartLine none;
     run_client(runtime, run, 0, none);
     run_clients(runtime, run);
-    Words words = runtime.words();
-    run.board.report = report(PlainMemory(words.data()));
+    const Words words = runtime.words();
+    std::size_t accesses = 0;
+    run.board.report = report(LeftMemory(words, accesses));
     run.board.is_reported.store(true);
     return 0;
 }
@@ -200,6 +228,10 @@ void print_end(const Run& run, const End& end, const Names& conflicts, std::FILE
     const double share = answered > 0 ? static_cast<double>(attempts.begun) / answered : 0;
     std::fprintf(stderr, "seconds %.6f tasks-per-second %.0f %s attempts-per-task %.3f\n", seconds,
                  rate, text_of(attempts, conflicts).c_str(), share);
+    if (attempts.abandoned != 0)
+        std::fprintf(stderr, "abandoned: %llu attempts had read words of different states of the heap, "
+                             "which led to where no state leads: this memory is not opaque\n",
+                     static_cast<unsigned long long>(attempts.abandoned));
     std::fprintf(stderr, "each-second");
     for (std::size_t i = 0; i < end.by_second.size(); ++i)
         std::fprintf(stderr, " %llu", static_cast<unsigned long long>(

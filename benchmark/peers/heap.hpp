@@ -1,9 +1,10 @@
 // The heap of words in which all peers keep their state, and its free blocks.
 //
-// A memory is anything with `Word read(Addr)` and `void write(Addr, Word)`, by value: a pointer to
-// what does the work. Each peer has its own, and the code over it is the same for all: what
-// differs between the peers is how a word is read and written, and what makes a task one
-// transaction. `Words` begin on a cache line by `LineAllocator`, which other arrays of a peer have
+// A memory is anything with `Word read(Addr)`, `void write(Addr, Word)` and `void abandon()`, by
+// value: a pointer to what does the work. Each peer has its own, and the code over it is the same
+// for all: what differs between the peers is how a word is read and written, and what makes a task
+// one transaction. `abandon` does not return: it ends an attempt whose walk is where no state of the
+// heap leads, because its runtime let it read words of different states. `Words` begin on a cache line by `LineAllocator`, which other arrays of a peer have
 // too; what its clients write apart stands `APART`.
 #pragma once
 
@@ -76,11 +77,17 @@ constexpr std::uint32_t MOST_BLOCKS = 262'144;
 // had none.
 constexpr unsigned RUN_BLOCKS = 64;
 
+// How many words a heap of so many blocks has.
+constexpr std::size_t words_of(std::size_t blocks)
+{
+    return FIRST_BLOCK + BLOCK_WORDS * blocks;
+}
+
 // The words of a heap of which every block is free: list 0 has the first eighth of the blocks,
 // list 1 the next and so on, and each list ascends.
 inline Words spread_words(std::uint32_t blocks)
 {
-    Words words(FIRST_BLOCK + std::size_t{BLOCK_WORDS} * blocks, 0);
+    Words words(words_of(blocks), 0);
     std::uint32_t first = 0;
     for (unsigned list = 0; list < LISTS; ++list) {
         const std::uint32_t end = first + (blocks + LISTS - 1 - list) / LISTS;
@@ -153,6 +160,8 @@ public:
     explicit PlainMemory(Word* words) : words_(words) {}
     Word read(Addr addr) const { return words_[addr]; }
     void write(Addr addr, Word value) const { words_[addr] = value; }
+    // (nothing leads out of one state: the state itself is broken)
+    [[noreturn]] PRIVATE_TO_THREAD void abandon() const { std::abort(); }
 
 private:
     Word* words_;

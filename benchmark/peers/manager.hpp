@@ -331,31 +331,35 @@ Outcome drop_customer(Memory memory, unsigned start, Id id)
 
 // ---- the report
 
-// Adds up the items below a node, and answers how many there are.
+// Adds up the items below a node, which so many nodes are above, and answers how many there are.
 template <class Memory>
-Word sum_items(Memory memory, Addr node, Report& all)
+Word sum_items(Memory memory, Addr node, unsigned depth, Report& all)
 {
     if (node == 0)
         return 0;
+    if (depth == Path::LEVELS)
+        memory.abandon();
     all.used += memory.read(node + USED);
     all.free += memory.read(node + FREE);
     all.total += memory.read(node + TOTAL);
-    return 1 + sum_items(memory, follow(memory, node + LEFT), all) +
-           sum_items(memory, follow(memory, node + RIGHT), all);
+    return 1 + sum_items(memory, follow(memory, node + LEFT), depth + 1, all) +
+           sum_items(memory, follow(memory, node + RIGHT), depth + 1, all);
 }
 
 template <class Memory>
-Word sum_customers(Memory memory, Addr node, Report& all)
+Word sum_customers(Memory memory, Addr node, unsigned depth, Report& all)
 {
     if (node == 0)
         return 0;
+    if (depth == Path::LEVELS)
+        memory.abandon();
     for (Addr booking = follow(memory, node + BOOKINGS); booking != 0;
          booking = follow(memory, booking + NEXT)) {
         all.bookings += memory.read(booking + UNITS);
         all.billed += memory.read(booking + SUM);
     }
-    return 1 + sum_customers(memory, follow(memory, node + LEFT), all) +
-           sum_customers(memory, follow(memory, node + RIGHT), all);
+    return 1 + sum_customers(memory, follow(memory, node + LEFT), depth + 1, all) +
+           sum_customers(memory, follow(memory, node + RIGHT), depth + 1, all);
 }
 
 // How many entries each table has, and what their numbers add up to.
@@ -363,10 +367,10 @@ template <class Memory>
 Report report(Memory memory)
 {
     Report all{};
-    all.cars = sum_items(memory, follow(memory, root_of(Kind::Car)), all);
-    all.flights = sum_items(memory, follow(memory, root_of(Kind::Flight)), all);
-    all.rooms = sum_items(memory, follow(memory, root_of(Kind::Room)), all);
-    all.customers = sum_customers(memory, follow(memory, CUSTOMERS), all);
+    all.cars = sum_items(memory, follow(memory, root_of(Kind::Car)), 0, all);
+    all.flights = sum_items(memory, follow(memory, root_of(Kind::Flight)), 0, all);
+    all.rooms = sum_items(memory, follow(memory, root_of(Kind::Room)), 0, all);
+    all.customers = sum_customers(memory, follow(memory, CUSTOMERS), 0, all);
     return all;
 }
 

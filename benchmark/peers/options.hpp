@@ -27,7 +27,8 @@ struct Options {
     bool print = false;
     Settings drawn;
 
-    bool is_watched() const { return attempts || jitter != 0; }
+    // The accesses of attempts are looked at, except in runs that are measured.
+    bool is_watched() const { return history || attempts || jitter != 0; }
 };
 
 constexpr char USAGE[] =

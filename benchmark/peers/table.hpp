@@ -28,6 +28,10 @@ inline Addr opposite(Addr side)
 // word of the node above; so it tells that node and the side.
 class Path {
 public:
+    // The most links of a path. A tree of 262,144 nodes has at most 36 on a way down, so a longer
+    // way is one through words of different states.
+    static constexpr unsigned LEVELS = 40;
+
     PRIVATE_TO_THREAD Addr link(unsigned depth) const { return links_[depth]; }
     PRIVATE_TO_THREAD void set(unsigned depth, Addr link) { links_[depth] = link; }
     PRIVATE_TO_THREAD Addr side(unsigned depth) const { return links_[depth] % BLOCK_WORDS; }
@@ -37,10 +41,18 @@ public:
     }
 
 private:
-    // A tree of 262,144 nodes has at most 36 on a way down.
-    static constexpr unsigned LEVELS = 40;
     Addr links_[LEVELS];
 };
+
+// Makes a link the next of a path, behind that at `depth`, and answers its depth.
+template <class Memory>
+unsigned push_link(Memory memory, Path& path, unsigned depth, Addr link)
+{
+    if (depth + 1 == Path::LEVELS)
+        memory.abandon();
+    path.set(depth + 1, link);
+    return depth + 1;
+}
 
 // Where a way down ends: how many nodes are above, and the node, or 0.
 struct WayDown {
@@ -73,7 +85,7 @@ WayDown descend(Memory memory, Addr root, Word key, Path& path)
         if (found == key)
             break;
         const Addr link = node + (key < found ? LEFT : RIGHT);
-        path.set(++depth, link);
+        depth = push_link(memory, path, depth, link);
         node = follow(memory, link);
     }
     return {depth, node};
@@ -220,7 +232,7 @@ template <class Memory>
 WayDown descend_to_least(Memory memory, Path& path, unsigned depth, Addr node)
 {
     for (Addr left; (left = follow(memory, node + LEFT)) != 0; node = left)
-        path.set(++depth, node + LEFT);
+        depth = push_link(memory, path, depth, node + LEFT);
     return {depth, node};
 }
 
@@ -228,8 +240,8 @@ WayDown descend_to_least(Memory memory, Path& path, unsigned depth, Addr node)
 template <class Memory>
 void unlink_with_successor(Memory memory, Path& path, WayDown end, Addr left, Addr right)
 {
-    path.set(end.depth + 1, end.node + RIGHT);
-    const WayDown last = descend_to_least(memory, path, end.depth + 1, right);
+    const unsigned below = push_link(memory, path, end.depth, end.node + RIGHT);
+    const WayDown last = descend_to_least(memory, path, below, right);
     const Addr child = follow(memory, last.node + RIGHT);
     const bool successor_red = is_red(memory, last.node);
     memory.write(path.link(last.depth), child);
@@ -239,7 +251,7 @@ void unlink_with_successor(Memory memory, Path& path, WayDown end, Addr left, Ad
     memory.write(last.node + RIGHT, memory.read(end.node + RIGHT));
     paint(memory, last.node, memory.read(end.node + COLOUR));
     memory.write(path.link(end.depth), last.node);
-    path.set(end.depth + 1, last.node + RIGHT);
+    path.set(below, last.node + RIGHT);
     if (!successor_red)
         add_black(memory, path, last.depth, child);
 }

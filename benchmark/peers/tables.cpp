@@ -94,6 +94,7 @@ struct TableMemory {
         return words.read(addr);
     }
     void write(Addr addr, Word value) const { words.write(addr, value); }
+    [[noreturn]] void abandon() const { words.abandon(); }
 };
 
 class TablesRuntime {

@@ -102,6 +102,12 @@ public:
         return true;
     }
 
+    void undo()
+    {
+        put_back();
+        release();
+    }
+
     // A writer's count is its version; what others read was there at the version that they find.
     Word place() const { return place_; }
 
@@ -147,13 +153,19 @@ private:
             place_ = 2 * writers_.load() + 1;
     }
 
-    // Puts back what was there, the last word first, and leaves.
-    [[noreturn, gnu::cold, gnu::noinline]] void leave(Conflict conflict, Addr stripe)
+    // Puts back what was there, the last word first.
+    void put_back()
     {
         for (auto old = old_.rbegin(); old != old_.rend(); ++old) {
             Steps::step();
             words_[old->addr].store(old->value, std::memory_order_relaxed);
         }
+    }
+
+    // Puts back what was there, and leaves.
+    [[noreturn, gnu::cold, gnu::noinline]] void leave(Conflict conflict, Addr stripe)
+    {
+        put_back();
         see_place();
         release();
         exit_.leave(conflict, stripe);

@@ -1,6 +1,7 @@
 // Looking on while attempts run, where that is asked for: a line for each attempt (`--attempts`),
 // and pauses that are drawn between the steps of all clients (`--jitter`), so that these meet
-// where they seldom do.
+// where they seldom do. An attempt that is looked at ends where its reads lead it to a word that the
+// heap does not have, or around in a circle: only a runtime that is not opaque does that.
 #pragma once
 
 #include "heap.hpp"
@@ -58,22 +59,42 @@ inline void write_all(int file, std::string_view text)
     }
 }
 
+// More accesses than any task has over a heap of so many words. Most has a `leave`, which looks an
+// item up for each booking, two blocks in all, or an `update` with 32 changes of deep tables.
+constexpr std::size_t most_accesses(std::size_t words)
+{
+    return 16'384 + 8 * words;
+}
+
 // What looks on at one client's attempts.
 class Watch {
 public:
     static constexpr int NO_FILE = -1;
 
     // Each attempt's line goes to the file as soon as the attempt has ended, behind its place and
-    // its beginning.
-    Watch(std::uint32_t client, bool jitters, int file)
-        : client_(client), jitters_(jitters), file_(file)
+    // its beginning. The heap has so many words.
+    Watch(std::uint32_t client, bool jitters, int file, std::size_t words)
+        : client_(client), jitters_(jitters), file_(file), words_(words)
     {
     }
 
     // To be called before an attempt begins, ..
-    PRIVATE_TO_THREAD void begin() { begin_ = nanoseconds(); }
+    PRIVATE_TO_THREAD void begin()
+    {
+        if (file_ != NO_FILE)
+            begin_ = nanoseconds();
+    }
     // .. when its body begins, ..
-    PRIVATE_TO_THREAD void start() { seen_.clear(); }
+    PRIVATE_TO_THREAD void start()
+    {
+        seen_.clear();
+        accesses_ = 0;
+    }
+    // .. before it reads or writes a word (false: it must not), ..
+    PRIVATE_TO_THREAD bool may_access(Addr addr)
+    {
+        return addr < words_ && ++accesses_ <= most_accesses(words_);
+    }
     // .. between the steps of its body, ..
     PRIVATE_TO_THREAD void step()
     {
@@ -116,6 +137,8 @@ private:
     std::uint32_t client_;
     bool jitters_;
     int file_;
+    std::size_t words_;
+    std::size_t accesses_ = 0;
     Word begin_ = 0;
     std::vector<Seen> seen_;
 };
@@ -136,7 +159,7 @@ struct Watched {
 
     Word read(Addr addr) const
     {
-        watch->step();
+        look(addr);
         const Word value = memory.read(addr);
         watch->saw(addr, value);
         return value;
@@ -144,9 +167,19 @@ struct Watched {
 
     void write(Addr addr, Word value) const
     {
-        watch->step();
+        look(addr);
         memory.write(addr, value);
         watch->wrote(addr, value);
+    }
+
+    [[noreturn]] void abandon() const { memory.abandon(); }
+
+private:
+    void look(Addr addr) const
+    {
+        if (!watch->may_access(addr))
+            memory.abandon();
+        watch->step();
     }
 };
 

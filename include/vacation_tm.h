@@ -1,0 +1,63 @@
+/* The C interface of a transactional memory of words. A shared object with these functions is run by
+ * the program `peer`, in which a number of clients do the tasks of the reservation system on it:
+ *
+ *     cc -O2 -fPIC -shared -I include mine.c -o mine.so
+ *     vacation tasks --tasks 1000 --items 8 > work
+ *     peer ./mine.so --history --jitter 1 < work | vacation judge --tasks work
+ *     peer ./mine.so --attempts --jitter 1 < work | vacation opaque
+ *
+ * Each client is a thread of its own and calls with its own value of `tm_client`. The functions are
+ * written in any language that makes C symbols. Examples: share/vacation/templates.
+ */
+#ifndef VACATION_TM_H
+#define VACATION_TM_H
+
+#include <setjmp.h>
+#include <stddef.h>
+#include <stdint.h>
+
+#ifdef __cplusplus
+extern "C" {
+#endif
+
+/* Called once, before any client: the memory begins with these words, whose addresses are 0 to
+ * count - 1. The array stays where it is, on a cache line, and may be used in place: at the end the
+ * words of the memory are read from it. Returns what `tm_client` gets. */
+void *tm_open(uint64_t *words, size_t count);
+
+/* Called once for each client, in its thread. Client 0 opens the system alone, before the others
+ * begin. Returns what the calls below get. */
+void *tm_client(void *shared, unsigned number);
+
+/* Begins an attempt. It ends by `tm_commit`, or by a conflict: `tm_read`, `tm_write` or `tm_commit`
+ * returns a number that is not 0, or any function from `tm_begin` on jumps by
+ * `siglongjmp(*way_out, 1)`. The buffer may be copied: a library with a buffer of its own gets this
+ * one in its place. After a conflict the client holds no lock, and the task is tried again. */
+void tm_begin(void *client, sigjmp_buf *way_out);
+int tm_read(void *client, uint32_t addr, uint64_t *value);
+int tm_write(void *client, uint32_t addr, uint64_t value);
+int tm_commit(void *client);
+
+/* Returns the place of the attempt that has ended, in the order in which the attempts took effect:
+ * 2 * v if it wrote version v; 2 * v + 1 if it wrote nothing, or met a conflict, and its reads are of
+ * version v. A memory without versions returns 0: its calls stand by their beginning, and
+ * `vacation judge --any-order` looks for an order. */
+uint64_t tm_place(void *client);
+
+/* Optional. Ends an attempt that the driver abandons, because what it has read leads its task to
+ * where no state leads: gives back its locks and its writes. A memory that takes no lock and writes
+ * no word before `tm_commit` needs none. */
+void tm_abandon(void *client);
+
+/* Optional. Called once, after all clients: a memory that keeps its words elsewhere writes them back
+ * to the array of `tm_open`. */
+void tm_close(void *shared);
+
+/* A function of the program, not of the object. The object may call it between its steps, which
+ * `--jitter` then draws apart. */
+void vacation_step(void);
+
+#ifdef __cplusplus
+}
+#endif
+#endif
