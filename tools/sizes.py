@@ -2,7 +2,9 @@
 """How large the house is: lines of code, contracts, definitions and proofs of each library, how many clauses
 its functions have, and which names of definitions two crates have. tools/ledger.py writes the table into
 docs/ledger/SIZES.md. With a folder as its argument, another tree that is laid out so, it prints that tree's
-table, so that two states of the house can be held against each other."""
+table, so that two states of the house can be held against each other. With --objects, in front of the folder if one
+is given, it prints what a call of a shared object costs its readers: lines and clauses of the crates of objects,
+functions with many parameters, the walks of docs/ARCHITECTURE.md, and how many lines of definitions a call cites."""
 
 import re
 import sys
@@ -10,6 +12,14 @@ from dataclasses import dataclass
 from pathlib import Path
 
 WIDE = 120
+MOST_PARAMETERS = 6
+HOP = re.compile(r"^\d+\. (a closure in )?`([\w:]+)` \(`(\w+/src/\w+\.rt)`\)", re.M)
+
+# The crates of objects; the calls that users of these make; the definition by which the core theorem enters.
+OBJECTS = ("stm_object", "vac_manager", "bank", "ring")
+CALLS = (("vac_manager/src/manager.rt", "Manager::call"), ("stm_object/src/shared.rt", "Shared::call"),
+         ("stm_object/src/shared.rt", "Shared::run"))
+CORE = ("WasDecided",)
 TESTS = re.compile(r"_rows$|_day$|^vacation$")
 DEFINED = re.compile(r"^(?:pub (?:record|data|inductive)|(?:abbrev|record|data) pub|pub abbrev) ([^\s:({]+)", re.M)
 
@@ -108,6 +118,116 @@ def row(name, sizes):
             f"| {sizes.functions} | {sizes.clauses} | {sizes.most} | {sizes.wide} |")
 
 
-if __name__ == "__main__":
+def parameters(text):
+    """Returns the names of the parameters of a function from its text without comments."""
+    at = text.index("(", after_name(text))
+    inner, depth, found = text[at + 1:], 0, [""]
+    for char in inner:
+        if char in ")]" and depth == 0:
+            break
+        depth += (char in "([<") - (char in ")]>")
+        if char == "," and depth == 0:
+            found.append("")
+        else:
+            found[-1] += char
+    return [one.split(":")[0].strip() for one in found if one.strip()]
+
+
+def after_name(text):
+    """Returns the position behind the name of a function and its type parameters."""
+    at = re.search(r"\bfn \w+", text).end()
+    if not text[at:].startswith("<"):
+        return at
+    depth = 0
+    for place in range(at, len(text)):
+        depth += (text[place] == "<") - (text[place] == ">" and text[place - 1] != "-")
+        if depth == 0:
+            return place
+    return at
+
+
+def long_functions(root, ledger):
+    """Returns the functions with too many parameters, each with its number of parameters."""
+    found = []
+    for path in sorted(root.glob("crates/*/src/**/*.rt")):
+        for function in ledger.functions(path):
+            count = len(parameters(ledger.masked(path)[function.start:]))
+            if count > MOST_PARAMETERS:
+                found.append((f"{path.relative_to(root / 'crates')}: {function.title()}", count))
+    return found
+
+
+def walks(root):
+    """Returns the walks of the page on architecture by title. A walk is a list of hops: the name of a function, its
+    file, and whether the hop is a closure in this function."""
+    text, found = (root / "docs" / "ARCHITECTURE.md").read_text(), {}
+    for title, part in re.findall(r"^### (From .*?)\n(.*?)(?=^##)", text, re.M | re.S):
+        hops = HOP.findall(part)
+        if hops:
+            found[title] = [(name, file, bool(closure)) for closure, name, file in hops]
+    return found
+
+
+def walk_faults(root, ledger):
+    """Returns the faults of the walks: a function that is not in its file, or does not call the next one."""
+    faults = []
+    for title, hops in walks(root).items():
+        for (name, file, _), (then, _, is_closure) in zip(hops, hops[1:] + [("", "", True)]):
+            path = root / "crates" / file
+            here = [f for f in ledger.functions(path) if named(f) == name] if path.is_file() else []
+            if len(here) != 1:
+                faults.append(f"{title}: {file} has {len(here)} functions {name}")
+            elif not is_closure and not calls(here[0], ledger.masked(path), then):
+                faults.append(f"{title}: {name} does not call {then}")
+    return faults
+
+
+def named(function):
+    """Returns the name of a function behind that of its type."""
+    return f"{function.owner}::{function.name}" if function.owner else function.name
+
+
+def calls(function, text, name):
+    """Returns whether a function, in the text of its file, calls a function of this name: on itself, if both are of
+    one type."""
+    owner, _, method = name.rpartition("::")
+    body = text[function.body:function.end]
+    if owner and owner == function.owner:
+        return re.search(rf"\b(?:self\.|Self::){method}\(", body) is not None
+    return re.search(rf"(?<!\bself\.)\b{method}\(", body) is not None
+
+
+def objects(root, ledger):
+    """Returns the tables of what a call of a shared object costs its readers."""
+    import budget
+    ledger.ROOT, ledger.CRATES = root, root / "crates"
+    folders = [root / "crates" / name for name in OBJECTS if (root / "crates" / name).is_dir()]
+    out = ["| Crate | Lines | of these proofs | Functions | Clauses | Most |", "|---|--:|--:|--:|--:|--:|"]
+    for folder in folders:
+        of = sizes_of(folder, ledger.functions)
+        lines = of.source + of.specs + of.proofs
+        out.append(f"| {folder.name} | {lines} | {of.proofs} | {of.functions} | {of.clauses} | {of.most} |")
+    out += ["", "| Definitions that a call cites | Lines | without the core theorem's |", "|---|--:|--:|"]
+    for file, name in CALLS:
+        path = root / "crates" / file
+        here = [f for f in ledger.functions(path) if named(f) == name] if path.is_file() else []
+        if here:
+            whole, outer = budget.closure_of(here), budget.closure_of(here, CORE)
+            out.append(f"| `{name}` | {whole.lines()} | {outer.lines()} |")
+    out += ["", "| Walk | Frames |", "|---|--:|"]
+    out += [f"| {title} | {len(hops)} |" for title, hops in walks(root).items()]
+    found = long_functions(root, ledger)
+    out += ["", f"Functions with more than {MOST_PARAMETERS} parameters: {len(found)}."]
+    out += [f"- {name}, {count}" for name, count in found]
+    return "\n".join(out) + "\n"
+
+
+def main():
     import ledger
-    print(page(Path(sys.argv[1]) if len(sys.argv) > 1 else ledger.ROOT, ledger.functions), end="")
+    words = [word for word in sys.argv[1:] if word != "--objects"]
+    root = Path(words[0]).resolve() if words else ledger.ROOT
+    print(objects(root, ledger) if "--objects" in sys.argv else page(root, ledger.functions), end="")
+
+
+if __name__ == "__main__":
+    main()

@@ -1,0 +1,79 @@
+#!/usr/bin/env python3
+"""Lists every clause of every public call, one on a line, so that two states of the tree can be compared.
+
+    tools/contracts.py                  all clauses: CRATE FUNCTION requires|ensures NAME: TEXT
+    tools/contracts.py --since REV      what changed since a commit: clauses that went (-) and that came (+);
+                                        a clause that only moved to another crate or function is marked (=)
+
+Definitions are not followed: a clause may say less though its text is the same. `tools/budget.py CRATE FUNCTION`
+lists what a contract rests on, and `git diff REV -- crates/*/specs` shows what changed there."""
+
+import subprocess
+import sys
+import tempfile
+from collections import Counter
+from dataclasses import dataclass
+from pathlib import Path
+
+import ledger
+
+
+@dataclass(frozen=True, order=True)
+class Line:
+    place: str      # the crate and the function
+    kind: str
+    name: str
+    text: str
+
+    def __str__(self):
+        return f"{self.place} {self.kind} {self.name or '-'}: {self.text}"
+
+    def said(self):
+        """The clause without its place and name."""
+        return self.kind, self.text
+
+
+def lines_of(root):
+    """The clauses of all public calls of the tree at this folder."""
+    ledger.ROOT, ledger.CRATES = root, root / "crates"
+    return [Line(f"{crate} {function.title()}", clause.kind, clause.name, clause.text)
+            for crate in ledger.listed_crates() for file in ledger.sources(crate)
+            for function in ledger.functions(file) if ledger.is_public(function)
+            for clause in function.clauses]
+
+
+def lines_at(revision):
+    """The clauses of the tree at a commit."""
+    top = Path(__file__).resolve().parent.parent
+    with tempfile.TemporaryDirectory() as folder:
+        archive = subprocess.run(["git", "-C", str(top), "archive", revision], stdout=subprocess.PIPE, check=True)
+        subprocess.run(["tar", "-x", "-C", folder], input=archive.stdout, check=True)
+        return lines_of(Path(folder))
+
+
+def print_changes(before, after):
+    """Prints what went and what came; a text that stands elsewhere now is marked as moved."""
+    gone, come = Counter(before) - Counter(after), Counter(after) - Counter(before)
+    elsewhere = Counter(line.said() for line in come.elements())
+    for line in sorted(gone.elements()):
+        mark = "=" if elsewhere[line.said()] > 0 else "-"
+        elsewhere[line.said()] -= mark == "="
+        print(mark, line)
+    for line in sorted(come.elements()):
+        print("+", line)
+
+
+def main(words):
+    root = Path(__file__).resolve().parent.parent
+    match words:
+        case []:
+            print(*lines_of(root), sep="\n")
+        case ["--since", revision]:
+            before = lines_at(revision)
+            print_changes(before, lines_of(root))
+        case _:
+            sys.exit(__doc__)
+
+
+if __name__ == "__main__":
+    main(sys.argv[1:])
