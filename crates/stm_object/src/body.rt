@@ -65,7 +65,7 @@ pub trait Body<S: Object> {
     fn only_reads(&self) -> bool
         ensures { result ≡ reads self.now };
 
-    /// Reads the memory, if the body only reads. Otherwise returns none, and does nothing.
+    /// Reads the memory, if the body only reads. Otherwise returns none and does nothing.
     fn read<M: TxRead>(&self, memory: &mut M) -> Option<Result<Self::Answer, M::Stop>>
         requires value { HasValue S.is (M.view memory.old) }
         ensures some { is_some result ≡ reads self.now }
@@ -74,7 +74,7 @@ pub trait Body<S: Object> {
             Did S.is (M.view memory.old) (M.view memory.new) (entry_of self.now a))) }
         ensures stopped { IfSome result (λ r. IfErr r (λ stop. M.stopped_for memory.new stop)) };
 
-    /// Reads and writes the memory, if the body may write. Otherwise returns none, and does nothing.
+    /// Reads and writes the memory, if the body may write. Otherwise returns none and does nothing.
     fn run<M: TxMem>(&self, memory: &mut M) -> Option<Result<Self::Answer, M::Stop>>
         requires value { HasValue S.is (M.view memory.old) }
         ensures some { is_some result ≡ not (reads self.now) }
