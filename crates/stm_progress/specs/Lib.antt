@@ -1,0 +1,4 @@
+pub mod Conflicts
+pub mod Causes
+pub mod Progress
+pub mod Examples
