@@ -1,12 +1,12 @@
 -- Chunks as one list.
-use Rattle.std.proofs.Common.{◌≡◌, inl, inr, ℕ, zero, suc, ◌+◌, ◌-◌, ◌*◌, ◌<◌, ◌≤◌, ◌/◌, ◌%◌, Option, List, [], ◌∷◌}
+use Rattle.std.proofs.Common.{◌≡◌, inl, inr, ℕ, zero, suc, ◌+◌, ◌-◌, ◌*◌, ◌<◌, ◌≤◌, ◌/◌, ◌%◌, List, [], ◌∷◌}
 use Rattle.std.proofs.Common.{◌++◌, length, take, get_or, set, refl, sym, ap, ◌∙◌, arith, append_assoc, length-append}
 use Rattle.std.proofs.Math.ListN.{get_or-append}
 use Rattle.std.proofs.lemmas.List.{append-nil, get_or-append_right, get_or-set_other, get_or-take, length-set}
 use Rattle.std.proofs.lemmas.List.{length-take-le, take_more_set, take-append-le}
 use Rattle.std.proofs.lemmas.Grind.{get_or-set_at}
 use Rattle.stm_logs.proofs.NodeLemmas.{same_or}
-use Rattle.stm_logs.specs.Chunks.{joined_chunks, in_hand, logged, AreWhole, HasRoomInChunks, IsLonger, IsRoomier}
+use Rattle.stm_logs.specs.Chunks.{joined_chunks, logged, AreWhole, HasRoomInChunks, IsLonger, IsRoomier}
 use Rattle.stm_logs.specs.Chunks.{IsSetAside}
 
 abbrev AllFull : List (List ℕ) → Type 0
@@ -55,20 +55,20 @@ length-first : (rest : List (List ℕ)) (full : ℕ) → AreWhole rest → full 
 length-first rest full whole few =
     length-joined (take full rest) (first_whole rest full whole few) ∙ ap (λ n. 1024 * n) (length-take-le full rest few)
 
-pub length-logged : (rest : List (List ℕ)) (full : ℕ) (hand : Option (List ℕ)) (used : ℕ) →
+pub length-logged : (rest : List (List ℕ)) (full : ℕ) (hand : List ℕ) (used : ℕ) →
     HasRoomInChunks rest full hand →
-    used ≤ length (in_hand hand)
+    used ≤ length hand
     → length (logged rest full hand used) ≡ 1024 * full + used
 length-logged rest full hand used room few =
     omega (
       arith,
-      length-append (joined_chunks (take full rest)) (take used (in_hand hand)),
+      length-append (joined_chunks (take full rest)) (take used hand),
       length-first rest full room.whole room.count,
-      length-take-le used (in_hand hand) few,
+      length-take-le used hand few,
     )
 
 -- a value of a full chunk
-pub full_at : (rest : List (List ℕ)) (full : ℕ) (hand : Option (List ℕ)) (used i : ℕ) → HasRoomInChunks rest full hand →
+pub full_at : (rest : List (List ℕ)) (full : ℕ) (hand : List ℕ) (used i : ℕ) → HasRoomInChunks rest full hand →
     i / 1024 < full
     → get_or (get_or rest (i / 1024) []) (i % 1024) 0 ≡ get_or (logged rest full hand used) i 0
 full_at rest full hand used i room below =
@@ -79,21 +79,21 @@ full_at rest full hand used i room below =
     ∙ sym (joined_at (take full rest) (i / 1024) (i % 1024) (first_whole rest full room.whole room.count) few
     (omega arith))
     ∙ ap (λ k. get_or (joined_chunks (take full rest)) k 0) e
-    ∙ sym (get_or-append (joined_chunks (take full rest)) (take used (in_hand hand)) 0 i (omega (arith, len, below)))
+    ∙ sym (get_or-append (joined_chunks (take full rest)) (take used hand) 0 i (omega (arith, len, below)))
 
 -- a value of the chunk at hand
-pub hand_at : (rest : List (List ℕ)) (full : ℕ) (hand : Option (List ℕ)) (used i : ℕ) → HasRoomInChunks rest full hand
-    → used ≤ length (in_hand hand) → length (in_hand hand) ≤ 1024 → full ≤ i / 1024 →
+pub hand_at : (rest : List (List ℕ)) (full : ℕ) (hand : List ℕ) (used i : ℕ) → HasRoomInChunks rest full hand
+    → used ≤ length hand → length hand ≤ 1024 → full ≤ i / 1024 →
     i < length (logged rest full hand used)
-    → get_or (in_hand hand) (i % 1024) 0 ≡ get_or (logged rest full hand used) i 0
+    → get_or hand (i % 1024) 0 ≡ get_or (logged rest full hand used) i 0
 hand_at rest full hand used i room few small over inside =
     let len = length-first rest full room.whole room.count in
     let below : i < 1024 * full + used = omega (arith, length-logged rest full hand used room few, inside) in
     let e : i % 1024 ≡ i - 1024 * full = omega (arith, below, few, small, over) in
     let under : i - 1024 * full < used = omega (arith, below, over) in
-    ap (λ k. get_or (in_hand hand) k 0) e
-    ∙ sym (get_or-take used (in_hand hand) (i - 1024 * full) 0 under)
-    ∙ sym (get_or-append_right (joined_chunks (take full rest)) (take used (in_hand hand)) (1024 * full) i 0 len
+    ap (λ k. get_or hand k 0) e
+    ∙ sym (get_or-take used hand (i - 1024 * full) 0 under)
+    ∙ sym (get_or-append_right (joined_chunks (take full rest)) (take used hand) (1024 * full) i 0 len
     (omega (arith, over)))
 
 set_whole : (chunks : List (List ℕ)) (i : ℕ) (chunk : List ℕ) (k : ℕ) → AreWhole chunks → length chunk ≡ 1024 →

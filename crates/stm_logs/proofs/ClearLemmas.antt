@@ -25,9 +25,9 @@ cleared_place old new n e ready c l = omega (
 )
 
 pub cleared_more : (old new : List Node) (n e q : ℕ) → Cleared old new n e → q ≡ (at new (e + 1)).place →
-    q < length new → Cleared old (set new q (record (at new q) { slot = 0 })) n (e + 1)
+    q < length new → Cleared old (set new q (record (at new q) { slot = 0; finger = 0 })) n (e + 1)
 cleared_more old new n e q c is l =
-    let y : Node = record (at new q) { slot = 0 } in
+    let y : Node = record (at new q) { slot = 0; finger = 0 } in
     let more : List Node = set new q y in
     let places : (i : ℕ) → (at more i).place ≡ (at new i).place = field_kept (λ x. x.place) new q y l refl in
     let len : length more ≡ length new = length-set new q y in

@@ -1,5 +1,6 @@
--- The chunks of a read log.
-use Rattle.std.specs.Prelude.{◌≡◌, ℕ, ◌<◌, ◌≤◌, Option, Some, None, List, [], ◌∷◌, ◌++◌, length, take, slice_index_or}
+-- The chunks of a read log. The last chunk in use is the current chunk; the other chunks are full
+-- or spare.
+use Rattle.std.specs.Prelude.{◌≡◌, ℕ, ◌⊎◌, ◌<◌, ◌≤◌, List, [], ◌∷◌, ◌++◌, length, take, slice_index_or}
 use Rattle.stm_logs.specs.declared.read.TheConstants.{PLACES, MAX_CHUNKS}
 
 -- the values of the chunks, one chunk after the other
@@ -7,39 +8,36 @@ abbrev pub joined_chunks : List (List ℕ) → List ℕ
 joined_chunks [] = []
 joined_chunks (chunk ∷ chunks) = chunk ++ joined_chunks chunks
 
--- the places of the chunk at hand
-abbrev pub in_hand : Option (List ℕ) → List ℕ
-in_hand None = []
-in_hand (Some chunk) = chunk
+-- the values of the log: those of the first `full` chunks, then the first `used` values of the
+-- current chunk
+abbrev pub logged : List (List ℕ) → ℕ → List ℕ → ℕ → List ℕ
+logged rest full hand used = joined_chunks (take full rest) ++ take used hand
 
--- the values of the first full chunks, and after them the first `used` of the chunk at hand
-abbrev pub logged : List (List ℕ) → ℕ → Option (List ℕ) → ℕ → List ℕ
-logged rest full hand used = joined_chunks (take full rest) ++ take used (in_hand hand)
-
--- each chunk has all places, and there are no more chunks than a log may have
+-- each chunk has all its places, and the number of chunks is within the limit
 pub record AreWhole (chunks : List (List ℕ)) : Type 0 where
   pub each : (k : ℕ) → k < length chunks → length (slice_index_or chunks k []) ≡ PLACES
   pub limit : length chunks ≤ MAX_CHUNKS
 
--- each chunk has all places, the one at hand too, and of the others there are at least `full`
-pub record HasRoomInChunks (rest : List (List ℕ)) (full : ℕ) (hand : Option (List ℕ)) : Type 0 where
+-- each of the other chunks has all its places, and there are at least `full` of them. The current
+-- chunk has all its places or none
+pub record HasRoomInChunks (rest : List (List ℕ)) (full : ℕ) (hand : List ℕ) : Type 0 where
   pub whole : AreWhole rest
   pub count : full ≤ length rest
-  pub here : (chunk : List ℕ) → hand ≡ Some chunk → length chunk ≡ PLACES
+  pub here : (length hand ≡ 0) ⊎ (length hand ≡ PLACES)
 
--- more has one chunk more, after the others
+-- `more` is the list of chunks with one more chunk at the end
 pub record IsLonger (chunks more : List (List ℕ)) : Type 0 where
   pub chunk : List ℕ
   pub appended : more ≡ chunks ++ chunk ∷ []
   pub whole : AreWhole more
 
--- more has a chunk after the first full ones, which are as before
+-- `more` has a chunk after the first `full` ones, and the first `full` ones are as before
 pub record IsRoomier (rest more : List (List ℕ)) (full : ℕ) : Type 0 where
   pub whole : AreWhole more
   pub inside : full < length more
   pub same : take full more ≡ take full rest
 
--- the chunk has become one of the full ones, after the others, and another is there for it
+-- the chunk is now the last of the full ones, and a spare chunk was found in its place
 pub record IsSetAside (rest : List (List ℕ)) (full : ℕ) (chunk : List ℕ)
     (more : List (List ℕ)) (count : ℕ) (spare : List ℕ) : Type 0 where
   pub whole : AreWhole more
@@ -47,10 +45,10 @@ pub record IsSetAside (rest : List (List ℕ)) (full : ℕ) (chunk : List ℕ)
   pub places : length spare ≡ PLACES
   pub same : joined_chunks (take count more) ≡ joined_chunks (take full rest) ++ chunk
 
--- a whole chunk is at hand, and the values of the one that was there come after those of the full
--- ones
-pub record IsTurned (rest : List (List ℕ)) (full : ℕ) (hand : Option (List ℕ))
-    (more : List (List ℕ)) (count : ℕ) (spare : Option (List ℕ)) : Type 0 where
+-- the current chunk is whole, and the values of the earlier current chunk come after those of the
+-- earlier full chunks
+pub record IsTurned (rest : List (List ℕ)) (full : ℕ) (hand : List ℕ)
+    (more : List (List ℕ)) (count : ℕ) (spare : List ℕ) : Type 0 where
   pub room : HasRoomInChunks more count spare
-  pub places : length (in_hand spare) ≡ PLACES
-  pub same : joined_chunks (take count more) ≡ joined_chunks (take full rest) ++ in_hand hand
+  pub places : length spare ≡ PLACES
+  pub same : joined_chunks (take count more) ≡ joined_chunks (take full rest) ++ hand

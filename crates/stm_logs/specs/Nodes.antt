@@ -1,11 +1,11 @@
--- The nodes of a write log, as a list: the root is first, then come the written words in the order
--- in which they entered. Beside each is a place of the index.
+-- The nodes of a write log, as a list: the root first, then the written words in the order in
+-- which they entered. Beside each node stands a place of the index.
 use Rattle.std.specs.Prelude.{◌≡◌, ℕ, List, [], ◌∷◌, length, slice_index_or, slice_set}
 use Rattle.stm_logs.specs.declared.nodes.Entry.{Entry}
 use Rattle.stm_logs.specs.declared.nodes.Slot.{Slot}
 use Rattle.stm_logs.specs.declared.nodes.TheConstants.{TOP}
 
--- what a position has: a node, and a place of the index with its finger
+-- the contents of a position: a node, and a place of the index with its finger
 pub record Node : Type 0 where
   pub value : ℕ
   pub number : ℕ
@@ -15,7 +15,7 @@ pub record Node : Type 0 where
   pub slot : ℕ
   pub finger : ℕ
 
--- a node before anything was put there
+-- a position to which nothing was written
 abbrev pub blank_node : Node
 blank_node = record {
   value = 0;
@@ -27,7 +27,7 @@ blank_node = record {
   finger = 0;
 }
 
--- the node alone
+-- the node of a position, without its place of the index
 abbrev pub entry_of : Node → Entry
 entry_of n = record {
   value = n.value;
@@ -37,7 +37,7 @@ entry_of n = record {
   place = n.place;
 }
 
--- another node beside the same place of the index
+-- the position with another node and the same place of the index
 abbrev pub with_entry : Node → Entry → Node
 with_entry n e = record {
   value = e.value;
@@ -49,7 +49,7 @@ with_entry n e = record {
   finger = n.finger;
 }
 
--- a node beside a place of the index that leads nowhere
+-- a position with the node and a place of the index that leads nowhere
 abbrev pub bare : Entry → Node
 bare e = with_entry blank_node e
 
@@ -62,29 +62,29 @@ with_next node next = record node { next = next }
 abbrev pub with_finger : Node → ℕ → Node
 with_finger node finger = record node { finger = finger }
 
--- nodes and places of the index, side by side
+-- the positions of some nodes and some places of the index, paired in order
 abbrev pub beside : List Entry → List Slot → List Node
 beside [] slots = []
 beside (e ∷ es) [] = []
 beside (e ∷ es) (s ∷ slots) =
     record (bare e) { slot = s.node; finger = s.finger } ∷ beside es slots
 
--- the node at a position
+-- the position with this number
 abbrev pub at : List Node → ℕ → Node
 at nodes e = slice_index_or nodes e blank_node
 
--- a block of nodes: what its places hold, how many nodes there are beside the root, and which of
--- them was chained last
+-- a block of positions: their contents, the number of nodes besides the root, and the node that
+-- was chained last
 pub record Block : Type 0 where
   pub list : List Node
   pub count : ℕ
   pub recent : ℕ
 
--- the block with this node at place e
+-- the block with another position e
 abbrev pub with_node : Block → ℕ → Node → Block
 with_node b e node = record b { list = slice_set b.list e node }
 
--- a block of blank places
+-- a block with `len` blank positions
 abbrev pub IsBlank : Block → ℕ → Type 0
 IsBlank b len =
     (length b.list ≡ len) × (b.count ≡ 0) × (b.recent ≡ 0) × ((k : ℕ) → at b.list k ≡ blank_node)

@@ -1,4 +1,4 @@
-//! The iterators of a write log. Each goes along its nodes in their order.
+//! The iterators of a write log, which go along its nodes in their order.
 ghost use Rattle.std.specs.Prelude.{◌≡◌, ℕ, ◌<◌, ◌∷◌, length};
 ghost use Rattle.std.specs.Iterator.{YieldsFirst, YieldsFirstBy, item_count};
 ghost use Rattle.stm_logs.specs.Nodes.{at};
@@ -9,13 +9,13 @@ use std::alloc::{Allocator, Global};
 use std::marker::Model;
 use tx_memory::Addr;
 
-/// The words of one lock with their values, by ascending address.
+/// An iterator over the words of one lock with their values, by ascending address.
 #[derive(Drop)]
 pub struct Words<'a, A: Allocator = Global> {
     pub(crate) nodes: Option<&'a Nodes<A>>,
     pub(crate) lock: u32,
     pub(crate) at: usize,
-    /// No more nodes are left than this.
+    /// Upper bound of the number of nodes left, for the prover.
     pub(crate) most: usize,
 }
 
@@ -54,12 +54,12 @@ impl<'a, A: Allocator> Iterator for Words<'a, A> {
     }
 }
 
-/// The locks of a write log in ascending order, each once.
+/// An iterator over the locks of a write log in ascending order, each once.
 #[derive(Drop)]
 pub struct Locks<'a, A: Allocator = Global> {
     pub(crate) nodes: Option<&'a Nodes<A>>,
     pub(crate) at: usize,
-    /// No more nodes are left than this.
+    /// Upper bound of the number of nodes left, for the prover.
     pub(crate) most: usize,
 }
 
@@ -94,13 +94,13 @@ impl<'a, A: Allocator> Iterator for Locks<'a, A> {
     }
 }
 
-/// The words of a write log with their values, by ascending lock, those of one lock by ascending
-/// address.
+/// An iterator over the words of a write log with their values, by ascending lock. The words of
+/// one lock come by ascending address.
 #[derive(Drop)]
 pub struct Pairs<'a, A: Allocator = Global> {
     pub(crate) nodes: Option<&'a Nodes<A>>,
     pub(crate) at: usize,
-    /// No more nodes are left than this.
+    /// Upper bound of the number of nodes left, for the prover.
     pub(crate) most: usize,
 }
 
@@ -136,7 +136,8 @@ impl<'a, A: Allocator> Iterator for Pairs<'a, A> {
     }
 }
 
-/// The first node after those of a node's lock, and how many nodes are left there at most.
+/// Returns the first node after the nodes of a node's lock, and an upper bound of the number of
+/// nodes left from there.
 #[inline]
 fn past<A: Allocator>(nodes: &Nodes<A>, start: usize, most: usize) -> (usize, usize)
     requires some { 0 < start }
@@ -158,7 +159,7 @@ fn past<A: Allocator>(nodes: &Nodes<A>, start: usize, most: usize) -> (usize, us
     }
 }
 
-/// Whether there is a node, and it has the lock.
+/// Returns whether there is a node at `e` and the node has the lock.
 #[inline]
 fn is_of<A: Allocator>(nodes: &Nodes<A>, lock: u32, e: usize) -> bool
     requires { 0 < e → e < length nodes.now.list }

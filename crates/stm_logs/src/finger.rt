@@ -1,5 +1,5 @@
-//! The fingers of a write log: where a walk through a long log may start. A finger is a guess, and
-//! is looked at before it is followed.
+//! The fingers of a write log: nodes at which a walk through a long log may start. A finger is a
+//! guess, and is checked before it is followed.
 ghost use Rattle.std.specs.Prelude.{◌≡◌, ◌+◌, ◌<◌, ◌≤◌, length, true};
 ghost use Rattle.stm_logs.specs.declared.nodes.TheConstants.{MAX_PLACES};
 ghost use Rattle.stm_logs.specs.Order.{rank_of_number, HasLock, IsChained, IsBelow, OnlyFingers};
@@ -9,35 +9,36 @@ use crate::nodes::{Entry, NUMBERS, Nodes};
 use crate::order::{node_rank, rank};
 use std::alloc::Allocator;
 
-/// The bits of the narrowest range, of those that are wider than one lock.
+/// Bits of the narrowest range of more than one lock.
 const NARROW: u32 = 3;
 
-/// The bits of the ranges that as many fingers as there are places in a block of one would share.
+/// Bits of a range at scale 1 in an empty block. Each doubling of the places takes one bit away.
 const SHARED: u32 = 24;
 
-/// How many bits more the range of the next wider finger has.
+/// Number of bits by which the range of the next wider finger grows.
 const WIDER: u32 = 4;
 
-/// How many bits further apart the addresses of one lock lie than the locks.
+/// Number of bits by which the addresses of one lock lie further apart than the locks.
 const SPREAD: u32 = 6;
 
-/// How many fingers a number or a lock has, from near neighbours to a large part of all.
+/// Number of fingers of a number or a lock, for ranges from close neighbours to a large part of
+/// all.
 const SCALES: u32 = 5;
 
-/// The bits of all numbers.
+/// Number of bits of a number.
 const ALL: u32 = 32;
 
-/// What keeps the fingers of different ranges apart.
+/// Factor that separates the fingers of different ranges.
 const APART: u64 = 1_431_655_765;
 
-/// What a finger's range covers: locks, or the addresses of one lock.
+/// The members of a finger's range: locks, or the addresses of one lock.
 #[derive(Clone, Copy)]
 enum Among {
     Locks,
     WordsOf(u32),
 }
 
-/// A range of 2 to the power of `bits` numbers, which has the given lock and address.
+/// A range of 2 to the power of `bits` numbers that contains a given lock or address.
 #[derive(Clone, Copy)]
 struct Range {
     among: Among,
@@ -61,7 +62,7 @@ impl Range {
         }
     }
 
-    /// Whether a node's lock or address is in the range.
+    /// Returns whether a node's lock or address is in the range.
     fn has(self, node: &Entry) -> bool
         requires { self.bits ≤ ALL }
     {
@@ -73,8 +74,8 @@ impl Range {
         }
     }
 
-    /// The range at one of the scales: the narrowest, which has one lock, or one of a place's share
-    /// of all, or a wider one.
+    /// Returns the range at one of the scales: at scale 0 the narrowest range, at scale 1 a range
+    /// that depends on the number of places, and wider ranges above.
     fn at(among: Among, scale: u32, len: usize, lock: u32, number: u32) -> Range
         requires { scale < SCALES }
         ensures { result.bits ≤ ALL }
@@ -92,8 +93,8 @@ impl Range {
         Range::of(among, (bits + spread).min(ALL), lock, number)
     }
 
-    /// The place of the range's finger: single locks have a quarter of the places and other ranges
-    /// the others, so that a lock with words is seen at once where there are few locks.
+    /// Returns the place of the range's finger. Single locks have a quarter of the places, and
+    /// other ranges have the rest; so, with few locks, one look shows that a lock has words.
     fn place(self, len: usize) -> usize
         requires some { 0 < len }
         requires limit { len ≤ MAX_PLACES }
@@ -113,14 +114,14 @@ impl Range {
     }
 }
 
-/// The range of one lock.
+/// Returns the range of one lock.
 fn range_of(lock: u32) -> Range
     ensures { result.bits ≡ 0 }
 {
     Range::of(Among::Locks, 0, lock, 0)
 }
 
-/// The node that a range's finger points to, or 0.
+/// Returns the node to which a range's finger points, or 0.
 fn finger_of<A: Allocator>(nodes: &Nodes<A>, range: Range) -> usize
     requires room { nodes.now.count < length nodes.now.list }
     requires limit { length nodes.now.list ≤ MAX_PLACES }
@@ -135,7 +136,8 @@ fn finger_of<A: Allocator>(nodes: &Nodes<A>, range: Range) -> usize
     }
 }
 
-/// Whether a finger tells that a word has the lock.
+/// Returns true if a finger shows that a word has the lock. The result may be false although some
+/// word has the lock.
 pub(crate) fn shows<A: Allocator>(nodes: &Nodes<A>, lock: u32) -> bool
     requires room { nodes.now.count < length nodes.now.list }
     requires limit { length nodes.now.list ≤ MAX_PLACES }
@@ -145,7 +147,7 @@ pub(crate) fn shows<A: Allocator>(nodes: &Nodes<A>, lock: u32) -> bool
     finger != 0 && nodes.get(finger).lock == lock
 }
 
-/// A node to walk on from, instead of one that may be far before the rank.
+/// Returns a node from which to walk on, which may be nearer to the rank than `near`.
 pub(crate) fn nearer<A: Allocator>(nodes: &Nodes<A>, near: usize, lock: u32, number: u32) -> usize
     requires chained { IsChained nodes.now.list nodes.now.count }
     requires room { nodes.now.count < length nodes.now.list }
@@ -162,7 +164,8 @@ pub(crate) fn nearer<A: Allocator>(nodes: &Nodes<A>, near: usize, lock: u32, num
     nearer_among(nodes, Among::Locks, near, lock, number)
 }
 
-/// A node to walk on from, by the fingers of ranges of locks, or of a lock's addresses.
+/// Returns a node from which to walk on, by the fingers of ranges of locks, or of ranges of a
+/// lock's addresses.
 fn nearer_among<A: Allocator>(
     nodes: &Nodes<A>,
     among: Among,
@@ -186,7 +189,8 @@ fn nearer_among<A: Allocator>(
     near
 }
 
-/// A node to walk on from, by the finger of a range, or by that of the range before it.
+/// Returns a node from which to walk on, by the finger of a range or by the finger of the range
+/// before it.
 fn nearer_in<A: Allocator>(
     nodes: &Nodes<A>,
     range: Range,
@@ -218,7 +222,7 @@ fn nearer_in<A: Allocator>(
     }
 }
 
-/// Whether a node comes after another one, and before the rank.
+/// Returns whether a node comes after the node `near` and before the rank.
 fn is_between<A: Allocator>(nodes: &Nodes<A>, near: usize, finger: usize, rank: u64) -> bool
     requires room { nodes.now.count < length nodes.now.list }
     requires near { near ≤ nodes.now.count }
@@ -229,7 +233,7 @@ fn is_between<A: Allocator>(nodes: &Nodes<A>, near: usize, finger: usize, rank: 
     found < rank && (near == 0 || node_rank(nodes.get(near)) < found)
 }
 
-/// Points the finger of a range to a node, unless it points to one of a greater rank.
+/// Points the finger of a range to a node, unless the finger points to a node of greater rank.
 fn point_at<A: Allocator>(nodes: &mut Nodes<A>, range: Range, e: usize, rank: u64)
     requires room { nodes.old.count < length nodes.old.list }
     requires limit { length nodes.old.list ≤ MAX_PLACES }
@@ -261,8 +265,8 @@ fn point_among<A: Allocator>(nodes: &mut Nodes<A>, among: Among, lock: u32, numb
     }
 }
 
-/// Points the fingers near a word to its node: those of its lock's neighbours and, where it is not
-/// the first of its lock, those of its neighbours there.
+/// Points the fingers near a word to its node: the fingers of ranges of locks and, if the lock
+/// already shows a word, those of ranges of the lock's addresses.
 pub(crate) fn point<A: Allocator>(nodes: &mut Nodes<A>, lock: u32, number: u32, e: usize)
     requires room { nodes.old.count < length nodes.old.list }
     requires limit { length nodes.old.list ≤ MAX_PLACES }
@@ -277,7 +281,7 @@ pub(crate) fn point<A: Allocator>(nodes: &mut Nodes<A>, lock: u32, number: u32, 
     point_among(nodes, Among::Locks, lock, number, e);
 }
 
-/// Points the fingers of all words, in the order in which they entered.
+/// Points the fingers of all words, in the order in which the words entered.
 pub(crate) fn point_all<A: Allocator>(nodes: &mut Nodes<A>)
     requires room { nodes.old.count < length nodes.old.list }
     requires limit { length nodes.old.list ≤ MAX_PLACES }
@@ -291,7 +295,7 @@ pub(crate) fn point_all<A: Allocator>(nodes: &mut Nodes<A>)
     }
 }
 
-/// Points the fingers of all words, where it is due.
+/// Points the fingers of all words, if `is_due`.
 pub(crate) fn point_all_if<A: Allocator>(nodes: &mut Nodes<A>, is_due: bool)
     requires room { nodes.old.count < length nodes.old.list }
     requires limit { length nodes.old.list ≤ MAX_PLACES }

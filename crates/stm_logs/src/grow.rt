@@ -8,16 +8,17 @@ use crate::index::{enter, probe};
 use crate::nodes::{MAX_PLACES, Nodes};
 use std::alloc::{AllocError, Allocator};
 
-/// A log with fewer nodes than this is so short that a walk needs no finger.
+/// Smallest number of nodes for which walks use fingers.
 pub(crate) const SHORT: usize = 128;
 
-/// Whether walks go by fingers.
+/// Returns whether walks use fingers.
 #[inline]
 pub(crate) fn is_long<A: Allocator>(nodes: &Nodes<A>) -> bool {
     nodes.count() >= SHORT
 }
 
-/// Whether the blocks are to grow before a node more enters, so that half of the index stays free.
+/// Returns whether the blocks must grow before one more node enters, so that half of the index
+/// stays free.
 #[inline]
 pub(crate) fn is_full<A: Allocator>(nodes: &Nodes<A>) -> bool
     requires { IsLog nodes.now }
@@ -26,7 +27,7 @@ pub(crate) fn is_full<A: Allocator>(nodes: &Nodes<A>) -> bool
     nodes.len() < 2 * (nodes.count() + 2)
 }
 
-/// Blocks of twice the places with the same nodes.
+/// Copies the nodes into blocks of twice as many places.
 #[cold]
 pub(crate) fn grown<A: Allocator + Copy>(old: &Nodes<A>) -> Result<Nodes<A>, AllocError>
     requires { IsLog old.now }

@@ -7,10 +7,11 @@ ghost use Rattle.stm_logs.specs.Index.{home, IsFoundNode, IsIndexed, HasNoNumber
 use crate::nodes::{Entry, NUMBERS, Nodes};
 use std::alloc::Allocator;
 
-/// What spreads neighbouring numbers: 2^32 over the golden ratio (Knuth, volume 3, 6.4).
+/// Factor that spreads neighbouring numbers: 2^32 over the golden ratio (Knuth, volume 3, 6.4).
 const FACTOR: u64 = 2_654_435_769;
 
-/// Where the search for a number begins: a multiplicative hash, scaled to the length.
+/// Returns the place at which the search for a number begins: a multiplicative hash, scaled to the
+/// length.
 #[inline]
 pub(crate) fn start(number: u32, len: usize) -> usize
     requires some { 0 < len }
@@ -22,7 +23,7 @@ pub(crate) fn start(number: u32, len: usize) -> usize
     (mixed * len as u64 / NUMBERS) as usize
 }
 
-/// The next place, and after the last the first.
+/// Returns the next place; after the last place comes the first.
 #[inline]
 fn behind(place: usize, len: usize) -> usize
     requires { place < len }
@@ -32,8 +33,8 @@ fn behind(place: usize, len: usize) -> usize
     if place + 1 == len { 0 } else { place + 1 }
 }
 
-/// The place of the index that leads to the node with this number, or the free place where such a
-/// node would enter.
+/// Returns the place of the index that leads to the node with this number, or the free place at
+/// which such a node would enter.
 #[inline]
 pub(crate) fn probe<A: Allocator>(nodes: &Nodes<A>, number: u32) -> usize
     requires { IsIndexed nodes.now.list nodes.now.count }
@@ -53,7 +54,7 @@ pub(crate) fn probe<A: Allocator>(nodes: &Nodes<A>, number: u32) -> usize
     }
 }
 
-/// The node with this number, or 0.
+/// Returns the node with this number, or 0.
 #[inline]
 pub(crate) fn find<A: Allocator>(nodes: &Nodes<A>, number: u32) -> usize
     requires { IsIndexed nodes.now.list nodes.now.count }
@@ -64,8 +65,8 @@ pub(crate) fn find<A: Allocator>(nodes: &Nodes<A>, number: u32) -> usize
     nodes.slot(place)
 }
 
-/// A node enters after the others and at the free place of the index that its number led to. It is
-/// not counted yet.
+/// Adds a node after the others, at the free place of the index that the search for its number
+/// found. The caller counts the node.
 #[inline]
 pub(crate) fn enter<A: Allocator>(nodes: &mut Nodes<A>, position: usize, place: usize, node: Entry)
     requires indexed { IsIndexed nodes.old.list nodes.old.count }

@@ -1,8 +1,8 @@
 //! The read log and the write log of a running transaction, over raw memory.
 //!
-//! They are the read set and the write set of Transactional Locking II (Dice, Shalev, Shavit, DISC
-//! 2006): the addresses that were read, to be looked at again before a commit, and the values that
-//! wait to be stored, by address and by lock.
+//! The logs are the read set and the write set of Transactional Locking II (Dice, Shalev, Shavit,
+//! DISC 2006). The read log has the addresses whose locks are validated before a commit. The write
+//! log has the values to be stored, by address and by lock.
 #![tactic(auto)]
 
 mod chain;

@@ -7,40 +7,41 @@ use std::marker::Model;
 
 /// A written word.
 ///
-/// Position 0 has the root, after which the order of the nodes begins and at which it ends; the
-/// words come after it as they entered. Only the last node leads to the root, so that 0 means none.
+/// Position 0 has the root, at which the order of the nodes begins and ends; the words follow in
+/// the order in which they entered. Only the last node leads to the root, so that 0 as a link
+/// means none.
 #[derive(Clone, Copy)]
 pub(crate) struct Entry {
-    /// The value that waits to be stored.
+    /// The value to be stored.
     pub(crate) value: u64,
     /// The address.
     pub(crate) number: u32,
     /// The number of the address's lock.
     pub(crate) lock: u32,
-    /// The node that comes next in the order.
+    /// The next node in the order.
     pub(crate) next: u32,
-    /// The place of the index that leads to this node.
+    /// The place of the index that leads to the node.
     pub(crate) place: u32,
 }
 
-/// A place of the index. The index is apart from the nodes: a look-up meets a place at random, and
-/// eight places share a cache line.
+/// A place of the index. The index is stored apart from the nodes: a look-up reads a random place,
+/// and eight places share a cache line.
 #[derive(Clone, Copy)]
 pub(crate) struct Slot {
-    /// The node that the place leads to, or 0.
+    /// The node to which the place leads, or 0.
     pub(crate) node: u32,
-    /// The finger at this place: a node where a walk may start, or any number.
+    /// The finger at the place: a node at which a walk may start, or any number.
     pub(crate) finger: u32,
 }
 
-/// The number and the lock of a place without a node, and of the root: none is greater, so that a
-/// walk along the order ends at the root, to which the last node leads.
+/// The number and the lock of the root, and of a position without a node. No number is greater, so
+/// that a walk along the order ends at the root, to which the last node leads.
 pub(crate) const TOP: u32 = 4_294_967_295;
 
-/// How many numbers there are, from 0 on.
+/// Number of different numbers, which begin at 0.
 pub(crate) const NUMBERS: u64 = 4_294_967_296;
 
-/// How many places the largest block has.
+/// Number of places of the largest block.
 pub(crate) const MAX_PLACES: usize = 2_147_483_648;
 
 /// A position without a node.
@@ -52,11 +53,11 @@ pub(crate) const BLANK: Entry = Entry {
     place: 0,
 };
 
-/// A place that leads nowhere.
+/// A place of the index that leads nowhere.
 pub(crate) const FREE: Slot = Slot { node: 0, finger: 0 };
 
-/// A block of nodes and one of as many places of the index, all of them filled; the number of nodes
-/// beside the root, and the one that was chained last, or 0.
+/// A block of nodes with a block of as many places of the index. All places are filled. The block
+/// knows the number of nodes besides the root, and the node that was chained last, or 0.
 pub(crate) struct Nodes<A: Allocator> {
     alloc: A,
     row: Row<Entry>,
@@ -106,7 +107,7 @@ impl<A: Allocator> Drop for Nodes<A> {
 impl<A: Allocator> Nodes<A> {
     ghost use Rattle.stm_logs.specs.Nodes.{at, entry_of, with_entry, with_slot, with_finger, with_node, IsBlank};
 
-    /// A block of `len` blank places.
+    /// Creates blocks with `len` blank places.
     pub(crate) fn new(alloc: A, len: usize) -> Result<Nodes<A>, AllocError>
         requires { len ≤ MAX_PLACES }
         ensures { IfOk result (λ s. IsBlank s len) }
@@ -133,7 +134,7 @@ impl<A: Allocator> Nodes<A> {
         })
     }
 
-    /// The allocator of the blocks.
+    /// Returns the allocator of the blocks.
     pub(crate) fn alloc(&self) -> A
     where
         A: Copy,
@@ -141,7 +142,7 @@ impl<A: Allocator> Nodes<A> {
         self.alloc
     }
 
-    /// How many places there are.
+    /// Returns the number of places.
     #[inline]
     pub(crate) fn len(&self) -> usize
         ensures { result ≡ length self.now.list }
@@ -149,7 +150,7 @@ impl<A: Allocator> Nodes<A> {
         self.len
     }
 
-    /// How many nodes there are beside the root.
+    /// Returns the number of nodes besides the root.
     #[inline]
     pub(crate) fn count(&self) -> usize
         ensures { result ≡ self.now.count }
@@ -164,7 +165,7 @@ impl<A: Allocator> Nodes<A> {
         self.count = count;
     }
 
-    /// The node that was chained last, or 0.
+    /// Returns the node that was chained last, or 0.
     #[inline]
     pub(crate) fn recent(&self) -> usize
         ensures { result ≡ self.now.recent }
@@ -179,7 +180,7 @@ impl<A: Allocator> Nodes<A> {
         self.recent = recent;
     }
 
-    /// The node at a position.
+    /// Returns the node at a position.
     #[inline]
     pub(crate) fn get(&self, i: usize) -> &Entry
         requires { i < length self.now.list }
@@ -196,7 +197,7 @@ impl<A: Allocator> Nodes<A> {
         self.row.put(i, entry);
     }
 
-    /// The node that a place of the index leads to, or 0.
+    /// Returns the node to which a place of the index leads, or 0.
     #[inline]
     pub(crate) fn slot(&self, place: usize) -> usize
         requires { place < length self.now.list }
@@ -214,7 +215,18 @@ impl<A: Allocator> Nodes<A> {
         self.index.put(place, Slot { node, finger });
     }
 
-    /// The finger at a place.
+    /// Lets a place of the index lead to a node, or nowhere if the node is 0. The finger at the
+    /// place becomes 0, so that the place need not be loaded first.
+    #[inline]
+    pub(crate) fn lead(&mut self, place: usize, node: u32)
+        requires { place < length self.old.list }
+        ensures { self.new ≡ with_node self.old place
+            (with_finger (with_slot (at self.old.list place) node) 0) }
+    {
+        self.index.put(place, Slot { node, finger: 0 });
+    }
+
+    /// Returns the finger at a place.
     #[inline]
     pub(crate) fn finger(&self, place: usize) -> usize
         requires { place < length self.now.list }

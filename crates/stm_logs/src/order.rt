@@ -8,7 +8,7 @@ use crate::finger::nearer;
 use crate::nodes::{Entry, NUMBERS, Nodes};
 use std::alloc::Allocator;
 
-/// The place of a number with its lock in the order.
+/// Returns the rank of a number with its lock.
 #[inline]
 pub(crate) fn rank(lock: u32, number: u32) -> u64
     ensures { result ≡ rank_of_number lock number }
@@ -16,7 +16,7 @@ pub(crate) fn rank(lock: u32, number: u32) -> u64
     lock as u64 * NUMBERS + number as u64
 }
 
-/// The place of a node in the order.
+/// Returns the rank of a node.
 #[inline]
 pub(crate) fn node_rank(node: &Entry) -> u64
     ensures { result ≡ rank_in (bare node.now) }
@@ -24,7 +24,7 @@ pub(crate) fn node_rank(node: &Entry) -> u64
     rank(node.lock, node.number)
 }
 
-/// Makes another node the next one after this one.
+/// Sets the next node of a node.
 #[inline]
 pub(crate) fn set_next<A: Allocator>(nodes: &mut Nodes<A>, e: usize, next: usize)
     requires inside { e < length nodes.old.list }
@@ -41,7 +41,8 @@ pub(crate) fn set_next<A: Allocator>(nodes: &mut Nodes<A>, e: usize, next: usize
     );
 }
 
-/// The last node before a number with its lock, or the root; in a long log by fingers.
+/// Returns the last node before a number with its lock, or the root. In a long log the search uses
+/// fingers.
 #[inline]
 pub(crate) fn seek<A: Allocator>(nodes: &Nodes<A>, lock: u32, number: u32, is_long: bool) -> usize
     requires chained { IsChained nodes.now.list nodes.now.count }
@@ -59,7 +60,7 @@ pub(crate) fn seek<A: Allocator>(nodes: &Nodes<A>, lock: u32, number: u32, is_lo
     }
 }
 
-/// The node that was chained last, if its rank is below the given one, or else the root.
+/// Returns the node that was chained last if its rank is below the given one, else the root.
 #[inline]
 fn near<A: Allocator>(nodes: &Nodes<A>, rank: u64) -> usize
     requires chained { IsChained nodes.now.list nodes.now.count }
@@ -75,7 +76,7 @@ fn near<A: Allocator>(nodes: &Nodes<A>, rank: u64) -> usize
     }
 }
 
-/// From the root or a node with a rank below the given one, the last such node.
+/// Walks from the root, or from a node with a rank below the given one, to the last such node.
 #[inline]
 fn walk<A: Allocator>(nodes: &Nodes<A>, start: usize, rank: u64) -> usize
     requires chained { IsChained nodes.now.list nodes.now.count }
@@ -95,7 +96,7 @@ fn walk<A: Allocator>(nodes: &Nodes<A>, start: usize, rank: u64) -> usize
     }
 }
 
-/// Whether no node after this one has a rank below the given one.
+/// Returns whether no node after `before` has a rank below the given one.
 #[inline]
 fn comes_next<A: Allocator>(nodes: &Nodes<A>, before: usize, rank: u64) -> bool
     requires chained { IsChained nodes.now.list nodes.now.count }
@@ -106,7 +107,8 @@ fn comes_next<A: Allocator>(nodes: &Nodes<A>, before: usize, rank: u64) -> bool
     rank <= node_rank(nodes.get(next))
 }
 
-/// The last node before a number with its lock, from one on that may be far before it.
+/// Returns the last node before a number with its lock, starting from a node that may be far
+/// before it.
 #[cold]
 fn seek_far<A: Allocator>(nodes: &Nodes<A>, start: usize, lock: u32, number: u32) -> usize
     requires chained { IsChained nodes.now.list nodes.now.count }

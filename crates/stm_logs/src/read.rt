@@ -4,23 +4,21 @@ ghost use Rattle.stm_logs.specs.Refusals.{OrSame, Becomes};
 ghost use Rattle.stm_logs.specs.declared.read.TheConstants.{PLACES};
 ghost use Rattle.std.specs.Prelude.{◌≡◌, ℕ, ◌+◌, ◌*◌, ◌<◌, ◌≤◌, List, [], ◌∷◌, ◌++◌, length, slice_index, slice_set, IfOk, MatchResult};
 
-use crate::row::{Right, Row, fill, release};
 use std::alloc::{AllocError, Allocator, Global};
 use std::marker::Model;
 use std::mem::swap;
 use tx_memory::Addr;
 
-/// How many places a chunk has.
+/// Number of places of a chunk.
 const PLACES: usize = 1024;
 
-/// The most chunks that a log may have: no address space holds more.
+/// Largest number of chunks of a log; no address space holds more.
 const MAX_CHUNKS: usize = 1 << 50;
 
-/// A raw block for `PLACES` addresses.
+/// A chunk of `PLACES` places for addresses, or of none, which takes no memory.
+#[derive(Drop)]
 struct Chunk<A: Allocator> {
-    alloc: A,
-    row: Row<u32>,
-    right: Right<u32, A>,
+    places: Vec<u32, A>,
 }
 
 impl<A: Allocator> Model for Chunk<A> {
@@ -28,83 +26,87 @@ impl<A: Allocator> Model for Chunk<A> {
 
     ghost Value = { List ℕ };
 
-    ghost use Rattle.stm_logs.specs.Frees.{Frees, IsFull};
-    ghost use Rattle.stm_logs.specs.declared.read.TheConstants.{PLACES};
-
-    ghost view = { λ c. c.row.items };
-
-    ghost invariant = { λ c. IsFull c.row PLACES × Frees c.alloc c.row c.right };
-}
-
-impl<A: Allocator> Drop for Chunk<A> {
-    fn drop(self) {
-        let Chunk { alloc, row, right } = self;
-        release(&alloc, row, right);
-    }
+    ghost view = { λ c. c.places.items };
 }
 
 impl<A: Allocator> Chunk<A> {
+    /// Creates a chunk without places.
+    fn none(alloc: A) -> Chunk<A>
+        ensures { result ≡ [] }
+    {
+        Chunk {
+            places: Vec::new(alloc),
+        }
+    }
+
     fn new(alloc: A) -> Result<Chunk<A>, AllocError>
         ensures { IfOk result (λ c. length c ≡ PLACES) }
     {
-        let (mut row, right) = unsafe { Row::reserve(&alloc, PLACES)? };
-        fill(&mut row, PLACES, 0);
-        Ok(Chunk { alloc, row, right })
+        let places = Vec::from_elem(alloc, 0u32, PLACES)?;
+        Ok(Chunk { places })
+    }
+
+    /// Returns the number of places.
+    fn len(&self) -> usize
+        ensures { result ≡ length self.now }
+    {
+        self.places.len()
     }
 
     #[inline]
     fn get(&self, i: usize) -> u32
-        requires { i < PLACES }
+        requires { i < length self.now }
         ensures { result ≡ slice_index self.now i }
     {
-        *self.row.get(i)
+        self.places[i]
     }
 
     #[inline]
     fn put(&mut self, i: usize, number: u32)
-        requires { i < PLACES }
+        requires { i < length self.old }
         ensures { self.new ≡ slice_set self.old i number }
     {
-        self.row.put(i, number);
+        self.places[i] = number;
     }
 }
 
-/// A list of addresses. It keeps its memory when it is cleared.
+/// A list of addresses. The log keeps its memory when it is cleared.
 #[derive(Drop)]
 pub struct ReadLog<A: Allocator + Copy = Global> {
     alloc: A,
-    /// The chunk at hand, which the next address goes into.
-    hand: Option<Chunk<A>>,
-    /// How many addresses the chunk at hand has.
+    /// The current chunk, into which the next address goes. Before the first address the chunk has
+    /// no places.
+    hand: Chunk<A>,
+    /// Number of addresses in the current chunk.
     used: usize,
-    /// How many places the chunk at hand has.
+    /// Number of places of the current chunk.
     end: usize,
-    /// The other chunks, those first that are full.
+    /// The other chunks; the full ones come first.
     rest: Vec<Chunk<A>, A>,
-    /// How many of the other chunks are full.
+    /// Number of full chunks among the other chunks.
     full: usize,
 }
 
 impl<A: Allocator + Copy> Model for ReadLog<A> {
     ghost use Rattle.std.specs.Prelude.{◌≡◌, ◌≤◌, ℕ, List, length};
-    ghost use Rattle.stm_logs.specs.Chunks.{in_hand, logged, HasRoomInChunks};
+    ghost use Rattle.stm_logs.specs.Chunks.{logged, HasRoomInChunks};
 
     ghost Value = { List ℕ };
 
     ghost view = { λ c. logged c.rest.items c.full c.hand c.used };
 
     ghost invariant = { λ c. HasRoomInChunks c.rest.items c.full c.hand
-        × (c.end ≡ length (in_hand c.hand)) × (c.used ≤ c.end) };
+        × (c.end ≡ length c.hand) × (c.used ≤ c.end) };
 }
 
 impl<A: Allocator + Copy> ReadLog<A> {
-    /// An empty log. It takes no memory until the first address.
+    /// Creates an empty log. The log takes no memory until the first address.
     pub fn new(alloc: A) -> ReadLog<A>
         ensures { result ≡ [] }
     {
         ReadLog {
             alloc,
-            hand: None,
+            hand: Chunk::none(alloc),
             used: 0,
             end: 0,
             rest: Vec::new(alloc),
@@ -112,7 +114,7 @@ impl<A: Allocator + Copy> ReadLog<A> {
         }
     }
 
-    /// How many addresses the log has.
+    /// Returns the number of addresses.
     #[inline]
     pub fn len(&self) -> usize
         ensures { result ≡ length self.now }
@@ -120,7 +122,7 @@ impl<A: Allocator + Copy> ReadLog<A> {
         self.full * PLACES + self.used
     }
 
-    /// The address at index `i`.
+    /// Returns the address at index `i`.
     #[inline]
     pub fn get(&self, i: usize) -> Addr
         requires { i < length self.now }
@@ -130,13 +132,10 @@ impl<A: Allocator + Copy> ReadLog<A> {
         if chunk < self.full {
             return Addr(self.rest[chunk].get(i % PLACES));
         }
-        match &self.hand {
-            Some(hand) => Addr(hand.get(i % PLACES)),
-            None => unreachable!(),
-        }
+        Addr(self.hand.get(i % PLACES))
     }
 
-    /// Appends an address. Where memory is refused, the log stays as it was.
+    /// Appends an address. If memory is refused, the log is unchanged.
     #[inline]
     pub fn push(&mut self, addr: Addr) -> Result<(), AllocError>
         ensures { Becomes result self.old self.new (self.old ++ addr.0 ∷ []) }
@@ -146,14 +145,14 @@ impl<A: Allocator + Copy> ReadLog<A> {
             self.used = 0;
             self.end = PLACES;
         }
-        self.hand.as_mut().unwrap().put(self.used, addr.0);
+        self.hand.put(self.used, addr.0);
         self.used += 1;
         Ok(())
     }
 
-    /// Empties the log. Its chunks stay for the next addresses.
+    /// Empties the log, and keeps its chunks for the next addresses.
     ///
-    /// Not said: that the log keeps its chunks, which a test sees.
+    /// Not said: that the log keeps its chunks, which a test checks.
     #[inline]
     pub fn clear(&mut self)
         ensures { self.new ≡ [] }
@@ -163,11 +162,11 @@ impl<A: Allocator + Copy> ReadLog<A> {
     }
 }
 
-/// Puts a chunk that has no address at hand, and the one that was there after the full ones.
+/// Puts the current chunk after the full ones, and takes a chunk without addresses in its place.
 #[cold]
 fn turn<A: Allocator + Copy>(
     alloc: A,
-    hand: &mut Option<Chunk<A>>,
+    hand: &mut Chunk<A>,
     rest: &mut Vec<Chunk<A>, A>,
     full: &mut usize,
 ) -> Result<(), AllocError>
@@ -176,16 +175,14 @@ fn turn<A: Allocator + Copy>(
         (λ _. IsTurned rest.old.items full.old hand.old rest.new.items full.new hand.new)
         (λ _. (rest.new.items ≡ rest.old.items) × (full.new ≡ full.old) × (hand.new ≡ hand.old)) }
 {
-    match hand {
-        Some(chunk) => set_aside(alloc, chunk, rest, full),
-        None => {
-            *hand = Some(Chunk::new(alloc)?);
-            Ok(())
-        }
+    if hand.len() == 0 {
+        *hand = Chunk::new(alloc)?;
+        return Ok(());
     }
+    set_aside(alloc, hand, rest, full)
 }
 
-/// Puts a full chunk after the other full ones, and one that is not in use in its place.
+/// Puts a full chunk after the other full ones, and takes a spare chunk in its place.
 fn set_aside<A: Allocator + Copy>(
     alloc: A,
     chunk: &mut Chunk<A>,
@@ -206,7 +203,7 @@ fn set_aside<A: Allocator + Copy>(
     Ok(())
 }
 
-/// Makes a chunk after the full ones, where there is none.
+/// Makes a chunk after the full ones, unless there is one.
 fn make_room<A: Allocator + Copy>(
     alloc: A,
     rest: &mut Vec<Chunk<A>, A>,

@@ -1,4 +1,4 @@
-//! A row of places in one raw block: all raw pointers of the product are in this file.
+//! Rows of places in one raw block. All raw pointers of the product are in this file.
 ghost use Rattle.std.specs.Prelude.{◌≡◌, ℕ, ◌^◌, ◌<◌, Bool, true, false, List, length, IfOk, slice_index_or, slice_set};
 ghost use Rattle.core.specs.Mem.Slots.Ownership.{Filled, owned, lent, leased};
 ghost use Rattle.core.specs.Allocator.{FitsBlock};
@@ -8,7 +8,7 @@ use std::marker::{Model, PhantomData, Send};
 use std::mem::{align_of, size_of};
 
 /// Places for values, one after the other in one block. `items` has a value for each place, and
-/// `filled` says which places hold theirs.
+/// `filled` says which places hold their value.
 pub(crate) struct Row<T> {
     ptr: *mut T,
     len: usize,
@@ -24,17 +24,17 @@ impl<T> Model for Row<T> {
     ghost also_shares = { λ a _ κ. lent T.row a.ptr a.len a.items a.filled κ };
 }
 
-// A row's places are its own.
+// A row owns its places.
 unsafe impl<T: Send> Send for Row<T> {}
 
 impl<T> Row<T> {
     ghost use Rattle.stm_logs.specs.Frees.{IsReserved};
 
-    /// A row of `n` empty places, and the right to free it.
+    /// Allocates a row of `n` empty places, with the right to free it.
     ///
     /// # Safety
     ///
-    /// A row forgets the values that it holds.
+    /// A row never drops the values that it holds.
     pub(crate) unsafe fn reserve<A: Allocator>(
         alloc: &A,
         n: usize,
@@ -53,7 +53,7 @@ impl<T> Row<T> {
         }
     }
 
-    /// The value at place `i`.
+    /// Returns the value at place `i`.
     #[inline]
     pub(crate) fn get(&self, i: usize) -> &T
         requires { (i < self.now.len) × (slice_index_or self.now.filled i false ≡ true) }
@@ -62,7 +62,7 @@ impl<T> Row<T> {
         unsafe { &*self.ptr.add(i) }
     }
 
-    /// Puts `x` at place `i`. A value that the place holds is forgotten.
+    /// Puts `x` at place `i`. A value already at the place is not dropped.
     #[inline]
     pub(crate) fn put(&mut self, i: usize, x: T)
         requires { i < self.old.len }
@@ -86,10 +86,10 @@ impl<T, A: Allocator> Model for Right<T, A> {
     ghost also_owns = { λ l. leased (A.dealloc_token l.alloc) T.row l.ptr l.len };
 }
 
-// What an allocator gave out may be given back from any thread, where the allocator may cross.
+// A block may be freed on any thread if its allocator may cross threads.
 unsafe impl<T, A: Allocator + Send> Send for Right<T, A> {}
 
-/// Frees the block behind a row. Values that it holds are forgotten.
+/// Frees the block behind a row. Values in the row are not dropped.
 pub(crate) fn release<T, A: Allocator>(alloc: &A, row: Row<T>, right: Right<T, A>)
     requires { (right.ptr ≡ row.ptr) × (right.len ≡ row.len) × (right.alloc ≡ alloc.now) }
 {

@@ -18,10 +18,10 @@ use crate::order::{seek, set_next};
 use std::alloc::{AllocError, Allocator};
 use std::marker::Model;
 
-/// How many places the first blocks have.
+/// Number of places of the first blocks.
 const PLACES: usize = 64;
 
-/// Words with their locks and values. The blocks are there from the start on, and grow.
+/// The words of a log with their locks and values. The blocks exist from the start on, and grow.
 #[derive(Drop)]
 pub(crate) struct Table<A: Allocator> {
     nodes: Nodes<A>,
@@ -43,7 +43,7 @@ impl<A: Allocator> Model for Table<A> {
 }
 
 impl<A: Allocator + Copy> Table<A> {
-    /// A table with one word.
+    /// Creates a table with one word.
     #[cold]
     pub(crate) fn with_word(
         alloc: A,
@@ -58,7 +58,7 @@ impl<A: Allocator + Copy> Table<A> {
         Ok(table)
     }
 
-    /// A table with no word.
+    /// Creates a table without words.
     fn new(alloc: A) -> Result<Table<A>, AllocError>
         ensures { IfOk result (λ t. t ≡ empty_log) }
     {
@@ -66,7 +66,7 @@ impl<A: Allocator + Copy> Table<A> {
         Ok(Table { nodes })
     }
 
-    /// How many words there are.
+    /// Returns the number of words.
     #[inline]
     pub(crate) fn len(&self) -> usize
         ensures { result ≡ len self.now.words }
@@ -74,7 +74,7 @@ impl<A: Allocator + Copy> Table<A> {
         self.nodes.count()
     }
 
-    /// The value of the word with this number.
+    /// Returns the value of the word with this number.
     #[inline]
     pub(crate) fn get(&self, number: u32) -> Option<u64>
         ensures { result ≡ get self.now.words number }
@@ -87,7 +87,7 @@ impl<A: Allocator + Copy> Table<A> {
         }
     }
 
-    /// Whether a word has this lock.
+    /// Returns whether a word has this lock.
     #[inline]
     pub(crate) fn has_lock(&self, lock: u32) -> bool
         ensures { (result ≡ true) ↔ ((a : ℕ) × (get self.now.locks a ≡ Some lock)) }
@@ -99,7 +99,7 @@ impl<A: Allocator + Copy> Table<A> {
         first != 0 && self.nodes.get(first).lock == lock
     }
 
-    /// The locks in ascending order, each once.
+    /// Returns the locks in ascending order, each once.
     #[inline]
     pub(crate) fn locks(&self) -> Locks<'_, A>
         ensures { result ≡ log_locks self.now }
@@ -111,7 +111,8 @@ impl<A: Allocator + Copy> Table<A> {
         }
     }
 
-    /// The words with their values, by ascending lock, those of one lock by ascending number.
+    /// Returns the words with their values, by ascending lock. The words of one lock come by
+    /// ascending number.
     #[inline]
     pub(crate) fn pairs_by_lock(&self) -> Pairs<'_, A>
         ensures { result ≡ pairs_by_lock self.now }
@@ -123,7 +124,7 @@ impl<A: Allocator + Copy> Table<A> {
         }
     }
 
-    /// The words of a lock with their values, by ascending number.
+    /// Returns the words of a lock with their values, by ascending number.
     #[inline]
     pub(crate) fn words_of(&self, lock: u32) -> Words<'_, A>
         ensures { result ≡ pairs_of self.now lock }
@@ -136,8 +137,8 @@ impl<A: Allocator + Copy> Table<A> {
         }
     }
 
-    /// Puts the value at a word, whose lock has the given number. Where memory is refused, the
-    /// table stays as it was.
+    /// Puts the value at a word, whose lock has the given number. If memory is refused, the table
+    /// is unchanged.
     #[inline]
     pub(crate) fn put(&mut self, number: u32, lock: u32, value: u64) -> Result<(), AllocError>
         requires { (l : ℕ) → get self.old.locks number ≡ Some l → l ≡ lock }
@@ -154,7 +155,7 @@ impl<A: Allocator + Copy> Table<A> {
         Ok(())
     }
 
-    /// Takes all words out. The blocks stay.
+    /// Removes all words, and keeps the blocks.
     #[inline]
     pub(crate) fn clear(&mut self)
         ensures { self.new ≡ empty_log }
@@ -162,7 +163,7 @@ impl<A: Allocator + Copy> Table<A> {
         clear_nodes(&mut self.nodes);
     }
 
-    /// The words are the numbers that have a lock.
+    /// States that the words are the numbers that have a lock.
     pub(crate) fn same_addresses(&self)
         ensures { SameAddresses self.now }
     {
@@ -170,7 +171,7 @@ impl<A: Allocator + Copy> Table<A> {
     }
 }
 
-/// The first node of the locks from this one on, or 0.
+/// Returns the first node whose lock is the given one or greater, or 0.
 #[inline]
 fn first_from<A: Allocator>(nodes: &Nodes<A>, lock: u32) -> usize
     requires { IsLog nodes.now }
@@ -185,7 +186,7 @@ fn first_from<A: Allocator>(nodes: &Nodes<A>, lock: u32) -> usize
     nodes.get(before).next as usize
 }
 
-/// Takes the nodes out of the index, and leaves the root alone.
+/// Removes the nodes from the index, and leaves the root alone in the chain.
 #[inline]
 fn clear_nodes<A: Allocator>(nodes: &mut Nodes<A>)
     requires { IsLog nodes.old }
@@ -194,14 +195,15 @@ fn clear_nodes<A: Allocator>(nodes: &mut Nodes<A>)
 {
     for e in 0..nodes.count() {
         let place = nodes.get(e + 1).place as usize;
-        nodes.set_slot(place, 0);
+        nodes.lead(place, 0);
     }
     set_next(nodes, 0, 0);
     nodes.set_recent(0);
     nodes.set_count(0);
 }
 
-/// Puts a word that is not there at its free place of the index, where memory is not refused.
+/// Puts a word that is not in the table at its free place of the index. The blocks grow first if
+/// they are full.
 #[inline]
 fn put_new<A: Allocator + Copy>(
     nodes: &mut Nodes<A>,
@@ -222,7 +224,7 @@ fn put_new<A: Allocator + Copy>(
     Ok(())
 }
 
-/// Puts a word that is not there into blocks that grow for it.
+/// Puts a word that is not in the table after growing the blocks.
 #[cold]
 fn put_grown<A: Allocator + Copy>(
     nodes: &mut Nodes<A>,
@@ -240,7 +242,7 @@ fn put_grown<A: Allocator + Copy>(
     Ok(())
 }
 
-/// Puts a word that is not there, where there is room for it.
+/// Puts a word that is not in the table, if there is room for it.
 fn put_roomy<A: Allocator>(nodes: &mut Nodes<A>, place: usize, number: u32, lock: u32, value: u64)
     requires log { IsLog nodes.old }
     requires room { nodes.old.count + 1 < length nodes.old.list }
@@ -255,7 +257,7 @@ fn put_roomy<A: Allocator>(nodes: &mut Nodes<A>, place: usize, number: u32, lock
     }
 }
 
-/// Puts a word that is not there into a long log, where there is room for it.
+/// Puts a word that is not in the table into a long log, if there is room for it.
 #[cold]
 fn put_long<A: Allocator>(nodes: &mut Nodes<A>, place: usize, number: u32, lock: u32, value: u64)
     requires log { IsLog nodes.old }
@@ -270,7 +272,7 @@ fn put_long<A: Allocator>(nodes: &mut Nodes<A>, place: usize, number: u32, lock:
     point(nodes, lock, number, nodes.count());
 }
 
-/// A node enters at its free place of the index, after the last one of a smaller rank.
+/// Adds a node at its free place of the index, and chains it after the last node of smaller rank.
 #[inline(always)]
 fn put_word<A: Allocator>(
     nodes: &mut Nodes<A>,

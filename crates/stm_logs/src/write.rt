@@ -12,20 +12,20 @@ use std::marker::Model;
 use stm_words::Writes;
 use tx_memory::Addr;
 
-/// How many marks a write log has, one for each remainder of the addresses.
+/// Number of marks of a write log, one for each remainder of the addresses.
 const MARKS: usize = 128;
 
-/// A finite map from addresses to values, with the number of each address's lock. It keeps its
-/// memory when it is cleared.
+/// A finite map from addresses to values, with the number of each address's lock. The log keeps
+/// its memory when it is cleared.
 #[derive(Drop)]
 pub struct WriteLog<A: Allocator + Copy = Global> {
     alloc: A,
     table: Option<Table<A>>,
-    /// Whether an address of this remainder may be there.
+    /// True for a remainder if an address of this remainder may be in the log.
     marks: [bool; MARKS],
 }
 
-/// The place of an address's mark.
+/// Returns the index of an address's mark.
 #[inline]
 fn mark_of(addr: Addr) -> usize
     ensures mark { result ≡ addr.0 % MARKS }
@@ -56,7 +56,7 @@ impl<A: Allocator + Copy> Model for WriteLog<A> {
 }
 
 impl<A: Allocator + Copy> WriteLog<A> {
-    /// An empty log. It takes no memory until the first address.
+    /// Creates an empty log. The log takes no memory until the first address.
     pub fn new(alloc: A) -> WriteLog<A>
         ensures { result ≡ empty_log }
     {
@@ -67,7 +67,7 @@ impl<A: Allocator + Copy> WriteLog<A> {
         }
     }
 
-    /// How many addresses the log has.
+    /// Returns the number of addresses.
     #[inline]
     pub fn len(&self) -> usize
         ensures { result ≡ len self.now.words }
@@ -80,10 +80,10 @@ impl<A: Allocator + Copy> WriteLog<A> {
 
     /// Puts the value at the address, whose lock has the given number.
     ///
-    /// An address that is there is put with the lock number that it has; that takes no memory.
-    /// Where memory is refused, the log stays as it was.
+    /// An address that is already in the log must be put with its lock number; that takes no
+    /// memory. If memory is refused, the log is unchanged.
     ///
-    /// Not said: how the entries lie in memory, and what a call costs.
+    /// Not said: the layout of the entries in memory, and the cost of a call.
     #[inline]
     pub fn put(&mut self, addr: Addr, lock: u32, value: u64) -> Result<(), AllocError>
         requires { (l : ℕ) → get self.old.locks addr.0 ≡ Some l → l ≡ lock }
@@ -97,7 +97,7 @@ impl<A: Allocator + Copy> WriteLog<A> {
         }
     }
 
-    /// Puts the first address of a log, which has no table yet.
+    /// Puts the first address of a log that has no table yet.
     #[cold]
     fn put_first(&mut self, addr: Addr, lock: u32, value: u64) -> Result<(), AllocError>
         requires { self.old ≡ empty_log }
@@ -108,8 +108,8 @@ impl<A: Allocator + Copy> WriteLog<A> {
         Ok(())
     }
 
-    /// The value that was put at the address. Of an address that is not there the index is seldom
-    /// asked: one mark tells.
+    /// Returns the value that was put at the address. For an address that is not in the log, one
+    /// mark usually decides and the index is not searched.
     #[inline]
     pub fn get(&self, addr: Addr) -> Option<u64>
         ensures { result ≡ get self.now.words addr.0 }
@@ -123,7 +123,7 @@ impl<A: Allocator + Copy> WriteLog<A> {
         }
     }
 
-    /// Whether an address with this lock was put.
+    /// Returns whether an address with this lock was put.
     #[inline]
     pub fn has_lock(&self, lock: u32) -> bool
         ensures { (result ≡ true) ↔ ((a : ℕ) × (get self.now.locks a ≡ Some lock)) }
@@ -134,8 +134,8 @@ impl<A: Allocator + Copy> WriteLog<A> {
         }
     }
 
-    /// Whether an address with this lock was put. Where the given address was, no walk to the lock
-    /// is needed.
+    /// Returns whether an address with this lock was put. If the given address was put, no walk to
+    /// the lock is needed.
     #[inline]
     pub fn holds(&self, addr: Addr, lock: u32) -> bool
         requires { (l : ℕ) → get self.now.locks addr.0 ≡ Some l → l ≡ lock }
@@ -145,21 +145,21 @@ impl<A: Allocator + Copy> WriteLog<A> {
         self.get(addr).is_some() || self.has_lock(lock)
     }
 
-    /// How many locks the addresses have.
+    /// Returns the number of locks of the addresses.
     #[inline]
     pub fn lock_count(&self) -> usize
         ensures { result ≡ length (log_locks self.now) }
     {
         self.few_locks();
-        // Read so that the proof has its range.
+        // Read so that the prover knows its range.
         let _most = self.len();
         self.locks().count()
     }
 
-    /// The locks of the addresses in ascending order, each once.
+    /// Returns the locks of the addresses in ascending order, each once.
     ///
-    /// Not said: that the walk is linear, and that a put, `has_lock` and `words_of` start theirs
-    /// near its end: both are read in the code.
+    /// Not said: that the walk is linear, and that the walks of a put, of `has_lock` and of
+    /// `words_of` start near their ends. Both are read in the code.
     #[inline]
     pub fn locks(&self) -> Locks<'_, A>
         ensures { result ≡ log_locks self.now }
@@ -174,8 +174,8 @@ impl<A: Allocator + Copy> WriteLog<A> {
         }
     }
 
-    /// The lock at index `i` of the ascending order. It is found from the first lock on, so a walk
-    /// over all locks goes by `locks`.
+    /// Returns the lock at index `i` of the ascending order. The search starts from the first
+    /// lock, so a walk over all locks uses `locks`.
     pub fn nth_lock(&self, i: usize) -> u32
         requires { i < length (log_locks self.now) }
         ensures { result ≡ slice_index (log_locks self.now) i }
@@ -187,7 +187,7 @@ impl<A: Allocator + Copy> WriteLog<A> {
         locks.next().unwrap()
     }
 
-    /// The addresses of a lock with their values, by ascending address.
+    /// Returns the addresses of a lock with their values, by ascending address.
     #[inline]
     pub fn words_of(&self, lock: u32) -> Words<'_, A>
         ensures { result ≡ pairs_of self.now lock }
@@ -203,8 +203,8 @@ impl<A: Allocator + Copy> WriteLog<A> {
         }
     }
 
-    /// The addresses with their values, by ascending lock, those of one lock by ascending address.
-    /// It is one walk, which looks at no lock.
+    /// Returns the addresses with their values, by ascending lock. The addresses of one lock come
+    /// by ascending address. The iteration is one walk that compares no locks.
     #[inline]
     pub fn pairs_by_lock(&self) -> Pairs<'_, A>
         ensures { result ≡ pairs_by_lock self.now }
@@ -219,8 +219,7 @@ impl<A: Allocator + Copy> WriteLog<A> {
         }
     }
 
-    /// Empties the log, at a cost of no more than what it has. Its memory stays for the next
-    /// addresses.
+    /// Empties the log, at a cost of at most its size. The memory is kept for the next addresses.
     #[inline]
     pub fn clear(&mut self)
         ensures { self.new ≡ empty_log }
@@ -231,14 +230,14 @@ impl<A: Allocator + Copy> WriteLog<A> {
         }
     }
 
-    /// There are no more locks than addresses.
+    /// States that there are no more locks than addresses.
     pub fn few_locks(&self)
         ensures { length (log_locks self.now) ≤ len self.now.words }
     {
         self.same_addresses();
     }
 
-    /// The addresses that have a value are those that have a lock.
+    /// States that the addresses with a value are the addresses with a lock.
     pub fn same_addresses(&self)
         ensures { SameAddresses self.now }
     {

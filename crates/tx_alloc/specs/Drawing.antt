@@ -1,13 +1,14 @@
--- A block is taken, and a list that has none gets a run of another one's blocks.
+-- Taking a block, with a batch refill of an exhausted list.
 use Rattle.std.specs.Prelude.{◌≡◌, ◌≢◌, ℕ, ◌+◌, ◌%◌, ◌<◌, ◌≤◌, List, [], ◌∷◌, ◌++◌, length}
 use Rattle.tx_memory.specs.View.{View, Sees, Kept}
 use Rattle.tx_alloc.specs.Steps.{mem}
 use Rattle.tx_alloc.specs.Pool.{Free, IsBlock, IsPool, held, with_at, with_block}
 use Rattle.tx_alloc.specs.declared.place.TheConstants.{LISTS, FIRST_HEAD, BLOCK_WORDS, RUN_BLOCKS}
 
--- b was first in list from, and was moved to the taken ones. The blocks after it are those of list
--- start now, in their order, as far as RUN_BLOCKS blocks go, and only the later ones stay.
--- Not said: which words hold the two lists, but that no word of another block is written.
+-- b was the first block of list `from`, and is now taken. The blocks after b, up to a run of
+-- RUN_BLOCKS blocks with b, are now list `start`, in their order; only the later blocks stay in
+-- list `from`.
+-- Not said: which words hold the two lists, except that no word of another block is written.
 pub record IsRefilling (m m' : ℕ → ℕ) (n : ℕ) (free : ℕ → List ℕ) (used : ℕ → ℕ)
     (count start from b : ℕ) : Type 0 where
   pub run : List ℕ
@@ -21,9 +22,9 @@ pub record IsRefilling (m m' : ℕ → ℕ) (n : ℕ) (free : ℕ → List ℕ) 
   pub others : (x : ℕ) → x ≢ FIRST_HEAD + from → x ≢ FIRST_HEAD + start →
       ((a : ℕ) → 0 < held a run → x ≢ a) → m' x ≡ m x
 
--- b was first in the first of the lists start, start + 1 and so on, modulo 8, that has a block, and
--- was moved to the taken ones. Where that is another list than start, the blocks after it are list
--- start now, in their order, as far as RUN_BLOCKS blocks go, and only the later ones stay.
+-- b was the first block of the first list with blocks among start, start + 1 and so on, modulo 8,
+-- and is now taken. If that list is not `start`, the blocks after b, up to a run of RUN_BLOCKS
+-- blocks with b, are now list `start`, in their order; only the later blocks stay in their list.
 pub record IsDrawing (m m' : ℕ → ℕ) (n : ℕ) (free : ℕ → List ℕ) (used : ℕ → ℕ)
     (count start b : ℕ) : Type 0 where
   pub small : start < LISTS
@@ -43,7 +44,7 @@ pub record IsDrawing (m m' : ℕ → ℕ) (n : ℕ) (free : ℕ → List ℕ) (u
   pub others : (x : ℕ) → x ≢ FIRST_HEAD + list → x ≢ FIRST_HEAD + start →
       ((a : ℕ) → 0 < held a run → x ≢ a) → m' x ≡ m x
 
--- under each image b was free, and was taken
+-- under each possible image b was free, and is now taken
 pub record DrawnBlock (s s' : View) (start b : ℕ) : Type 0 where
   pub kept : Kept s s'
   pub room : b + BLOCK_WORDS ≤ s'.size
@@ -51,7 +52,7 @@ pub record DrawnBlock (s s' : View) (start b : ℕ) : Type 0 where
       IsPool (mem s image) (length image) free used count →
       IsDrawing (mem s image) (mem s' image) (length image) free used count start b
 
--- b is the first block of a list, and next leads to the one after it
+-- b is the first block of a list, and `next` leads to the block after b
 pub record Begins (s : View) (b next : ℕ) : Type 0 where
   pub list : ℕ
   pub small : list < LISTS
@@ -59,7 +60,7 @@ pub record Begins (s : View) (b next : ℕ) : Type 0 where
   pub first : (image : List ℕ) → Sees s image → mem s image (FIRST_HEAD + list) ≡ b
   pub next_is : (image : List ℕ) → Sees s image → mem s image b ≡ next
 
--- the list start has no block, and the list from begins with b
+-- list `start` is exhausted, and list `from` begins with b
 pub record IsDry (s : View) (start from b next : ℕ) : Type 0 where
   pub begins : Begins s b next
   pub is_from : begins.list ≡ from
@@ -67,14 +68,16 @@ pub record IsDry (s : View) (start from b next : ℕ) : Type 0 where
   pub apart : from ≢ start
   pub none : (image : List ℕ) → Sees s image → mem s image (FIRST_HEAD + start) ≡ 0
 
--- under each image the blocks of list from, as far as the run goes, moved to list start
+-- under each possible image the blocks of list `from`, up to the end of the run, moved to list
+-- `start`
 pub record Refilled (s s' : View) (start from b : ℕ) : Type 0 where
   pub kept : Kept s s'
   pub refilling : (image : List ℕ) (free : ℕ → List ℕ) (used : ℕ → ℕ) (count : ℕ) → Sees s' image →
       IsPool (mem s image) (length image) free used count →
       IsRefilling (mem s image) (mem s' image) (length image) free used count start from b
 
--- last is the last block of a run of a list's first blocks, and behind leads to the next one
+-- `last` is the last block of a run of a list's first blocks, and `behind` leads to the block
+-- after the run
 pub record IsRun (m : ℕ → ℕ) (n : ℕ) (bs : List ℕ) (last behind : ℕ) : Type 0 where
   pub front : List ℕ
   pub rest : List ℕ
@@ -84,7 +87,8 @@ pub record IsRun (m : ℕ → ℕ) (n : ℕ) (bs : List ℕ) (last behind : ℕ)
   pub leads : m last ≡ behind
   pub rest_is : Free m n behind rest
 
--- only reads were made, and under each image a run of the list that begins with b was walked
+-- only reads were made, and under each possible image a run of the list that begins with b was
+-- walked
 pub record Walked (s s' : View) (b last behind : ℕ) : Type 0 where
   pub kept : Kept s s'
   pub writes : s'.writes ≡ s.writes

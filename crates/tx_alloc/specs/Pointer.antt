@@ -1,16 +1,16 @@
--- Pointers: the place of a block's first word, or 0 for none.
+-- Pointers: the address of a block's first word, or 0 for none.
 use Rattle.std.specs.Prelude.{◌≢◌, ℕ, ◌+◌, ◌<◌, ◌≤◌, ◌^◌, List, length, Option, Some, None}
 use Rattle.tx_memory.specs.View.{View, RestsOn}
 use Rattle.tx_alloc.specs.Pool.{IsBlock}
 use Rattle.tx_alloc.specs.Steps.{mem}
 use Rattle.tx_alloc.specs.declared.place.TheConstants.{FIRST_BLOCK, BLOCK_WORDS}
 
--- the word that leads to a block, or to none
+-- the pointer to a block, or to none
 abbrev pub pointer : Option ℕ → ℕ
 pointer None = 0
 pointer (Some b) = b
 
--- a block that was found lies within the memory
+-- a block, if there is one, lies within the memory
 abbrev pub IsWithin : View → Option ℕ → Type 0
 IsWithin s None = Unit {0}
 IsWithin s (Some b) = (FIRST_BLOCK ≤ b) × (b + BLOCK_WORDS ≤ s.size)

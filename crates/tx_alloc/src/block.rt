@@ -1,11 +1,11 @@
-//! Blocks, by where they begin.
+//! Blocks, by the addresses at which they begin.
 
 ghost use Rattle.std.specs.Prelude.{◌≡◌, ◌+◌, ◌<◌, ◌^◌};
 
 use std::marker::Model;
 use tx_memory::Addr;
 
-/// A block, by its first word: in contracts the address of that word.
+/// A block, by its first word. In contracts, the address of that word.
 #[derive(Clone, Copy, Debug, PartialEq, Eq)]
 pub struct Block(pub Addr);
 
@@ -20,7 +20,7 @@ impl Model for Block {
 }
 
 impl Block {
-    /// The block's first word.
+    /// Returns the address of the block's first word.
     #[inline]
     pub fn addr(self) -> Addr
         ensures { result.0 ≡ self }
@@ -28,7 +28,7 @@ impl Block {
         self.0
     }
 
-    /// The block's word at this place. The first is at place 0.
+    /// Returns the address of the block's word at a place. The first word has place 0.
     #[inline]
     pub fn word(self, place: u32) -> Addr
         requires { self + place < 2 ^ 32 }

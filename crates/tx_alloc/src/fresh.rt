@@ -1,4 +1,4 @@
-//! The words of a heap of which every block is free.
+//! The words of a heap in which every block is free.
 
 ghost use Rattle.std.specs.Prelude.{◌≡◌, ℕ, ◌<◌, ◌≤◌, IfOk, length, slice_index};
 ghost use Rattle.tx_alloc.specs.Pool.{IsPool, IsEmptyHeap, fresh_lists, heap_words, place_of_block};
@@ -7,8 +7,8 @@ ghost use Rattle.tx_alloc.specs.Spread.{IsSpreadHeap, IsLinked, spread_lists};
 use crate::place::{BLOCK_WORDS, FIRST_BLOCK, FIRST_HEAD, LISTS, MOST_BLOCKS};
 use std::alloc::{AllocError, Global};
 
-/// The words of a heap of `blocks` blocks, all free: block b is in list b mod 8, each list ascends,
-/// and every other word is 0.
+/// Creates the words of a heap of `blocks` blocks, all free. Block b is in list b mod 8, each list
+/// ascends, and every other word is 0.
 pub fn fresh_words(alloc: Global, blocks: usize) -> Result<Vec<u64>, AllocError>
     requires some { 1 ≤ blocks }
     requires most { blocks ≤ MOST_BLOCKS }
@@ -42,9 +42,9 @@ pub fn fresh_words(alloc: Global, blocks: usize) -> Result<Vec<u64>, AllocError>
     Ok(words)
 }
 
-/// The words of a heap of `blocks` blocks, all free: list 0 has the first eighth of them, list 1
-/// the next and so on, each list ascends, and every other word is 0. So what one client takes lies
-/// together.
+/// Creates the words of a partitioned heap of `blocks` blocks, all free. List 0 has the first
+/// eighth of the blocks, list 1 the next eighth and so on; each list ascends, and every other word
+/// is 0. So the blocks that one client takes lie together.
 pub fn spread_words(alloc: Global, blocks: usize) -> Result<Vec<u64>, AllocError>
     requires some { 1 ≤ blocks }
     requires most { blocks ≤ MOST_BLOCKS }
@@ -67,7 +67,7 @@ pub fn spread_words(alloc: Global, blocks: usize) -> Result<Vec<u64>, AllocError
     Ok(words)
 }
 
-/// Makes a list of the blocks from `first` on, before `end`.
+/// Links the blocks from `first` up to `end`, exclusive, as a list.
 fn link_blocks(words: &mut [u64], list: usize, first: usize, end: usize)
     requires list { list < LISTS }
     requires order { first ≤ end }
@@ -81,7 +81,7 @@ fn link_blocks(words: &mut [u64], list: usize, first: usize, end: usize)
     }
 }
 
-/// The pointer to a block before `end`, or to none.
+/// Returns the pointer to a block before `end`, or to none.
 fn link_to(block: usize, end: usize) -> u64
     requires { end ≤ MOST_BLOCKS }
     ensures { result ≡ place_of_block end block }

@@ -1,10 +1,9 @@
-//! Blocks of eight words in a transactional memory: which are free, in eight lists, and which are
-//! taken.
+//! Blocks of eight words in a transactional memory: free blocks in eight lists, and taken blocks.
 //!
 //! Words 8 to 15 are the heads of the lists, and block b starts at word 16 + 8 * b.
 //!
-//! A pointer is the place of a block's first word, or 0 for none. A free block's first word leads
-//! to the next free block of its list.
+//! A pointer is the address of a block's first word, or 0 for none. The first word of a free block
+//! leads to the next free block of its list.
 #![tactic(auto)]
 
 mod block;

@@ -6,7 +6,7 @@ use crate::place::{FIRST_HEAD, LISTS};
 use std::marker::Model;
 use tx_memory::Addr;
 
-/// One of the eight lists of free blocks: in contracts its number, which is below 8.
+/// One of the eight lists of free blocks. In contracts, its number, which is below 8.
 #[derive(Clone, Copy, Debug, PartialEq, Eq)]
 pub struct FreeList {
     number: u32,
@@ -26,7 +26,7 @@ impl Model for FreeList {
 }
 
 impl FreeList {
-    /// The list of this number.
+    /// Returns the list with this number.
     #[inline]
     pub fn new(number: u32) -> FreeList
         requires { number < LISTS }
@@ -35,7 +35,7 @@ impl FreeList {
         FreeList { number }
     }
 
-    /// The list after this one. List 0 comes after list 7.
+    /// Returns the next list. List 0 follows list 7.
     #[inline]
     pub fn next(self) -> FreeList
         ensures { result ≡ (self + 1) % LISTS }
@@ -45,7 +45,7 @@ impl FreeList {
         }
     }
 
-    /// The list's number.
+    /// Returns the list's number.
     #[inline]
     pub fn number(self) -> u32
         ensures number { result ≡ self }
@@ -54,7 +54,7 @@ impl FreeList {
         self.number
     }
 
-    /// The word that leads to the list's first block.
+    /// Returns the address of the word that leads to the list's first block.
     #[inline]
     pub fn head(self) -> Addr
         ensures word { result.0 ≡ FIRST_HEAD + self }

@@ -8,13 +8,13 @@ use crate::list::FreeList;
 use crate::place::{FIRST_HEAD, LISTS};
 use tx_memory::{Addr, TxMem, load, store};
 
-/// Takes the first block of the first list that has one. The lists are looked at from `start` on,
-/// and list 0 follows list 7. `None` says that all eight are empty.
+/// Takes the first block of the first list that has one. The search begins at list `start`, and
+/// list 0 follows list 7. Returns `None` if all eight lists are exhausted.
 ///
-/// The block's words are as they were when it was given back: its first word is the next free
-/// block's place.
+/// The block's words are as they were when the block was given back: its first word is the pointer
+/// to the next free block.
 ///
-/// Not said: what a refused call leaves of the lists.
+/// Not said: the effect of a refused call on the lists.
 pub fn take<M: TxMem>(memory: &mut M, start: FreeList) -> Result<Option<Block>, M::Stop>
     requires pool { HasPool (M.view memory.old) }
     ensures origin { M.origin memory.new ≡ M.origin memory.old }
@@ -36,10 +36,10 @@ pub fn take<M: TxMem>(memory: &mut M, start: FreeList) -> Result<Option<Block>, 
     Ok(None)
 }
 
-/// Gives back a block that is taken and that nothing leads to any more. It becomes the first of
-/// list `start`.
+/// Gives back a taken block to which nothing leads any more. The block becomes the first of list
+/// `start`.
 ///
-/// Not said: what a refused call leaves of the lists.
+/// Not said: the effect of a refused call on the lists.
 pub fn give<M: TxMem>(memory: &mut M, start: FreeList, block: Block) -> Result<(), M::Stop>
     requires used { HasUsed (M.view memory.old) block }
     ensures origin { M.origin memory.new ≡ M.origin memory.old }

@@ -1,4 +1,4 @@
-//! Taking blocks where a list that has none left gets a run of another one's.
+//! Taking blocks, with a batch refill of an exhausted list from another list.
 
 ghost use Rattle.std.specs.Prelude.{◌≡◌, ◌<◌, ◌+◌, IfOk, MatchOption};
 ghost use Rattle.tx_alloc.specs.Pool.{HasPool, NoneFree};
@@ -12,19 +12,20 @@ use tx_memory::{Addr, TxMem, TxRead, load, store};
 /// The end of a run of free blocks.
 #[derive(Clone, Copy)]
 struct RunEnd {
-    /// Its last block.
+    /// The last block of the run.
     last: Addr,
-    /// What leads to the block after it, or 0.
+    /// The pointer to the block after the run, or 0.
     behind: u64,
 }
 
-/// Takes the first block of list `start`. Where that has none, it takes the first block of the next
-/// list that has one, and the blocks after it become list `start`, up to 63 of them: so a client
-/// meets the others at their lists once for 64 blocks. List 0 follows list 7. `None` says that all
-/// eight are empty.
+/// Takes the first block of list `start`. If that list is exhausted, takes the first block of the
+/// next list that has one, and moves up to 63 blocks after it to list `start`. So a client meets
+/// the others at their lists once for 64 blocks. List 0 follows list 7. Returns `None` if all
+/// eight lists are exhausted.
 ///
-/// The block's words are as they were when it was given back: its first word is the next free
-/// block's place.
+/// The block's words are as they were when the block was given back: its first word is the pointer
+/// to the next free block.
+#[inline(always)]
 pub fn take_refilling<M: TxMem>(memory: &mut M, start: FreeList) -> Result<Option<Block>, M::Stop>
     requires pool { HasPool (M.view memory.old) }
     ensures origin { M.origin memory.new ≡ M.origin memory.old }
@@ -51,8 +52,8 @@ pub fn take_refilling<M: TxMem>(memory: &mut M, start: FreeList) -> Result<Optio
     Ok(None)
 }
 
-/// Takes the first block of list `from`, and makes the blocks after it list `start`, which has
-/// none.
+/// Takes the first block of list `from`, and moves the blocks after it, up to the end of the run,
+/// to list `start`, which is exhausted.
 fn refill<M: TxMem>(
     memory: &mut M,
     start: FreeList,
@@ -76,7 +77,7 @@ fn refill<M: TxMem>(
     Ok(())
 }
 
-/// Walks from the first block of a list to the last one of the run.
+/// Walks from the first block of a list to the last block of the run.
 fn end_of_run<M: TxRead>(memory: &mut M, block: Addr, next: u64) -> Result<RunEnd, M::Stop>
     requires pool { HasPool (M.view memory.old) }
     requires begins { Begins (M.view memory.old) block.0 next }

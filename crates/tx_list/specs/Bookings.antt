@@ -5,7 +5,7 @@ use Rattle.tx_alloc.specs.Rows.{Rows}
 use Rattle.tx_list.specs.declared.key.Key.{Key}
 use Rattle.tx_list.specs.declared.place.TheConstants.{KIND, ID, NEXT, KINDS}
 
--- kind and id as one number, in their order
+-- kind and id as one number, which orders by kind and then by id
 abbrev pub key_code : ℕ → ℕ → ℕ
 key_code kind id = kind * 2 ^ 32 + id
 
@@ -13,7 +13,7 @@ key_code kind id = kind * 2 ^ 32 + id
 abbrev pub code_of : Key → ℕ
 code_of key = key_code key.kind key.id
 
--- the kind is one of three, and the id has 32 bits
+-- the kind is one of three, and the id fits 32 bits
 abbrev pub IsKey : Key → Type 0
 IsKey key = (key.kind < KINDS) × (key.id < 2 ^ 32)
 
@@ -21,7 +21,7 @@ IsKey key = (key.kind < KINDS) × (key.id < 2 ^ 32)
 abbrev pub place_code : (ℕ → ℕ) → ℕ → ℕ
 place_code m a = key_code (m (a + KIND)) (m (a + ID))
 
--- p leads to the block of the row r, whose key is lo or more
+-- p leads to the block of the row r, whose key is at least lo
 pub record IsBookingOfRow (m : ℕ → ℕ) (n p lo : ℕ) (r : ℕ × ℕ) : Type 0 where
   pub at : p ≡ r.1
   pub block : IsBlock n r.1
@@ -30,7 +30,7 @@ pub record IsBookingOfRow (m : ℕ → ℕ) (n p lo : ℕ) (r : ℕ × ℕ) : Ty
   pub key : place_code m r.1 ≡ r.0
   pub low : lo ≤ r.0
 
--- p leads to these bookings, with keys that ascend from lo on
+-- p leads to these bookings, whose keys ascend from lo on
 abbrev pub Linked : (ℕ → ℕ) → ℕ → ℕ → ℕ → Rows → Type 0
 Linked m n p lo [] = p ≡ 0
 Linked m n p lo (r ∷ rs) = IsBookingOfRow m n p lo r × Linked m n (m (r.1 + NEXT)) (r.0 + 1) rs
@@ -44,12 +44,12 @@ abbrev pub first_block : Rows → ℕ
 first_block [] = 0
 first_block (r ∷ rs) = r.1
 
--- the block of the row after the one with this block, or 0
+-- the block of the row after the row with this block, or 0
 abbrev pub block_behind : Rows → ℕ → ℕ
 block_behind [] b = 0
 block_behind (r ∷ rs) b = cond (nat_eq r.1 b) (first_block rs) (block_behind rs b)
 
--- the word that leads to the first row of this key or more, where l leads to the rows
+-- the word that leads to the first row whose key is at least this one, if l leads to the rows
 abbrev pub link_to_key : ℕ → Rows → ℕ → ℕ
 link_to_key l [] key = l
 link_to_key l (r ∷ rs) key = cond (nat_lt r.0 key) (link_to_key (r.1 + NEXT) rs key) l

@@ -1,4 +1,4 @@
--- What the steps of a search say.
+-- The effects of the steps of a search.
 use Rattle.std.specs.Prelude.{◌≡◌, ℕ, ◌+◌, ◌<◌, List, length, Option, Some, None, cond, nat_eq}
 use Rattle.std.specs.declared.cmp.Ordering.{Ordering}
 use Rattle.std.specs.Ordering.{nat_cmp, ordering_then}
@@ -12,22 +12,22 @@ use Rattle.tx_list.specs.declared.key.Key.{Key}
 use Rattle.tx_list.specs.declared.place.TheConstants.{KIND, ID}
 use Rattle.tx_list.specs.declared.search.Spot.{Spot}
 
--- how one kind and id compare to another: by kind, and then by id
+-- the comparison of one kind and id with another: by kind, and then by id
 abbrev pub key_cmp : ℕ → ℕ → ℕ → ℕ → Ordering
 key_cmp k i k' i' = ordering_then (nat_cmp k k') (nat_cmp i i')
 
--- only reads were made, and order says how the key in the block b compares to this one
+-- only reads were made, and `order` is the comparison of the key in the block b with this key
 pub record Compared (s s' : View) (b : ℕ) (key : Key) (order : Ordering) : Type 0 where
   pub kept : Kept s s'
   pub writes : s'.writes ≡ s.writes
   pub is : (image : List ℕ) → Sees s' image →
       order ≡ key_cmp (mem s image (b + KIND)) (mem s image (b + ID)) key.kind key.id
 
--- the block that a pointer leads to, if it leads to one
+-- the block to which a pointer leads; none for 0
 abbrev pub led_to : ℕ → Option ℕ
 led_to p = cond (nat_eq p 0) None (Some p)
 
--- only reads were made, and the search for the key came to this spot
+-- only reads were made, and the search for the key ended at this spot
 pub record Sought (s s' : View) (head key : ℕ) (spot : Spot) : Type 0 where
   pub kept : Kept s s'
   pub writes : s'.writes ≡ s.writes
@@ -39,14 +39,14 @@ pub record Sought (s s' : View) (head key : ℕ) (spot : Spot) : Type 0 where
   pub entry : (image : List ℕ) (rs : Rows) → Sees s' image →
       IsListAt (mem s image) (length image) head rs → pointer spot.entry ≡ block_at rs key
 
--- in the list of these bookings at head, the key is at this spot, or would be there
+-- in the list of these bookings at head, the spot is that of the key: where the key is or would be
 pub record SpotAt (m : ℕ → ℕ) (head key : ℕ) (spot : Spot) (rs : Rows) : Type 0 where
   pub link : spot.link.0 ≡ link_to_key head rs key
   pub word : m spot.link.0 ≡ spot.word
   pub entry : pointer spot.entry ≡ block_at rs key
 
--- the block b came into each list in which this was the spot of its key
--- Not said: what is written where the spot is that of no key in any list.
+-- the block b came into each list in which the spot is that of the block's key
+-- Not said: the effect if the spot is that of no key in any list.
 pub record Hung (s s' : View) (spot : Spot) (b : ℕ) : Type 0 where
   pub kept : Kept s s'
   pub insertion : (image : List ℕ) → Sees s' image → (head : ℕ) (key : Key) (rs : Rows) →
@@ -55,8 +55,8 @@ pub record Hung (s s' : View) (spot : Spot) (b : ℕ) : Type 0 where
       FreshBooking (mem s image) (length image) head rs key b →
       IsInsertion (mem s image) (mem s' image) (length image) head (code_of key) b rs
 
--- the booking at a spot, if it had one, left each list in which this was the spot of a key
--- Not said: what is written where the spot is that of no key in any list.
+-- the booking at a spot, if there was one, left each list in which the spot is that of a key
+-- Not said: the effect if the spot is that of no key in any list.
 pub record Unhung (s s' : View) (spot : Spot) (removed : Option ℕ) : Type 0 where
   pub kept : Kept s s'
   pub none : removed ≡ None → s'.writes ≡ s.writes

@@ -1,4 +1,4 @@
-//! Hanging bookings into a list, and taking them out.
+//! Linking bookings into a list, and unlinking them.
 
 ghost use Rattle.std.specs.Prelude.{◌≡◌, ◌+◌, ◌<◌, ◌≤◌, ◌^◌, IfOk};
 ghost use Rattle.tx_alloc.specs.Pointer.{IsWithin};
@@ -13,8 +13,8 @@ use tx_alloc::Block;
 use tx_alloc::place::BLOCK_WORDS;
 use tx_memory::{Addr, TxMem, load, store};
 
-/// Hangs a block into the list at `head`. Its words have the key already, and no booking of the
-/// list has it.
+/// Links a block into the list at `head`. The words of the block already have the key, and no
+/// booking of the list has that key.
 pub fn insert<M: TxMem>(memory: &mut M, head: Addr, key: Key, block: Block) -> Result<(), M::Stop>
     requires list { HasList (M.view memory.old) head.0 }
     requires key { IsKey key }
@@ -28,8 +28,8 @@ pub fn insert<M: TxMem>(memory: &mut M, head: Addr, key: Key, block: Block) -> R
     Ok(())
 }
 
-/// Hangs a block in at a spot. It comes into each list in which the block's key has this spot; so
-/// a list that was walked by `seek`, and not changed since, is not walked again.
+/// Links a block into a list at a spot. The block comes into each list in which its key has this
+/// spot. A list that `seek` has walked, and that has not changed since, is not walked again.
 pub fn insert_at<M: TxMem>(memory: &mut M, spot: Spot, block: Block) -> Result<(), M::Stop>
     requires small { (M.view memory.old).size ≤ 2 ^ 32 }
     requires block { block + BLOCK_WORDS ≤ (M.view memory.old).size }
@@ -43,8 +43,8 @@ pub fn insert_at<M: TxMem>(memory: &mut M, spot: Spot, block: Block) -> Result<(
     Ok(())
 }
 
-/// Takes the booking of a key out of the list at `head`, and returns its block. Where the list has
-/// no such booking nothing is written.
+/// Unlinks the booking of a key from the list at `head`, and returns its block. If the list has no
+/// such booking, nothing is written.
 pub fn remove<M: TxMem>(memory: &mut M, head: Addr, key: Key) -> Result<Option<Block>, M::Stop>
     requires list { HasList (M.view memory.old) head.0 }
     requires key { IsKey key }
@@ -57,8 +57,8 @@ pub fn remove<M: TxMem>(memory: &mut M, head: Addr, key: Key) -> Result<Option<B
     Ok(removed)
 }
 
-/// Takes the booking at a spot out of the lists in which it is there, and returns its block. Where
-/// the spot has no booking nothing is written.
+/// Unlinks the booking at a spot from the lists that have it there, and returns its block. If the
+/// spot has no booking, nothing is written.
 pub fn remove_at<M: TxMem>(memory: &mut M, spot: Spot) -> Result<Option<Block>, M::Stop>
     requires small { (M.view memory.old).size ≤ 2 ^ 32 }
     requires link { spot.link.0 < (M.view memory.old).size }

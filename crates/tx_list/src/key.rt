@@ -1,4 +1,4 @@
-//! What the bookings of a list are told apart by.
+//! The keys by which the bookings of a list are told apart.
 
 ghost use Rattle.std.specs.Prelude.{◌≡◌, ◌+◌, ◌≤◌, ◌^◌, IfOk};
 ghost use Rattle.tx_list.specs.Search.{Compared};
@@ -9,7 +9,7 @@ use tx_alloc::Block;
 use tx_alloc::place::BLOCK_WORDS;
 use tx_memory::{TxRead, load};
 
-/// The kind and the id of what is booked, as a booking's words have them.
+/// The kind and the id of the booked item, as the words of a booking have them.
 ///
 /// Keys are ordered by kind, then by id.
 #[derive(Clone, Copy, Debug, PartialEq, Eq, PartialOrd, Ord)]
@@ -18,8 +18,7 @@ pub struct Key {
     pub id: u64,
 }
 
-/// How the key in a booking's block compares to this one. The id is read only where the kinds are
-/// the same.
+/// Compares the key in a booking's block with a key. The id is read only if the kinds are equal.
 #[inline]
 pub(crate) fn compare_key<M: TxRead>(
     memory: &mut M,

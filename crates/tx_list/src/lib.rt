@@ -1,7 +1,7 @@
 //! A customer's bookings in a transactional memory, as a list of blocks in ascending order of kind
 //! and id.
 //!
-//! A word that is in none of the blocks, the head, leads to the first of them. A block's words are
+//! The head is a word outside the blocks that leads to the first block. The words of a block are
 //! kind, id, sum, next and units. No call looks at sum or units, and no call takes memory.
 #![tactic(auto)]
 

@@ -11,19 +11,19 @@ use std::cmp::Ordering;
 use tx_alloc::Block;
 use tx_memory::{Addr, TxRead, load};
 
-/// Where a key is in a list, or would be. It stays good until a word of the list that leads on is
-/// written.
+/// The position of a key in a list: where the key is or would be. A spot is valid until a link of
+/// the list is written.
 #[derive(Clone, Copy, Debug, PartialEq, Eq)]
 pub struct Spot {
-    /// The word that leads there.
+    /// The word that leads to the position.
     pub link: Addr,
-    /// What that word holds: the pointer to the first booking that is not before the key.
+    /// The value of that word: the pointer to the first booking that is not before the key.
     pub word: u64,
-    /// The block of the booking with the key.
+    /// The block of the booking with the key, if there is one.
     pub entry: Option<Block>,
 }
 
-/// The booking of a key in the list at `head`.
+/// Returns the block of the booking of a key in the list at `head`.
 pub fn find<M: TxRead>(memory: &mut M, head: Addr, key: Key) -> Result<Option<Block>, M::Stop>
     requires list { HasList (M.view memory.old) head.0 }
     requires key { IsKey key }
@@ -35,7 +35,8 @@ pub fn find<M: TxRead>(memory: &mut M, head: Addr, key: Key) -> Result<Option<Bl
     Ok(spot.entry)
 }
 
-/// The first booking of the list at `head`.
+/// Returns the first booking of the list at `head`.
+#[inline(always)]
 pub fn first<M: TxRead>(memory: &mut M, head: Addr) -> Result<Option<Block>, M::Stop>
     requires list { HasList (M.view memory.old) head.0 }
     ensures origin { M.origin memory.new ≡ M.origin memory.old }
@@ -47,7 +48,8 @@ pub fn first<M: TxRead>(memory: &mut M, head: Addr) -> Result<Option<Block>, M::
     Ok(block_led_to(pointer))
 }
 
-/// The booking after the one in this block.
+/// Returns the booking after the booking in this block.
+#[inline(always)]
 pub fn next<M: TxRead>(memory: &mut M, block: Block) -> Result<Option<Block>, M::Stop>
     requires booking { HasBooking (M.view memory.old) block }
     ensures origin { M.origin memory.new ≡ M.origin memory.old }
@@ -59,7 +61,7 @@ pub fn next<M: TxRead>(memory: &mut M, block: Block) -> Result<Option<Block>, M:
     Ok(block_led_to(pointer))
 }
 
-/// The block that a pointer leads to. 0 leads to none.
+/// Returns the block to which a pointer leads, or `None` for 0.
 #[inline]
 fn block_led_to(pointer: u64) -> Option<Block>
     requires { pointer < 2 ^ 32 }
@@ -71,7 +73,7 @@ fn block_led_to(pointer: u64) -> Option<Block>
     }
 }
 
-/// Where a key is in the list at `head`, or would be.
+/// Returns the spot of a key in the list at `head`.
 pub fn seek<M: TxRead>(memory: &mut M, head: Addr, key: Key) -> Result<Spot, M::Stop>
     requires list { HasList (M.view memory.old) head.0 }
     requires key { IsKey key }
@@ -80,7 +82,7 @@ pub fn seek<M: TxRead>(memory: &mut M, head: Addr, key: Key) -> Result<Spot, M::
         Sought (M.view memory.old) (M.view memory.new) head.0 (code_of key) spot) }
 {
     let mut link = head;
-    // How many bookings were passed, for the proof alone: the walk ends since keys rise.
+    // Number of bookings passed, for the prover alone: the walk ends because keys ascend.
     let mut passed: u64 = 0;
     loop {
         let word = load(memory, link)?;

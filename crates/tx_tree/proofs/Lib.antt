@@ -23,3 +23,4 @@ pub mod NextSeen
 pub mod NextViews
 pub mod Removed
 pub mod RemoveViews
+pub mod Walks

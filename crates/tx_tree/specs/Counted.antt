@@ -1,4 +1,4 @@
--- A table with the number of its entries, as a caller knows it.
+-- A table with a known number of entries.
 use Rattle.std.specs.Prelude.{◌≡◌, ℕ, ◌<◌, ◌≤◌, List, length}
 use Rattle.tx_memory.specs.View.{View, RestsOn}
 use Rattle.tx_alloc.specs.Steps.{mem}
@@ -13,8 +13,8 @@ pub record SomeEntries (m : ℕ → ℕ) (n root count : ℕ) : Type 0 where
   pub table : IsTable m n (m root) entries
   pub is : length entries ≡ count
 
--- under each image of the memory's size that there may be the root word leads to a table of this
--- many entries, in a memory of this many blocks
+-- under each possible image of the memory's size, the root word leads to a table with this number
+-- of entries, in a memory of this number of blocks
 pub record HasEntries (s : View) (root blocks count : ℕ) : Type 0 where
   pub size : s.size ≡ heap_words blocks
   pub small : blocks ≤ MOST_BLOCKS

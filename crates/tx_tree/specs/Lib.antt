@@ -10,3 +10,4 @@ pub mod Removal
 pub mod Lowest
 pub mod Next
 pub mod Counted
+pub mod Walk

@@ -1,4 +1,4 @@
--- What is said of the steps that mend a tree with too few black nodes.
+-- The steps that mend a tree with too few black nodes.
 use Rattle.std.specs.Prelude.{◌≡◌, ℕ, ◌+◌, ◌-◌, ◌≤◌, ◌^◌, List, length, Bool, true, false, not}
 use Rattle.tx_memory.specs.View.{View, Sees, RestsOn, Kept}
 use Rattle.tx_alloc.specs.Steps.{mem}
@@ -10,7 +10,7 @@ use Rattle.tx_tree.specs.Balance.{Short}
 use Rattle.tx_tree.specs.Hangs.{off, link_of, Zip, Touches}
 use Rattle.tx_tree.specs.Mending.{IsMended, ShortAt}
 
--- the child of a node on this side lacks a black node, and the one beside it is black
+-- the child of a node at this side has one black node too few, and its sibling is black
 pub record LiftAt (m : ℕ → ℕ) (n root : ℕ) (total : ℕ → ℕ) (link p q side : ℕ) (w : Way)
     (right c : Bool) (k : ℕ) (o t : Tree) (h : ℕ) : Type 0 where
   pub zip : Zip m n root total (step right c (k, p) o w) t
@@ -20,7 +20,7 @@ pub record LiftAt (m : ℕ → ℕ) (n root : ℕ) (total : ℕ → ℕ) (link p
   pub black : is_red o ≡ false
   pub short : Short (step right c (k, p) o w) t h
 
--- in some tree p's child on this side lacks a black node, and q beside it is black
+-- in some tree the child of p at this side has one black node too few, and its sibling q is black
 pub record SomeLift (m : ℕ → ℕ) (n link p q side : ℕ) : Type 0 where
   pub root : ℕ
   pub total : ℕ → ℕ
@@ -33,14 +33,15 @@ pub record SomeLift (m : ℕ → ℕ) (n link p q side : ℕ) : Type 0 where
   pub blacks : ℕ
   pub at : LiftAt m n root total link p q side way right colour key other tree blacks
 
--- this is so under each image of the memory's size, which is 16 to 2^32 words
+-- under each possible image of the memory's size, the child of p at this side has one black node
+-- too few, and its sibling q is black
 pub record HasLift (s : View) (link p q side : ℕ) : Type 0 where
   pub small : s.size ≤ 2 ^ 32
   pub room : FIRST_BLOCK ≤ s.size
   pub under : (image : List ℕ) → RestsOn s image →
       SomeLift (mem s image) (length image) link p q side
 
--- the tree at the end of this way lacks a black node
+-- the tree at the end of this way has one black node too few
 pub record ShortHere (m m' : ℕ → ℕ) (n root : ℕ) (total : ℕ → ℕ) (w : Way) (rs : Rows) : Type 0
   where
     pub tree : Tree
@@ -50,7 +51,8 @@ pub record ShortHere (m m' : ℕ → ℕ) (n root : ℕ) (total : ℕ → ℕ) (
     pub is : rows (plug w tree) ≡ rs
     pub touches : Touches m m' root total
 
--- the lack is mended, or, where it is not, is one of the whole subtree that the link leads to
+-- the tree is mended, or, if `done` is false, the whole subtree to which the link leads has one
+-- black node too few
 pub record Lifted (s s' : View) (link p q side : ℕ) (done : Bool) : Type 0 where
   pub kept : Kept s s'
   pub ends : done ≡ true → (image : List ℕ) → Sees s' image →
@@ -64,7 +66,7 @@ pub record Lifted (s s' : View) (link p q side : ℕ) (done : Bool) : Type 0 whe
       (c ≡ false) × ShortHere (mem s image) (mem s' image) (length image) root total w
       (rows (plug (step right c (k, p) o w) t))
 
--- one step of a path up
+-- the tree one step up the path has one black node too few
 pub record ShortUp (m m' : ℕ → ℕ) (n root : ℕ) (total : ℕ → ℕ) (xs : List ℕ) (d : ℕ) (rs : Rows) :
     Type 0 where
   pub way : Way
@@ -74,7 +76,8 @@ pub record ShortUp (m m' : ℕ → ℕ) (n root : ℕ) (total : ℕ → ℕ) (xs
   pub is : rows (plug way tree) ≡ rs
   pub touches : Touches m m' root total
 
--- the lack at the end of the path is mended, or is one step of the path further up
+-- the tree is mended, or, if `done` is false, the tree one step up the path has one black node too
+-- few
 pub record Stepped (s s' : View) (xs : List ℕ) (d : ℕ) (done : Bool) : Type 0 where
   pub kept : Kept s s'
   pub ends : done ≡ true → (image : List ℕ) → Sees s' image →

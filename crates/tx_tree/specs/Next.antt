@@ -1,5 +1,4 @@
--- What is said of the steps that put the least node of the right side in the place of a node that
--- goes.
+-- The steps that replace a node to be removed by the least node of its right subtree.
 use Rattle.std.specs.Prelude.{◌≡◌, ◌≢◌, ℕ, ◌+◌, ◌<◌, ◌≤◌, ◌^◌, List, length, Bool, false, ◌++◌}
 use Rattle.tx_memory.specs.View.{View, Sees, RestsOn, Kept, IsWrite}
 use Rattle.tx_alloc.specs.Steps.{mem}
@@ -12,7 +11,7 @@ use Rattle.tx_tree.specs.Balance.{Sound}
 use Rattle.tx_tree.specs.Hangs.{Zip, Touches, without_block}
 use Rattle.tx_tree.specs.Steps.{IsPath}
 
--- the block b got the links and the colour of a, and the link leads to it
+-- the block b has the links and the colour of a, and the link leads to b
 pub record Replacing (m m' : ℕ → ℕ) (link a b : ℕ) : Type 0 where
   pub ma : ℕ → ℕ
   pub mb : ℕ → ℕ
@@ -28,13 +27,13 @@ pub record Replacing (m m' : ℕ → ℕ) (link a b : ℕ) : Type 0 where
   pub w3 : IsWrite mb mc (b + 3) v3
   pub w4 : IsWrite mc m' link b
 
--- under each image the block b took the place of a
+-- under each possible image the block b took the place of a
 pub record Replaced (s s' : View) (link a b : ℕ) : Type 0 where
   pub kept : Kept s s'
   pub replacing : (image : List ℕ) → Sees s' image →
       Replacing (mem s image) (mem s' image) link a b
 
--- at the end of the path is a node b with a right side
+-- the path ends at the node b, which has a right child
 pub record BothAt (m : ℕ → ℕ) (n root : ℕ) (total : ℕ → ℕ) (xs : List ℕ) (d b : ℕ) (w : Way)
     (c : Bool) (l : Tree) (k : ℕ) (t : Tree) (h : ℕ) : Type 0 where
   pub zip : Zip m n root total w (node c l (k, b) t)
@@ -44,7 +43,7 @@ pub record BothAt (m : ℕ → ℕ) (n root : ℕ) (total : ℕ → ℕ) (xs : L
   pub some : m (b + 2) ≢ 0
   pub tall : height (plug w (node c l (k, b) t)) ≤ MOST_HEIGHT
 
--- in some tree the path ends at the node b, which has a right side
+-- in some tree the path ends at the node b, which has a right child
 pub record SomeBoth (m : ℕ → ℕ) (n : ℕ) (xs : List ℕ) (d b : ℕ) : Type 0 where
   pub root : ℕ
   pub total : ℕ → ℕ
@@ -56,7 +55,8 @@ pub record SomeBoth (m : ℕ → ℕ) (n : ℕ) (xs : List ℕ) (d b : ℕ) : Ty
   pub blacks : ℕ
   pub at : BothAt m n root total xs d b way colour left key right blacks
 
--- this is so under each image of the memory's size
+-- under each possible image of the memory's size, the path ends at the node b, which has a right
+-- child
 pub record HasBoth (s : View) (xs : List ℕ) (d b : ℕ) : Type 0 where
   pub small : s.size ≤ 2 ^ 32
   pub room : FIRST_BLOCK ≤ s.size
@@ -64,7 +64,7 @@ pub record HasBoth (s : View) (xs : List ℕ) (d b : ℕ) : Type 0 where
   pub deep : d < LEVELS
   pub under : (image : List ℕ) → RestsOn s image → SomeBoth (mem s image) (length image) xs d b
 
--- the whole tree is as it should be, without the block b
+-- the whole tree is a balanced red-black tree with these rows and without the block b
 pub record GoneEnds (m m' : ℕ → ℕ) (n root : ℕ) (total : ℕ → ℕ) (b : ℕ) (rs : Rows) : Type 0 where
   pub tree : Tree
   pub zip : Zip m' n root (without_block total b) top tree
@@ -74,7 +74,8 @@ pub record GoneEnds (m m' : ℕ → ℕ) (n root : ℕ) (total : ℕ → ℕ) (b
   pub is : rows tree ≡ rs
   pub touches : Touches m m' root total
 
--- under each image b left its tree, which is as it should be and has all other rows
+-- under each possible image b left its tree, which is a balanced red-black tree with all other
+-- rows
 pub record NextUnlinked (s s' : View) (xs : List ℕ) (d b : ℕ) : Type 0 where
   pub kept : Kept s s'
   pub ends : (image : List ℕ) → Sees s' image →

@@ -1,4 +1,4 @@
--- What the steps of a removal say.
+-- The effects of the steps of a removal.
 use Rattle.std.specs.Prelude.{◌≡◌, ℕ, ◌+◌, ◌<◌, ◌≤◌, ◌^◌, List, length, slice_index, Bool, false, not}
 use Rattle.tx_memory.specs.View.{View, Sees, RestsOn, Kept}
 use Rattle.tx_alloc.specs.Steps.{mem}
@@ -11,8 +11,8 @@ use Rattle.tx_tree.specs.Hangs.{off, Zip, without_block}
 use Rattle.tx_tree.specs.Steps.{IsPath}
 use Rattle.tx_tree.specs.Mending.{IsMended}
 
--- the tree at the end of the path, to which p leads, lacks a black node, and may be red below a
--- red node
+-- the path ends at a tree to which p leads. The tree has one black node too few, and may be red
+-- below a red node
 pub record LooseAt (m : ℕ → ℕ) (n root : ℕ) (total : ℕ → ℕ) (xs : List ℕ) (d p : ℕ) (w : Way)
     (t : Tree) (h : ℕ) : Type 0 where
   pub zip : Zip m n root total w t
@@ -24,7 +24,7 @@ pub record LooseAt (m : ℕ → ℕ) (n root : ℕ) (total : ℕ → ℕ) (xs : 
   pub apart : IsApart t
   pub fits : IsApartWay w false
 
--- in some tree the path ends at a subtree, to which p leads, that lacks a black node
+-- in some tree the path ends at a subtree to which p leads, and which has one black node too few
 pub record SomeLoose (m : ℕ → ℕ) (n : ℕ) (xs : List ℕ) (d p : ℕ) : Type 0 where
   pub root : ℕ
   pub total : ℕ → ℕ
@@ -33,7 +33,8 @@ pub record SomeLoose (m : ℕ → ℕ) (n : ℕ) (xs : List ℕ) (d p : ℕ) : T
   pub blacks : ℕ
   pub at : LooseAt m n root total xs d p way tree blacks
 
--- this is so under each image of the memory's size
+-- under each possible image of the memory's size, the path ends at a subtree to which p leads, and
+-- which has one black node too few
 pub record HasLoose (s : View) (xs : List ℕ) (d p : ℕ) : Type 0 where
   pub small : s.size ≤ 2 ^ 32
   pub room : FIRST_BLOCK ≤ s.size
@@ -41,7 +42,7 @@ pub record HasLoose (s : View) (xs : List ℕ) (d p : ℕ) : Type 0 where
   pub deep : d < LEVELS
   pub under : (image : List ℕ) → RestsOn s image → SomeLoose (mem s image) (length image) xs d p
 
--- under each image the tree with that lack became as it should be, with the same rows
+-- under each possible image the tree with the black node too few was mended, with the same rows
 pub record Lightened (s s' : View) (xs : List ℕ) (d p : ℕ) : Type 0 where
   pub kept : Kept s s'
   pub ends : (image : List ℕ) → Sees s' image →
@@ -49,7 +50,7 @@ pub record Lightened (s s' : View) (xs : List ℕ) (d p : ℕ) : Type 0 where
       LooseAt (mem s image) (length image) root total xs d p w t h →
       IsMended (mem s image) (mem s' image) (length image) root total (rows (plug w t))
 
--- at the end of the path is a node b that has one side at most, to which p leads
+-- the path ends at the node b, which has at most one child; p is that child, or 0
 pub record LastAt (m : ℕ → ℕ) (n root : ℕ) (total : ℕ → ℕ) (xs : List ℕ) (d b p : ℕ) (w : Way)
     (right c : Bool) (k : ℕ) (t : Tree) (h : ℕ) : Type 0 where
   pub zip : Zip m n root total w (join right c leaf (k, b) t)
@@ -58,7 +59,7 @@ pub record LastAt (m : ℕ → ℕ) (n root : ℕ) (total : ℕ → ℕ) (xs : L
   pub leads : m (b + off (not right)) ≡ p
   pub sound : Sound w (join right c leaf (k, b) t) h
 
--- in some tree the path ends at the node b, which has one side at most, to which p leads
+-- in some tree the path ends at the node b, which has at most one child; p is that child, or 0
 pub record SomeLast (m : ℕ → ℕ) (n : ℕ) (xs : List ℕ) (d b p : ℕ) : Type 0 where
   pub root : ℕ
   pub total : ℕ → ℕ
@@ -70,7 +71,8 @@ pub record SomeLast (m : ℕ → ℕ) (n : ℕ) (xs : List ℕ) (d b p : ℕ) : 
   pub blacks : ℕ
   pub at : LastAt m n root total xs d b p way right colour key tree blacks
 
--- this is so under each image of the memory's size
+-- under each possible image of the memory's size, the path ends at the node b, which has at most
+-- one child; p is that child, or 0
 pub record HasLast (s : View) (xs : List ℕ) (d b p : ℕ) : Type 0 where
   pub small : s.size ≤ 2 ^ 32
   pub room : FIRST_BLOCK ≤ s.size
@@ -78,7 +80,8 @@ pub record HasLast (s : View) (xs : List ℕ) (d b p : ℕ) : Type 0 where
   pub deep : d < LEVELS
   pub under : (image : List ℕ) → RestsOn s image → SomeLast (mem s image) (length image) xs d b p
 
--- under each image b left its tree, which is as it should be and has all other rows
+-- under each possible image b left its tree, which is a balanced red-black tree with all other
+-- rows
 pub record Unlinked (s s' : View) (xs : List ℕ) (d b p : ℕ) : Type 0 where
   pub kept : Kept s s'
   pub ends : (image : List ℕ) → Sees s' image →

@@ -1,4 +1,4 @@
--- A table by key. What is built on it uses the lemmas on IsTable alone, and not its fields.
+-- A table by key. Other crates use the lemmas on IsTable alone, and not its fields.
 use Rattle.std.specs.Prelude.{◌≡◌, ◌≢◌, ℕ, ◌+◌, ◌<◌, ◌≤◌, ◌^◌, List, [], ◌∷◌, length, false, cond, nat_lt, zero, suc, MatchOption, Option, Some, None}
 use Rattle.tx_memory.specs.View.{View, Sees, RestsOn, Kept}
 use Rattle.tx_alloc.specs.Pool.{IsBlock}
@@ -9,7 +9,7 @@ use Rattle.tx_alloc.specs.Rows.{Rows, times, put_row, cut_row, block_at, Relinks
 use Rattle.tx_tree.specs.Tree.{Tree, rows, IsEven, IsApart, is_red}
 use Rattle.tx_tree.specs.Hangs.{Hangs}
 
--- p leads to a table of these rows
+-- p leads to a table with these rows
 pub record IsTable (m : ℕ → ℕ) (n p : ℕ) (rs : Rows) : Type 0 where
   pub tree : Tree
   pub hangs : Hangs m n p tree
@@ -20,35 +20,36 @@ pub record IsTable (m : ℕ → ℕ) (n p : ℕ) (rs : Rows) : Type 0 where
   pub ascending : IsFrom 0 rs
   pub once : (x : ℕ) → times x rs ≤ 1
 
--- h nodes on a way down from p, each in the left or the right word of the one before
+-- there is a way down of h nodes from p: each node is in the left or the right word of the node
+-- before
 abbrev pub Descends : (ℕ → ℕ) → ℕ → ℕ → Type 0
 Descends m p zero = Unit {0}
 Descends m p (suc h) = (p ≢ 0) ×
     ((side : ℕ) × (((1 ≤ side) × (side ≤ 2)) × Descends m (m (p + side)) h))
 
--- the root word leads to a table of these rows, at most as many as a heap has blocks
+-- the root word leads to a table with these rows, at most as many as a heap has blocks
 pub record Table (m : ℕ → ℕ) (n root : ℕ) (rs : Rows) : Type 0 where
   pub table : IsTable m n (m root) rs
   pub few : length rs ≤ MOST_BLOCKS
 
--- the root word leads to a table, whichever rows it has
+-- the root word leads to a table with some rows
 pub record SomeTable (m : ℕ → ℕ) (n root : ℕ) : Type 0 where
   pub entries : Rows
   pub is : Table m n root entries
 
--- under each image of the memory's size that there may be the root word leads to a table. Addresses
--- fit 32 bits.
+-- under each possible image of the memory's size, the root word leads to a table. Addresses fit 32
+-- bits.
 pub record HasTable (s : View) (root : ℕ) : Type 0 where
   pub small : s.size ≤ 2 ^ 32
   pub room : FIRST_BLOCK ≤ s.size
   pub low : root < FIRST_BLOCK
   pub under : (image : List ℕ) → RestsOn s image → SomeTable (mem s image) (length image) root
 
--- the words of a block at b are words of a memory of n words, and of no head or root
+-- the words of a block at b are inside a memory of n words, and none of them is a head or a root
 abbrev pub IsInside : ℕ → ℕ → Type 0
 IsInside n b = (FIRST_BLOCK ≤ b) × (b + BLOCK_WORDS ≤ n)
 
--- p is the block at the key, or 0, and only reads were made
+-- only reads were made, and p is the block of the key, or 0
 pub record FoundRow (s s' : View) (root key p : ℕ) : Type 0 where
   pub kept : Kept s s'
   pub writes : s'.writes ≡ s.writes
@@ -65,12 +66,12 @@ abbrev pub row_of : Option Entry → Option (ℕ × ℕ)
 row_of None = None
 row_of (Some entry) = Some (entry.key, entry.block)
 
--- the first of the rows with a key above this one
+-- the first row whose key is above this key, if there is one
 abbrev pub row_above : Rows → ℕ → Option (ℕ × ℕ)
 row_above [] key = None
 row_above (r ∷ rs) key = cond (nat_lt key r.0) (Some r) (row_above rs key)
 
--- this is the row of the least key above, or None, and only reads were made
+-- only reads were made, and the result is the row of the least key above this key, if there is one
 pub record NextFound (s s' : View) (root key : ℕ) (next : Option (ℕ × ℕ)) : Type 0 where
   pub kept : Kept s s'
   pub writes : s'.writes ≡ s.writes
@@ -78,20 +79,20 @@ pub record NextFound (s s' : View) (root key : ℕ) (next : Option (ℕ × ℕ))
       Table (mem s image) (length image) root rs → row_above rs key ≡ next
   pub inside : MatchOption next (Unit {0}) (λ r. IsInside s'.size r.1)
 
--- b is a block whose first word is a key that the table does not have
+-- b is a block whose first word is this key, and no row has the key
 pub record Fresh (m : ℕ → ℕ) (n : ℕ) (rs : Rows) (key b : ℕ) : Type 0 where
   pub block : IsBlock n b
   pub absent : block_at rs key ≡ 0
   pub key_is : m b ≡ key
 
--- under each image of the memory's size b is a block whose first word is a key that no table at
--- root has
+-- under each possible image of the memory's size, b is a block whose first word is this key, and
+-- no table at root has the key
 pub record IsFresh (s : View) (root key b : ℕ) : Type 0 where
   pub under : (image : List ℕ) (rs : Rows) → RestsOn s image →
       Table (mem s image) (length image) root rs → Fresh (mem s image) (length image) rs key b
 
--- the block, which was fresh, came into the table under its key
--- Not said: what a refused call leaves of the table; anything of tables of more than 262,144
+-- the fresh block came into the table under its key
+-- Not said: the effect of a refused call on the table; anything of tables of more than 262,144
 -- entries.
 pub record Inserted (s s' : View) (root key b : ℕ) : Type 0 where
   pub kept : Kept s s'
@@ -102,8 +103,8 @@ pub record Inserted (s s' : View) (root key b : ℕ) : Type 0 where
       Table (mem s image) (length image) root rs → Fresh (mem s image) (length image) rs key b →
       Relinks (mem s image) (mem s' image) 1 root (put_row rs key b)
 
--- the row of the key was there and is gone, and p is its block
--- Not said: what a refused call leaves of the table.
+-- the row of the key was in the table and is removed, and p is its block
+-- Not said: the effect of a refused call on the table.
 pub record Removed (s s' : View) (root key p : ℕ) : Type 0 where
   pub kept : Kept s s'
   pub inside : IsInside s'.size p

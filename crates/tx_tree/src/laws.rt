@@ -4,11 +4,11 @@ ghost use Rattle.std.specs.Prelude.{ℕ, ◌+◌, ◌≤◌, ◌^◌, length};
 ghost use Rattle.tx_alloc.specs.Rows.{Rows};
 ghost use Rattle.tx_tree.specs.Table.{IsTable, Descends};
 
-/// In a table of n entries a way down of h nodes has `2^h <= (n + 1)^2`.
+/// States that, in a table of n entries, a way down of h nodes has `2^h <= (n + 1)^2`.
 ///
-/// The bound on the height of a red-black tree is that of Guibas and Sedgewick (FOCS 1978).
+/// The bound on the height of a red-black tree is due to Guibas and Sedgewick (FOCS 1978).
 ///
-/// Not said: how many reads and writes a call makes; `docs/MEASURED.md` has what was measured.
+/// Not said: the number of reads and writes of a call; `docs/MEASURED.md` has measurements.
 pub fn height_is_logarithmic()
     ensures { (m : ℕ → ℕ) (n p h : ℕ) (rs : Rows) → IsTable m n p rs → Descends m p h →
         2 ^ h ≤ (length rs + 1) ^ 2 }

@@ -5,15 +5,15 @@ ghost use Rattle.std.specs.Prelude.{◌≡◌, ◌-◌, ◌%◌, ◌<◌, length
 use std::marker::Model;
 use tx_alloc::place::BLOCK_WORDS;
 
-/// The most nodes on a way down: a table has at most 262,144 of them.
+/// Largest number of nodes on a way down: a table has at most 262,144 nodes.
 pub const MOST_HEIGHT: usize = 36;
 
-/// How many links a path has: one to each node of a way down, and some to spare.
+/// Number of links of a path: one to each node of a way down, and some to spare.
 pub const LEVELS: usize = 40;
 
-/// The way down from the root word. A link is the address of a word that leads to a node: the root
-/// word, or a left or right word of the node that the link before it leads to. So a link gives the
-/// parent's block and the side, and no node has a word for its parent.
+/// A way down from the root word, as a list of links. A link is the address of a word that leads
+/// to a node: the root word, or the left or right word of the node before. So a link gives the
+/// parent's block and the side, and nodes need no word for their parent.
 #[derive(Drop)]
 pub struct Path {
     links: [u32; LEVELS],
@@ -28,14 +28,14 @@ impl Model for Path {
 }
 
 impl Path {
-    /// A path whose links are yet to be set.
+    /// Creates a path whose links are yet to be set.
     pub fn new() -> Path
         ensures size { length result ≡ LEVELS }
     {
         Path { links: [0; LEVELS] }
     }
 
-    /// The link that has `depth` nodes above it.
+    /// Returns the link that has `depth` nodes above it.
     pub fn link(&self, depth: usize) -> u32
         requires { depth < LEVELS }
         ensures { result ≡ slice_index self.now depth }
@@ -43,7 +43,8 @@ impl Path {
         self.links[depth]
     }
 
-    /// The node that the link at this depth, not the root word, is a word of, and the side.
+    /// Returns the node whose word is the link at this depth, and the side. The link must not be
+    /// the root word.
     pub fn parent(&self, depth: usize) -> (u32, u32)
         requires { depth < LEVELS }
         ensures node { let link = slice_index self.now depth in
@@ -55,7 +56,7 @@ impl Path {
         (link - side, side)
     }
 
-    /// Puts a link at this depth in place of the one that was there.
+    /// Sets the link at this depth.
     pub fn set(&mut self, depth: usize, link: u32)
         requires { depth < LEVELS }
         ensures size { length self.new ≡ LEVELS }

@@ -1,4 +1,4 @@
-//! Where the words of an entry are in its block.
+//! The places of the words of an entry in its block.
 
 /// The key, by which an entry is found.
 pub const KEY: u32 = 0;
@@ -12,7 +12,7 @@ pub const RIGHT: u32 = 2;
 /// The colour, `BLACK` or `RED`.
 pub const COLOUR: u32 = 3;
 
-/// The first word of what no call looks at.
+/// The first word of the payload, which no call looks at.
 pub const PAYLOAD: u32 = 4;
 
 /// The colour word of a black node.

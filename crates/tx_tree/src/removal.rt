@@ -1,4 +1,4 @@
-//! Takes a block out of a table.
+//! Removing a block from a table.
 
 ghost use Rattle.std.specs.Prelude.{◌≡◌, IfOk, MatchOption};
 ghost use Rattle.tx_tree.specs.Table.{HasTable, FoundRow, Removed};
@@ -13,7 +13,7 @@ use crate::search::{seek, seek_successor};
 use tx_alloc::Block;
 use tx_memory::{Addr, TxMem, store};
 
-/// The only child of a node, or none, takes its place, and the tree is mended.
+/// Replaces a node by its only child, or by none, and mends the tree.
 pub fn unlink<M: TxMem>(
     memory: &mut M,
     path: &Path,
@@ -35,7 +35,8 @@ pub fn unlink<M: TxMem>(
     Ok(())
 }
 
-/// The tree at the end of the path, with this node as its root, lacks a black node.
+/// Mends the tree, if the subtree at the end of the path, whose root is this node, has one black
+/// node too few.
 pub fn add_black<M: TxMem>(
     memory: &mut M,
     path: &Path,
@@ -56,8 +57,7 @@ pub fn add_black<M: TxMem>(
     Ok(())
 }
 
-/// The least node of the right side takes the place of a node with two sides, and the tree is
-/// mended.
+/// Replaces a node with two children by the least node of its right subtree, and mends the tree.
 pub fn unlink_with_successor<M: TxMem>(
     memory: &mut M,
     path: &mut Path,
@@ -84,7 +84,8 @@ pub fn unlink_with_successor<M: TxMem>(
     Ok(())
 }
 
-/// Takes the block of a key out of the table at `root`, if the table has the key.
+/// Removes the block of a key from the table at `root`, if the table has the key, and returns the
+/// block.
 pub fn remove<M: TxMem>(memory: &mut M, root: Addr, key: u64) -> Result<Option<Block>, M::Stop>
     requires table { HasTable (M.view memory.old) root.0 }
     ensures origin { M.origin memory.new ≡ M.origin memory.old }

@@ -1,4 +1,4 @@
-//! Looks for the entries of a table by key.
+//! Searching a table by key.
 
 ghost use Rattle.std.specs.Prelude.{◌≡◌, IfOk, IfErr, MatchOption};
 ghost use Rattle.tx_tree.specs.Table.{HasTable, FoundRow, FoundAt, NextFound, row_of};
@@ -18,7 +18,9 @@ pub struct Entry {
     pub block: Block,
 }
 
-/// The block of a key in the table at `root`.
+/// Returns the block of a key in the table at `root`, if the table has the key. Bounded loop: the
+/// prover needs a measure; a way down has at most 36 nodes.
+#[inline(always)]
 pub fn find<M: TxRead>(memory: &mut M, root: Addr, key: u64) -> Result<Option<Block>, M::Stop>
     requires table { HasTable (M.view memory.old) root.0 }
     ensures origin { M.origin memory.new ≡ M.origin memory.old }
@@ -43,7 +45,8 @@ pub fn find<M: TxRead>(memory: &mut M, root: Addr, key: u64) -> Result<Option<Bl
     Ok(None)
 }
 
-/// The entry with the least key greater than `key` in the table at `root`.
+/// Returns the entry with the least key greater than `key` in the table at `root`, if there is
+/// one. Bounded loop: the prover needs a measure; a way down has at most 36 nodes.
 pub fn least_above<M: TxRead>(
     memory: &mut M,
     root: Addr,
@@ -76,8 +79,9 @@ pub fn least_above<M: TxRead>(
     Ok(least)
 }
 
-/// The way down to the node of a key, or to where it would hang: the words that lead from node to
-/// node. Returns how many nodes are above, and the node of the key, or 0.
+/// Searches for a key, and records the links of the way down in `path`. Returns the number of
+/// nodes above the end of the way, and the node of the key, or 0 if the table does not have the
+/// key.
 pub fn seek<M: TxRead>(
     memory: &mut M,
     root: u32,
@@ -106,8 +110,9 @@ pub fn seek<M: TxRead>(
     }
 }
 
-/// The way down goes on to the least node below, the successor of the node whose right link the
-/// path ends with. Returns how many nodes are above it, and the node.
+/// Continues a way down to the least node below. The path must end with the right link of a node,
+/// whose successor is then found. Returns the number of nodes above the successor, and the
+/// successor.
 pub fn seek_successor<M: TxRead>(
     memory: &mut M,
     path: &mut Path,

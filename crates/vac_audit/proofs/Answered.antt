@@ -1,4 +1,4 @@
--- From what the walk says of words to the states that they represent.
+-- From the result of the walk of words to the states that the words represent.
 use Rattle.std.proofs.Common.{◌≡◌, inl, inr, refl, ℕ, ◌+◌, ◌-◌, ◌/◌, ◌%◌, ◌*◌, ◌≤◌, List, length, sym, ap, ◌∙◌, subst}
 use Rattle.std.proofs.Common.{arith}
 use Rattle.std.specs.Prelude.{Ok, Err, slice_index}
@@ -16,7 +16,7 @@ use Rattle.vac_audit.specs.declared.audit.AuditFault.TheVariants.{Flaw as Flawed
 use Rattle.vac_audit.proofs.Clean.{state_found}
 use Rattle.vac_audit.proofs.Stated.{state_clean, flawed_is_none}
 
--- the state of the size that it says
+-- the state of the size that the words have
 sized : (words : List ℕ) (s : State) → IsState (slice_index words) (length words) s →
     IsState (slice_index words) (16 + 8 * s.capacity) s
 sized words s h = subst (λ (n : ℕ). IsState (slice_index words) n s) h.represents.size h

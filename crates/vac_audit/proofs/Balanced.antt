@@ -34,7 +34,7 @@ use Rattle.vac_audit.proofs.Showing.{number_of, kind_low, customer_entries, book
 use Rattle.vac_audit.proofs.Holding.{same_key, item_row, units_held_over}
 use Rattle.vac_audit.proofs.Represented.{lists, represented}
 
--- facts of each row
+-- two facts of each row
 pub each_both : (P Q : ℕ × ℕ → Type 0) (rs : Rows) → Each P rs → Each Q rs → Each (λ r. P r × Q r) rs
 each_both P Q [] h g = tt
 each_both P Q (r ∷ rs) h g = ((h.0, g.0), each_both P Q rs h.1 g.1)
@@ -84,7 +84,7 @@ customer_row m lists P id bookings (r ∷ rs) e h = go (is_eq (nat_cmp id r.0)) 
     go true t e rest = record { row = r; id_is = same_key id r.0 t; is = some_same _ _ e; fact = h.0 }
     go false t e rest = rest e
 
--- and so is a booking
+-- a booking that is found in the map is in a row
 pub record BookingRow (m : ℕ → ℕ) (P : ℕ × ℕ → Type 0) (place : Place) (b : Booking) : Type 0 where
   pub row : ℕ × ℕ
   pub place_is : place_in m row.1 ≡ place
@@ -109,7 +109,7 @@ booking_row m P place x (r ∷ rs) e h = go (is_eq (place_cmp place (place_in m 
     }
     go false t e rest = rest e
 
--- what is known of a row of items
+-- the facts of a row of items
 pub record ItemRow (m : ℕ → ℕ) (p : Parts) (k : ℕ) (r : ℕ × ℕ) : Type 0 where
   pub low : 1 ≤ r.0
   pub high : r.0 < 2 ^ 32
@@ -186,7 +186,7 @@ module _ (m : ℕ → ℕ) (blocks : ℕ) (p : Parts) (h : IsSound m (16 + 8 * b
       sym (ap (find nat_cmp id) customers_are) ∙ (sym (get-entries (state_of m blocks p).customers id) ∙ e) in
       customer_row m p.lists (CustomerKnown m (16 + 8 * blocks) p) id bookings (p.tables 3) found customer_rows
 
-  -- the item of a booking's row is there
+  -- the item of a booking's row exists
   item_there : (a : ℕ) → InRange m a → block_at (p.tables (m a)) (m (a + 1)) ≢ 0 →
       IsSome (item_of (state_of m blocks p) (kind_of_number (m a)) (m (a + 1)))
   item_there a r some =

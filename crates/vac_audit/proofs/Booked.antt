@@ -25,7 +25,7 @@ use Rattle.vac_audit.proofs.Noted.{length_codes, length_booked, units_at, kept_a
 use Rattle.vac_audit.proofs.Steps.{then_with, not_none}
 use Rattle.vac_audit.proofs.Running.{then_err}
 
--- the look at a booking, and then the rest
+-- the test of a booking, and then the rest
 abbrev pub looked : (ℕ → ℕ) → (ℕ → Rows) → ℕ → ℕ → Result (Unit {0}) Flaw
 looked m tables p lo = then (wants (is_in_order m p lo) (Order p)) (λ _. wants (is_booking m tables p) (Bookings p))
 
@@ -57,7 +57,7 @@ units_append m code [] ts = omega arith
 units_append m code (r ∷ rs) ts = omega (arith, units_append m code rs ts)
 
 module _ (words : List ℕ) (tables : ℕ → Rows) where
-  -- what the rest of a walk makes of the whole. sofar are the bookings that were walked
+  -- the whole walk from the rest of a walk; `sofar` are the bookings walked before
   abbrev pub Whole : ℕ → List ℕ → List Bool → ℕ → ℕ → ℕ → List ℕ → Rows → Type 0
   Whole head seen0 marks0 levels at lo seen sofar =
       ((x : Rows × List ℕ) → walk_bookings (slice_index words) (length words) tables levels at lo seen ≡ Ok x
@@ -233,7 +233,7 @@ sums_step booked0 booked codes item u code i sofar l same rising inside is old =
           ))
     ]
 
--- what is written down of a booking
+-- the notes on one booking
 pub record OneBooked (m : ℕ → ℕ) (notes notes' : Notes) (item p : ℕ) : Type 0 where
   pub items : SameItems notes notes'
   pub booked : booked_in notes'.items.items ≡ set (booked_in notes.items.items) item
@@ -417,7 +417,7 @@ book_out words marks0 head marks notes0 notes level at lo h more tables ix seen0
     go zero c w = w.1 (Shared at) refl
     go (suc l) c w = absurd (omega arith)
 
--- what was looked at among items that are the same
+-- the test of a booking among equal items
 pub looked_as : (words : List ℕ) (slice items : List NotedItem) (p lo : ℕ) (r : Result ℕ Flaw) → slice ≡ items →
     BookingLooked words (codes_in slice) p lo r → BookingLooked words (codes_in items) p lo r
 looked_as words slice items p lo r e k = subst (λ (z : List NotedItem). BookingLooked words (codes_in z) p lo r) e k

@@ -1,4 +1,4 @@
--- Words without a flaw are those of a balanced state.
+-- Words without a flaw represent a balanced state.
 use Rattle.std.proofs.Common.{◌≡◌, ℕ, ◌+◌, ◌*◌, ◌≤◌, sym, subst}
 use Rattle.vac_model.specs.declared.limits.TheConstants.{MOST_BLOCKS}
 use Rattle.vac_model.specs.declared.replies.Report.{Report}

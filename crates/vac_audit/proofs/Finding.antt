@@ -17,11 +17,11 @@ use Rattle.vac_audit.specs.Noted.{InOrder, codes_in}
 use Rattle.vac_audit.specs.declared.notes.NotedItem.{NotedItem}
 use Rattle.vac_audit.proofs.Noted.{no_item, length_codes, code_at, short_at}
 
--- how one key stands to another
+-- the order of two keys
 abbrev pub compared : Key → Key → Ordering
 compared a b = key_cmp a.kind a.id b.kind b.id
 
--- keys of short ids stand to each other as their codes do
+-- keys of short ids are ordered like their codes
 by_codes : (k i k' i' : ℕ) → i < 2 ^ 32 → i' < 2 ^ 32 → key_cmp k i k' i' ≡ nat_cmp (key_code k i) (key_code k' i')
 by_codes k i k' i' a b = grind (arith, nat_tests)
 
@@ -43,7 +43,7 @@ module _ (items : List NotedItem) (key : Key) (order : InOrder items) (is_key : 
         ))
   ]
 
-  -- an item's key stands to this one as its code does
+  -- an item's key and this key are ordered like their codes
   by_code : (i : ℕ) (d : NotedItem) → i < length items → compared (get_or items i d).key key ≡ nat_cmp
       (code_of (get_or items i d).key) (code_of key)
   by_code i d l = by_codes (get_or items i d).key.kind (get_or items i d).key.id key.kind key.id

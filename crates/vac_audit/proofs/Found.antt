@@ -1,4 +1,4 @@
--- In a sound heap the whole walk meets no flaw.
+-- In a sound heap, the whole walk meets no flaw.
 use Rattle.std.proofs.Common.{◌≡◌, inl, inr, ℕ, ◌+◌, ◌*◌, ◌^◌, ◌<◌, ◌≤◌, Bool, true, false, List, [], ◌∷◌, zero, suc}
 use Rattle.std.proofs.Common.{length, refl, sym, ap, ◌∙◌, subst, arith, nat_eq}
 use Rattle.std.specs.Prelude.{Ok, not, sum_by}
@@ -138,7 +138,7 @@ pub record FreeListsFound (m : ℕ → ℕ) (n levels k : ℕ) (seen : List ℕ)
   pub is : walk_lists m n levels k seen ≡ Ok (free, seen')
   pub reaches : Reaches n seen seen' (λ x. sum_below k (λ i. held x (p.free i))) (sum_below k (λ i. length (p.free i)))
 
--- a next table, behind those found
+-- the next table, after those found
 next_items : (m : ℕ → ℕ) (n levels k : ℕ) (p : Parts) (w : ItemsFound m n levels k p) →
     TableFound m n (look_at_item m) bare (λ q. []) levels (1 + k) w.s' (p.tables k) → ItemsFound m n levels (suc k) p
 next_items m n levels k p w t = record {
@@ -154,7 +154,7 @@ next_items m n levels k p w t = record {
 }
 
 module _ (m : ℕ → ℕ) (blocks : ℕ) (p : Parts) (h : IsSound m (16 + 8 * blocks) p) where
-  -- how often a block is in some list
+  -- each block occurs once in all: in a free list, in a table, or in a list of bookings
   all_of : (x : ℕ) → IsBlock (16 + 8 * blocks) x → sum_below 8 (λ i. held x (p.free i)) +
       (sum_below 4 (λ i. times x (p.tables i)) + over (times x) (p.tables 3) p.lists) ≡ 1
   all_of x b = omega (arith, h.pool.once x b, ap (held x) h.none_out)

@@ -1,4 +1,4 @@
--- Each step of the code's walk of a table keeps where it stands beside the definition's.
+-- Each step of the code's walk of a table keeps its relation to the definition's walk.
 use Rattle.std.proofs.Common.{◌≡◌, inl, inr, ℕ, ◌+◌, ◌*◌, ◌%◌, ◌<◌, ◌≤◌, Bool, true, false, List, []}
 use Rattle.std.proofs.Common.{◌∷◌, ◌++◌, length, zero, suc, refl, sym, ap, ◌∙◌, subst, arith, nat_eq, length-append}
 use Rattle.std.specs.Result.{IsErrAnd}
@@ -33,7 +33,7 @@ use Rattle.vac_audit.proofs.Standing.{ready_less, room_less, room_next, indexed_
 use Rattle.vac_audit.proofs.Standing.{TreeRest, TreeGoes, path_length, blocks_pushed, weight_append, lefts_append}
 use Rattle.vac_audit.proofs.Standing.{table_flaw, key_as, fresh_block}
 
--- a tree that is red hangs at a block
+-- a red tree is in a block
 red_block : (m : ℕ → ℕ) (n : ℕ) (look : Look) (levels a lo : ℕ) (s : Seen) (x : Tree × Seen) →
     walk_tree m n look (suc levels) a lo s ≡ Ok x → is_red x.0 ≡ true → IsBlock n (m a)
 red_block m n look levels a lo s x e red = enter_ok _ m n a s.blocks _ _ x e
@@ -50,7 +50,7 @@ module _ (words : List ℕ) (marks0 : List Bool) (notes0 : Notes) (table : Table
   Rest look s0 marks notes path turn from nodes = TreeRest words
       (length marks0) root look s0 notes0 table marks notes path turn from nodes
 
-  -- the definition's answer is this flaw
+  -- the definition's result is this flaw
   abbrev pub Flawed : Flaw → Type 0
   Flawed f = (tables : ℕ → Rows) → Indexed table notes0 tables → (s0 : Seen) → Marks marks0 s0.blocks
       → walk_table (slice_index words) (length words) (look_of (slice_index words) (length words) tables
@@ -81,7 +81,7 @@ module _ (words : List ℕ) (marks0 : List Bool) (notes0 : Notes) (table : Table
     };
   }
 
-  -- a pointer that ends
+  -- a pointer that is the end
   pub goes_end : (marks marks' : List Bool) (notes : Notes) (path : List Step) (at from nodes : ℕ) (side : Side) →
       Goes marks notes path (Down at) from nodes → length path ≤ length marks
       → length marks' ≡ length marks → unmarked marks' ≡ unmarked marks → Followed words marks marks' at (Ok None) →
@@ -190,7 +190,7 @@ module _ (words : List ℕ) (marks0 : List Bool) (notes0 : Notes) (table : Table
           (down_flaw (slice_index words) (length words) look r.frames l at r.seen
           (whole words (length marks0) root look s0) flaw (f r.seen.blocks r.are) k.1)
 
-  -- too deep
+  -- the path is too deep
   pub goes_out : (marks : List Bool) (notes : Notes) (path : List Step) (at from nodes : ℕ) →
       Goes marks notes path (Down at) from nodes → length marks < length path → Flawed (Shared at)
   goes_out marks notes path at from nodes h many tables ix s0 s = let r = h.rest tables ix s0 s in
@@ -205,7 +205,7 @@ module _ (words : List ℕ) (marks0 : List Bool) (notes0 : Notes) (table : Table
           (whole words (length marks0) root look s0) k.1)
       go look r (suc l) c k = absurd (omega (arith, c, path_length path r.frames r.path_is, h.size))
 
-  -- what stands above a left side that is done
+  -- the walk that remains after a left side was walked
   pub record LeftRest (look : Look) (s0 : Seen) (marks : List Bool) (notes : Notes) (path : List Step)
       (p from nodes : ℕ) (side : Side) : Type 0 where
     pub frames : List Frame
@@ -258,7 +258,7 @@ module _ (words : List ℕ) (marks0 : List Bool) (notes0 : Notes) (table : Table
       go (in_right q t ∷ fs) e c o k = let same = last_same path e.0 (Left p) e.1.0 e.1.1.0 in
           absurd (subst (λ (z : Step). IsStep z (in_right q t)) (sym same.1) e.1.1.1)
 
-  -- the look, with the levels of the start
+  -- the test of a node, with the levels of the start
   looked_node : (marks marks' : List Bool) (notes notes' : Notes) (p : ℕ) (tables : ℕ → Rows) (s : Seen) →
       length marks ≡ length marks0 → LookRan words marks marks' notes notes' table p (Ok tt) →
       Indexed table notes tables → Marks marks s.blocks
@@ -276,7 +276,7 @@ module _ (words : List ℕ) (marks0 : List Bool) (notes0 : Notes) (table : Table
       subst (λ (z : ℕ). look_of (slice_index words) (length words) tables (suc z) table p s ≡ Err flaw) e
       (f tables ix s a)
 
-  -- the right side of a node whose left side is done
+  -- the right side of a node whose left side was walked
   pub goes_right : (marks marks' : List Bool) (notes notes' : Notes) (path : List Step) (p from next nodes : ℕ)
       (side : Side) → Goes marks notes (path ++ (Left p ∷ [])) (Up side) from nodes
       → IsBlock (length words) p → AllBlocks (length words) path → slice_index words p < 4294967296 →
@@ -368,7 +368,7 @@ module _ (words : List ℕ) (marks0 : List Bool) (notes0 : Notes) (table : Table
   goes_fault marks marks' notes notes' path p from nodes side (Found flaw) h holds f tables ix s0 s =
       goes_looked marks marks' notes notes' path p from nodes side flaw h holds f tables ix s0 s
 
-  -- a node whose right side is done
+  -- a node whose right side was walked
   pub record RightRest (look : Look) (s0 : Seen) (marks : List Bool) (notes : Notes) (path : List Step)
       (p from nodes : ℕ) (left right : Side) : Type 0 where
     pub frames : List Frame
@@ -488,7 +488,7 @@ module _ (words : List ℕ) (marks0 : List Bool) (notes0 : Notes) (table : Table
           );
         }
 
-  -- the whole tree is done
+  -- the whole tree was walked
   pub record AllDone (look : Look) (s0 : Seen) (marks : List Bool) (notes : Notes) (side : Side) (nodes : ℕ) :
       Type 0 where
     pub t : Tree
@@ -546,7 +546,7 @@ module _ (words : List ℕ) (marks0 : List Bool) (notes0 : Notes) (table : Table
       (ap (λ (z : Bool). wants z (Colour (slice_index words root + 3))) b ∙ ap (λ (z : Flaw). Err z)
       (sym (looked.1 bx.1.0))))
 
-  -- the same path and the same turn, as the code has them
+  -- an equal path and an equal turn, as the code has them
   pub as_pushed : (marks : List Bool) (notes : Notes) (path path' : List Step) (turn : Turn) (from nodes : ℕ) →
       path' ≡ path → Goes marks notes path turn from nodes → Goes marks notes path' turn from nodes
   as_pushed marks notes path path' turn from nodes e h = subst (λ (z : List Step). Goes marks notes z turn from nodes)
@@ -556,7 +556,7 @@ module _ (words : List ℕ) (marks0 : List Bool) (notes0 : Notes) (table : Table
       turn ≡ turn' → Goes marks notes path turn from nodes → Goes marks notes path turn' from nodes
   turn_as marks notes path turn turn' from nodes e h = subst (λ (z : Turn). Goes marks notes path z from nodes) e h
 
-  -- what the code popped
+  -- the step that the code popped
   pub popped : (marks : List Bool) (notes : Notes) (path rest : List Step) (found s : Step) (turn : Turn) (side : Side)
       (from nodes : ℕ) → path ≡ rest ++ (found ∷ []) → found ≡ s → turn ≡ Up side
       → Goes marks notes path turn from nodes → Goes marks notes (rest ++ (s ∷ [])) (Up side) from nodes
@@ -565,7 +565,7 @@ module _ (words : List ℕ) (marks0 : List Bool) (notes0 : Notes) (table : Table
       (as_pushed marks notes path (rest ++ (s ∷ [])) turn from nodes (ap (λ (z : Step). rest ++ (z ∷ [])) (sym f) ∙
       sym e) h)
 
-  -- one pointer down
+  -- one pointer was followed downwards
   pub goes_down : (marks marks' : List Bool) (notes : Notes) (path path' : List Step) (at from nodes : ℕ) (turn : Turn)
       → Goes marks notes path (Down at) from nodes → length marks' ≡ length marks
       → length path ≤ length marks → WentDown words marks marks' path path' at turn →
@@ -626,7 +626,7 @@ small_sum a l =
     let e : a % 4294967296 ≡ a = omega arith in
     rw e (omega arith)
 
--- a fault that was handed on
+-- a fault that was passed on
 pub handed_table : (words : List ℕ) (marks marks' : List Bool) (notes notes' : Notes) (table : Table) (root : ℕ)
     (r : Result ℕ Fault) (fault : Fault) → IsErrAnd r (λ f. f ≡ fault)
     → TableRan words marks marks' notes notes' table root (Err fault) →
@@ -635,7 +635,7 @@ handed_table words marks marks' notes notes' table root (Ok n) fault h ran = abs
 handed_table words marks marks' notes notes' table root (Err f) fault h ran =
     subst (λ (e : Fault). TableRan words marks marks' notes notes' table root (Err e)) (sym h) ran
 
--- a node was reached, and the step to it is written down, unless there was no memory
+-- a node was reached, and the step to it was pushed, unless memory was refused
 pub entered : (words : List ℕ) (marks marks' : List Bool) (path path' : List Step) (at p : ℕ)
     (result : Result Turn Fault) → length path ≤ length marks → IsBlock (length words) p →
     unmarked marks' + 1 ≡ unmarked marks

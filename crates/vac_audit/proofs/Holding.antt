@@ -64,7 +64,7 @@ units_find m n p lo k i (r ∷ rs) a c h =
         omega (arith, units_above m n (m (r.1 + 3)) (r.0 + 1) (k * 2 ^ 32 + i) rs h.1 (omega arith))
     either false e w = omega (arith, w)
 
--- what a customer has of an item
+-- the units that a customer has of an item
 pub units_held_by : (m : ℕ → ℕ) (n p k i : ℕ) (rs : Rows) → k < 3 → i < 2 ^ 32 → Linked m n p 0 rs →
     units_of (from_entries (bookings_in m rs)) (kind_of_number k, i) ≡ units_in m (k * 2 ^ 32 + i) rs
 units_held_by m n p k i rs a c h =
@@ -73,7 +73,7 @@ units_held_by m n p k i rs a c h =
     (booking_entries m n p 0 rs h))
     ∙ units_find m n p 0 k i rs a c h
 
--- what all customers have of an item
+-- the units that all customers have of an item
 pub units_held_over : (m : ℕ → ℕ) (n : ℕ) (lists : ℕ → Rows) (k i : ℕ) (rs : Rows) → k < 3 → i < 2 ^ 32 →
     Each (λ r. IsList m n (m (r.1 + 4)) (lists r.1)) rs
     → sum_by (λ bs. units_of bs (kind_of_number k, i)) (map (λ e. e.1) (customers_of m lists rs)) ≡ over

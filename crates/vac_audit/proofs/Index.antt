@@ -112,7 +112,7 @@ codes_below : (n lo kind : ℕ) (rs : Rows) → GoodRows n lo rs → Below ((kin
 codes_below n lo kind [] h = tt
 codes_below n lo kind (r ∷ rs) h = (omega (arith, h.1), codes_below n (r.0 + 1) kind rs h.3)
 
--- one of a list
+-- a member of a list
 abbrev In : ℕ → List ℕ → Type 0
 In k [] = ⊥
 In k (x ∷ xs) = (x ≡ k) ⊎ In k xs
@@ -190,7 +190,7 @@ noted_inside n lo kind [] h = All-nil (λ (item : NotedItem). item.block + 8 ≤
 noted_inside n lo kind (r ∷ rs) h = All-cons (λ (item : NotedItem). item.block + 8 ≤ n) _ (noted_of kind rs)
     (omega (arith, h.2.1.0)) (noted_inside n (r.0 + 1) kind rs h.3)
 
--- three tables of items, as they were written down
+-- three tables of items, as they were noted
 module _ (a b c : Rows) where
   abbrev pub all_noted : List NotedItem
   all_noted = (noted_of 0 a ++ noted_of 1 b) ++ noted_of 2 c

@@ -22,7 +22,7 @@ use Rattle.vac_audit.proofs.Looking.{bare, all_lists, GoodItem, GoodList, item_l
 use Rattle.vac_audit.proofs.Found.{table_block}
 use Rattle.vac_audit.proofs.Walked.{nothing, items_walked}
 
--- where a walk of parts met a flaw, a part did
+-- if a walk of two parts met a flaw, one of the parts did
 both_err : {A B : Type 0} (G : Type 0) (x : Result A Flaw) (k : A → Result B Flaw) (f : Flaw) → then x k ≡ Err f →
     (x ≡ Err f → G) → ((a : A) → x ≡ Ok a → k a ≡ Err f → G) → G
 both_err {A} {B} G (Ok a) k f e first next = next a refl e
@@ -54,7 +54,7 @@ follow_err m n a seen f e = go (nat_eq (m a) 0) (is_place n (m a)) (nat_eq (held
     go false false v e = let q : Pointer a ≡ f = (let z : ◌≡◌ {A = Result ℕ Flaw} (Err (Pointer a)) (Err f) = e in
         cc) in ap word_of (sym q)
 
--- a walk that goes on at the pointer in word a, and meets a flaw
+-- a walk that follows the pointer in word a, and meets a flaw
 enter_err : {A : Type 0} (G : Type 0) (m : ℕ → ℕ) (n a : ℕ) (seen : List ℕ) (x : A) (k : ℕ → Result A Flaw) (f : Flaw)
     → then (follow m n a seen) (λ p. cond (nat_eq p 0) (Ok x) (k p)) ≡ Err f → (word_of f ≡ a → G) →
     ((p : ℕ) → IsFresh m n a seen p → k p ≡ Err f → G) → G

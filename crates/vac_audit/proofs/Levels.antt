@@ -62,7 +62,7 @@ at_most : (k : ℕ) (f : ℕ → ℕ) → ((i : ℕ) → f i ≤ 1) → sum_belo
 at_most zero f h = omega arith
 at_most (suc k) f h = omega (arith, h k, at_most k f h)
 
--- no more blocks are reached than there are
+-- no more blocks are reached than exist
 few_seen : (blocks : ℕ) (seen : List ℕ) → Fits (16 + 8 * blocks) seen → length seen ≤ blocks
 few_seen blocks seen h = omega (
   arith,
@@ -70,7 +70,7 @@ few_seen blocks seen h = omega (
   at_most blocks (λ b. held (16 + 8 * b) seen) (λ b. h.once (16 + 8 * b)),
 )
 
--- parts that do the same
+-- two walks with equal parts are equal
 then_same : {A B : Type 0} (x x' : Result A Flaw) (k k' : A → Result B Flaw) → x ≡ x' →
     ((a : A) → x ≡ Ok a → k a ≡ k' a) → then x k ≡ then x' k'
 then_same {A} {B} x x' k k' e f = go x refl ∙ ap (λ (z : Result A Flaw). then z k') e
@@ -93,7 +93,7 @@ module _ (m : ℕ → ℕ) (blocks : ℕ) where
   abbrev n : ℕ
   n = 16 + 8 * blocks
 
-  -- as many levels as are left to be reached
+  -- more levels are left than blocks that were not reached
   abbrev Enough : ℕ → List ℕ → Type 0
   Enough levels seen = blocks < levels + length seen
 
@@ -119,7 +119,7 @@ module _ (m : ℕ → ℕ) (blocks : ℕ) where
       (bookings_same tables levels levels' (p + 3) _ (p ∷ seen) (fits_one n p seen fresh.block fresh.fresh h)
       (omega (arith, l)) (omega (arith, l'))) (λ x e''. refl))))
 
-  -- looks that do the same
+  -- two tests of nodes with equal results
   abbrev SameLooks : Look → Look → Type 0
   SameLooks look look' = (p : ℕ) (s : Seen) → Fits n s.blocks → look p s ≡ look' p s
 

@@ -1,4 +1,4 @@
--- What is looked at in an item and in a customer.
+-- The tests of an item and of a customer.
 use Rattle.std.proofs.Common.{◌≡◌, ℕ, ◌+◌, ◌<◌, true, [], length, refl, sym, subst, arith}
 use Rattle.std.specs.Prelude.{Ok}
 use Rattle.std.proofs.lemmas.Bool.Decides.{nat_tests}
@@ -52,7 +52,8 @@ item_found m n p s h = record {
   kept = λ q ne. refl;
 }
 
--- the list's length is not looked at
+-- the rows are the bookings of the customer in block p, whatever their number, and each is a sound
+-- booking
 abbrev pub GoodList : (ℕ → ℕ) → ℕ → (ℕ → Rows) → ℕ → Rows → Type 0
 GoodList m n tables p rs = IsList m n (m (p + 4)) rs × Each (IsBookingRow m tables) rs
 

@@ -1,4 +1,4 @@
--- The lists of what a walk wrote down.
+-- The notes of a walk, as lists.
 use Rattle.std.proofs.Common.{◌≡◌, inl, inr, ℕ, ◌+◌, ◌<◌, ◌≤◌, ◌^◌, List, [], ◌∷◌, ◌++◌, map, length, get_or, set, refl}
 use Rattle.std.proofs.Common.{sym, ap, ◌∙◌, subst, arith}
 use Rattle.std.specs.Prelude.{slice_index}
@@ -14,7 +14,7 @@ use Rattle.vac_audit.specs.Marks.{SameItems}
 use Rattle.vac_audit.specs.declared.notes.NotedItem.{NotedItem}
 use Rattle.vac_audit.specs.declared.notes.Notes.{Notes}
 
--- an item where there is none
+-- the item that stands for none
 abbrev pub no_item : NotedItem
 no_item = record { key = record { kind = 0; id = 0 }; block = 0; booked = 0 }
 
@@ -30,7 +30,7 @@ length_blocks items = length-map items (λ (item : NotedItem). item.block)
 pub length_booked : (items : List NotedItem) → length (booked_in items) ≡ length items
 length_booked items = length-map items (λ (item : NotedItem). item.booked)
 
--- what is said of the item at an index
+-- the item at an index
 module _ (items : List NotedItem) (i : ℕ) (d : NotedItem) (inside : i < length items) where
   pub code_at : slice_index (codes_in items) i ≡ code_of (get_or items i d).key
   code_at = get_or-map code_of (keys_in items) i d.key 0 (omega (arith, inside, length_keys items)) ∙
@@ -48,13 +48,13 @@ module _ (items : List NotedItem) (i : ℕ) (d : NotedItem) (inside : i < length
       (All-get_or (λ (key : Key). key.id < 2 ^ 32) (keys_in items) i d.key
       (omega (arith, inside, length_keys items)) order.ids)
 
-  -- what another item in its place leaves as it was
+  -- another item in its place leaves these values as they were
   pub kept_at : {A : Type 0} (f : NotedItem → A) (item : NotedItem) → f item ≡ f (get_or items i d) →
       map f (set items i item) ≡ map f items
   kept_at f item e = map-set f items i item ∙ (ap (λ a. set (map f items) i a)
       (e ∙ sym (get_or-map f items i d (f d) inside)) ∙ set-get_or (map f items) i (f d))
 
--- where no booking was counted
+-- in notes without counted bookings
 pub booked_none : (items : List NotedItem) (i : ℕ) → All (λ item. item.booked ≡ 0) items →
     slice_index (booked_in items) i ≡ 0
 booked_none items i h = elim (cases_lt i (length items)) [
@@ -62,7 +62,7 @@ booked_none items i h = elim (cases_lt i (length items)) [
   | inr l ↦ get_or_past (booked_in items) i 0 (omega (arith, l, length_booked items))
 ]
 
--- the same items
+-- two notes with the same items
 module _ (notes notes' : Notes) (same : SameItems notes notes') where
   pub same_codes : codes_in notes'.items.items ≡ codes_in notes.items.items
   same_codes = ap (λ (keys : List _). map code_of keys) same.keys
@@ -93,7 +93,7 @@ module _ (notes notes' : Notes) (same : SameItems notes notes') where
         h i no_item inside,
       ))
 
--- lists one behind the other
+-- one list after the other
 pub noted_append : (kind : ℕ) (rs ts : Rows) → noted_of kind (rs ++ ts) ≡ noted_of kind rs ++ noted_of kind ts
 noted_append kind rs ts = map-append _ rs ts
 
@@ -104,7 +104,7 @@ codes_append xs ys = ap (λ (keys : List _). map code_of keys) (map-append (λ (
 pub blocks_append : (xs ys : List NotedItem) → blocks_in (xs ++ ys) ≡ blocks_in xs ++ blocks_in ys
 blocks_append xs ys = map-append (λ (item : NotedItem). item.block) xs ys
 
--- no booking was counted of rows that were written down
+-- rows that were just noted have no booking counted
 pub noted_none : (kind : ℕ) (rs : Rows) → All (λ item. item.booked ≡ 0) (noted_of kind rs)
 noted_none kind [] = All-nil (λ (item : NotedItem). item.booked ≡ 0)
 noted_none kind (r ∷ rs) = All-cons (λ (item : NotedItem). item.booked ≡ 0) _ (noted_of kind rs) refl

@@ -1,4 +1,4 @@
--- What the walks of tables write down.
+-- The notes of the walks of tables.
 use Rattle.std.proofs.Common.{◌≡◌, ℕ, ◌+◌, ◌<◌, ◌≤◌, Bool, List, [], ◌∷◌, ◌++◌, length, zero, suc, refl, sym, ap, ◌∙◌}
 use Rattle.std.proofs.Common.{subst, arith}
 use Rattle.std.specs.Prelude.{Ok, Err, slice_index, sum_by}
@@ -25,7 +25,7 @@ use Rattle.vac_audit.proofs.Booked.{same_items, then_items}
 use Rattle.vac_audit.proofs.Noted.{same_codes, same_length, noted_append}
 use Rattle.vac_audit.proofs.Over.{over_append, over_as}
 
--- a walk of bookings forgets no block
+-- a walk of bookings keeps all reached blocks
 pub list_grows : (m : ℕ → ℕ) (n : ℕ) (tables : ℕ → Rows) (levels a lo : ℕ) (seen : List ℕ) (x : Rows × List ℕ) (q : ℕ) →
     walk_bookings m n tables levels a lo seen ≡ Ok x → held q seen ≤ held q x.1
 list_grows m n tables zero a lo seen x q e = absurd (let w : Err (Shared a) ≡ Ok x = e in cc)
@@ -81,7 +81,7 @@ customer_looked words marks marks' notes notes' table p is f =
           (p + 4) 0 s.blocks x q g.1.0;
     })
 
--- one node more
+-- one more node
 module _ (m : ℕ → ℕ) (a b c : Notes) (rs : Rows) (k p : ℕ) (lists lists' : ℕ → Rows) where
   items_more : (kind : Kind) → ItemsNoted m kind a b rs → ItemsNoted m kind b c ((k, p) ∷ []) →
       ItemsNoted m kind a c (rs ++ ((k, p) ∷ []))
@@ -119,7 +119,7 @@ module _ (m : ℕ → ℕ) (a b c : Notes) (rs : Rows) (k p : ℕ) (lists lists'
     noted_more (Items kind) h w = items_more kind h w
     noted_more Customers h w = customers_more h w
 
--- nothing was written down yet
+-- empty notes
 list_none : (xs : List NotedItem) → xs ≡ xs ++ []
 list_none [] = refl
 list_none (x ∷ xs) = ap (λ (z : List NotedItem). x ∷ z) (list_none xs)

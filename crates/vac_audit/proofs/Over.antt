@@ -1,4 +1,4 @@
--- Rows one behind the other, facts of each row, and sums over their lists.
+-- Rows after rows, facts of each row, and sums over their lists.
 use Rattle.std.proofs.Common.{◌≡◌, inl, inr, ℕ, ◌+◌, ◌<◌, ◌≤◌, Bool, true, false, cond, List, [], ◌∷◌, ◌++◌, refl, ap}
 use Rattle.std.proofs.Common.{arith, nat_eq}
 use Rattle.std.specs.Prelude.{◌&&◌, ◌||◌, not, nat_le}
@@ -99,7 +99,7 @@ apart_is : (c r t : Bool) → (c ≡ true → (r ≡ false) × (t ≡ false)) �
 apart_is true r t h = let a = h refl in rw (a.0, a.1) refl
 apart_is false r t h = refl
 
--- what the test of a colour says
+-- the meaning of the test of a colour
 pub record Coloured (c : ℕ) (l t : Tree) : Type 0 where
   pub colour : c ≡ cond (nat_eq c 1) 1 0
   pub even : blacks l ≡ blacks t

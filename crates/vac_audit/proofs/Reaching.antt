@@ -14,7 +14,8 @@ use Rattle.vac_audit.proofs.Sound.{Each, IsBookingRow}
 use Rattle.vac_audit.specs.declared.Flaw.TheVariants.{Shared, Order, Bookings}
 use Rattle.vac_audit.proofs.Steps.{both_ok, test_ok, test_with, enter_ok, enter_end, enter_block, then_with, IsFresh}
 
--- a walk reached these blocks more, each for the first time; count says how often it reached each
+-- a walk reached more blocks, each for the first time; `count` says how often it reached each
+-- block
 pub record Reaches (n : ℕ) (seen seen' : List ℕ) (count : ℕ → ℕ) (many : ℕ) : Type 0 where
   pub counts : (x : ℕ) → held x seen' ≡ count x + held x seen
   pub once : (x : ℕ) → 0 < count x → held x seen' ≡ 1
@@ -67,7 +68,7 @@ free_walked m n (suc levels) a seen x e = enter_ok _ m n a seen _ _ x e
     subst (λ (y : List ℕ × List ℕ). FreeWalked m n a seen y.1 y.0) r
     (record { free = (h.at, h.block, w.free); reaches = one_reached n seen y.1 p _ _ h.block h.fresh w.reaches })))
 
--- the walk of free blocks that are there and were not reached
+-- the walk of free blocks that exist and were not reached
 pub record FreeFound (m : ℕ → ℕ) (n levels a : ℕ) (seen bs : List ℕ) : Type 0 where
   pub seen' : List ℕ
   pub is : walk_free m n levels a seen ≡ Ok (bs, seen')
@@ -105,7 +106,7 @@ pub record ListWalked (m : ℕ → ℕ) (n : ℕ) (tables : ℕ → Rows) (a lo 
 pub kind_word : (m : ℕ → ℕ) (p : ℕ) → m (p + 0) ≡ m p
 kind_word m p = ap m (omega arith)
 
--- what the tests say
+-- the meaning of the tests of a booking
 pub record InOrder (m : ℕ → ℕ) (p lo : ℕ) : Type 0 where
   pub kind : m p < 3
   pub some : 1 ≤ m (p + 1)

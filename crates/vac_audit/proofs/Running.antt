@@ -19,7 +19,7 @@ handed P (Err f) e h p = subst (λ (z : _). P (Err z)) (sym h) p
 pub then_err : {A B : Type 0} (x : Result A Flaw) (k : A → Result B Flaw) (f : Flaw) → x ≡ Err f → then x k ≡ Err f
 then_err x k f e = ap (λ (z : Result _ Flaw). then z k) e
 
--- what is left of a walk of a free list: as the rest goes, so goes the whole
+-- the rest of a walk of a free list, whose result is the result of the whole
 pub record FreeRest (words : List ℕ) (marks0 : List Bool) (head : ℕ) (seen0 : List ℕ) (marks : List Bool)
     (level at : ℕ) : Type 0 where
   pub levels : ℕ
@@ -52,7 +52,7 @@ free_start words marks head l = record {
   };
 }
 
--- one step of the definition, where the code made one
+-- one step of the definition, when the code made one
 module _ (m : ℕ → ℕ) (n levels at : ℕ) (seen : List ℕ) where
   step_end : follow m n at seen ≡ Ok 0 → walk_free m n (suc levels) at seen ≡ Ok ([], seen)
   step_end e = then_with (follow m n at seen) _ 0 _ e refl
@@ -66,7 +66,7 @@ module _ (m : ℕ → ℕ) (n levels at : ℕ) (seen : List ℕ) where
       (ap (λ (z : Bool). cond z (Ok ([], seen)) (then (walk_free m n levels p (p ∷ seen)) (λ x. Ok (p ∷ x.0, x.1))))
       (not_none n p b) ∙ q)
 
--- a record over levels that are one more
+-- the rest of a walk with one more level
 opened : (words : List ℕ) (marks0 : List Bool) (head : ℕ) (seen0 : List ℕ) (marks : List Bool) (level at : ℕ) →
     FreeRest words marks0 head seen0 marks level at → level < suc (length marks0)
     → (l : ℕ) × ((l + (level + 1) ≡ suc (length marks0)) × ((seen : List ℕ) × (Marks marks seen
@@ -133,7 +133,7 @@ free_step words marks0 head marks marks' level at p h less size f b = record {
       };
 }
 
--- the eight lists: those walked so far, and what is left
+-- the eight lists: those walked so far, and the rest
 pub record ListsGo (words : List ℕ) (marks0 marks : List Bool) (k : ℕ) : Type 0 where
   pub size : length marks ≡ length marks0
   pub rest : (seen0 : List ℕ) → Marks marks0 seen0 → (x : (ℕ → List ℕ) × List ℕ) ×
@@ -196,7 +196,7 @@ lists_flaw words marks0 marks marks' k f h l ran seen0 s =
     subst (λ (z : ℕ). walk_lists (slice_index words) (length words) (suc (length marks0)) z seen0 ≡ Err f) e
     (later_flaw (slice_index words) (length words) (suc (length marks0)) (suc k) (7 - k) seen0 f here)
 
--- looking for a block that was not reached
+-- the search for a block that was not reached
 pub record ReachedGo (marks : List Bool) (k : ℕ) : Type 0 where
   pub rest : (seen : List ℕ) → Marks marks seen → check_reached k seen ≡ Ok tt
 
@@ -215,7 +215,7 @@ reached_flaw marks k h l e seen s =
     subst (λ (z : ℕ). check_reached z seen ≡ Err (Lost (16 + 8 * k))) q
     (later_lost (suc k) (length marks - suc k) seen (Lost (16 + 8 * k)) here)
 
--- the answer of a pointer that was followed, at what the code found it to be
+-- the result of following a pointer, with the code's finding
 pub found_as : (words : List ℕ) (marks marks' : List Bool) (at : ℕ) (found found' : Option ℕ) → found ≡ found' →
     Followed words marks marks' at (Ok found) → Followed words marks marks' at (Ok found')
 found_as words marks marks' at found found' e f = subst (λ (z : Option ℕ). Followed words marks marks' at (Ok z)) e f

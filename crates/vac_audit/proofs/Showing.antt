@@ -142,7 +142,7 @@ opened_customers m n lists (r ∷ rs) h =
     ∙ ap (λ (z : List (ℕ × List (Place × Booking))). (r.0, bookings_in m (lists r.1)) ∷ z)
     (opened_customers m n lists rs h.1)
 
--- sums over them
+-- sums over the entries
 length_items : (m : ℕ → ℕ) (rs : Rows) → length (items_in m rs) ≡ length rs
 length_items m [] = refl
 length_items m (r ∷ rs) = omega (arith, length_items m rs)

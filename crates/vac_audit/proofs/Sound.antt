@@ -1,4 +1,4 @@
--- A heap in which everything fits, said of its parts: what the audit of words looks for.
+-- A heap that is sound in all its parts, which is what the audit of words looks for.
 use Rattle.std.specs.Prelude.{◌≡◌, ◌≢◌, ℕ, ◌+◌, ◌*◌, ◌^◌, ◌<◌, ◌≤◌, [], ◌∷◌, Ok, false}
 use Rattle.tx_alloc.specs.Pool.{IsPool}
 use Rattle.tx_alloc.specs.Rows.{Rows, IsFrom, block_at}
@@ -7,7 +7,8 @@ use Rattle.vac_records.specs.Heap.{Parts, over, used_in, count_in}
 use Rattle.vac_audit.specs.Tree.{Tree, rows, is_red, IsEven, IsApart, Hangs}
 use Rattle.vac_audit.specs.Walk.{units_in, walk, audit, report_of}
 
--- p leads to a table of these rows, with keys from 1 on: a tree in order, coloured, with a black root
+-- p points to a table of these rows, with keys from 1 on: a tree in order, coloured, with a black
+-- root
 pub record IsTreeTable (m : ℕ → ℕ) (n p : ℕ) (rs : Rows) : Type 0 where
   pub tree : Tree
   pub is : rows tree ≡ rs
@@ -29,7 +30,7 @@ pub record IsItemAt (m : ℕ → ℕ) (a : ℕ) : Type 0 where
   pub sum : m (a + 4) + m (a + 5) ≡ m (a + 6)
   pub price : m (a + 7) ≤ 1000000
 
--- the booking in the block of a row has units and a sum in their ranges, and its item is there
+-- the booking in the block of a row has units and a sum in their ranges, and its item exists
 pub record IsBookingRow (m : ℕ → ℕ) (tables : ℕ → Rows) (r : ℕ × ℕ) : Type 0 where
   pub id : 1 ≤ m (r.1 + 1)
   pub some : 1 ≤ m (r.1 + 4)
@@ -48,7 +49,7 @@ pub record IsSound (m : ℕ → ℕ) (n : ℕ) (p : Parts) : Type 0 where
   pub pool : IsPool m n p.free (used_in p) (count_in p)
   pub none_out : p.out ≡ []
 
--- where the walk meets no flaw, it found a sound heap
+-- if the walk meets no flaw, it found a sound heap
 abbrev pub SoundLaw : Type 0
 SoundLaw = (m : ℕ → ℕ) (blocks : ℕ) (p : Parts) → walk m blocks ≡ Ok p →
     IsSound m (16 + 8 * blocks) p

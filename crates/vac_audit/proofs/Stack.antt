@@ -1,4 +1,5 @@
--- The walk of a tree with a stack of its own: what is left to do above a tree that is walked.
+-- The walk of a tree with a stack of its own: the work that remains above a tree that is being
+-- walked.
 use Rattle.std.proofs.Common.{◌≡◌, ℕ, ◌+◌, Bool, true, false, cond, List, [], ◌∷◌, ◌++◌, suc, refl, sym, ap, ◌∙◌, subst}
 use Rattle.std.proofs.Common.{nat_eq}
 use Rattle.std.specs.Prelude.{Result, Ok, Err}
@@ -11,7 +12,8 @@ use Rattle.vac_audit.specs.declared.Flaw.TheVariants.{Shared, Order, Colour}
 use Rattle.vac_audit.proofs.Steps.{then_with, test_with, not_none}
 use Rattle.vac_audit.proofs.Running.{then_err}
 
--- A node above the tree that is walked: that tree is its left side, or its right one, behind this left side
+-- a node above the tree that is being walked: the tree is its left side, or its right side after
+-- this left side
 pub data Frame : Type 0 where
   in_left : (p : ℕ) → Frame
   in_right : (p : ℕ) → (l : Tree) → Frame
@@ -27,14 +29,14 @@ abbrev pub hang : (ℕ → ℕ) → ℕ → Tree → Tree → Seen → Result (T
 hang m p l t s = then (wants (is_coloured (m (p + 3)) l t) (Colour (p + 3)))
     (λ _. Ok (node (nat_eq (m (p + 3)) 1) l (m p, p) t, s))
 
--- the node itself, when the left side is walked, and its right side
+-- the node itself and its right side, after the left side was walked
 abbrev pub go_right : (ℕ → ℕ) → ℕ → Look → ℕ → ℕ → ℕ → Tree → Seen → Result (Tree × Seen) Flaw
 go_right m n look levels lo p l s =
     then (wants (is_key m p (above lo (rows l))) (Order p)) (λ _.
     then (look p s) (λ s'.
     then (walk_tree m n look levels (p + 2) (m p + 1) s') (λ t. hang m p l t.0 t.1)))
 
--- what the walk of a tree below these nodes makes of the whole
+-- the result of the whole walk, from the result for the tree below these nodes
 abbrev pub unwind : (ℕ → ℕ) → ℕ → Look → List Frame → ℕ → Result (Tree × Seen) Flaw → Result (Tree × Seen) Flaw
 unwind m n look [] levels r = r
 unwind m n look (in_left p ∷ fs) levels r = unwind m n look fs (suc levels)
@@ -42,7 +44,7 @@ unwind m n look (in_left p ∷ fs) levels r = unwind m n look fs (suc levels)
 unwind m n look (in_right p l ∷ fs) levels r = unwind m n look fs (suc levels) (then r (λ x. hang m p l x.0 x.1))
 
 module _ (m : ℕ → ℕ) (n : ℕ) (look : Look) where
-  -- a flaw below is the whole's
+  -- a flaw below is a flaw of the whole
   pub unwind_err : (fs : List Frame) (levels : ℕ) (f : Flaw) → unwind m n look fs levels (Err f) ≡ Err f
   unwind_err [] levels f = refl
   unwind_err (in_left p ∷ fs) levels f = unwind_err fs (suc levels) f
@@ -85,7 +87,7 @@ module _ (m : ℕ → ℕ) (n : ℕ) (look : Look) where
       (then (walk_tree m n look levels (p + 1) (least m fs) (record s { blocks = p ∷ s.blocks }))
       (λ x. go_right m n look levels (least m fs) p x.0 x.1))) (not_none n p b))) h
 
-  -- up to a node whose left side is done
+  -- up to a node whose left side was walked
   pub left_order : (fs : List Frame) (levels p : ℕ) (t : Tree) (s : Seen) (whole : Result (Tree × Seen) Flaw) →
       is_key m p (above (least m fs) (rows t)) ≡ false
       → unwind m n look (in_left p ∷ fs) levels (Ok (t, s)) ≡ whole → whole ≡ Err (Order p)
@@ -106,7 +108,7 @@ module _ (m : ℕ → ℕ) (n : ℕ) (look : Look) where
   left_done fs levels p t s s' whole e g h = unwind_as fs (suc levels) _ _ whole
       (test_with (is_key m p (above (least m fs) (rows t))) (Order p) _ _ e (then_with (look p s) _ s' _ g refl)) h
 
-  -- up to a node whose right side is done
+  -- up to a node whose right side was walked
   pub right_flaw : (fs : List Frame) (levels p : ℕ) (l t : Tree) (s : Seen) (whole : Result (Tree × Seen) Flaw) →
       is_coloured (m (p + 3)) l t ≡ false
       → unwind m n look (in_right p l ∷ fs) levels (Ok (t, s)) ≡ whole → whole ≡ Err (Colour (p + 3))
@@ -121,7 +123,7 @@ module _ (m : ℕ → ℕ) (n : ℕ) (look : Look) where
   right_done fs levels p l t s whole e h = unwind_as fs (suc levels) _ _ whole
       (test_with (is_coloured (m (p + 3)) l t) (Colour (p + 3)) _ _ e refl) h
 
--- the next key, behind a node
+-- the next key after a node
 pub above_node : (lo k p : ℕ) (rs ts : Rows) → above lo (rs ++ ((k, p) ∷ ts)) ≡ above (k + 1) ts
 above_node lo k p [] ts = refl
 above_node lo k p (r ∷ rs) ts = above_node (r.0 + 1) k p rs ts

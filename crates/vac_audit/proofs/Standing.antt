@@ -1,4 +1,4 @@
--- Where the code's walk of a table stands, and what is left of it.
+-- The state of the code's walk of a table, and the work that remains.
 use Rattle.std.proofs.Common.{◌≡◌, ◌≢◌, ◌⊎◌, inl, inr, ℕ, ◌+◌, ◌<◌, ◌≤◌, Bool, true, false, cond, List, []}
 use Rattle.std.proofs.Common.{◌∷◌, ◌++◌, length, suc, refl, sym, ap, ◌∙◌, subst, arith, nat_eq, length-append}
 use Rattle.std.specs.Prelude.{Result, Ok, Err, slice_index}
@@ -47,7 +47,7 @@ last_same (x ∷ ss) (y ∷ ts) s t e =
     let head : x ≡ y = cc in
     (let z = w.0 in cc, w.1)
 
--- what is still to be done at most, in steps
+-- the largest number of steps that remain
 abbrev pub weight : List Step → ℕ
 weight [] = 0
 weight (Left p ∷ ss) = 3 + weight ss
@@ -57,7 +57,7 @@ abbrev pub turn_weight : Turn → ℕ
 turn_weight (Down at) = 1
 turn_weight (Up side) = 0
 
--- how many nodes of a path were not looked at yet
+-- the number of nodes of a path that were not tested yet
 abbrev pub lefts : List Step → ℕ
 lefts [] = 0
 lefts (Left p ∷ ss) = 1 + lefts ss
@@ -74,19 +74,19 @@ abbrev pub IsPath : List Step → List Frame → Type 0
 IsPath ss [] = ss ≡ []
 IsPath ss (f ∷ fs) = (rest : List Step) × ((s : Step) × ((ss ≡ rest ++ (s ∷ [])) × IsStep s f × IsPath rest fs))
 
--- the rows that were looked at before the tree below these nodes
+-- the rows that were tested before the tree below these nodes
 abbrev pub rows_above : (ℕ → ℕ) → List Frame → Rows
 rows_above m [] = []
 rows_above m (in_left p ∷ fs) = rows_above m fs
 rows_above m (in_right p l ∷ fs) = rows_above m fs ++ (rows l ++ ((m p, p) ∷ []))
 
--- how often a block is one of these nodes, and not yet looked at
+-- how often a block is one of these nodes and not yet tested
 abbrev pub pending : ℕ → List Frame → ℕ
 pending x [] = 0
 pending x (in_left p ∷ fs) = cond (nat_eq p x) 1 0 + pending x fs
 pending x (in_right p l ∷ fs) = pending x fs
 
--- a block is looked at once
+-- no block is tested twice, and a block that was tested or waits for its test was reached
 abbrev pub Once : List Frame → Rows → List ℕ → Type 0
 Once fs rs seen = (x : ℕ) → (times x rs + pending x fs ≡ 0) ⊎ ((times x rs + pending x fs ≡ 1) × (0 < held x seen))
 
@@ -116,7 +116,7 @@ once_left fs rs seen seen' k p t more h x = elim (h x) [
   | inr one ↦ inr (omega (arith, one.0, times_append x rs ((k, p) ∷ [])), omega (arith, one.1, more x))
 ]
 
--- the node that is looked at was not before
+-- the node that is tested was not tested before
 pub once_other : (fs : List Frame) (rs : Rows) (seen : List ℕ) (p q : ℕ) → Once (in_left p ∷ fs) rs seen →
     0 < times q rs →
     q ≢ p
@@ -131,7 +131,7 @@ pub rows_none : (rs : Rows) → rs ≡ rs ++ []
 rows_none [] = refl
 rows_none (r ∷ rs) = ap (λ (z : Rows). r ∷ z) (rows_none rs)
 
--- rooms
+-- room in the notes
 pub ready_less : (table : Table) (notes : Notes) (left left' : ℕ) → left' ≤ left → Ready table notes left →
     Ready table notes left'
 ready_less (Items kind) notes left left' l h = h
@@ -166,7 +166,7 @@ unmarked_few (false ∷ marks) = omega (arith, unmarked_few marks)
 abbrev pub whole : List ℕ → ℕ → ℕ → Look → Seen → Result (Tree × Seen) Flaw
 whole words blocks root look s0 = walk_tree (slice_index words) (length words) look (suc blocks) root 1 s0
 
--- where the walk stands
+-- the state of the walk
 abbrev pub StopsAt : List ℕ → ℕ → ℕ → Look → Seen → Turn → List Frame → ℕ → ℕ → Seen → Rows → Type 0
 StopsAt words blocks root look s0 (Down at) fs levels from s rs = (from ≡ least (slice_index words) fs)
     × (unwind (slice_index words) (length words) look fs levels
@@ -192,7 +192,7 @@ pub record TreeRest (words : List ℕ) (blocks root : ℕ) (look : Look) (s0 : S
   pub noted : Noted table (slice_index words) notes0 notes done seen.lists
   pub stands : StopsAt words blocks root look s0 turn frames levels from seen done
 
--- what holds whatever was reached
+-- bounds of a turn, whatever blocks were reached
 abbrev pub TurnIn : ℕ → ℕ → ℕ → Turn → Type 0
 TurnIn n blocks depth (Down at) = at < n
 TurnIn n blocks depth (Up side) = side.blacks + depth ≤ blocks

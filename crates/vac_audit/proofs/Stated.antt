@@ -40,12 +40,12 @@ use Rattle.vac_audit.proofs.Showing.{number_of, state_law}
 use Rattle.vac_audit.proofs.Holding.{units_find}
 use Rattle.vac_audit.proofs.Represented.{represented}
 
--- a fact of each row, from its being there
+-- a fact of each row, from its being a row
 each_rows : (P : ℕ × ℕ → Type 0) (rs : Rows) → ((k a : ℕ) → HasRow k a rs → P (k, a)) → Each P rs
 each_rows P [] f = tt
 each_rows P (r ∷ rs) f = (f r.0 r.1 (inl (refl, refl)), each_rows P rs (λ k a i. f k a (inr i)))
 
--- a row that is there is found at its key
+-- a row that exists is found at its key
 at_row : (lo k a : ℕ) (rs : Rows) → IsFrom lo rs → HasRow k a rs → block_at rs k ≡ a
 at_row lo k a [] f i = absurd i
 at_row lo k a (r ∷ rs) f i = elim i [
@@ -72,7 +72,7 @@ rest_of : {A : Type 0} → List A → List A
 rest_of [] = []
 rest_of (x ∷ xs) = xs
 
--- what a customer has of an item, in the map and in the rows
+-- the units that a customer has of an item, in the map and in the rows
 units_of_list : (m : ℕ → ℕ) (n p k i : ℕ) (b : Bookings) (rs : Rows) → k < 3 → i < 2 ^ 32 → Linked m n p 0 rs →
     entries b ≡ bookings_in m rs → units_of b (kind_of_number k, i) ≡ units_in m (k * 2 ^ 32 + i) rs
 units_of_list m n p k i b rs a c h e =
@@ -80,7 +80,7 @@ units_of_list m n p k i b rs a c h e =
     (get-entries b (kind_of_number k, i) ∙ ap (find place_cmp (kind_of_number k, i)) e)
     ∙ units_find m n p 0 k i rs a c h
 
--- what all customers have of it
+-- the units that all customers have of an item
 held_rows : (m : ℕ → ℕ) (n : ℕ) (lists : ℕ → Rows) (k i : ℕ) → k < 3 → i < 2 ^ 32 →
     (cs : List (ℕ × Bookings)) (rows : Rows) → Each (λ r. IsList m n (m (r.1 + 4)) (lists r.1)) rows →
     opened_bookings cs ≡ customers_in m lists rows

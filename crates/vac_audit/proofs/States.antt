@@ -29,7 +29,7 @@ pub record Shows (m : ℕ → ℕ) (n : ℕ) (p : Parts) (s : State) : Type 0 wh
   pub items : (kind : Kind) → entries (table_of s kind) ≡ items_in m (p.tables (kind_number kind))
   pub customers : opened_bookings (entries s.customers) ≡ customers_in m p.lists (p.tables 3)
 
--- a sound heap is a state's, and its report is the state's
+-- the parts of a sound heap are those of a state, and its report is the report of that state
 abbrev pub StateLaw : Type 0
 StateLaw = (m : ℕ → ℕ) (blocks : ℕ) (p : Parts) → IsSound m (16 + 8 * blocks) p →
     Shows m (16 + 8 * blocks) p (state_of m blocks p) × (report_of m p ≡ report (state_of m blocks p))

@@ -36,7 +36,7 @@ block_place n p (b, (high, is)) =
     let whole : p % 8 ≡ 0 = omega arith in
     grind (arith, nat_tests)
 
--- what was followed: a block that was not reached before
+-- a followed pointer: it points to a block that was not reached before
 pub record IsFresh (m : ℕ → ℕ) (n a : ℕ) (seen : List ℕ) (p : ℕ) : Type 0 where
   pub at : m a ≡ p
   pub block : IsBlock n p
@@ -78,7 +78,7 @@ follow_block m n a seen p h =
 pub not_none : (n p : ℕ) → IsBlock n p → nat_eq p 0 ≡ false
 not_none n p (b, (high, is)) = let ne : p ≢ 0 = omega arith in grind (arith, nat_tests)
 
--- where two parts succeed, both do
+-- if two parts succeed in order, both succeed
 pub both_ok : {A B : Type 0} (G : Type 0) (x : Result A Flaw) (k : A → Result B Flaw) (b : B) → then x k ≡ Ok b →
     ((a : A) → x ≡ Ok a → k a ≡ Ok b → G) → G
 both_ok G (Ok a) k b e go = go a refl e
@@ -98,7 +98,7 @@ cond_ok : {A : Type 0} (G : Type 0) (t : Bool) (x y z : A) → cond t x y ≡ z 
 cond_ok G true x y z e at else = at refl e
 cond_ok G false x y z e at else = else refl e
 
--- a walk that goes on at the pointer in word a, and ends without a flaw
+-- a walk that follows the pointer in word a, and ends without a flaw
 pub enter_ok : {A : Type 0} (G : Type 0) (m : ℕ → ℕ) (n a : ℕ) (seen : List ℕ) (x : Result A Flaw) (k : ℕ →
     Result A Flaw) (b : A)
     → then (follow m n a seen) (λ p. cond (nat_eq p 0) x (k p)) ≡ Ok b → (m a ≡ 0 → x ≡ Ok b → G) →

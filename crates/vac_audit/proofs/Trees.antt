@@ -19,7 +19,7 @@ use Rattle.vac_audit.proofs.Over.{times_append, over_append, each_append, each_f
 use Rattle.vac_audit.proofs.Over.{rises_append, rises_front, rises_back, both_reached, reached_as, Coloured, coloured}
 use Rattle.vac_audit.proofs.Over.{coloured_test}
 
--- Which lists hang at the blocks of a table (own), and what is good in a block with its list
+-- the list of each block of a table, chosen from the lists of bookings
 abbrev pub Own : Type 0
 Own = (ℕ → Rows) → ℕ → Rows
 
@@ -158,8 +158,8 @@ module _ (m : ℕ → ℕ) (n : ℕ) (look : Look) (own : Own) (Good : ℕ → R
             (m p) h.block h.fresh wl.reaches wl.kept wp.reaches wp.kept wt.reaches wt.kept;
       })))))))
 
---  The other way: a tree that hangs there and whose blocks were not reached is walked without a flaw. L are the lists
--- of its blocks.
+-- The other direction: a tree whose blocks exist and were not reached is walked without a flaw. L
+-- are the lists of its blocks.
 abbrev pub Apart : (ℕ → ℕ) → List ℕ → Type 0
 Apart count seen = (x : ℕ) → 0 < count x → count x + held x seen ≡ 1
 
@@ -178,7 +178,7 @@ pub record TreeFound (m : ℕ → ℕ) (n : ℕ) (look : Look) (own : Own) (L : 
   pub lists : (q : ℕ) → 0 < times q (rows t) → own s'.lists q ≡ L q
   pub kept : (q : ℕ) → 0 < held q s.blocks → own s'.lists q ≡ own s.lists q
 
--- what is asked of a tree
+-- the conditions on a tree
 pub record TreeGood (m : ℕ → ℕ) (n : ℕ) (Good : ℕ → Rows → Type 0) (L : ℕ → Rows) (a lo : ℕ) (t : Tree) : Type 0 where
   pub hangs : Hangs m n (m a) t
   pub rises : IsFrom lo (rows t)

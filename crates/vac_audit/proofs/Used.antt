@@ -1,4 +1,4 @@
--- Each item has as many units used as are booked of it: over the lists of codes, blocks and units.
+-- Each item has as many used units as are booked of it: over the lists of codes, blocks and units.
 use Rattle.std.proofs.Common.{◌≡◌, ◌≢◌, ℕ, ◌+◌, ◌<◌, Bool, true, false, List, [], ◌∷◌, ◌++◌, length, get_or, zero, suc}
 use Rattle.std.proofs.Common.{refl, sym, ap, ◌∙◌, arith, nat_eq}
 use Rattle.std.specs.Prelude.{Result, Ok, Err, slice_index}
@@ -19,7 +19,7 @@ use Rattle.vac_audit.proofs.Noted.{no_item, length_blocks, block_at, units_at}
 use Rattle.vac_audit.proofs.Index.{codes_of, blocks_of}
 use Rattle.vac_audit.proofs.Walks.{tables_of}
 
--- the codes ps have blocks bs, and f says how many units are to be used
+-- the codes ps have blocks bs, and f gives the number of units that should be used
 abbrev pub check_pairs : (ℕ → ℕ) → (ℕ → ℕ) → List ℕ → List ℕ → Result (Unit {0}) Flaw
 check_pairs m f [] bs = Ok tt
 check_pairs m f (p ∷ ps) [] = Ok tt

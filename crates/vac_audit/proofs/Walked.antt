@@ -1,4 +1,4 @@
--- Where the whole walk meets no flaw.
+-- Walks that meet no flaw, in all their parts.
 use Rattle.std.proofs.Common.{◌≡◌, inl, inr, ℕ, ◌+◌, ◌*◌, ◌^◌, ◌<◌, Bool, true, false, cond, List, [], ◌∷◌, zero, suc}
 use Rattle.std.proofs.Common.{length, refl, sym, ap, subst, arith, nat_eq}
 use Rattle.std.specs.Prelude.{Ok, not}
@@ -58,7 +58,7 @@ pub over_bare : (f : Rows → ℕ) (rs : Rows) → f [] ≡ 0 → over f rs (λ 
 over_bare f [] e = refl
 over_bare f (r ∷ rs) e = omega (arith, e, over_bare f rs e)
 
--- a fact of each place of a family, where one is changed
+-- a fact of each index of a family, after one is changed
 pub at_each : {A : Type 0} (k i : ℕ) (P : ℕ → A → Type 0) (f : ℕ → A) (a : A) → i < suc k → (i < k → P i (f i)) →
     P k a → P i (with_at f k a i)
 at_each k i P f a l old new =

@@ -146,7 +146,7 @@ module _ (words : List ℕ) (marks0 : List Bool) where
         rooms = z.1.2;
       }
 
--- the customers, behind the items
+-- the customers, after the items
 pub counting_start : (notes : Notes) (left : ℕ) → InOrder notes.items.items → Uncounted notes → left ≤ 262144 →
     Counting notes left
 counting_start notes left order h l = record {

@@ -418,7 +418,7 @@ module _ (words : List ℕ) (blocks : ℕ) (marks0 : List Bool) (size : length w
               (subst (λ (z : ℕ). check_reached z free.1 ≡ Ok tt) (size3 ∙ (size2 ∙ (size1 ∙ many)))
               (k free.1 (h v.s'.blocks v.are).1.1)) (report_is report e1 e2 e3 e4 e5 e6 e7 e8 e9))
 
--- so many words are those of a heap
+-- this many words are those of a heap
 pub heap_size : (n : ℕ) → 24 ≤ n → n ≤ MOST_HEAP_WORDS → n % 8 ≡ 0 → IsHeapSize n
 heap_size n low high whole = ((n - 16) / 8, (omega (arith, whole), omega arith, omega arith))
 

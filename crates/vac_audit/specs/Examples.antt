@@ -1,4 +1,4 @@
--- Worked heaps, and the first flaw of each.
+-- Worked heaps, each with its first flaw.
 use Rattle.std.specs.Prelude.{◌≡◌, ℕ, ◌-◌, ◌^◌, List, [], ◌∷◌, ◌++◌, Result, Ok, Err, slice_index}
 use Rattle.vac_model.specs.declared.replies.Report.{Report}
 use Rattle.vac_audit.specs.Walk.{audit}
@@ -10,7 +10,7 @@ abbrev item : ℕ → ℕ → ℕ → ℕ → ℕ → ℕ → List ℕ
 item key left right colour used total =
     key ∷ left ∷ right ∷ colour ∷ used ∷ (total - used) ∷ total ∷ 50 ∷ []
 
--- the words of a customer's block, which has no left side
+-- the words of a customer's block, whose node has no left side
 abbrev customer : ℕ → ℕ → ℕ → ℕ → List ℕ
 customer key right colour head = key ∷ 0 ∷ right ∷ colour ∷ head ∷ 0 ∷ 0 ∷ 0 ∷ []
 
@@ -18,15 +18,15 @@ customer key right colour head = key ∷ 0 ∷ right ∷ colour ∷ head ∷ 0 �
 abbrev booking : ℕ → ℕ → ℕ → ℕ → ℕ → List ℕ
 booking kind id sum next units = kind ∷ id ∷ sum ∷ next ∷ units ∷ 0 ∷ 0 ∷ 0 ∷ []
 
--- the words of a free block, which leads to the next one
+-- the words of a free block, which points to the next one
 abbrev free : ℕ → List ℕ
 free next = next ∷ 0 ∷ 0 ∷ 0 ∷ 0 ∷ 0 ∷ 0 ∷ 0 ∷ []
 
--- the heads of the lists 3 and 5, the only ones with blocks
+-- the heads of the free lists, of which only lists 3 and 5 have blocks
 abbrev heads : ℕ → ℕ → List ℕ
 heads third fifth = 0 ∷ 0 ∷ 0 ∷ third ∷ 0 ∷ fifth ∷ 0 ∷ 0 ∷ []
 
--- the words of these blocks, one block after the other
+-- the words of these blocks, block after block
 abbrev joined : List (List ℕ) → List ℕ
 joined [] = []
 joined (b ∷ bs) = b ++ joined bs
@@ -46,32 +46,32 @@ abbrev audit_of : List ℕ → List ℕ → List ℕ → Result Report Flaw
 audit_of car book lists =
     audit (heap (roots 16 0 0 24) lists (car ∷ customer 3 0 0 32 ∷ book ∷ free 0 ∷ [])) 4
 
--- the car 7, of whose five units two are booked for 90
+-- the words of car 7, which has two of its five units booked for 90
 abbrev car_7 : List ℕ
 car_7 = item 7 0 0 0 2 5
 
--- the booking of these two units
+-- the words of the booking of these two units
 abbrev two_of_7 : List ℕ
 two_of_7 = booking 0 7 90 0 2
 
--- the audit of that heap with another car
+-- the audit of that heap with the car replaced
 abbrev with_car : List ℕ → Result Report Flaw
 with_car car = audit_of car two_of_7 (heads 40 0)
 
--- the audit of that heap with another booking
+-- the audit of that heap with the booking replaced
 abbrev with_booking : List ℕ → Result Report Flaw
 with_booking book = audit_of car_7 book (heads 40 0)
 
--- the audit of that heap with other heads of the free lists
+-- the audit of that heap with the heads of the free lists replaced
 abbrev with_heads : List ℕ → Result Report Flaw
 with_heads lists = audit_of car_7 two_of_7 lists
 
--- the audit of a heap of cars alone
+-- the audit of a heap with cars only
 abbrev with_cars : ℕ → List (List ℕ) → Result Report Flaw
 with_cars blocks cars = audit (heap (roots 16 0 0 0) (heads 0 0) cars) blocks
 
--- the audit of nine blocks: a car, the flight 7, the room 9, the customers 3 and 4, and two
--- bookings of each customer, where customer 4 has a unit of the car 7 and one of the flight 7
+-- the audit of nine blocks: a car, flight 7, room 9, customers 3 and 4, and two bookings of each
+-- customer. Customer 4 has a unit of car 7 and a unit of flight 7
 abbrev with_all : List ℕ → List ℕ → List ℕ → Result Report Flaw
 with_all car first second =
     audit (heap (roots 16 24 32 40) (heads 0 0)
@@ -153,7 +153,7 @@ pub record OneFlaw : Type 0 where
       with_cars 3 (item 3 24 0 0 0 3 ∷ item 2 32 0 1 0 4 ∷ item 1 0 0 1 0 1 ∷ []) ≡ Err (Colour 27)
   pub lost_block : with_heads (heads 0 0) ≡ Err (Lost 40)
 
--- heaps with two flaws, of which the one that is met first is returned
+-- heaps with two flaws, of which the first one met is returned
 pub record TwoFlaws : Type 0 where
   pub left_before_key : with_car (item 0 20 0 0 2 5) ≡ Err (Pointer 17)
   pub key_before_counts : with_car (item 0 0 0 0 6 5) ≡ Err (Order 16)

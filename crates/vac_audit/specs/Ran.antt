@@ -1,4 +1,4 @@
--- What the running audit does.
+-- The relation between the definition of the audit and the running audit.
 use Rattle.std.specs.Prelude.{◌≡◌, ◌⊎◌, ℕ, ◌+◌, ◌<◌, ◌≤◌, Bool, List, [], ◌++◌, length, suc, Result, Ok, Err, MatchResult, slice_index, sum_by, ⊤}
 use Rattle.std.specs.List.{All, AllWithin, HoldsAt}
 use Rattle.tx_alloc.specs.Pool.{heap_words}
@@ -20,7 +20,7 @@ use Rattle.vac_audit.specs.declared.audit.AuditFault.{AuditFault}
 use Rattle.vac_audit.specs.declared.audit.AuditFault.TheVariants.{Memory, Flaw as Flawed}
 use Rattle.vac_audit.specs.declared.audit.Kinds.{Kinds}
 
--- nothing was written down yet
+-- the notes are empty
 pub record Blank (notes : Notes) : Type 0 where
   pub items : notes.items.items ≡ []
   pub used : notes.tally.used ≡ 0
@@ -35,23 +35,24 @@ three m word a b c =
     sum_by (λ r. m (r.1 + word)) a + sum_by (λ r. m (r.1 + word)) b
     + sum_by (λ r. m (r.1 + word)) c
 
--- the definition's walk of a table of items, with a level for each block and one more
+-- the definition's walk of a table of items, with one level more than blocks
 abbrev pub item_table : List ℕ → ℕ → ℕ → Seen → Result (Rows × Seen) Flaw
 item_table words blocks root s =
     walk_table (slice_index words) (length words) (look_at_item (slice_index words)) (suc blocks)
     root s
 
--- the definition's walk of the three tables of items
+-- the definition's walk of the three tables of items, with one level more than blocks
 abbrev pub all_items : List ℕ → ℕ → Seen → Result ((ℕ → Rows) × Seen) Flaw
 all_items words blocks s = walk_items (slice_index words) (length words) (suc blocks) 3 s
 
--- the definition's walk of the table of customers and their bookings
+-- the definition's walk of the table of customers and their bookings, with one level more than
+-- blocks
 abbrev pub customer_table : List ℕ → ℕ → (ℕ → Rows) → Seen → Result (Rows × Seen) Flaw
 customer_table words blocks tables s =
     walk_table (slice_index words) (length words)
     (look_at_customer (slice_index words) (length words) tables (suc blocks)) (suc blocks) 4 s
 
--- the three tables of items were walked, and their items written down
+-- the three tables of items were walked and their items noted
 pub record ItemsWalked (words : List ℕ) (marks marks' : List Bool) (notes' : Notes)
     (kinds : Kinds) (s : Seen) : Type 0 where
   pub a : Rows
@@ -74,20 +75,20 @@ pub record ItemsWalked (words : List ℕ) (marks marks' : List Bool) (notes' : N
   pub flights : kinds.flights ≡ length b
   pub rooms : kinds.rooms ≡ length c
 
--- the tables of items were walked; a flaw that ended it is the one that the definition finds
+-- the tables of items were walked; a flaw that ended the walk is the one that the definition finds
 abbrev pub ItemsRan : List ℕ → List Bool → List Bool → Notes → Result Kinds Fault → Type 0
 ItemsRan words marks marks' notes' result =
     (s : Seen) → Marks marks s.blocks → MatchResult result
     (λ kinds. ItemsWalked words marks marks' notes' kinds s)
     (λ fault. Faulted fault (λ flaw. all_items words (length marks) s ≡ Err flaw))
 
--- no booking was counted yet
+-- the notes have no booking counted yet
 pub record Uncounted (notes : Notes) : Type 0 where
   pub booked : All (λ item. item.booked ≡ 0) notes.items.items
   pub bookings : notes.tally.bookings ≡ 0
   pub billed : notes.tally.billed ≡ 0
 
--- the customers were walked, and their bookings counted
+-- the customers were walked and their bookings counted
 pub record CustomersWalked (words : List ℕ) (marks marks' : List Bool) (notes notes' : Notes)
     (tables : ℕ → Rows) (customers : ℕ) (s : Seen) : Type 0 where
   pub rows : Rows
@@ -104,7 +105,7 @@ pub record CustomersWalked (words : List ℕ) (marks marks' : List Bool) (notes 
   pub billed :
       notes'.tally.billed ≡ over (sum_by (λ r. slice_index words (r.1 + 2))) rows s'.lists
 
--- the customers were walked; a flaw that ended it is the one that the definition finds
+-- the customers were walked; a flaw that ended the walk is the one that the definition finds
 abbrev pub CustomersRan : List ℕ → List Bool → List Bool → Notes → Notes → Result ℕ Fault →
     Type 0
 CustomersRan words marks marks' notes notes' result =
@@ -117,11 +118,11 @@ CustomersRan words marks marks' notes notes' result =
 abbrev pub Inside : List ℕ → List NotedItem → Type 0
 Inside words items = All (λ item. item.block + 8 ≤ length words) items
 
--- as many units are used of an item as are booked
+-- the used units of the item are as many as its booked units
 abbrev pub IsUsedAsBooked : List ℕ → NotedItem → Type 0
 IsUsedAsBooked words item = slice_index words (item.block + 4) ≡ item.booked
 
--- the first item of which not as many units are used as are booked
+-- the flaw is at the first item whose used units are not as many as its booked units
 pub record FirstUnused (words : List ℕ) (items : List NotedItem) (flaw : Flaw) : Type 0 where
   pub i : ℕ
   pub inside : i < length items
@@ -129,29 +130,30 @@ pub record FirstUnused (words : List ℕ) (items : List NotedItem) (flaw : Flaw)
   pub other : HoldsAt (λ item. IsUsedAsBooked words item → ⊥) items i
   pub earlier : AllWithin (IsUsedAsBooked words) items 0 i
 
--- of each item as many units are used as are booked, or the flaw is that of the first item where
--- they differ
+-- each item has as many used units as booked units, or the flaw is that of the first item that has
+-- not
 abbrev pub UsedRan : List ℕ → List NotedItem → Result ⊤ Flaw → Type 0
 UsedRan words items result = MatchResult result
     (λ _. All (IsUsedAsBooked words) items)
     (λ flaw. FirstUnused words items flaw)
 
--- the words of a heap of this many blocks were audited
+-- the words of a heap of this many blocks were audited: the result is that of the definition,
+-- unless memory was refused
 abbrev pub HeapRan : List ℕ → ℕ → Result Report Fault → Type 0
 HeapRan words blocks result = MatchResult result
     (λ report. audit (slice_index words) blocks ≡ Ok report)
     (λ fault. Faulted fault (λ flaw. audit (slice_index words) blocks ≡ Err flaw))
 
--- n words are those of a heap of one block or more, and of at most as many as there may be
+-- the number of words is that of a heap with at least one block and no more blocks than the limit
 abbrev pub IsHeapSize : ℕ → Type 0
 IsHeapSize n = (blocks : ℕ) × ((n ≡ heap_words blocks) × (1 ≤ blocks) × (blocks ≤ MOST_BLOCKS))
 
--- what the audit says, as the call returns it
+-- the audit's result as the call returns it
 abbrev pub audit_answer : Result Report Flaw → Result Report AuditFault
 audit_answer (Ok report) = Ok report
 audit_answer (Err flaw) = Err (Flawed flaw)
 
--- why a walk ended, as the call returns it
+-- the reason that ended a walk, as the call returns it
 abbrev pub fault_answer : Fault → AuditFault
 fault_answer Refused = Memory
 fault_answer (Found flaw) = Flawed flaw

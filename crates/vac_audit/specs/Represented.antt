@@ -1,4 +1,4 @@
--- What the audit of words says of the states that words may represent.
+-- The audit of words and the states that words may represent.
 use Rattle.std.specs.Prelude.{◌≡◌, ◌⊎◌, ℕ, ◌≤◌, List, length, slice_index, Result, Ok, Err}
 use Rattle.vac_model.specs.declared.replies.Report.{Report}
 use Rattle.vac_model.specs.State.{State, report}
@@ -12,8 +12,8 @@ pub record StateOf (words : List ℕ) (found : Report) : Type 0 where
   pub represented : IsState (slice_index words) (length words) state
   pub report_is : report state ≡ found
 
--- where the words represent a balanced state of one block or more, its report is the result, unless
--- memory was refused
+-- if the words represent a balanced state of at least one block, the result is the report of that
+-- state, unless memory was refused
 abbrev pub Recognised : List ℕ → Result Report AuditFault → Type 0
 Recognised words result = (s : State) → 1 ≤ s.capacity →
     IsState (slice_index words) (length words) s →

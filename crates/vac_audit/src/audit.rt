@@ -1,4 +1,4 @@
-//! The whole audit.
+//! The audit of all words of a heap.
 
 ghost use Rattle.std.specs.Prelude.{◌≡◌, ◌+◌, ◌*◌, ◌≤◌, IfOk, Err, length, slice_index};
 ghost use Rattle.vac_audit.specs.Marks.{IsMarked};
@@ -19,10 +19,10 @@ use tx_alloc::place::MOST_BLOCKS;
 use vac_model::{Kind, Report};
 use vac_records::{CARS, CUSTOMERS, FLIGHTS, ROOMS};
 
-/// The words of the largest heap.
+/// Number of words of the largest heap.
 pub const MOST_HEAP_WORDS: usize = FIRST_BLOCK + BLOCK_WORDS * MOST_BLOCKS;
 
-/// Why words have no report.
+/// The reason why words have no report.
 #[derive(Clone, Copy, Debug, PartialEq, Eq)]
 pub enum AuditFault {
     /// The length is not that of a heap of 1 to 262,144 blocks.
@@ -44,7 +44,7 @@ impl From<Fault> for AuditFault {
     }
 }
 
-/// How many items of each kind there are.
+/// Number of items of each kind.
 #[derive(Clone, Copy)]
 struct Kinds {
     cars: u64,
@@ -78,7 +78,7 @@ fn walk_items(
     })
 }
 
-/// Looks for an item whose used units are not as many as are booked of it.
+/// Checks that each item has as many used units as are booked of it.
 fn check_used(words: &[u64], notes: &Notes) -> Result<(), Flaw>
     requires few { length words.now ≤ MOST_HEAP_WORDS }
     requires inside { Inside words.now notes.now.items.items }
@@ -93,7 +93,7 @@ fn check_used(words: &[u64], notes: &Notes) -> Result<(), Flaw>
     Ok(())
 }
 
-/// The audit of a heap of `blocks` blocks.
+/// Audits a heap of `blocks` blocks.
 fn audit_heap(alloc: Global, words: &[u64], blocks: usize) -> Result<Report, Fault>
     requires some { 1 ≤ blocks }
     requires few { blocks ≤ MOST_BLOCKS }
@@ -136,13 +136,13 @@ fn audit_heap(alloc: Global, words: &[u64], blocks: usize) -> Result<Report, Fau
     })
 }
 
-/// The report of the balanced state that the words of a heap represent, or their first flaw: the
-/// first that the walk over the tables, the customers' bookings and the free lists meets.
+/// Returns the report of the balanced state that the words of a heap represent, or their first
+/// flaw. The walk goes over the tables, the customers' bookings and the free lists.
 ///
 /// # Errors
 ///
-/// `Size` where the length is not that of a heap of 1 to 262,144 blocks, `Memory` where memory was
-/// refused for the walk, and `Flaw` with the first flaw that the walk met.
+/// Returns `Size` if the length is not that of a heap of 1 to 262,144 blocks, `Memory` if memory
+/// was refused for the walk, and `Flaw` with the first flaw that the walk met.
 ///
 /// Not said: that no stack grows with the words and that time is near linear in them: the code has
 /// no recursion, and a test has a long chain.

@@ -24,7 +24,7 @@ const NEXT: usize = place::NEXT as usize;
 
 const UNITS: usize = place::UNITS as usize;
 
-/// The index of the item with this key.
+/// Returns the index of the item with this key, if there is one.
 fn find(items: &[NotedItem], key: Key) -> Option<usize>
     requires order { InOrder items.now }
     requires key { IsKey key }
@@ -35,7 +35,7 @@ fn find(items: &[NotedItem], key: Key) -> Option<usize>
     items.binary_search_by_key(&key, |item| item.key).ok()
 }
 
-/// Whether a key may follow the last one.
+/// Returns whether a key may follow the last one.
 fn may_follow(key: Key, last: Option<Key>) -> bool
     requires key { IsKey key }
     requires last { HasShortId last }
@@ -47,7 +47,7 @@ fn may_follow(key: Key, last: Option<Key>) -> bool
     }
 }
 
-/// Looks at a booking, whose key must be above the last one, and returns the index of its item.
+/// Tests a booking, whose key must be above the last one, and returns the index of its item.
 fn look_at_booking(
     words: &[u64],
     items: &[NotedItem],
@@ -78,7 +78,8 @@ fn look_at_booking(
     find(items, key).ok_or(Flaw::Bookings(booking as u32))
 }
 
-/// Walks a list of bookings, and adds up the units of each item.
+/// Walks a list of bookings, and counts the units of each item. Bounded loop: the prover needs a
+/// measure; each level reaches one more block.
 pub fn walk_bookings(
     words: &[u64],
     reached: &mut Vec<bool>,

@@ -1,5 +1,5 @@
-//! The audit: of a running state the report, which `vac_report` makes, and of words from anywhere
-//! what is walked, in which order, and what the first flaw is.
+//! The audit of words from anywhere: it walks the heap in a fixed order, and returns a report or
+//! the first flaw. The report of a running state is made by `vac_report`.
 #![tactic(auto)]
 
 mod audit;
@@ -17,22 +17,22 @@ pub use laws::{
 };
 pub use vac_report::{Report, report};
 
-/// What is wrong with the words of a heap. Each flaw has the word at which it was met.
+/// A flaw of the words of a heap, with the word at which it was met.
 #[derive(Clone, Copy, Debug, PartialEq, Eq)]
 pub enum Flaw {
     /// The word is neither 0 nor the first word of a block.
     Pointer(u32),
-    /// The word leads to a block that was reached before.
+    /// The word points to a block that was reached before.
     Shared(u32),
-    /// Nothing leads to the block whose first word this is.
+    /// Nothing points to the block that begins with this word.
     Lost(u32),
-    /// The key, or the kind and the id, are out of range or not above what is before them.
+    /// The key, or the kind and the id, are out of range or not above those before them.
     Order(u32),
-    /// The colour is no colour, or does not fit those of the nodes around it.
+    /// The colour is no colour, or contradicts the colours of the nodes around it.
     Colour(u32),
     /// The item's numbers are out of range, or used and free units do not make the total.
     Counts(u32),
-    /// The booking's units or sum are out of range, its item is not there, or the used units of an
+    /// The booking's units or sum are out of range, its item is missing, or the used units of an
     /// item are not as many as are booked of it.
     Bookings(u32),
 }

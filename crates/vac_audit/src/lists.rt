@@ -7,13 +7,14 @@ ghost use Rattle.vac_audit.specs.Marks.{IsMarked, FreeListRan, ListsRan, Reached
 use crate::Flaw;
 use crate::pointers::{BLOCK_WORDS, FIRST_BLOCK, follow};
 
-/// How many free lists there are.
+/// Number of free lists.
 const LISTS: usize = tx_alloc::place::LISTS as usize;
 
-/// The head of the first of them.
+/// Index of the head of the first free list.
 const FIRST_HEAD: usize = tx_alloc::place::FIRST_HEAD as usize;
 
-/// Walks one list of free blocks.
+/// Walks one free list. Bounded loop: the prover needs a measure; each level reaches one more
+/// block.
 fn walk_free(words: &[u64], reached: &mut Vec<bool>, head: usize) -> Result<(), Flaw>
     requires marked { IsMarked words.now reached.old.items }
     requires inside { head < FIRST_BLOCK }
@@ -30,7 +31,7 @@ fn walk_free(words: &[u64], reached: &mut Vec<bool>, head: usize) -> Result<(), 
     Err(Flaw::Shared(at as u32))
 }
 
-/// Walks the eight lists of free blocks.
+/// Walks the eight free lists.
 pub fn walk_lists(words: &[u64], reached: &mut Vec<bool>) -> Result<(), Flaw>
     requires marked { IsMarked words.now reached.old.items }
     ensures size { length reached.new.items ≡ length reached.old.items }
@@ -42,7 +43,7 @@ pub fn walk_lists(words: &[u64], reached: &mut Vec<bool>) -> Result<(), Flaw>
     Ok(())
 }
 
-/// Looks for a block that was not reached.
+/// Checks that every block was reached.
 pub fn check_reached(reached: &Vec<bool>) -> Result<(), Flaw>
     requires few { length reached.now.items < MOST_BLOCKS + 1 }
     ensures ran { ReachedRan reached.now.items result }

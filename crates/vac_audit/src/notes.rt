@@ -1,8 +1,8 @@
-//! What a walk writes down.
+//! The notes of a walk.
 
 use tx_list::Key;
 
-/// Sums over the items and the bookings that were walked.
+/// Sums over the walked items and bookings.
 #[derive(Clone, Copy, Debug, PartialEq, Eq)]
 pub struct Tally {
     pub used: u64,
@@ -16,13 +16,13 @@ pub struct Tally {
 #[derive(Clone, Copy)]
 pub struct NotedItem {
     pub key: Key,
-    /// The first word of its block.
+    /// The first word of the item's block.
     pub block: usize,
-    /// How many units of it were found booked.
+    /// Number of units that were found booked.
     pub booked: u64,
 }
 
-/// The items that were walked, by ascending key, and the sums.
+/// The walked items by ascending key, and the sums.
 #[derive(Drop)]
 pub struct Notes {
     pub items: Vec<NotedItem>,

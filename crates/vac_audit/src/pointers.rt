@@ -5,13 +5,14 @@ ghost use Rattle.vac_audit.specs.Marks.{IsMarked, LandsOnBlock, Fewer, Followed}
 
 use crate::Flaw;
 
-/// The first word of the first block.
+/// Index of the first word of the first block.
 pub const FIRST_BLOCK: usize = tx_alloc::place::FIRST_BLOCK as usize;
 
-/// How many words a block has.
+/// Number of words of a block.
 pub const BLOCK_WORDS: usize = tx_alloc::place::BLOCK_WORDS as usize;
 
-/// Follows the pointer in a word to a block that was not reached before. `None` is its end.
+/// Follows the pointer in a word to a block that was not reached before. Returns `None` if the
+/// pointer is the end.
 pub fn follow(words: &[u64], reached: &mut Vec<bool>, at: usize) -> Result<Option<usize>, Flaw>
     requires marked { IsMarked words.now reached.old.items }
     requires inside { at < length words.now }

@@ -32,13 +32,13 @@ const TOTAL: usize = place::TOTAL as usize;
 
 const PRICE: usize = place::PRICE as usize;
 
-/// The word of a customer that leads to its bookings.
+/// Word of a customer's block that points to its bookings.
 const BOOKINGS: usize = place::BOOKINGS as usize;
 
-/// The greatest id, which is the greatest key of a table.
+/// Largest id, which is the largest key of a table.
 pub const LAST_ID: u64 = MOST_ID as u64;
 
-/// Why a walk ended.
+/// The reason why a walk ended.
 #[derive(Clone, Copy, Debug, PartialEq, Eq)]
 pub enum Fault {
     Memory,
@@ -69,42 +69,43 @@ impl From<Flaw> for Fault {
     }
 }
 
-/// What a table has: items of one kind, or customers.
+/// A table of a heap: items of one kind, or customers.
 #[derive(Clone, Copy)]
 pub enum Table {
     Items(Kind),
     Customers,
 }
 
-/// What is known of a tree that was walked: the black nodes on each path, and its root's colour.
+/// A walked tree as its parent sees it: the number of black nodes on each path, and the colour of
+/// the root.
 #[derive(Clone, Copy)]
 pub struct Side {
     pub blacks: u32,
     pub red: bool,
 }
 
-/// What is known of an empty tree.
+/// The side of an empty tree.
 const LEAF: Side = Side {
     blacks: 0,
     red: false,
 };
 
-/// A node on the path from the root, and where its walk is: in its left tree, or, after its left
-/// tree and itself, in its right one.
+/// A node on the path from the root. The walk is in its left tree, or, after the left tree and the
+/// node itself, in its right tree.
 #[derive(Clone, Copy)]
 pub enum Step {
     Left { node: usize },
     Right { node: usize, left: Side },
 }
 
-/// Where the walk goes next: down a pointer, or back up from a tree that is done.
+/// The next move of a walk: down a pointer, or back up from a walked tree.
 #[derive(Clone, Copy)]
 pub enum Turn {
     Down { at: usize },
     Up { done: Side },
 }
 
-/// Looks at the counts of an item.
+/// Tests the counts of an item.
 fn look_at_item(words: &[u64], node: usize) -> Result<(), Flaw>
     requires inside { node + BLOCK_WORDS ≤ length words.now }
     requires few { length words.now ≤ MOST_HEAP_WORDS }
@@ -124,7 +125,7 @@ fn look_at_item(words: &[u64], node: usize) -> Result<(), Flaw>
     Ok(())
 }
 
-/// Looks at a node besides its key, and writes down what it has.
+/// Tests a node besides its key, and notes its item or its bookings.
 fn look_at_node(
     words: &[u64],
     reached: &mut Vec<bool>,
@@ -161,7 +162,8 @@ fn look_at_node(
     Ok(())
 }
 
-/// The colour of a node between two trees.
+/// Tests the colour of a node between two walked trees, and returns the side that the node is the
+/// root of.
 fn look_at_colour(words: &[u64], node: usize, left: Side, right: Side) -> Result<Side, Flaw>
     requires inside { node + BLOCK_WORDS ≤ length words.now }
     requires few { length words.now ≤ MOST_HEAP_WORDS }
@@ -184,7 +186,7 @@ fn look_at_colour(words: &[u64], node: usize, left: Side, right: Side) -> Result
     Ok(Side { blacks, red })
 }
 
-/// Goes one step down from the end of a path, and on at the pointer in a word.
+/// Appends a step to the path, and returns the move down the pointer in a word.
 fn go_down(path: &mut Vec<Step>, step: Step, at: usize) -> Result<Turn, Fault>
     ensures down { OnOk result (path.new.items ≡ path.old.items ++ step ∷ []) }
     ensures on { IfOk result (λ turn. turn ≡ Down at) }
@@ -194,7 +196,8 @@ fn go_down(path: &mut Vec<Step>, step: Step, at: usize) -> Result<Turn, Fault>
     Ok(Turn::Down { at })
 }
 
-/// Follows a pointer of a tree: to its end, an empty tree, or to a node, whose left tree is next.
+/// Follows a pointer of a tree: to the end, which is an empty tree, or to a node, whose left tree
+/// comes next.
 fn follow_down(
     words: &[u64],
     reached: &mut Vec<bool>,
@@ -216,8 +219,8 @@ fn follow_down(
     }
 }
 
-/// Looks at the key of a node, which must be `above` or more, and returns the least key that may
-/// follow it.
+/// Tests the key of a node, which must be at least `above`, and returns the least key that may
+/// follow.
 fn look_at_key(words: &[u64], node: usize, above: u64) -> Result<u64, Flaw>
     requires inside { node + BLOCK_WORDS ≤ length words.now }
     requires few { length words.now ≤ MOST_HEAP_WORDS }
@@ -231,7 +234,9 @@ fn look_at_key(words: &[u64], node: usize, above: u64) -> Result<u64, Flaw>
     Ok(key + 1)
 }
 
-/// Looks at the root of a tree that is done: it must be black.
+/// Tests that the root of a walked tree is black. If the root is red, the tree is not empty, so
+/// the root word is the address of its block; the remainder and the wrapping addition spare a
+/// clause that says so.
 fn look_at_root(words: &[u64], root: usize, tree: Side) -> Result<(), Flaw>
     requires inside { root < length words.now }
     requires few { length words.now ≤ MOST_HEAP_WORDS }
@@ -244,7 +249,7 @@ fn look_at_root(words: &[u64], root: usize, tree: Side) -> Result<(), Flaw>
     Ok(())
 }
 
-/// Walks a table, and returns how many nodes it has.
+/// Walks a table, and returns its number of nodes.
 pub fn walk_table(
     alloc: Global,
     words: &[u64],

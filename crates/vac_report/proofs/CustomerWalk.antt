@@ -1,14 +1,15 @@
 -- A walk over the customers adds up their bookings.
-use Rattle.std.proofs.Common.{◌≡◌, ◌≢◌, ℕ, ◌+◌, ◌<◌, ◌≤◌, ◌^◌, List, [], length, Some, None, refl, ap, ◌∙◌, subst}
-use Rattle.std.proofs.Common.{arith}
+use Rattle.std.proofs.Common.{◌≡◌, ◌≢◌, ℕ, ◌+◌, ◌<◌, ◌≤◌, ◌^◌, List, [], ◌∷◌, ◌++◌, length, Some, None, refl, sym, ap}
+use Rattle.std.proofs.Common.{◌∙◌, subst, arith, append_assoc}
 use Rattle.std.specs.FinMap.{entries, len-entries}
 use Rattle.tx_memory.specs.View.{View, Sees, RestsOn}
-use Rattle.vac_model.proofs.Ids.{id_low}
 use Rattle.vac_model.specs.State.{State, units_booked, bill_of}
 use Rattle.vac_model.proofs.Bounds.{small_sums}
 use Rattle.tx_alloc.specs.Rows.{Rows, times, block_at, IsFrom}
-use Rattle.tx_tree.specs.Table.{NextFound, row_above}
-use Rattle.tx_tree.proofs.TableFrame.{table_block, table_rises}
+use Rattle.tx_alloc.proofs.Order.{split, at_between}
+use Rattle.tx_tree.specs.declared.walk.Walk.{Walk}
+use Rattle.tx_tree.specs.Walk.{IsAhead, HasWalk, Begun, Stepped, first_block, later_rows}
+use Rattle.tx_tree.proofs.TableFrame.{table_rises}
 use Rattle.vac_records.specs.Items.{mem}
 use Rattle.vac_records.specs.Heap.{over}
 use Rattle.vac_records.specs.Represents.{IsState}
@@ -22,8 +23,8 @@ use Rattle.vac_records.proofs.Overs.{over_has}
 use Rattle.vac_report.specs.declared.customers.CustomerSums.{CustomerSums}
 use Rattle.vac_report.specs.Sums.{customers_together, CustomersFit, HasSums, CanCount, customer_alone, CustomerCounted}
 use Rattle.vac_report.specs.Sums.{CustomersSummed, sums_of_customers, words_at}
-use Rattle.vac_report.proofs.Above.{rows_above, above_start, above_none, above_some, above_at}
-use Rattle.vac_report.proofs.Held.{read_none, read_both, rows_of, few_rows, no_rows, next_row}
+use Rattle.vac_report.proofs.Held.{read_both, rows_of, few_rows, no_rows, begun_rows, has_walk, step_rows}
+use Rattle.vac_report.proofs.Held.{first_row, no_row}
 use Rattle.vac_report.proofs.Totals.{list_words, customers_words, customers_len}
 
 -- the rows of the customers' lists
@@ -34,51 +35,77 @@ lists_of m n state h = h.represents.parts.lists
 abbrev pub booked_at : (ℕ → ℕ) → ℕ → Rows → (ℕ → Rows) → ℕ
 booked_at m place rows lists = over (words_at m place) rows lists
 
--- with what the rows above the key add, these are the sums over all rows
-pub record CustomerTrail (m : ℕ → ℕ) (rows : Rows) (lists : ℕ → Rows) (key i : ℕ) (sums : CustomerSums) : Type 0 where
+-- with what the rows still to come add, these are the sums over all rows
+pub record CustomerTrail (m : ℕ → ℕ) (n : ℕ) (rows : Rows) (lists : ℕ → Rows) (walk : Walk) (i : ℕ)
+    (sums : CustomerSums) : Type 0 where
+  pub front : Rows
+  pub later : Rows
+  pub is : rows ≡ front ++ later
+  pub ahead : IsAhead m n walk later
   pub steps : sums.count ≡ i
-  pub count : sums.count + length (rows_above rows key) ≡ length rows
-  pub units : sums.units + booked_at m 4 (rows_above rows key) lists ≡ booked_at m 4 rows lists
-  pub billed : sums.billed + booked_at m 2 (rows_above rows key) lists ≡ booked_at m 2 rows lists
+  pub count : sums.count + length later ≡ length rows
+  pub units : sums.units + booked_at m 4 later lists ≡ booked_at m 4 rows lists
+  pub billed : sums.billed + booked_at m 2 later lists ≡ booked_at m 2 rows lists
 
--- so far in the walk, of the memory at the start: i customers, the last one under this key
-pub record CustomerWalk (s0 s : View) (key i : ℕ) (sums : CustomerSums) : Type 0 where
+-- so far in the walk, of the memory at the start: i customers
+pub record CustomerWalk (s0 s : View) (walk : Walk) (i : ℕ) (sums : CustomerSums) : Type 0 where
   pub reads : OnlyRead s0 s
   pub trail : (image : List ℕ) (state : State) → Sees s image → (h : IsState (mem s0 image) (length image) state) →
-      CustomerTrail (mem s0 image) (rows_of (mem s0 image) (length image) state h 3)
-      (lists_of (mem s0 image) (length image) state h) key i sums
+      CustomerTrail (mem s0 image) (length image) (rows_of (mem s0 image) (length image) state h 3)
+      (lists_of (mem s0 image) (length image) state h) walk i sums
 
--- no customer has the key 0
-start_rows : (m : ℕ → ℕ) (n : ℕ) (state : State) (h : IsState m n state) →
-    rows_above (rows_of m n state h 3) 0 ≡ rows_of m n state h 3
-start_rows m n state h =
-    let rows = rows_of m n state h 3 in
-    let table = h.represents.heap.tables 3 (omega arith) in
-    above_start rows (λ x o z. absurd (omega (arith, z, (table_block m n (m 4) x rows table o).1.1)))
-    (λ id ne. (let f = customer_found m n [] state h.represents id (block_at rows id) refl ne in
-    id_low id (h.small.balanced.customers id f.bookings f.there)))
-
-pub customer_start : (s : View) → CustomerWalk s s 0 0 (record { count = 0; units = 0; billed = 0 })
-customer_start s = record {
-  reads = read_none s;
-  trail = λ image state i h.
-      let m = mem s image in
-      let lists = lists_of m (length image) state h in
-      let e = start_rows m (length image) state h in
-      record {
-        steps = refl;
-        count = omega (arith, ap (λ (rs : Rows). length rs) e);
-        units = omega (arith, ap (λ (rs : Rows). booked_at m 4 rs lists) e);
-        billed = omega (arith, ap (λ (rs : Rows). booked_at m 2 rs lists) e);
-      };
+pub customer_start : (s s1 : View) (walk : Walk) → Begun s s1 4 walk →
+    CustomerWalk s s1 walk 0 (record { count = 0; units = 0; billed = 0 })
+customer_start s s1 walk b = record {
+  reads = record { kept = b.kept; writes = b.writes };
+  trail = λ image state j h. record {
+    front = [];
+    later = rows_of (mem s image) (length image) state h 3;
+    is = refl;
+    ahead = begun_rows s s1 3 4 walk refl (omega arith) b image state j h;
+    steps = refl;
+    count = omega arith;
+    units = omega arith;
+    billed = omega arith;
+  };
 }
 
-trail_step : (m : ℕ → ℕ) (rows : Rows) (lists : ℕ → Rows) (key i k b : ℕ) (sums : CustomerSums) → IsFrom 0 rows →
-    row_above rows key ≡ Some (k, b) → CustomerTrail m rows lists key i sums →
-    CustomerTrail m rows lists k (i + 1) (customers_together sums (customer_alone m (lists b)))
-trail_step m rows lists key i k b sums rises next t =
-    let e = above_some rows 0 key (k, b) rises next in
+pub customer_ahead : (s0 s : View) (walk : Walk) (i : ℕ) (sums : CustomerSums) → HoldsState s0 →
+    CustomerWalk s0 s walk i sums → HasWalk s walk
+customer_ahead s0 s walk i sums holds w = has_walk s0 s walk holds w.reads (λ image state j h.
+    let t = w.trail image state j h in (t.later, t.ahead))
+
+-- the first row that is still to come
+pub record NextRow (rows front later : Rows) (b : ℕ) : Type 0 where
+  pub key : ℕ
+  pub begins : later ≡ (key, b) ∷ later_rows later
+  pub is : rows ≡ (front ++ ((key, b) ∷ [])) ++ later_rows later
+  pub at : block_at rows key ≡ b
+
+next_row : (rows front later : Rows) (b : ℕ) → IsFrom 0 rows → rows ≡ front ++ later → first_block later ≡ Some b →
+    NextRow rows front later b
+next_row rows front later b rises is first =
+    let r = first_row later b first in
+    let e : rows ≡ front ++ ((r.0, b) ∷ later_rows later) = is ∙ ap (λ (rs : Rows). front ++ rs) r.1 in
+    let s = split 0 front (r.0, b) (later_rows later) (subst (λ (rs : Rows). IsFrom 0 rs) e rises) in
     record {
+      key = r.0;
+      begins = r.1;
+      is = e ∙ sym (append_assoc front ((r.0, b) ∷ []) (later_rows later));
+      at = ap (λ (rs : Rows). block_at rs r.0) e ∙ at_between front (later_rows later) r.0 b s.before;
+    }
+
+trail_step : (m : ℕ → ℕ) (n : ℕ) (rows : Rows) (lists : ℕ → Rows) (walk walk' : Walk) (i b : ℕ)
+    (sums : CustomerSums) → (t : CustomerTrail m n rows lists walk i sums) → NextRow rows t.front t.later b →
+    IsAhead m n walk' (later_rows t.later) →
+    CustomerTrail m n rows lists walk' (i + 1) (customers_together sums (customer_alone m (lists b)))
+trail_step m n rows lists walk walk' i b sums t r ahead =
+    let e = r.begins in
+    record {
+      front = t.front ++ ((r.key, b) ∷ []);
+      later = later_rows t.later;
+      is = r.is;
+      ahead = ahead;
       steps = omega (arith, t.steps);
       count = omega (arith, t.count, ap (λ (rs : Rows). length rs) e);
       units = omega (arith, t.units, ap (λ (rs : Rows). booked_at m 4 rs lists) e);
@@ -133,13 +160,12 @@ few_total m n state h =
     }
 
 -- a row's customer has bookings whose sums fit
-row_sums : (m : ℕ → ℕ) (n : ℕ) (state : State) (h : IsState m n state) (key k b : ℕ) →
-    row_above (rows_of m n state h 3) key ≡ Some (k, b) → b ≢ 0 → HasSums m n b (lists_of m n state h b)
+row_sums : (m : ℕ → ℕ) (n : ℕ) (state : State) (h : IsState m n state) (k b : ℕ) →
+    block_at (rows_of m n state h 3) k ≡ b → b ≢ 0 → HasSums m n b (lists_of m n state h b)
 unfolding all_rows
-row_sums m n state h key k b next ne =
+row_sums m n state h k b at ne =
     let rows = rows_of m n state h 3 in
     let lists = lists_of m n state h in
-    let at : block_at rows k ≡ b = above_at rows key (k, b) next in
     let f = customer_found m n [] state h.represents k b at ne in
     let o : 0 < times b rows = row_times k b rows (row_at k b rows at ne) in
     let total = few_total m n state h in
@@ -156,51 +182,66 @@ row_sums m n state h key k b next ne =
       sums = omega (arith, total.billed, over_has (words_at m 2) b rows lists o);
     }
 
+-- the first row that is still to come, of the memory at the start
+row_there : (s0 s s1 : View) (walk walk' : Walk) (i b : ℕ) (sums : CustomerSums) →
+    (w : CustomerWalk s0 s walk i sums) → (f : Stepped s s1 walk walk' (Some b)) → (image : List ℕ) (state : State) →
+    (j : Sees s1 image) → (h : IsState (mem s0 image) (length image) state) →
+    NextRow (rows_of (mem s0 image) (length image) state h 3)
+    (w.trail image state (f.kept.seen image j) h).front (w.trail image state (f.kept.seen image j) h).later b
+row_there s0 s s1 walk walk' i b sums w f image state j h =
+    let m = mem s0 image in
+    let n = length image in
+    let rows = rows_of m n state h 3 in
+    let t = w.trail image state (f.kept.seen image j) h in
+    let rises = table_rises m n (m 4) rows (h.represents.heap.tables 3 (omega arith)) in
+    next_row rows t.front t.later b rises t.is
+    (step_rows s0 s s1 walk walk' (Some b) w.reads f image t.later j t.ahead).0
+
 -- so it can be counted
-pub can_count : (s0 s s1 : View) (key i k b : ℕ) (sums : CustomerSums) → HoldsState s0 → CustomerWalk s0 s key i sums →
-    NextFound s s1 4 key (Some (k, b)) → CanCount s1 b
-can_count s0 s s1 key i k b sums holds w f = record {
+pub can_count : (s0 s s1 : View) (walk walk' : Walk) (i b : ℕ) (sums : CustomerSums) → HoldsState s0 →
+    CustomerWalk s0 s walk i sums → Stepped s s1 walk walk' (Some b) → CanCount s1 b
+can_count s0 s s1 walk walk' i b sums holds w f = record {
   small = omega (arith, holds.small, w.reads.kept.size, f.kept.size);
   room = (let at = f.inside.1 in omega arith);
   under = λ image j.
       let state = holds.under image (stood w.reads.kept image (stood f.kept image j)) in
       let same : s1.writes ≡ s0.writes = f.writes ∙ w.reads.writes in
       let ne : b ≢ 0 = λ z. absurd (omega (arith, z, f.inside.0)) in
+      let r = row_there s0 s s1 walk walk' i b sums w f image state.0 j.sees state.1 in
       rw same (record {
         entries = lists_of (mem s0 image) (length image) state.0 state.1 b;
-        is = row_sums (mem s0 image) (length image) state.0 state.1 key k b
-            (next_row s0 s s1 3 4 key (Some (k, b)) refl (omega arith) w.reads f image state.0 j.sees state.1) ne;
+        is = row_sums (mem s0 image) (length image) state.0 state.1 r.key b r.at ne;
       });
 }
 
 -- one customer further, of the memory at the start
-step_trail : (s0 s s1 s2 : View) (key i k b : ℕ) (sums one : CustomerSums) → CustomerWalk s0 s key i sums →
-    NextFound s s1 4 key (Some (k, b)) → CustomerCounted s1 s2 b one → (image : List ℕ) (state : State) →
-    Sees s2 image → (h : IsState (mem s0 image) (length image) state) →
-    CustomerTrail (mem s0 image) (rows_of (mem s0 image) (length image) state h 3)
-    (lists_of (mem s0 image) (length image) state h) k (i + 1) (customers_together sums one)
-step_trail s0 s s1 s2 key i k b sums one w f c image state j h =
+step_trail : (s0 s s1 s2 : View) (walk walk' : Walk) (i b : ℕ) (sums one : CustomerSums) →
+    CustomerWalk s0 s walk i sums → Stepped s s1 walk walk' (Some b) → CustomerCounted s1 s2 b one →
+    (image : List ℕ) (state : State) → Sees s2 image → (h : IsState (mem s0 image) (length image) state) →
+    CustomerTrail (mem s0 image) (length image) (rows_of (mem s0 image) (length image) state h 3)
+    (lists_of (mem s0 image) (length image) state h) walk' (i + 1) (customers_together sums one)
+step_trail s0 s s1 s2 walk walk' i b sums one w f c image state j h =
     let m = mem s0 image in
     let n = length image in
     let rows = rows_of m n state h 3 in
     let lists = lists_of m n state h in
     let j1 = c.reads.kept.seen image j in
-    let j0 = f.kept.seen image j1 in
+    let t = w.trail image state (f.kept.seen image j1) h in
     let same : s1.writes ≡ s0.writes = f.writes ∙ w.reads.writes in
     let ne : b ≢ 0 = λ z. absurd (omega (arith, z, f.inside.0)) in
-    let next = next_row s0 s s1 3 4 key (Some (k, b)) refl (omega arith) w.reads f image state j1 h in
-    let has : HasSums (mem s1 image) n b (lists b) = rw same (row_sums m n state h key k b next ne) in
+    let r = row_there s0 s s1 walk walk' i b sums w f image state j1 h in
+    let has : HasSums (mem s1 image) n b (lists b) = rw same (row_sums m n state h r.key b r.at ne) in
     let is : customer_alone m (lists b) ≡ one = rw same at (c.is image (lists b) j has) in
-    let rises = table_rises m n (m 4) rows (h.represents.heap.tables 3 (omega arith)) in
-    subst (λ (x : CustomerSums). CustomerTrail m rows lists k (i + 1) (customers_together sums x)) is
-    (trail_step m rows lists key i k b sums rises next (w.trail image state j0 h))
+    subst (λ (x : CustomerSums). CustomerTrail m n rows lists walk' (i + 1) (customers_together sums x)) is
+    (trail_step m n rows lists walk walk' i b sums t r
+    (step_rows s0 s s1 walk walk' (Some b) w.reads f image t.later j1 t.ahead).1)
 
-pub customer_step : (s0 s s1 s2 : View) (key i k b : ℕ) (sums one after : CustomerSums) →
-    after ≡ customers_together sums one → CustomerWalk s0 s key i sums → NextFound s s1 4 key (Some (k, b)) →
-    CustomerCounted s1 s2 b one → CustomerWalk s0 s2 k (i + 1) after
-customer_step s0 s s1 s2 key i k b sums one after is w f c = rw is (record {
+pub customer_step : (s0 s s1 s2 : View) (walk walk' : Walk) (i b : ℕ) (sums one after : CustomerSums) →
+    after ≡ customers_together sums one → CustomerWalk s0 s walk i sums → Stepped s s1 walk walk' (Some b) →
+    CustomerCounted s1 s2 b one → CustomerWalk s0 s2 walk' (i + 1) after
+customer_step s0 s s1 s2 walk walk' i b sums one after is w f c = rw is (record {
   reads = read_both s0 s s2 w.reads (read_both s s1 s2 (record { kept = f.kept; writes = f.writes }) c.reads);
-  trail = step_trail s0 s s1 s2 key i k b sums one w f c;
+  trail = step_trail s0 s s1 s2 walk walk' i b sums one w f c;
 })
 
 few_seen : {W : Type 0} (sums : CustomerSums) → ∥ W ∥₁ → (W → AreFew sums) → AreFew sums
@@ -211,16 +252,16 @@ few_seen sums ws f = record {
 }
 
 -- the sums with one customer more stay words
-pub customers_fit : (s0 s s1 s2 : View) (key i k b : ℕ) (sums one : CustomerSums) → HoldsState s0 →
-    CustomerWalk s0 s key i sums → NextFound s s1 4 key (Some (k, b)) → CustomerCounted s1 s2 b one →
+pub customers_fit : (s0 s s1 s2 : View) (walk walk' : Walk) (i b : ℕ) (sums one : CustomerSums) → HoldsState s0 →
+    CustomerWalk s0 s walk i sums → Stepped s s1 walk walk' (Some b) → CustomerCounted s1 s2 b one →
     ∥ ((image : List ℕ) × RestsOn s2 image) ∥₁ → CustomersFit sums one
 unfolding all_rows
-customers_fit s0 s s1 s2 key i k b sums one holds w f c ws =
+customers_fit s0 s s1 s2 walk walk' i b sums one holds w f c ws =
     let few : AreFew (customers_together sums one) = few_seen (customers_together sums one) ws (λ v.
     let image = v.0 in
     let j1 = stood c.reads.kept image v.1 in
     let state = holds.under image (stood w.reads.kept image (stood f.kept image j1)) in
-    let t = step_trail s0 s s1 s2 key i k b sums one w f c image state.0 v.1.sees state.1 in
+    let t = step_trail s0 s s1 s2 walk walk' i b sums one w f c image state.0 v.1.sees state.1 in
     let total = few_total (mem s0 image) (length image) state.0 state.1 in
     record {
       count = omega (arith, t.count, total.count);
@@ -233,12 +274,12 @@ customers_fit s0 s s1 s2 key i k b sums one holds w f c ws =
       billed = omega (arith, few.billed);
     }
 
--- where no row is above the key, all were added up
-customer_end : (s0 s : View) (key i : ℕ) (sums : CustomerSums) → CustomerWalk s0 s key i sums →
-    ((image : List ℕ) (state : State) → Sees s image → (h : IsState (mem s0 image) (length image) state) →
-    rows_above (rows_of (mem s0 image) (length image) state h 3) key ≡ []) → CustomersSummed s0 s sums
+-- when no row is still to come, all were added up
+customer_end : (s0 s : View) (walk : Walk) (i : ℕ) (sums : CustomerSums) → (w : CustomerWalk s0 s walk i sums) →
+    ((image : List ℕ) (state : State) (j : Sees s image) (h : IsState (mem s0 image) (length image) state) →
+    (w.trail image state j h).later ≡ []) → CustomersSummed s0 s sums
 unfolding all_rows
-customer_end s0 s key i sums w none = record {
+customer_end s0 s walk i sums w none = record {
   reads = w.reads;
   is = λ image state j h.
       let m = mem s0 image in
@@ -260,21 +301,21 @@ customer_end s0 s key i sums w none = record {
       table_sums m (length image) state h ∙ (λ q. record { count = count q; units = units q; billed = billed q });
 }
 
-pub customer_none : (s0 s s1 : View) (key i : ℕ) (sums : CustomerSums) → CustomerWalk s0 s key i sums →
-    NextFound s s1 4 key None → CustomersSummed s0 s1 sums
-customer_none s0 s s1 key i sums w f =
-    customer_end s0 s1 key i sums
+pub customer_none : (s0 s s1 : View) (walk walk' : Walk) (i : ℕ) (sums : CustomerSums) →
+    CustomerWalk s0 s walk i sums → Stepped s s1 walk walk' None → CustomersSummed s0 s1 sums
+customer_none s0 s s1 walk walk' i sums w f =
+    customer_end s0 s1 walk i sums
     (record {
       reads = read_both s0 s s1 w.reads (record { kept = f.kept; writes = f.writes });
       trail = λ image state j h. w.trail image state (f.kept.seen image j) h;
     })
-    (λ image state j h. above_none (rows_of (mem s0 image) (length image) state h 3) key
-    (next_row s0 s s1 3 4 key None refl (omega arith) w.reads f image state j h))
+    (λ image state j h. (let t = w.trail image state (f.kept.seen image j) h in
+    no_row t.later (step_rows s0 s s1 walk walk' None w.reads f image t.later j t.ahead).0))
 
-pub customer_all : (s0 s : View) (key i : ℕ) (sums : CustomerSums) → 262144 ≤ i → CustomerWalk s0 s key i sums →
-    CustomersSummed s0 s sums
-customer_all s0 s key i sums l w = customer_end s0 s key i sums w
-    (λ image state j h. no_rows (rows_above (rows_of (mem s0 image) (length image) state h 3) key)
+pub customer_all : (s0 s : View) (walk : Walk) (i : ℕ) (sums : CustomerSums) → 262144 ≤ i →
+    CustomerWalk s0 s walk i sums → CustomersSummed s0 s sums
+customer_all s0 s walk i sums l w = customer_end s0 s walk i sums w
+    (λ image state j h. no_rows (w.trail image state j h).later
     (omega (
       arith,
       l,

@@ -4,73 +4,67 @@ use Rattle.tx_memory.specs.View.{View, Sees, RestsOn}
 use Rattle.vac_model.specs.declared.items.Kind.{Kind}
 use Rattle.vac_model.specs.State.{State, kind_number, table_of}
 use Rattle.vac_model.proofs.Bounds.{small_sums}
-use Rattle.vac_model.proofs.Ids.{id_low}
-use Rattle.tx_alloc.specs.Rows.{Rows, block_at, IsFrom}
-use Rattle.tx_tree.specs.Table.{NextFound, row_above}
-use Rattle.tx_tree.proofs.TableFrame.{table_block, table_rises}
-use Rattle.vac_records.specs.Items.{mem, item_in, IsNode}
+use Rattle.tx_alloc.specs.Rows.{Rows}
+use Rattle.tx_tree.specs.declared.walk.Walk.{Walk}
+use Rattle.tx_tree.specs.Walk.{IsAhead, HasWalk, Begun, Stepped, first_block, later_rows}
+use Rattle.vac_records.specs.Items.{mem, IsNode}
 use Rattle.vac_records.specs.Represents.{IsState}
 use Rattle.vac_records.specs.InMemory.{HoldsState, OnlyRead}
 use Rattle.vac_records.specs.Steps.{stood}
 use Rattle.vac_records.proofs.Counting.{some_lt}
-use Rattle.vac_records.proofs.Items.{item_found}
 use Rattle.vac_report.specs.declared.items.ItemSums.{ItemSums}
 use Rattle.vac_report.specs.Sums.{items_together, ItemsFit, item_alone, ItemCounted, AreSmall, ItemsSummed}
 use Rattle.vac_report.specs.Sums.{sums_of_items, words_at}
-use Rattle.vac_report.proofs.Above.{rows_above, above_start, above_none, above_some}
-use Rattle.vac_report.proofs.Held.{read_none, read_both, kind_low, rows_of, few_rows, no_rows, next_row}
+use Rattle.vac_report.proofs.Held.{read_both, kind_low, rows_of, few_rows, no_rows, begun_rows, has_walk, step_rows}
+use Rattle.vac_report.proofs.Held.{first_row, no_row}
 use Rattle.vac_report.proofs.Totals.{table_words, table_len}
 
--- with what the rows above the key add, these are the sums over all rows
-pub record ItemTrail (m : ℕ → ℕ) (rows : Rows) (key i : ℕ) (sums : ItemSums) : Type 0 where
+-- with what the rows still to come add, these are the sums over all rows
+pub record ItemTrail (m : ℕ → ℕ) (n : ℕ) (rows : Rows) (walk : Walk) (i : ℕ) (sums : ItemSums) : Type 0 where
+  pub later : Rows
+  pub ahead : IsAhead m n walk later
   pub steps : sums.count ≡ i
-  pub count : sums.count + length (rows_above rows key) ≡ length rows
-  pub used : sums.used + words_at m 4 (rows_above rows key) ≡ words_at m 4 rows
-  pub free : sums.free + words_at m 5 (rows_above rows key) ≡ words_at m 5 rows
-  pub total : sums.total + words_at m 6 (rows_above rows key) ≡ words_at m 6 rows
+  pub count : sums.count + length later ≡ length rows
+  pub used : sums.used + words_at m 4 later ≡ words_at m 4 rows
+  pub free : sums.free + words_at m 5 later ≡ words_at m 5 rows
+  pub total : sums.total + words_at m 6 later ≡ words_at m 6 rows
 
--- so far in the walk, of the memory at the start: i items, the last one under this key
-pub record ItemWalk (s0 s : View) (kind : Kind) (key i : ℕ) (sums : ItemSums) : Type 0 where
+-- so far in the walk, of the memory at the start: i items
+pub record ItemWalk (s0 s : View) (kind : Kind) (walk : Walk) (i : ℕ) (sums : ItemSums) : Type 0 where
   pub reads : OnlyRead s0 s
   pub trail : (image : List ℕ) (state : State) → Sees s image → (h : IsState (mem s0 image) (length image) state) →
-      ItemTrail (mem s0 image) (rows_of (mem s0 image) (length image) state h (kind_number kind)) key i sums
+      ItemTrail (mem s0 image) (length image) (rows_of (mem s0 image) (length image) state h (kind_number kind)) walk i
+      sums
 
--- no item has the key 0
-start_rows : (m : ℕ → ℕ) (n : ℕ) (state : State) (h : IsState m n state) (kind : Kind) →
-    rows_above (rows_of m n state h (kind_number kind)) 0 ≡ rows_of m n state h (kind_number kind)
-start_rows m n state h kind =
-    let rows = rows_of m n state h (kind_number kind) in
-    let table = h.represents.heap.tables (kind_number kind) (kind_low kind) in
-    above_start rows (λ x o z. absurd (omega (
-      arith,
-      z,
-      (table_block m n
-          (m (1 + kind_number kind)) x rows table o).1.1,
-    )))
-    (λ id ne. id_low id (h.small.balanced.items kind id (item_in m (block_at rows id))
-    (item_found m n [] state h.represents kind id (block_at rows id) (record { at = refl; some = ne }))).id_range)
-
-pub item_start : (s : View) (kind : Kind) → ItemWalk s s kind 0 0 (record { count = 0; used = 0; free = 0; total = 0 })
-item_start s kind = record {
-  reads = read_none s;
-  trail = λ image state i h.
-      let m = mem s image in
-      let e = start_rows m (length image) state h kind in
-      record {
-        steps = refl;
-        count = omega (arith, ap (λ (rs : Rows). length rs) e);
-        used = omega (arith, ap (words_at m 4) e);
-        free = omega (arith, ap (words_at m 5) e);
-        total = omega (arith, ap (words_at m 6) e);
-      };
+pub item_start : (s s1 : View) (kind : Kind) (root : ℕ) (walk : Walk) → root ≡ 1 + kind_number kind →
+    Begun s s1 root walk → ItemWalk s s1 kind walk 0 (record { count = 0; used = 0; free = 0; total = 0 })
+item_start s s1 kind root walk e b = record {
+  reads = record { kept = b.kept; writes = b.writes };
+  trail = λ image state j h. record {
+    later = rows_of (mem s image) (length image) state h (kind_number kind);
+    ahead = begun_rows s s1 (kind_number kind) root walk e (kind_low kind) b image state j h;
+    steps = refl;
+    count = omega arith;
+    used = omega arith;
+    free = omega arith;
+    total = omega arith;
+  };
 }
 
-trail_step : (m : ℕ → ℕ) (rows : Rows) (key i k b : ℕ) (sums : ItemSums) → IsFrom 0 rows →
-    row_above rows key ≡ Some (k, b) → ItemTrail m rows key i sums →
-    ItemTrail m rows k (i + 1) (items_together sums (item_alone m b))
-trail_step m rows key i k b sums rises next t =
-    let e = above_some rows 0 key (k, b) rises next in
+pub item_ahead : (s0 s : View) (kind : Kind) (walk : Walk) (i : ℕ) (sums : ItemSums) → HoldsState s0 →
+    ItemWalk s0 s kind walk i sums → HasWalk s walk
+item_ahead s0 s kind walk i sums holds w = has_walk s0 s walk holds w.reads (λ image state j h.
+    let t = w.trail image state j h in (t.later, t.ahead))
+
+trail_step : (m : ℕ → ℕ) (n : ℕ) (rows : Rows) (walk walk' : Walk) (i b : ℕ) (sums : ItemSums) →
+    (t : ItemTrail m n rows walk i sums) →
+    (first_block t.later ≡ Some b) × IsAhead m n walk' (later_rows t.later) →
+    ItemTrail m n rows walk' (i + 1) (items_together sums (item_alone m b))
+trail_step m n rows walk walk' i b sums t p =
+    let e = (first_row t.later b p.0).1 in
     record {
+      later = later_rows t.later;
+      ahead = p.1;
       steps = omega (arith, t.steps);
       count = omega (arith, t.count, ap (λ (rs : Rows). length rs) e);
       used = omega (arith, t.used, ap (words_at m 4) e);
@@ -79,24 +73,22 @@ trail_step m rows key i k b sums rises next t =
     }
 
 -- one item further, of the memory at the start
-step_trail : (s0 s s1 s2 : View) (kind : Kind) (root key i k b : ℕ) (sums one : ItemSums) →
-    root ≡ 1 + kind_number kind → ItemWalk s0 s kind key i sums → NextFound s s1 root key (Some (k, b)) →
-    ItemCounted s1 s2 b one → (image : List ℕ) (state : State) → Sees s2 image →
-    (h : IsState (mem s0 image) (length image) state) → ItemTrail (mem s0 image)
-    (rows_of (mem s0 image) (length image) state h (kind_number kind)) k (i + 1) (items_together sums one)
-step_trail s0 s s1 s2 kind root key i k b sums one e w f c image state j h =
+step_trail : (s0 s s1 s2 : View) (kind : Kind) (walk walk' : Walk) (i b : ℕ) (sums one : ItemSums) →
+    ItemWalk s0 s kind walk i sums → Stepped s s1 walk walk' (Some b) → ItemCounted s1 s2 b one →
+    (image : List ℕ) (state : State) → Sees s2 image → (h : IsState (mem s0 image) (length image) state) →
+    ItemTrail (mem s0 image) (length image) (rows_of (mem s0 image) (length image) state h (kind_number kind)) walk'
+    (i + 1) (items_together sums one)
+step_trail s0 s s1 s2 kind walk walk' i b sums one w f c image state j h =
     let m = mem s0 image in
     let n = length image in
     let rows = rows_of m n state h (kind_number kind) in
     let j1 = c.reads.kept.seen image j in
-    let j0 = f.kept.seen image j1 in
+    let t = w.trail image state (f.kept.seen image j1) h in
     let same : s1.writes ≡ s0.writes = f.writes ∙ w.reads.writes in
     let is : item_alone m b ≡ one = rw same at (c.is image j) in
-    let rises = table_rises m n (m (1 + kind_number kind)) rows
-    (h.represents.heap.tables (kind_number kind) (kind_low kind)) in
-    subst (λ (x : ItemSums). ItemTrail m rows k (i + 1) (items_together sums x)) is
-    (trail_step m rows key i k b sums rises (next_row s0 s s1 (kind_number kind) root key (Some (k, b)) e
-    (kind_low kind) w.reads f image state j1 h) (w.trail image state j0 h))
+    subst (λ (x : ItemSums). ItemTrail m n rows walk' (i + 1) (items_together sums x)) is
+    (trail_step m n rows walk walk' i b sums t
+    (step_rows s0 s s1 walk walk' (Some b) w.reads f image t.later j1 t.ahead))
 
 -- the sums over all rows are those of the state
 all_rows : (m : ℕ → ℕ) (rows : Rows) → ItemSums
@@ -137,10 +129,10 @@ small_rows m n state h kind =
     }
 
 -- so the sums so far are
-small_trail : (m : ℕ → ℕ) (n : ℕ) (state : State) (h : IsState m n state) (kind : Kind) (key i : ℕ) (sums : ItemSums) →
-    ItemTrail m (rows_of m n state h (kind_number kind)) key i sums → AreSmall sums
+small_trail : (m : ℕ → ℕ) (n : ℕ) (state : State) (h : IsState m n state) (kind : Kind) (walk : Walk) (i : ℕ)
+    (sums : ItemSums) → ItemTrail m n (rows_of m n state h (kind_number kind)) walk i sums → AreSmall sums
 unfolding all_rows
-small_trail m n state h kind key i sums t =
+small_trail m n state h kind walk i sums t =
     let b = small_rows m n state h kind in
     record {
       count = omega (arith, t.count, b.count);
@@ -157,25 +149,25 @@ small_seen sums ws f = record {
   total = some_lt sums.total (2 ^ 60) ws (λ w. (f w).total);
 }
 
-pub item_step : (s0 s s1 s2 : View) (kind : Kind) (root key i k b : ℕ) (sums one after : ItemSums) →
-    after ≡ items_together sums one → root ≡ 1 + kind_number kind → ItemWalk s0 s kind key i sums →
-    NextFound s s1 root key (Some (k, b)) → ItemCounted s1 s2 b one → ItemWalk s0 s2 kind k (i + 1) after
-item_step s0 s s1 s2 kind root key i k b sums one after is e w f c = rw is (record {
+pub item_step : (s0 s s1 s2 : View) (kind : Kind) (walk walk' : Walk) (i b : ℕ) (sums one after : ItemSums) →
+    after ≡ items_together sums one → ItemWalk s0 s kind walk i sums → Stepped s s1 walk walk' (Some b) →
+    ItemCounted s1 s2 b one → ItemWalk s0 s2 kind walk' (i + 1) after
+item_step s0 s s1 s2 kind walk walk' i b sums one after is w f c = rw is (record {
   reads = read_both s0 s s2 w.reads (read_both s s1 s2 (record { kept = f.kept; writes = f.writes }) c.reads);
-  trail = step_trail s0 s s1 s2 kind root key i k b sums one e w f c;
+  trail = step_trail s0 s s1 s2 kind walk walk' i b sums one w f c;
 })
 
 -- the sums with one item more stay words
-pub items_fit : (s0 s s1 s2 : View) (kind : Kind) (root key i k b : ℕ) (sums one : ItemSums) → HoldsState s0 →
-    root ≡ 1 + kind_number kind → ItemWalk s0 s kind key i sums → NextFound s s1 root key (Some (k, b)) →
-    ItemCounted s1 s2 b one → ∥ ((image : List ℕ) × RestsOn s2 image) ∥₁ → ItemsFit sums one
-items_fit s0 s s1 s2 kind root key i k b sums one holds e w f c ws =
+pub items_fit : (s0 s s1 s2 : View) (kind : Kind) (walk walk' : Walk) (i b : ℕ) (sums one : ItemSums) →
+    HoldsState s0 → ItemWalk s0 s kind walk i sums → Stepped s s1 walk walk' (Some b) → ItemCounted s1 s2 b one →
+    ∥ ((image : List ℕ) × RestsOn s2 image) ∥₁ → ItemsFit sums one
+items_fit s0 s s1 s2 kind walk walk' i b sums one holds w f c ws =
     let small : AreSmall (items_together sums one) = small_seen (items_together sums one) ws (λ v.
     let image = v.0 in
     let j1 = stood c.reads.kept image v.1 in
     let state = holds.under image (stood w.reads.kept image (stood f.kept image j1)) in
-    small_trail (mem s0 image) (length image) state.0 state.1 kind k (i + 1) (items_together sums one)
-    (step_trail s0 s s1 s2 kind root key i k b sums one e w f c image state.0 v.1.sees state.1)) in
+    small_trail (mem s0 image) (length image) state.0 state.1 kind walk' (i + 1) (items_together sums one)
+    (step_trail s0 s s1 s2 kind walk walk' i b sums one w f c image state.0 v.1.sees state.1)) in
     record {
       count = omega (arith, small.count);
       used = omega (arith, small.used);
@@ -183,18 +175,18 @@ items_fit s0 s s1 s2 kind root key i k b sums one holds e w f c ws =
       total = omega (arith, small.total);
     }
 
--- where no row is above the key, all were added up
-item_end : (s0 s : View) (kind : Kind) (key i : ℕ) (sums : ItemSums) → HoldsState s0 → ItemWalk s0 s kind key i sums →
-    ∥ ((image : List ℕ) × RestsOn s image) ∥₁ → ((image : List ℕ) (state : State) → Sees s image →
-    (h : IsState (mem s0 image) (length image) state) → rows_above
-    (rows_of (mem s0 image) (length image) state h (kind_number kind)) key ≡ []) → ItemsSummed s0 s kind sums
+-- when no row is still to come, all were added up
+item_end : (s0 s : View) (kind : Kind) (walk : Walk) (i : ℕ) (sums : ItemSums) → HoldsState s0 →
+    (w : ItemWalk s0 s kind walk i sums) → ∥ ((image : List ℕ) × RestsOn s image) ∥₁ →
+    ((image : List ℕ) (state : State) (j : Sees s image) (h : IsState (mem s0 image) (length image) state) →
+    (w.trail image state j h).later ≡ []) → ItemsSummed s0 s kind sums
 unfolding all_rows
-item_end s0 s kind key i sums holds w ws none = record {
+item_end s0 s kind walk i sums holds w ws none = record {
   reads = w.reads;
   small = small_seen sums ws (λ v.
       let image = v.0 in
       let state = holds.under image (stood w.reads.kept image v.1) in
-      small_trail (mem s0 image) (length image) state.0 state.1 kind key i sums
+      small_trail (mem s0 image) (length image) state.0 state.1 kind walk i sums
       (w.trail image state.0 v.1.sees state.1));
   is = λ image state j h.
       let m = mem s0 image in
@@ -216,22 +208,22 @@ item_end s0 s kind key i sums holds w ws none = record {
       });
 }
 
-pub item_none : (s0 s s1 : View) (kind : Kind) (root key i : ℕ) (sums : ItemSums) → HoldsState s0 →
-    root ≡ 1 + kind_number kind → ItemWalk s0 s kind key i sums → NextFound s s1 root key None →
-    ∥ ((image : List ℕ) × RestsOn s1 image) ∥₁ → ItemsSummed s0 s1 kind sums
-item_none s0 s s1 kind root key i sums holds e w f ws =
-    item_end s0 s1 kind key i sums holds
+pub item_none : (s0 s s1 : View) (kind : Kind) (walk walk' : Walk) (i : ℕ) (sums : ItemSums) → HoldsState s0 →
+    ItemWalk s0 s kind walk i sums → Stepped s s1 walk walk' None → ∥ ((image : List ℕ) × RestsOn s1 image) ∥₁ →
+    ItemsSummed s0 s1 kind sums
+item_none s0 s s1 kind walk walk' i sums holds w f ws =
+    item_end s0 s1 kind walk i sums holds
     (record {
       reads = read_both s0 s s1 w.reads (record { kept = f.kept; writes = f.writes });
       trail = λ image state j h. w.trail image state (f.kept.seen image j) h;
     }) ws
-    (λ image state j h. above_none (rows_of (mem s0 image) (length image) state h (kind_number kind)) key
-    (next_row s0 s s1 (kind_number kind) root key None e (kind_low kind) w.reads f image state j h))
+    (λ image state j h. (let t = w.trail image state (f.kept.seen image j) h in
+    no_row t.later (step_rows s0 s s1 walk walk' None w.reads f image t.later j t.ahead).0))
 
-pub item_all : (s0 s : View) (kind : Kind) (key i : ℕ) (sums : ItemSums) → 262144 ≤ i → HoldsState s0 →
-    ItemWalk s0 s kind key i sums → ∥ ((image : List ℕ) × RestsOn s image) ∥₁ → ItemsSummed s0 s kind sums
-item_all s0 s kind key i sums l holds w ws = item_end s0 s kind key i sums holds w ws
-    (λ image state j h. no_rows (rows_above (rows_of (mem s0 image) (length image) state h (kind_number kind)) key)
+pub item_all : (s0 s : View) (kind : Kind) (walk : Walk) (i : ℕ) (sums : ItemSums) → 262144 ≤ i → HoldsState s0 →
+    ItemWalk s0 s kind walk i sums → ∥ ((image : List ℕ) × RestsOn s image) ∥₁ → ItemsSummed s0 s kind sums
+item_all s0 s kind walk i sums l holds w ws = item_end s0 s kind walk i sums holds w ws
+    (λ image state j h. no_rows (w.trail image state j h).later
     (omega (
       arith,
       l,
@@ -241,9 +233,9 @@ item_all s0 s kind key i sums l holds w ws = item_end s0 s kind key i sums holds
     )))
 
 -- the block of the next row is an item's
-pub item_node : (s0 s s1 : View) (kind : Kind) (root key i k b : ℕ) (sums : ItemSums) → HoldsState s0 →
-    ItemWalk s0 s kind key i sums → NextFound s s1 root key (Some (k, b)) → IsNode s1 b
-item_node s0 s s1 kind root key i k b sums holds w f = record {
+pub item_node : (s0 s s1 : View) (kind : Kind) (walk walk' : Walk) (i b : ℕ) (sums : ItemSums) → HoldsState s0 →
+    ItemWalk s0 s kind walk i sums → Stepped s s1 walk walk' (Some b) → IsNode s1 b
+item_node s0 s s1 kind walk walk' i b sums holds w f = record {
   inside = f.inside.1;
   small = omega (arith, holds.small, w.reads.kept.size, f.kept.size);
 }

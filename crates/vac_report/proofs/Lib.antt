@@ -1,4 +1,3 @@
-pub mod Above
 pub mod Held
 pub mod Totals
 pub mod ItemWalk

@@ -7,9 +7,9 @@ use Rattle.vac_records.specs.Items.{mem}
 use Rattle.vac_records.specs.Represents.{IsState}
 use Rattle.vac_records.specs.InMemory.{OnlyRead}
 
--- only reads were made, and under each image this is the report of the state
--- Not said: the cost: each table is walked by its keys, so that a report of n entries makes about n
--- log n reads.
+-- only reads were made, and under each possible image the result is the report of the state
+-- Not said: the cost. A walk over a table reads the links of each node once, so the reads of a
+-- report grow in proportion to the entries.
 pub record Reported (s s' : View) (r : Report) : Type 0 where
   pub reads : OnlyRead s s'
   pub is : (image : List ℕ) (state : State) → Sees s' image →

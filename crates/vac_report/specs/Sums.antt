@@ -1,4 +1,4 @@
--- The sums that a report is made of.
+-- The sums of which a report consists.
 use Rattle.std.specs.Prelude.{◌≡◌, ℕ, ◌+◌, ◌<◌, ◌≤◌, ◌^◌, List, [], ◌∷◌, length, sum_by}
 use Rattle.std.specs.FinMap.{len, values}
 use Rattle.tx_memory.specs.View.{View, Sees, RestsOn}
@@ -16,7 +16,7 @@ use Rattle.vac_records.specs.InMemory.{OnlyRead}
 use Rattle.vac_report.specs.declared.items.ItemSums.{ItemSums}
 use Rattle.vac_report.specs.declared.customers.CustomerSums.{CustomerSums}
 
--- what the sums over two parts are together
+-- the sums over two parts together
 abbrev pub items_together : ItemSums → ItemSums → ItemSums
 items_together a b = record {
   count = a.count + b.count;
@@ -25,7 +25,7 @@ items_together a b = record {
   total = a.total + b.total;
 }
 
--- what the sums over two parts of the customers are together
+-- the sums over two parts of the customers together
 abbrev pub customers_together : CustomerSums → CustomerSums → CustomerSums
 customers_together a b = record {
   count = a.count + b.count;
@@ -33,14 +33,14 @@ customers_together a b = record {
   billed = a.billed + b.billed;
 }
 
--- they fit words
+-- the sums over two parts of the items, taken together, fit 64 bits
 pub record ItemsFit (a b : ItemSums) : Type 0 where
   pub count : a.count + b.count < 2 ^ 64
   pub used : a.used + b.used < 2 ^ 64
   pub free : a.free + b.free < 2 ^ 64
   pub total : a.total + b.total < 2 ^ 64
 
--- the sums over two parts of the customers, taken together, fit words
+-- the sums over two parts of the customers, taken together, fit 64 bits
 pub record CustomersFit (a b : CustomerSums) : Type 0 where
   pub count : a.count + b.count < 2 ^ 64
   pub units : a.units + b.units < 2 ^ 64
@@ -63,7 +63,7 @@ sums_of_customers customers = record {
   billed = sum_by bill_of (values customers);
 }
 
--- the item in the block that starts at node, alone
+-- the sums over the single item in the block at `node`
 abbrev pub item_alone : (ℕ → ℕ) → ℕ → ItemSums
 item_alone m node = record {
   count = 1;
@@ -72,50 +72,52 @@ item_alone m node = record {
   total = m (node + TOTAL);
 }
 
--- only reads were made, and under each image these are the numbers of the block's item
+-- only reads were made, and under each possible image the result is the sums over the block's item
 pub record ItemCounted (s s' : View) (node : ℕ) (sums : ItemSums) : Type 0 where
   pub reads : OnlyRead s s'
   pub is : (image : List ℕ) → Sees s' image → item_alone (mem s image) node ≡ sums
 
--- sums of three tables together fit a word
+-- the sums are so small that the sums of three tables together fit 64 bits
 pub record AreSmall (sums : ItemSums) : Type 0 where
   pub count : sums.count < 2 ^ 60
   pub used : sums.used < 2 ^ 60
   pub free : sums.free < 2 ^ 60
   pub total : sums.total < 2 ^ 60
 
--- only reads were made, and under each image these are the sums over the items of a kind
+-- only reads were made, and under each possible image the result is the sums over the items of a
+-- kind
 pub record ItemsSummed (s s' : View) (kind : Kind) (sums : ItemSums) : Type 0 where
   pub reads : OnlyRead s s'
   pub small : AreSmall sums
   pub is : (image : List ℕ) (state : State) → Sees s' image →
       IsState (mem s image) (length image) state → sums_of_items (table_of state kind) ≡ sums
 
--- the words at one place of the blocks of these rows, added up
+-- the sum of the words at one place of the blocks of these rows
 abbrev pub words_at : (ℕ → ℕ) → ℕ → Rows → ℕ
 words_at m place [] = 0
 words_at m place (r ∷ rs) = m (r.1 + place) + words_at m place rs
 
--- the customer has these bookings, at most 262,144, whose units and sums add up to words
+-- the customer has these bookings, at most 262,144, and their units and their sums add up to
+-- 64-bit numbers
 pub record HasSums (m : ℕ → ℕ) (n customer : ℕ) (rows : Rows) : Type 0 where
   pub list : IsListAt m n (head_of customer) rows
   pub few : length rows ≤ MOST_BLOCKS
   pub units : words_at m UNITS rows < 2 ^ 64
   pub sums : words_at m SUM rows < 2 ^ 64
 
--- the customer has such bookings, whichever they are
+-- the customer has some bookings whose units and sums add up to 64-bit numbers
 pub record SomeSums (m : ℕ → ℕ) (n customer : ℕ) : Type 0 where
   pub entries : Rows
   pub is : HasSums m n customer entries
 
--- under each image of the memory's size that there may be, the customer's bookings have such sums.
--- Addresses fit 32 bits.
+-- under each possible image of the memory's size, the customer's bookings add up to 64-bit
+-- numbers. Addresses fit 32 bits.
 pub record CanCount (s : View) (customer : ℕ) : Type 0 where
   pub small : s.size ≤ 2 ^ 32
   pub room : head_of customer < s.size
   pub under : (image : List ℕ) → RestsOn s image → SomeSums (mem s image) (length image) customer
 
--- the customer with these bookings, alone
+-- the sums over the single customer with these bookings
 abbrev pub customer_alone : (ℕ → ℕ) → Rows → CustomerSums
 customer_alone m rows = record {
   count = 1;
@@ -123,14 +125,14 @@ customer_alone m rows = record {
   billed = words_at m SUM rows;
 }
 
--- only reads were made, and these are the sums over the customer's bookings
+-- only reads were made, and the result is the sums over the customer's bookings
 pub record CustomerCounted (s s' : View) (customer : ℕ) (sums : CustomerSums) : Type 0 where
   pub reads : OnlyRead s s'
   pub is : (image : List ℕ) (rows : Rows) → Sees s' image →
       HasSums (mem s image) (length image) customer rows →
       customer_alone (mem s image) rows ≡ sums
 
--- only reads were made, and under each image these are the sums over all customers
+-- only reads were made, and under each possible image the result is the sums over all customers
 pub record CustomersSummed (s s' : View) (sums : CustomerSums) : Type 0 where
   pub reads : OnlyRead s s'
   pub is : (image : List ℕ) (state : State) → Sees s' image →

@@ -1,4 +1,4 @@
-//! Customers and their bookings, added up.
+//! Sums over customers and their bookings.
 
 ghost use Rattle.std.specs.Prelude.{◌≡◌, IfOk, IfErr};
 ghost use Rattle.vac_records.specs.InMemory.{HoldsState};
@@ -7,10 +7,11 @@ ghost use Rattle.vac_report.specs.Sums.{CustomersFit, customers_together, CanCou
 use tx_alloc::Block;
 use tx_alloc::place::MOST_BLOCKS;
 use tx_memory::TxRead;
+use tx_tree::Walk;
 use vac_records::place::BOOKINGS;
 use vac_records::{CUSTOMERS, sum_at, units_at};
 
-/// How many customers there are, and the units and the sums of their bookings added up.
+/// The number of customers, and the sums over the units and the prices of their bookings.
 #[derive(Clone, Copy)]
 pub(crate) struct CustomerSums {
     pub count: u64,
@@ -19,7 +20,7 @@ pub(crate) struct CustomerSums {
 }
 
 impl CustomerSums {
-    /// The sums over both.
+    /// Returns the sums over both parts.
     fn plus(self, other: CustomerSums) -> CustomerSums
         requires { CustomersFit self other }
         ensures { result ≡ customers_together self other }
@@ -32,7 +33,8 @@ impl CustomerSums {
     }
 }
 
-/// The one customer of a block, with all bookings.
+/// Sums up the bookings of the customer in a block. Bounded loop: the prover needs a measure; a
+/// customer has at most 262,144 bookings.
 fn sums_of_customer<M: TxRead>(memory: &mut M, customer: Block) -> Result<CustomerSums, M::Stop>
     requires { CanCount (M.view memory.old) customer }
     ensures origin { M.origin memory.new ≡ M.origin memory.old }
@@ -60,7 +62,8 @@ fn sums_of_customer<M: TxRead>(memory: &mut M, customer: Block) -> Result<Custom
     })
 }
 
-/// All customers.
+/// Sums up the bookings of all customers. Bounded loop: the prover needs a measure; a table has at
+/// most 262,144 entries.
 pub(crate) fn sum_customers<M: TxRead>(memory: &mut M) -> Result<CustomerSums, M::Stop>
     requires { HoldsState (M.view memory.old) }
     ensures origin { M.origin memory.new ≡ M.origin memory.old }
@@ -73,13 +76,12 @@ pub(crate) fn sum_customers<M: TxRead>(memory: &mut M) -> Result<CustomerSums, M
         units: 0,
         billed: 0,
     };
-    let mut key = 0;
+    let mut walk = Walk::begin(memory, CUSTOMERS)?;
     for _ in 0..MOST_BLOCKS {
-        match tx_tree::least_above(memory, CUSTOMERS, key)? {
+        match walk.next(memory)? {
             None => return Ok(sums),
-            Some(entry) => {
-                sums = sums.plus(sums_of_customer(memory, entry.block)?);
-                key = entry.key;
+            Some(block) => {
+                sums = sums.plus(sums_of_customer(memory, block)?);
             }
         }
     }

@@ -1,4 +1,4 @@
-//! Items, added up.
+//! Sums over items.
 
 ghost use Rattle.std.specs.Prelude.{◌≡◌, IfOk, IfErr};
 ghost use Rattle.vac_records.specs.Items.{IsNode};
@@ -8,10 +8,11 @@ ghost use Rattle.vac_report.specs.Sums.{ItemsFit, items_together, ItemCounted, I
 use tx_alloc::Block;
 use tx_alloc::place::MOST_BLOCKS;
 use tx_memory::TxRead;
+use tx_tree::Walk;
 use vac_model::Kind;
 use vac_records::{free_at, root_of, total_at, used_at};
 
-/// How many items there are, and their numbers added up.
+/// The number of items, and the sums over their numbers.
 #[derive(Clone, Copy)]
 pub(crate) struct ItemSums {
     pub count: u64,
@@ -21,7 +22,7 @@ pub(crate) struct ItemSums {
 }
 
 impl ItemSums {
-    /// The sums over both.
+    /// Returns the sums over both parts.
     pub(crate) fn plus(self, other: ItemSums) -> ItemSums
         requires { ItemsFit self other }
         ensures { result ≡ items_together self other }
@@ -35,7 +36,7 @@ impl ItemSums {
     }
 }
 
-/// The one item of a block.
+/// Returns the sums over the single item in a block.
 fn sums_of_item<M: TxRead>(memory: &mut M, node: Block) -> Result<ItemSums, M::Stop>
     requires { IsNode (M.view memory.old) node }
     ensures origin { M.origin memory.new ≡ M.origin memory.old }
@@ -54,7 +55,8 @@ fn sums_of_item<M: TxRead>(memory: &mut M, node: Block) -> Result<ItemSums, M::S
     })
 }
 
-/// All items of a kind.
+/// Sums up all items of a kind. Bounded loop: the prover needs a measure; a table has at most
+/// 262,144 entries.
 pub(crate) fn sum_items<M: TxRead>(memory: &mut M, kind: Kind) -> Result<ItemSums, M::Stop>
     requires { HoldsState (M.view memory.old) }
     ensures origin { M.origin memory.new ≡ M.origin memory.old }
@@ -69,13 +71,12 @@ pub(crate) fn sum_items<M: TxRead>(memory: &mut M, kind: Kind) -> Result<ItemSum
         free: 0,
         total: 0,
     };
-    let mut key = 0;
+    let mut walk = Walk::begin(memory, root)?;
     for _ in 0..MOST_BLOCKS {
-        match tx_tree::least_above(memory, root, key)? {
+        match walk.next(memory)? {
             None => return Ok(sums),
-            Some(entry) => {
-                sums = sums.plus(sums_of_item(memory, entry.block)?);
-                key = entry.key;
+            Some(block) => {
+                sums = sums.plus(sums_of_item(memory, block)?);
             }
         }
     }

@@ -1,8 +1,8 @@
-//! The report of a running state: how many entries each table has, and what their numbers add up
-//! to.
+//! The report of a running state: the number of entries of each table, and the sums over their
+//! numbers.
 //!
-//! A walk over a table goes from key to key, and one over a customer's bookings from block to
-//! block. No call recurses or allocates.
+//! A walk over a table goes along its tree in the order of the keys, and reads each node once. A
+//! walk over a customer's bookings goes from block to block. No call recurses or allocates.
 #![tactic(auto)]
 
 mod customers;

@@ -9,7 +9,7 @@ use crate::items::sum_items;
 use tx_memory::TxRead;
 use vac_model::{Kind, Report};
 
-/// The report of the state that the memory holds: the entries of each table, the units booked, the
+/// Reports on the state that the memory holds: the entries of each table, the booked units, the
 /// sums over all items, and the sum of all bills.
 pub fn report<M: TxRead>(memory: &mut M) -> Result<Report, M::Stop>
     requires { HoldsState (M.view memory.old) }

@@ -16,8 +16,8 @@ loop-e-init g c = record {
 pub get-requires : goal.get-requires
 get-requires g c = omega (arith, c.loop-e.invariant.cleared.len, c.requires.ready.indexed.room)
 
-pub set_slot-requires : goal.set_slot-requires
-set_slot-requires g c =
+pub lead-requires : goal.lead-requires
+lead-requires g c =
     let less : c.loop-e.e < c.args.nodes.now.count = omega arith in
     let inside = cleared_place c.args.nodes.now.list c.loop-e.nodes.list c.args.nodes.now.count c.loop-e.e
     c.requires.ready c.loop-e.invariant.cleared less in
@@ -31,10 +31,10 @@ loop-e-preserved g c =
     let less : c.loop-e.e < n = omega arith in
     let place : c.get.result.now.place ≡ (at new (c.loop-e.e + 1)).place = ap (λ (x : Entry). x.place) c.get.ensures in
     let inside = cleared_place old new n c.loop-e.e c.requires.ready c.loop-e.invariant.cleared less in
-    let list : c.set_slot.new.self.list ≡ set new c.get.result.now.place
-    (record (at new c.get.result.now.place) { slot = 0 }) = ap (λ (b : Block). b.list) c.set_slot.ensures in
+    let list : c.lead.new.self.list ≡ set new c.get.result.now.place
+    (record (at new c.get.result.now.place) { slot = 0; finger = 0 }) = ap (λ (b : Block). b.list) c.lead.ensures in
     record {
-      count = ap (λ (b : Block). b.count) c.set_slot.ensures ∙ c.loop-e.invariant.count;
+      count = ap (λ (b : Block). b.count) c.lead.ensures ∙ c.loop-e.invariant.count;
       cleared = subst (λ xs. Cleared old xs n (c.loop-e.e + 1)) (sym list)
           (cleared_more old new n c.loop-e.e c.get.result.now.place c.loop-e.invariant.cleared place
           (omega (arith, inside, place)));

@@ -5,5 +5,5 @@ use Rattle.vac_report.proofs.items.sum_items.Given as goal
 abbrev pub invariant-loop : goal.invariant-loop
 invariant-loop g l = record {
   origin : g.M.TxRead.origin l.memory ≡ g.M.TxRead.origin l.fn.memory;
-  walk : ItemWalk (g.M.TxRead.view l.fn.memory) (g.M.TxRead.view l.memory) l.fn.kind l.key l.counter l.sums;
+  walk : ItemWalk (g.M.TxRead.view l.fn.memory) (g.M.TxRead.view l.memory) l.fn.kind l.walk l.counter l.sums;
 }
