@@ -1,5 +1,5 @@
--- Accounts, and what the bank's transactions do to them. Each example has its own `after`, `Finds`
--- and `code`.
+-- Accounts, and the effects of the bank's transactions on them. Each example of an object has its
+-- own `after`, `Finds` and `code`.
 use Rattle.std.specs.Prelude.{◌≡◌, ℕ, ◌+◌, ◌-◌, ◌<◌, ◌≤◌, ◌^◌, true, false, cond, List, [], ◌∷◌, length, slice_index, slice_set, sum}
 use Rattle.stm_core.specs.Client.{Client}
 use Rattle.stm_region.specs.Shown.{RegionShown}
@@ -10,7 +10,7 @@ use Rattle.bank.specs.declared.entry.Entry.{Entry}
 use Rattle.bank.specs.declared.law.TheConstants.{ACCOUNTS}
 use Rattle.bank.specs.declared.entry.Entry.TheVariants.{Transfer, Sum}
 
--- the balances after an amount was taken from one account and then put to another
+-- the balances after an amount was taken from one account and then added to another
 abbrev pub moving : List ℕ → ℕ → ℕ → ℕ → List ℕ
 moving xs from to amount =
     let taken = slice_set xs from (slice_index xs from - amount) in
@@ -22,19 +22,20 @@ after (Transfer from to amount true) xs = moving xs from to amount
 after (Transfer from to amount false) xs = xs
 after (Sum total) xs = xs
 
--- what an entry says of the balances before it: there was enough, or not; or this is their sum
+-- the statement of an entry about the balances before it: for a transfer that moved, there was
+-- enough; for one that did not, there was not; for a sum, this is the sum
 abbrev pub Finds : Entry → List ℕ → Type 0
 Finds (Transfer from to amount true) xs =
     (from < length xs) × (to < length xs) × (amount ≤ slice_index xs from)
 Finds (Transfer from to amount false) xs = slice_index xs from < amount
 Finds (Sum total) xs = total ≡ sum xs
 
--- an image is all balances, which add up to a number that a word can hold
+-- the image has exactly the balances, and they add up to a number below 2^64
 pub record IsBank (image : List ℕ) : Type 0 where
   pub size : length image ≡ ACCOUNTS
   pub small : sum image < 2 ^ 64
 
--- a transfer is from an account to an account
+-- the accounts of a transfer are accounts of the bank
 abbrev pub IsEntry : Entry → Type 0
 IsEntry (Transfer from to amount moved) = (from < ACCOUNTS) × (to < ACCOUNTS)
 IsEntry (Sum total) = Unit {0}
@@ -48,12 +49,12 @@ abbrev pub code : Entry → List ℕ
 code (Transfer from to amount moved) = 0 ∷ from ∷ to ∷ amount ∷ cond moved 1 0 ∷ []
 code (Sum total) = 1 ∷ total ∷ []
 
--- the bank as an object
+-- the bank as a sequential object
 abbrev pub bank : Specification Entry
 bank = words_object ACCOUNTS Entry IsBank IsEntry Finds after code
 
--- the closing teller's records are a history that leads from the opening to the words, which add up
--- to the same
+-- the bank was closed: the closing teller's records are a history from the opening to the words,
+-- and the words have the same sum as those of the opening
 pub record ClosesBalanced (region : RegionShown) (v : Client) (words : List ℕ) (version : ℕ)
     : Type 0 where
   pub closes : ClosesObject bank region v words version

@@ -1,5 +1,5 @@
--- The law's proofs: no entry changes the number of accounts, or the sum of all balances, and two
--- entries have two codes.
+-- The proofs of the bank's law: no entry changes the number of accounts or the sum of all
+-- balances, and two entries have different codes.
 use Rattle.std.proofs.Common.{◌≡◌, ℕ, ◌+◌, ◌-◌, ◌<◌, ◌≤◌, true, false, List, length, slice_index}
 use Rattle.std.proofs.Common.{slice_set, sum, refl, sym, ap, ◌∙◌, arith, length-set}
 use Rattle.std.specs.Prelude.{◌==◌, if◌then◌else◌}
@@ -55,6 +55,6 @@ decoded_back (Transfer from to amount true) = refl
 decoded_back (Transfer from to amount false) = refl
 decoded_back (Sum total) = refl
 
--- two entries have two codes
+-- two entries with the same code are equal
 pub codes_determine : (e e' : Entry) → code e ≡ code e' → e ≡ e'
 codes_determine e e' same = sym (decoded_back e) ∙ (ap decoded same ∙ decoded_back e')

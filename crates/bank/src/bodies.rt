@@ -7,7 +7,8 @@ use crate::law::{ACCOUNTS, BankObject};
 use stm_object::{Query, Update};
 use tx_memory::{Addr, TxMem, TxRead, load, store};
 
-/// Moves an amount from one account to another where there is enough, and returns whether it did.
+/// A transfer: moves an amount from one account to another if there is enough, and returns whether
+/// it did.
 #[derive(Drop)]
 pub(crate) struct Move {
     pub(crate) from: u32,
@@ -37,7 +38,7 @@ impl Update<BankObject> for Move {
     }
 }
 
-/// Adds up all balances.
+/// An audit: adds up all balances.
 #[derive(Drop)]
 pub(crate) struct AddUp;
 

@@ -1,15 +1,15 @@
-//! What a record of the bank says.
+//! The entries of the bank's records.
 
-/// The entry of a transaction of the bank: its operation with its answer, as its record has it.
+/// The entry of a transaction of the bank: its operation and its answer, as in its record.
 pub enum Entry {
-    /// An amount was to go from one account to another. It did where there was enough.
+    /// A transfer from one account to another; `moved` says whether there was enough.
     Transfer {
         from: u32,
         to: u32,
         amount: u64,
         moved: bool,
     },
-    /// All balances were added up.
+    /// The sum of all balances.
     Sum {
         total: u64,
     },

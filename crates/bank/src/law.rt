@@ -1,15 +1,15 @@
-//! The bank as an object.
+//! The bank as a sequential object.
 
 ghost use Rattle.bank.specs.Accounts.{KeepsSum};
 
 use crate::entry::Entry;
 use stm_object::Object;
 
-/// How many accounts a bank has. Each is one word, its balance.
+/// Number of accounts of a bank. Each account is one word, its balance.
 pub const ACCOUNTS: u32 = 64;
 
-/// The bank as an object: an image fits where it has the accounts, and their balances add up to
-/// less than 2^64.
+/// The bank as a sequential object. An image fits if it has the accounts and their balances add up
+/// to less than 2^64.
 pub struct BankObject;
 
 impl Object for BankObject {
@@ -26,7 +26,7 @@ impl Object for BankObject {
     ghost determined = { λ e e' same. codes_determine e e' same };
 }
 
-/// No record changes the sum of all balances, as a contract.
+/// States that no entry changes the sum of all balances.
 pub fn keeps_sum()
     ensures { KeepsSum }
 {}

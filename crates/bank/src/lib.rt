@@ -1,5 +1,5 @@
-//! A bank of accounts over a transactional memory, as an example of how the library is used: many
-//! tellers move money from one account to another while others add up all of them.
+//! A bank of accounts over a transactional memory, as an example of how to use the library. Many
+//! tellers move money from one account to another, while others add up all accounts.
 #![tactic(auto)]
 
 mod bank;
@@ -7,6 +7,6 @@ mod bodies;
 mod entry;
 mod law;
 
-pub use bank::{Bank, Teller};
+pub use bank::{Bank, Teller, audit, close_bank, new_bank, transfer};
 pub use entry::Entry;
 pub use law::{ACCOUNTS, BankObject, keeps_sum};

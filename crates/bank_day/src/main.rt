@@ -1,43 +1,44 @@
-//! A day at the bank: three tellers move money between its accounts, drawn at random, each in a
-//! thread of its own, while a fourth adds up all accounts again and again. However the threads
-//! meet, each sum is the opening's.
+//! A day at the bank: three tellers move money between accounts drawn at random, each in a thread
+//! of its own, while a fourth adds up all accounts again and again. Each sum is that of the
+//! opening, however the threads interleave.
 #![tactic(auto)]
 
 ghost use Rattle.std.specs.Prelude.{◌≡◌};
 
-use bank::{ACCOUNTS, Bank, Teller};
+use bank::{ACCOUNTS, Bank, Teller, audit, close_bank, new_bank, transfer};
 use rand_core::Rng;
 use rand_pcg::Pcg32;
 use std::process::ExitCode;
 use std::thread;
 use std::thread::Threads;
 
-/// How many tellers move money.
+/// Number of tellers that move money.
 const MOVERS: u64 = 3;
 
-/// How often each teller moves money, or adds up all accounts.
+/// Number of transactions of each teller.
 const TURNS: u32 = 2_000;
 
-/// What is on each account at first.
+/// Balance of each account at the opening.
 const EACH: u32 = 1_000;
 
-/// What is on all accounts together, at any moment.
+/// Sum of all balances, at any moment.
 const TOTAL: u64 = EACH as u64 * ACCOUNTS as u64;
 
-/// The most that is moved at once.
+/// Bound on the amount of one transfer, which is smaller.
 const MOST: u64 = 10;
 
-/// The most attempts of a transaction.
+/// Attempts that a transaction may make at most.
 const TRIES: u32 = 1 << 20;
 
-/// What was done in a day: how often money was moved, and how many sums were the opening's.
+/// The results of a day: the transfers that moved money, and the sums that were that of the
+/// opening.
 #[derive(Clone, Copy)]
 struct Day {
     moved: u32,
     sums: u32,
 }
 
-/// Moves money from account to account, as this stream draws it.
+/// Moves money between accounts, as this stream draws them.
 fn move_many(bank: &Bank, mut teller: Teller, stream: u64) -> (Teller, u32)
     requires { teller.table ≡ bank.now.table }
     ensures { result.0.table ≡ bank.now.table }
@@ -48,29 +49,29 @@ fn move_many(bank: &Bank, mut teller: Teller, stream: u64) -> (Teller, u32)
         let from = random.next_u32() % ACCOUNTS;
         let to = random.next_u32() % ACCOUNTS;
         let amount = u64::from(random.next_u32()) % MOST;
-        if bank.transfer(&mut teller, from, to, amount, TRIES) == Ok(true) {
+        if transfer(bank, &mut teller, from, to, amount, TRIES) == Ok(true) {
             moved = moved.saturating_add(1);
         }
     }
     (teller, moved)
 }
 
-/// Adds up all accounts again and again, and counts the sums that are the opening's.
+/// Adds up all accounts again and again, and counts the sums that are that of the opening.
 fn add_many(bank: &Bank, mut teller: Teller) -> (Teller, u32)
     requires { teller.table ≡ bank.now.table }
     ensures { result.0.table ≡ bank.now.table }
 {
     let mut sums = 0u32;
     for _ in 0..TURNS {
-        if bank.audit(&mut teller, TRIES) == Ok(TOTAL) {
+        if audit(bank, &mut teller, TRIES) == Ok(TOTAL) {
             sums = sums.saturating_add(1);
         }
     }
     (teller, sums)
 }
 
-/// A day with `movers` movers: the last of them runs beside those before it, and the one who adds
-/// up beside them all. Returns the teller, who has gathered all others.
+/// Runs a day with `movers` movers: the last of them runs beside those before it, and the adding
+/// teller beside them all. Returns the teller that has gathered all others.
 fn spend<R: Threads + Sync>(rt: &R, bank: &Bank, mut teller: Teller, movers: u64) -> (Teller, Day)
     requires { teller.table ≡ bank.now.table }
     ensures { result.0.table ≡ bank.now.table }
@@ -98,12 +99,12 @@ fn spend<R: Threads + Sync>(rt: &R, bank: &Bank, mut teller: Teller, movers: u64
 }
 
 fn main(rt: HostRuntime) -> ExitCode {
-    let Ok((bank, teller)) = Bank::new(rt.alloc(), EACH, 1 << 40) else {
+    let Ok((bank, teller)) = new_bank(rt.alloc(), EACH, 1 << 40) else {
         let _ = eprintln!(rt; "the bank could not be opened");
         return ExitCode::FAILURE;
     };
     let (teller, day) = spend(&rt, &bank, teller, MOVERS);
-    let Ok((balances, _)) = bank.close(teller) else {
+    let Ok((balances, _)) = close_bank(bank, teller) else {
         let _ = eprintln!(rt; "the bank could not be closed");
         return ExitCode::FAILURE;
     };

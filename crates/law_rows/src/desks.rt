@@ -5,13 +5,13 @@ use std::alloc::{AllocError, Global};
 use std::test::Fail;
 use vac_model::Report;
 
-/// How many trips each desk has to book.
+/// Trips that each desk has to book.
 const TRIPS: u32 = 25;
 
-/// The greatest last version.
+/// The greatest last version of a clock.
 const LAST: u64 = (1 << 62) - 1;
 
-/// Settings with a clock that ends at this version, and `units` units of each item.
+/// Returns settings with a clock that ends at this version, and `units` units of each item.
 fn settings(last: u64, units: u32) -> DeskSettings {
     DeskSettings {
         blocks: 1_000,
@@ -23,7 +23,7 @@ fn settings(last: u64, units: u32) -> DeskSettings {
     }
 }
 
-/// A desk that has booked all of its trips.
+/// Returns a desk that has booked all of its trips.
 fn done(number: u32) -> Desk {
     Desk {
         number,
@@ -32,8 +32,8 @@ fn done(number: u32) -> Desk {
     }
 }
 
-/// What is stored of a run in which all trips were booked, with `units` units in all and `used` of
-/// them in use, after these rounds.
+/// Returns the stored result of a run that booked all trips, with `units` units in all, `used` of
+/// them in use, and this number of rounds.
 fn stored(alloc: Global, units: u64, used: u64, rounds: u32) -> Result<DeskReport, AllocError> {
     Ok(DeskReport {
         desks: vec![in alloc; done(0), done(1), done(2), done(3)]?,

@@ -1,4 +1,4 @@
-//! A desk that gives its trips up, since another client holds the locks of all items.
+//! A desk that gives its trips up, because another client holds the locks of all items.
 ghost use Rattle.std.specs.Prelude.{◌≡◌, true};
 ghost use Rattle.booking_desk.specs.Desks.{MayServe};
 ghost use Rattle.booking_desk.specs.Setting.{is_desk_settings};
@@ -12,7 +12,7 @@ use vac_manager::{Client, Manager, Session};
 use vac_model::Kind::{Car, Flight, Room};
 use vac_model::{Command, Kind, Reply, Report, Task};
 
-/// Each trip is asked for by one call.
+/// Settings in which each trip is issued by one call.
 const SETTINGS: DeskSettings = DeskSettings {
     blocks: 100,
     last: (1 << 62) - 1,
@@ -22,7 +22,7 @@ const SETTINGS: DeskSettings = DeskSettings {
     rounds: 1,
 };
 
-/// A desk that has asked for nothing yet, with its client.
+/// A desk that has issued no trip yet, with its client.
 #[derive(Drop)]
 struct Waiting<'a> {
     manager: &'a Manager,
@@ -34,7 +34,7 @@ struct Waiting<'a> {
     ghost may: { MayServe settings desk },
 }
 
-/// Serves a desk, once, when it is told that the locks are held.
+/// A gate that serves a desk, once, when the locks are held.
 #[derive(Drop)]
 struct ServesAtLocked<'a> {
     alloc: Global,
@@ -59,7 +59,7 @@ impl<'a> Gate for ServesAtLocked<'a> {
     }
 }
 
-/// Adds units of each item that a desk asks for.
+/// Returns a task that adds units of each item that a desk books.
 fn units_of_all(alloc: Global, num: u32) -> Result<Task, AllocError> {
     let changes = [
         add(Car, 1, num),
@@ -91,7 +91,7 @@ fn new_desk(number: u32) -> Desk
     }
 }
 
-/// Serves a desk while the call of this task holds its locks, and then another desk.
+/// Serves a desk while the call of this task holds its locks, and another desk afterwards.
 fn serve_two(
     rt: &impl Abort,
     alloc: Global,
@@ -127,8 +127,8 @@ fn serve_two(
     (given_up, booked, report)
 }
 
-/// All tries of the one call for each trip find the locks held; once they are released, another
-/// desk books all of its trips.
+/// Lets all attempts of the one call for each trip find the locks held. Once the locks are
+/// released, another desk books all of its trips.
 #[test]
 fn a_desk_gives_up_what_others_hold(rt: HostRuntime) -> Result<(), Fail> {
     let alloc = rt.alloc();

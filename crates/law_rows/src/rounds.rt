@@ -1,7 +1,7 @@
-//! How much is asked for in a thread.
+//! The amount of work of a thread.
 
-/// How often a thread asks for what it does.
+/// Number of times that a thread issues its transaction.
 pub(crate) const ROUNDS: u32 = 2_000;
 
-/// The tries of each call: more than two threads need.
+/// Attempts of each call: more than two threads need.
 pub(crate) const TRIES: u32 = 1 << 20;

@@ -1,4 +1,4 @@
-//! The searches that stm_object has for bodies, over plain memory.
+//! The searches that `stm_object` offers to bodies, over plain memory.
 
 use std::test::Fail;
 use stm_object::{find, seek};

@@ -1,4 +1,4 @@
-//! Users of one queue: alone, and in threads.
+//! Users of one queue: solo, and in threads.
 ghost use Rattle.std.specs.Prelude.{◌≡◌};
 
 use crate::rounds::{ROUNDS, TRIES};
@@ -8,8 +8,8 @@ use std::thread;
 use stm_attempt::Stop;
 use stm_region::RegionFault;
 
-/// Puts numbers in, and takes one out after each. Returns the user, with how many of both were
-/// done.
+/// Puts numbers in, and takes one out after each. Returns the user, with the number of values put
+/// in and taken out.
 fn put_and_take(ring: &Ring, user: RingUser) -> (RingUser, u32, u32)
     requires { user.table ≡ ring.now.table }
     ensures { result.0.table ≡ ring.now.table }
@@ -58,7 +58,7 @@ fn one_user_in_turn(rt: HostRuntime) -> Result<(), Fail> {
     Ok(())
 }
 
-/// Puts these many numbers in, from 100 on, and counts those that had room.
+/// Puts `numbers` numbers in, from 100 on, and counts those that had room.
 fn fill(ring: &Ring, user: &mut RingUser, numbers: u64) -> u32
     requires { user.old.table ≡ ring.now.table }
     ensures { user.new.table ≡ user.old.table }
@@ -102,8 +102,8 @@ fn room_for_sixteen(rt: HostRuntime) -> Result<(), Fail> {
     Ok(())
 }
 
-/// The clock ends at version 2: the third number finds it spent, and changes nothing. What was put
-/// in is there after the renewal.
+/// Opens a queue whose clock ends at version 2. The third number finds the clock spent, and
+/// changes nothing. The numbers put in are there after the renewal.
 #[test]
 fn spent_clock_is_renewed(rt: HostRuntime) -> Result<(), Fail> {
     let (ring, mut user) = new_ring(rt.alloc(), 2)?;

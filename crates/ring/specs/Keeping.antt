@@ -1,4 +1,5 @@
--- The law's proofs: each entry leaves a ring, and two entries have two codes.
+-- The proofs of the ring's law: after each entry the words are those of a ring, and two entries
+-- have different codes.
 use Rattle.std.proofs.Common.{◌≡◌, ◌≢◌, ℕ, ◌+◌, ◌%◌, true, false, List, length, slice_index}
 use Rattle.std.proofs.Common.{slice_set, refl, sym, ap, ◌∙◌, arith, length-set}
 use Rattle.std.proofs.Common.{get_or-set_same, get_or-set_other}
@@ -63,6 +64,6 @@ decoded_back (Pop value) = refl
 decoded_back Empty = refl
 decoded_back (Len count) = refl
 
--- two entries have two codes
+-- two entries with the same code are equal
 pub codes_determine : (e e' : Entry) → code e ≡ code e' → e ≡ e'
 codes_determine e e' same = sym (decoded_back e) ∙ (ap decoded same ∙ decoded_back e')

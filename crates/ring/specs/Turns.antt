@@ -8,16 +8,16 @@ use Rattle.ring.specs.declared.entry.Entry.TheVariants.{Push}
 use Rattle.ring.specs.declared.law.TheConstants.{WORDS}
 use Rattle.ring.specs.Queue.{ring, content, pushed, popped, popping}
 
--- in every history of a ring that was opened empty, the values that were put in are, in their
--- order, those that were taken out, and after them those that are still in
--- Not said: that a value that was put in comes out
+-- in every history of a ring that was opened empty, the values put in are, in their order, the
+-- values taken out followed by the values still in the ring
+-- Not said: that every value that is put in comes out.
 abbrev pub IsFifo : Type 0
 IsFifo = (records : List Record) (entries : List Entry) (last : List ℕ) →
     IsHistory ring (replicate WORDS 0) records entries last →
     pushed entries ≡ popped entries ++ content last
 
--- a user that is alone, and puts a value in, takes one out with its next call: where the ring was
--- empty, that value
+-- a solo user that puts a value in takes a value out with its next call, and if the ring was
+-- empty, takes out its own value
 pub record TakesOwn (region : RegionShown) (v : Client) (value : ℕ) (taken : Option ℕ)
     : Type 0 where
   pub some : is_some taken ≡ true
@@ -30,7 +30,7 @@ IsOwnTurn = (region : RegionShown) (v w u : Client) (value : ℕ) (taken : Optio
     HasCalled ring region (λ x. popping x) (λ x. is_some x) false tries' (Ok taken) w u →
     TakesOwn region v value taken
 
--- the history of a closed ring, and its values in their turn
+-- a ring was closed: its records are a history, in which the values are first in, first out
 pub record ClosesInOrder (region : RegionShown) (v : Client) (words : List ℕ) (version : ℕ)
     : Type 0 where
   pub closes : Closes ring region v words version

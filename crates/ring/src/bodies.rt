@@ -6,14 +6,14 @@ use crate::law::{HEAD, RingObject, SLOTS, TAIL};
 use stm_object::{Query, Update};
 use tx_memory::{Addr, TxMem, TxRead, load, store};
 
-/// The slot of the value of this number.
+/// Returns the slot of the value with this number.
 fn slot(number: u64) -> Addr
     ensures { result.0 ≡ number % SLOTS }
 {
     Addr((number % u64::from(SLOTS)) as u32)
 }
 
-/// Puts this value after the others where there is room, and returns whether there was.
+/// A push: puts this value behind the others if there is room, and returns whether there was.
 #[derive(Drop)]
 pub struct Push(pub u64);
 
@@ -38,7 +38,7 @@ impl Update<RingObject> for Push {
     }
 }
 
-/// Takes out the foremost value, where there is one.
+/// A pop: takes out the oldest value, if there is one.
 #[derive(Drop)]
 pub struct Pop;
 
@@ -64,7 +64,7 @@ impl Update<RingObject> for Pop {
     }
 }
 
-/// Counts the values.
+/// A count of the values.
 #[derive(Drop)]
 pub struct Count;
 

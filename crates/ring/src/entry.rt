@@ -1,13 +1,13 @@
-//! What a record of the ring says.
+//! The entries of the ring's records.
 
-/// The entry of a transaction of the ring: its operation with its answer, as its record has it.
+/// The entry of a transaction of the ring: its operation and its answer, as in its record.
 pub enum Entry {
-    /// A value was to be put after the others. It was where there was room.
+    /// A push; `room` says whether there was room for the value.
     Push { value: u64, room: bool },
-    /// The foremost value was taken out.
+    /// A pop that took out this value, the oldest.
     Pop { value: u64 },
-    /// There was no value to take out.
+    /// A pop that found no value.
     Empty,
-    /// The values were counted.
+    /// A count of the values.
     Len { count: u64 },
 }

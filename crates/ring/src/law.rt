@@ -1,22 +1,22 @@
-//! The ring as an object.
+//! The ring as a sequential object.
 
 use crate::entry::Entry;
 use stm_object::Object;
 
-/// How many values a ring has room for. Each has one word, its slot.
+/// Number of slots of a ring. Each slot is one word and holds one value.
 pub const SLOTS: u32 = 16;
 
-/// The word that counts the values that were taken out.
+/// Address of the count of values taken out.
 pub const HEAD: u32 = 16;
 
-/// The word that counts the values that were put in.
+/// Address of the count of values put in.
 pub const TAIL: u32 = 17;
 
-/// How many words a ring has.
+/// Number of words of a ring.
 pub const WORDS: u32 = 18;
 
-/// The ring as an object: an image fits where it has the words, and at most as many values are in
-/// as there are slots.
+/// The ring as a sequential object. An image fits if it has the words of a ring, and if at most as
+/// many values are in the ring as there are slots.
 pub struct RingObject;
 
 impl Object for RingObject {

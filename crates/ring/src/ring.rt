@@ -14,13 +14,14 @@ use stm_object::{Shared, User};
 use stm_region::RegionFault;
 use stm_words::Version;
 
-/// A ring, which many users use at once.
+/// A ring, used by many users at once.
 pub type Ring = Shared<RingObject>;
 
-/// A user of a ring: the right to use it, from one thread at a time.
+/// A user of a ring: the right to use the ring, from one thread at a time.
 pub type RingUser = User<RingObject>;
 
-/// Opens an empty ring, and its first user. The version clock ends at `last`, 1 to 2^62 - 1.
+/// Opens an empty ring, and returns the ring and its first user. The version clock ends at `last`,
+/// 1 to 2^62 - 1.
 pub fn new_ring(alloc: Global, last: u64) -> Result<(Ring, RingUser), RegionFault>
     ensures region { IfOk result (λ r.
         r.0 ≡ opened_on r.0.table (replicate WORDS 0) last WORDS) }
@@ -33,19 +34,20 @@ pub fn new_ring(alloc: Global, last: u64) -> Result<(Ring, RingUser), RegionFaul
     Shared::new(alloc, &image, last, WORDS)
 }
 
-/// First in, first out, as a contract: of the history of each answer (`order` of its `call`), and
-/// of that of a ring that was closed.
+/// States that values leave the ring first in, first out. The law holds for the history of each
+/// answer (`order` of its `call`), and for that of a closed ring.
 pub fn first_in_first_out()
     ensures { IsFifo }
 {}
 
-/// A user that is alone takes out what it put in, as a contract of the two calls.
+/// States that a solo user takes out the value that it put in, from the contracts of its two
+/// calls.
 pub fn lone_user_takes_its_own()
     ensures { IsOwnTurn }
 {}
 
-/// Closes a ring that was opened empty: the values that were taken out are, in their order, those
-/// that were put in, but for those that are still in.
+/// Closes a ring that was opened empty. The values put in are, in their order, the values taken
+/// out followed by the values still in the ring.
 pub fn close_ring(
     ring: Ring,
     user: RingUser,

@@ -1,6 +1,6 @@
 //! A day at a queue: two users put numbers in, each in a thread of its own, and a third takes them
-//! out. However the threads meet, all come out, and those of each user in the order in which it put
-//! them in.
+//! out. However the threads interleave, all numbers come out, and those of each user in the order
+//! in which the user put them in.
 #![tactic(auto)]
 
 ghost use Rattle.std.specs.Prelude.{◌≡◌};
@@ -11,26 +11,26 @@ use std::process::ExitCode;
 use std::thread;
 use std::thread::Threads;
 
-/// How many numbers each of the two puts in.
+/// Numbers that each of the two users puts in.
 const NUMBERS: u32 = 1_000;
 
-/// The first number of the second user. The first user's begin at 0.
+/// The first number of the second user. The first user's numbers begin at 0.
 const SECOND: u64 = NUMBERS as u64;
 
-/// The most attempts of a transaction.
+/// Attempts that a transaction may make at most.
 const TRIES: u32 = 1 << 20;
 
-/// How often a full or an empty queue is asked again.
+/// Number of times that a user asks a full or an empty queue again.
 const PATIENCE: u32 = 1 << 24;
 
-/// What was done in a day: how many numbers were put in, and how many came out in their turn.
+/// The results of a day: the numbers put in, and the numbers that came out in their turn.
 #[derive(Clone, Copy)]
 struct Day {
     put: u32,
     in_turn: u32,
 }
 
-/// Puts a number in once there is room, and returns whether it did.
+/// Puts a number in once there is room, and returns whether that succeeded.
 fn put(ring: &Ring, user: &mut RingUser, value: u64) -> bool
     requires { user.old.table ≡ ring.now.table }
     ensures { user.new.table ≡ user.old.table }
@@ -71,7 +71,7 @@ fn count(ring: &Ring, user: &mut RingUser) -> u64
     }
 }
 
-/// Puts numbers in, from this one on, and counts them.
+/// Puts numbers in, from `first` on, and counts them.
 fn put_many(ring: &Ring, mut user: RingUser, first: u64) -> (RingUser, u32)
     requires { user.table ≡ ring.now.table }
     ensures { result.0.table ≡ ring.now.table }
@@ -85,7 +85,7 @@ fn put_many(ring: &Ring, mut user: RingUser, first: u64) -> (RingUser, u32)
     (user, done)
 }
 
-/// Takes out what both put in, and counts the numbers that come in their turn.
+/// Takes out the numbers of both users, and counts those that come in their turn.
 fn take_many(ring: &Ring, mut user: RingUser) -> (RingUser, u32)
     requires { user.table ≡ ring.now.table }
     ensures { result.0.table ≡ ring.now.table }
@@ -106,7 +106,8 @@ fn take_many(ring: &Ring, mut user: RingUser) -> (RingUser, u32)
     (user, in_turn)
 }
 
-/// Both put their numbers in, side by side. Returns the first, who has gathered the other.
+/// Lets both users put their numbers in, side by side. Returns the first user, which has gathered
+/// the other.
 fn put_both<R: Threads + Sync>(
     rt: &R,
     ring: &Ring,
@@ -129,7 +130,8 @@ fn put_both<R: Threads + Sync>(
     (one, some.saturating_add(more))
 }
 
-/// A day: one takes out while the others put in. Returns the user, who has gathered all others.
+/// Runs a day: one user takes numbers out while the others put them in. Returns the user, which
+/// has gathered all others.
 fn spend<R: Threads + Sync>(rt: &R, ring: &Ring, mut user: RingUser) -> (RingUser, Day)
     requires { user.table ≡ ring.now.table }
     ensures { result.0.table ≡ ring.now.table }
