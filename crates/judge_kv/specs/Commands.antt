@@ -1,10 +1,18 @@
 -- The operations and replies that commands and answers stand for.
+use Rattle.judge_kv.specs.declared.command.Change.{Change as Changing}
+use Rattle.judge_kv.specs.declared.command.Change.TheVariants as change
 use Rattle.judge_kv.specs.declared.command.Command.{Command}
 use Rattle.judge_kv.specs.declared.command.Command.TheVariants as command
 use Rattle.judge_kv.specs.declared.answer.Said.{Said}
 use Rattle.judge_kv.specs.declared.answer.Said.TheVariants as said
-use Rattle.judge_kv.specs.Operations.{Does, Get, Put, Delete, CompareAndSet, Append, PutIfAbsent, GetAndSet}
+use Rattle.judge_kv.specs.Operations.{Does, Get, Put, Delete, CompareAndSet, Append, PutIfAbsent, GetAndSet, Increment, Transact, TransactAndGet, Change, Keep, Become}
+use Rattle.judge_kv.specs.Shared.{value_in}
 use Rattle.judge_kv.specs.Replies.{Answered, Done, Truth, Has, Missing}
+
+-- what a transaction makes of its key
+abbrev pub makes : Changing → Change
+makes change.Keep = Keep
+makes (change.Become held) = Become (value_in held)
 
 -- what a command asks of its key
 abbrev pub does : Command → Does
@@ -15,6 +23,10 @@ does (command.CompareAndSet old new) = CompareAndSet old.value new.value
 does (command.Append more) = Append more.value
 does (command.PutIfAbsent value) = PutIfAbsent value.value
 does (command.GetAndSet value) = GetAndSet value.value
+does (command.Increment by) = Increment by
+does (command.Transact old first second) = Transact (value_in old) (makes first) (makes second)
+does (command.TransactAndGet old first second) =
+    TransactAndGet (value_in old) (makes first) (makes second)
 
 -- the reply
 abbrev pub answered : Said → Answered

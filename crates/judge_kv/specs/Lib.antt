@@ -1,8 +1,6 @@
-pub mod Quoting
 pub mod Operations
 pub mod Replies
 pub mod Rules
 pub mod Shared
 pub mod Commands
-pub mod Texts
 pub mod Words

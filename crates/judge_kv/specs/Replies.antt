@@ -1,7 +1,7 @@
 -- The replies of a key-value store, and their texts. A missing value differs from every value, also
 -- in text, since the text of a value begins with a quote.
 use Rattle.std.specs.Prelude.{ℕ, Bool, true, false, Option, Some, None, List, codes}
-use Rattle.judge_kv.specs.Quoting.{quoted}
+use Rattle.judge_text.specs.Quoting.{quoted}
 
 -- it was done; it was done or not; the key has this value; the key has none
 pub data Answered : Type 0 where

@@ -4,8 +4,8 @@ ghost use Rattle.std.specs.Prelude.{◌≡◌, ◌++◌, OnOk};
 ghost use Rattle.judge_kv.specs.Replies.{Done, Truth, Has, answer_text, value_answer};
 ghost use Rattle.judge_kv.specs.Shared.{value_in};
 
-use crate::quoting::print_quoted;
 use crate::value::Value;
+use judge_text::print_quoted;
 use std::alloc::AllocError;
 use std::marker::Model;
 use std::rc::Rc;

@@ -2,17 +2,19 @@
 
 ghost use Rattle.std.specs.Prelude.{◌≡◌, true, None, Ok, IfOk};
 ghost use Rattle.judge_kv.specs.Shared.{value_in};
-ghost use Rattle.judge_kv.specs.Commands.{does};
-ghost use Rattle.judge_kv.specs.Rules.{cell, held_after, has, extended};
+ghost use Rattle.judge_kv.specs.Commands.{does, makes};
+ghost use Rattle.judge_kv.specs.Rules as spec;
+ghost use Rattle.judge_kv.specs.Rules.{cell, held_after, has, extended, increased, changed_by};
 
 use crate::answer::Answer;
-use crate::command::{Command, Operation};
+use crate::command::{Change, Command, Operation};
 use crate::value::Value;
 use judge_many::Named;
 use judge_object::Object;
 use std::alloc::{AllocError, Global};
 use std::marker::Model;
 use std::rc::Rc;
+use vac_lines::read_memory_word;
 
 /// The state of a key. Contracts see the bytes of its value, if it has one.
 #[derive(Drop)]
@@ -72,6 +74,81 @@ impl Cell {
         }
     }
 
+    /// Returns the number that its value writes; 0 if it has none.
+    fn number(&self) -> Option<u64>
+        ensures { result ≡ spec.number_of self.now }
+    {
+        match &self.value {
+            None => Some(0),
+            Some(value) => read_memory_word(value.as_slice()),
+        }
+    }
+
+    /// Returns its number with another one added, if there is a sum.
+    fn summed(&self, by: u64) -> Option<u64>
+        ensures { result ≡ spec.summed (spec.number_of self.now) by }
+    {
+        self.number()?.checked_add(by)
+    }
+
+    /// Returns the state after a number was added, and the reply.
+    fn increased(self, by: u64) -> Result<(Cell, Answer), AllocError>
+        ensures { IfOk result (λ made.
+            increased self (spec.summed (spec.number_of self) by) ≡ (made.0, made.1)) }
+    {
+        let alloc = self.alloc;
+        match self.summed(by) {
+            None => Ok((self, Answer::truth(false))),
+            Some(sum) => {
+                let value = Rc::new(alloc, Value::from_number(alloc, sum)?)?;
+                let answer = Answer::value(value.clone()?);
+                let value = Some(value);
+                Ok((Cell { alloc, value }, answer))
+            }
+        }
+    }
+
+    /// Returns whether it has just this value, or none.
+    fn is_held(&self, old: &Option<Rc<Value>>) -> bool
+        ensures { result ≡ spec.is_held self.now (value_in old.now) }
+    {
+        match old {
+            None => !self.value.is_some(),
+            Some(old) => self.has(old),
+        }
+    }
+
+    /// Returns the state after a change.
+    fn changed(self, change: &Change) -> Result<Cell, AllocError>
+        ensures { IfOk result (λ made. changed_by self (makes change.now) ≡ made) }
+    {
+        match change {
+            Change::Keep => Ok(self),
+            Change::Become(value) => Ok(Cell {
+                alloc: self.alloc,
+                value: shared(value)?,
+            }),
+        }
+    }
+
+    /// Returns the state after a transaction, and whether it made the first change.
+    fn transacted(
+        self,
+        old: &Option<Rc<Value>>,
+        first: &Change,
+        second: &Change,
+    ) -> Result<(Cell, bool), AllocError>
+        ensures { IfOk result (λ made.
+            spec.transacted self (value_in old.now) (makes first.now) (makes second.now)
+            ≡ (made.0, made.1)) }
+    {
+        if self.is_held(old) {
+            Ok((self.changed(first)?, true))
+        } else {
+            Ok((self.changed(second)?, false))
+        }
+    }
+
     /// Returns the state after a command, and the reply.
     fn after(self, command: &Command) -> Result<(Cell, Answer), AllocError>
         ensures { IfOk result (λ made. held_after self (does command.now) ≡ (made.0, made.1)) }
@@ -111,6 +188,16 @@ impl Cell {
                 let answer = Answer::has(shared(&self.value)?);
                 let value = Some(value.clone()?);
                 Ok((Cell { alloc, value }, answer))
+            }
+            Command::Increment(by) => self.increased(*by),
+            Command::Transact(old, first, second) => {
+                let (cell, is_first) = self.transacted(old, first, second)?;
+                Ok((cell, Answer::truth(is_first)))
+            }
+            Command::TransactAndGet(old, first, second) => {
+                let answer = Answer::has(shared(&self.value)?);
+                let (cell, _) = self.transacted(old, first, second)?;
+                Ok((cell, answer))
             }
         }
     }

@@ -7,6 +7,15 @@ use crate::value::Value;
 use std::marker::Model;
 use std::rc::Rc;
 
+/// The effect of a transaction on the value of its key.
+#[derive(Drop)]
+pub enum Change {
+    /// The key keeps its value.
+    Keep,
+    /// The key has this value afterwards, or none.
+    Become(Option<Rc<Value>>),
+}
+
 /// An operation on a key.
 #[derive(Drop)]
 pub enum Command {
@@ -24,6 +33,12 @@ pub enum Command {
     PutIfAbsent(Rc<Value>),
     /// Sets its value and returns the one before.
     GetAndSet(Rc<Value>),
+    /// Adds a number to the one that its value writes.
+    Increment(u64),
+    /// Makes the first change if it has just this value, or none; else the second.
+    Transact(Option<Rc<Value>>, Change, Change),
+    /// Does so, and returns what it had before.
+    TransactAndGet(Option<Rc<Value>>, Change, Change),
 }
 
 /// An operation: a command and the key that it is for. Contracts see both.

@@ -1,9 +1,10 @@
 //! Values of a key.
 
-ghost use Rattle.std.specs.Prelude.{◌≡◌, ◌++◌, true, IfOk};
+ghost use Rattle.std.specs.Prelude.{◌≡◌, ◌++◌, true, IfOk, decimal};
 
 use std::alloc::{AllocError, Global};
 use std::marker::Model;
+use vac_lines::append_field;
 
 /// A value of a key: bytes.
 #[derive(Drop)]
@@ -43,6 +44,15 @@ impl Value {
     {
         let hash = hashed(EMPTY_HASH, bytes.as_slice());
         Value { bytes, hash }
+    }
+
+    /// Returns the value that writes a number in decimal.
+    pub(crate) fn from_number(alloc: Global, number: u64) -> Result<Value, AllocError>
+        ensures { IfOk result (λ value. value ≡ decimal number) }
+    {
+        let mut bytes = Vec::new(alloc);
+        append_field(&mut bytes, b"", number)?;
+        Ok(Value::from_bytes(bytes))
     }
 
     /// These bytes.

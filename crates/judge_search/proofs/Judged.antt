@@ -1,4 +1,4 @@
--- What is found at the start is found of all calls.
+-- A finding at the start is a finding on all calls.
 use Rattle.std.proofs.Common.{◌≡◌, sym, ℕ, ◌+◌, ◌≤◌, suc, Bool, false, cond, List, [], ◌∷◌, refl, ap, ◌∙◌, subst, arith}
 use Rattle.std.proofs.Common.{nat_lt}
 use Rattle.std.proofs.lemmas.Bool.Decides.{nat_tests}

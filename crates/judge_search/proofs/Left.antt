@@ -1,4 +1,4 @@
--- What is left where a call has a place.
+-- The calls that are left once a call has a place.
 use Rattle.std.proofs.Common.{◌≡◌, ℕ, ◌+◌, Bool, true, false, cond, List, [], ◌∷◌, refl, ap, inl, inr, arith}
 use Rattle.judge_object.specs.Call.{Call}
 use Rattle.judge_object.specs.Call.{IsBehind}

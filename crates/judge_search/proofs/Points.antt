@@ -1,4 +1,4 @@
--- What a search among the calls of a history finds of a place.
+-- Results of the search for a place among the calls of a history.
 use Rattle.std.proofs.Common.{◌≡◌, ◌⊎◌, ℕ, ◌+◌, ◌<◌, ◌≤◌, ◌==◌, ◌||◌, ◌&&◌, suc, zero, Bool, true, false, not, is_some}
 use Rattle.std.proofs.Common.{cond, Option, Some, None, List, [], ◌∷◌, length, take, get_or, refl, sym, ap, ◌∙◌, inl}
 use Rattle.std.proofs.Common.{inr, arith, nat_lt, add-one, ◌-◌, subst}

@@ -1,4 +1,4 @@
--- What a running search does is a step of a search.
+-- Each turn of the running search is a step of the search as defined.
 use Rattle.std.proofs.Common.{◌≡◌, ◌⊎◌, ℕ, ◌+◌, ◌<◌, ◌≤◌, ◌==◌, ◌||◌, max, suc, zero, Bool, true, false, cond, Some}
 use Rattle.std.proofs.Common.{None, nat_lt, inl, inr, List, [], ◌∷◌, ◌++◌, map, length, slice_get, refl, sym, ap, ◌∙◌}
 use Rattle.std.proofs.Common.{subst, arith}

@@ -1,4 +1,4 @@
--- What is kept of spans, which are listed from the newest on.
+-- The state that a judge keeps of the spans so far. Spans are listed from the newest on.
 use Rattle.std.specs.Prelude.{◌≡◌, ⊤, ℕ, ◌==◌, ◌≤◌, max, Option, Some, None, List, [], ◌∷◌, length, if◌then◌else◌}
 use Rattle.std.specs.FinMap.{get, len}
 use Rattle.judge_time.specs.declared.span.Span.{Span}

@@ -1,4 +1,4 @@
--- What must hold of the spans of things in an order.
+-- Conditions on the spans of things in an order.
 use Rattle.std.specs.Prelude.{◌≡◌, ℕ, ◌<◌, ◌≤◌, Some, List, [], ◌∷◌, ◌++◌, slice_get}
 use Rattle.judge_time.specs.declared.span.Span.{Span}
 use Rattle.judge_time.specs.declared.span.Misplaced.{Misplaced}

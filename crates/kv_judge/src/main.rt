@@ -2,76 +2,12 @@
 //! `CLIENT BEGIN END OPERATION -> REPLY`, in any order, each client's in its own.
 #![tactic(auto)]
 
-mod verdict;
-
-use judge_store::{TextVerdict, judge_text};
-use std::alloc::{AllocError, Global};
-use std::io::{ErrorKind, Read, Write};
+use judge_kv::Cell;
+use judge_text::judge_input;
 use std::process::ExitCode;
-use vac_lines::{CHUNK_BYTES, MOST_READS, write_and_flush};
-use verdict::{print_fault, print_verdict};
-
-/// Most steps of the search among the calls of one key.
-const STEPS: u64 = 10_000_000;
-
-/// Exit status of a legal history.
-const LEGAL: u8 = 0;
-
-/// Exit status of any other verdict.
-const NOT_LEGAL: u8 = 1;
-
-/// Exit status if the input could not be read, the output not written, or memory was refused.
-const BROKEN: u8 = 2;
-
-/// Reads all bytes of the input, or `None` if it could not be read to its end.
-fn read_all<R: Read>(alloc: Global, input: &mut R) -> Result<Option<Vec<u8>>, AllocError> {
-    let mut text = Vec::new(alloc);
-    let mut buffer = vec![in alloc; 0; CHUNK_BYTES]?;
-    let chunk = buffer.as_mut_slice();
-    for _ in 0..MOST_READS {
-        match input.read(chunk) {
-            Ok(0) => return Ok(Some(text)),
-            Ok(count) => text.extend_from_slice(&chunk[..count])?,
-            Err(error) => {
-                if error.kind() != ErrorKind::Interrupted {
-                    return Ok(None);
-                }
-            }
-        }
-    }
-    Ok(None)
-}
-
-/// Returns the text of the verdict on a history, and whether it is legal.
-fn judge(alloc: Global, text: &[u8]) -> Result<(Vec<u8>, bool), AllocError> {
-    let mut out = Vec::new(alloc);
-    match judge_text(alloc, text, STEPS, &mut ())? {
-        TextVerdict::Fault(number, fault) => {
-            print_fault(number, fault, &mut out)?;
-            Ok((out, false))
-        }
-        TextVerdict::Judged(counts, verdict) => {
-            let is_legal = print_verdict(alloc, counts, &verdict, &mut out)?;
-            Ok((out, is_legal))
-        }
-    }
-}
-
-/// Judges the input and writes the verdict. Returns the exit status.
-fn run<R: Read, W: Write>(alloc: Global, input: &mut R, output: &mut W) -> u8 {
-    let Ok(Some(text)) = read_all(alloc, input) else {
-        return BROKEN;
-    };
-    let Ok((verdict, is_legal)) = judge(alloc, text.as_slice()) else {
-        return BROKEN;
-    };
-    if write_and_flush(output, verdict.as_slice()).is_err() {
-        return BROKEN;
-    }
-    if is_legal { LEGAL } else { NOT_LEGAL }
-}
 
 fn main(rt: HostRuntime) -> ExitCode {
     let alloc = rt.alloc();
-    ExitCode::from(run(alloc, &mut rt.stdin(), &mut rt.stdout()))
+    let start = Cell::new(alloc);
+    ExitCode::from(judge_input(alloc, &start, &mut rt.stdin(), &mut rt.stdout()))
 }

@@ -42,8 +42,8 @@ use Rattle.vac_lines.proofs.TaskReading.{words_plain, task_some}
 use Rattle.vac_judge.specs.Call.{Call, CallTexts, is_arrow, parts_of, call_parts, parts_call, at_client, at_time}
 use Rattle.vac_judge.specs.Call.{at_end}
 use Rattle.vac_judge.specs.Call.{reply_at, is_no_end, is_no_reply, line_call}
-use Rattle.vac_spans.specs.declared.client.TheConstants.{MOST_CLIENT}
-use Rattle.vac_spans.specs.declared.span.TheConstants.{NEVER}
+use Rattle.vac_clients.specs.declared.client.TheConstants.{MOST_CLIENT}
+use Rattle.judge_time.specs.declared.span.TheConstants.{NEVER}
 use Rattle.vac_lines.specs.declared.line.TheConstants.{LINE_BYTES}
 use Rattle.vac_judge.specs.Parts.{IsCutAtArrow}
 use Rattle.vac_judge.specs.CallText.{call_text, end_text, answer_text, IsPick, IsReply, IsUnanswered, IsWritten}
@@ -341,8 +341,8 @@ fits_spaced a b xs ys p q = fits_both (a + 1) b (xs ++ codes " ") ys
 record IsGiven (c : Call) : Type 0 where
   pub client : c.client ≤ MOST_CLIENT
   pub begin : c.begin < 2 ^ 64
-  pub task : is_task c.task ≡ true
-  pub line : length (task_text c.task) ≤ LINE_BYTES
+  pub task : is_task c.op ≡ true
+  pub line : length (task_text c.op) ≤ LINE_BYTES
   pub end_fits : Fits 20 (end_text c.reply c.end)
   pub end_plain : IsPlain (end_text c.reply c.end)
   pub end_other : IsOther (end_text c.reply c.end)
@@ -373,8 +373,8 @@ reply_other (reply.Update u) h = refl
 
 -- the facts of a call that was answered so
 given_some : (c : Call) (text : List ℕ) → c.reply ≡ Some text → c.client ≤ MOST_CLIENT → c.begin < 2 ^ 64 →
-    c.end < 2 ^ 64 → is_task c.task ≡ true
-    → length (task_text c.task) ≤ LINE_BYTES → Fits 800 text → is_no_reply text ≡ false → IsGiven c
+    c.end < 2 ^ 64 → is_task c.op ≡ true
+    → length (task_text c.op) ≤ LINE_BYTES → Fits 800 text → is_no_reply text ≡ false → IsGiven c
 given_some c text e client begin end task line f other =
     let digits = digits_no_end (decimal c.end) (all_digits c.end end) in
     record {
@@ -420,7 +420,7 @@ given_of c (inr h) = given_none c h
 -- what stands before the arrow
 abbrev front : Call → List ℕ
 front c = decimal c.client ++ codes " " ++ decimal c.begin ++ codes " " ++ end_text c.reply c.end ++ codes " " ++
-    task_text c.task
+    task_text c.op
 
 call_fits : (c : Call) → IsGiven c → Fits 4096 (call_text c)
 call_fits c h =
@@ -431,15 +431,15 @@ call_fits c h =
     let end : Fits 62 (decimal c.client ++ codes " " ++ decimal c.begin ++ codes " " ++ last) =
     fits_spaced 41 20 (decimal c.client ++ codes " " ++ decimal c.begin) last begin h.end_fits in
     let line : Fits 1087 (front c) =
-    fits_spaced 62 1024 (decimal c.client ++ codes " " ++ decimal c.begin ++ codes " " ++ last) (task_text c.task) end
-    (task_fits c.task h.task h.line) in
+    fits_spaced 62 1024 (decimal c.client ++ codes " " ++ decimal c.begin ++ codes " " ++ last) (task_text c.op) end
+    (task_fits c.op h.task h.line) in
     fits_more 1891 4096 (call_text c) (omega arith)
     (fits_both 1091 800 (front c ++ codes " -> ") (answer_text c.reply)
     (fits_both 1087 4 (front c) (codes " -> ") line (record { clean = refl; size = omega arith })) h.reply_fits)
 
 -- the words before the arrow
 abbrev head_words : Call → List (List ℕ)
-head_words c = decimal c.client ∷ decimal c.begin ∷ end_text c.reply c.end ∷ task_words c.task
+head_words c = decimal c.client ∷ decimal c.begin ∷ end_text c.reply c.end ∷ task_words c.op
 
 spaced_text : (ws : List (List ℕ)) → 0 < length ws → spaced ws ≡ 32 ∷ words_text ws
 spaced_text [] h = absurd (omega arith)
@@ -451,16 +451,16 @@ from_left a b c d = simp append_assoc
 front_is : (c : Call) → front c ≡ words_text (head_words c)
 front_is c =
     let last = end_text c.reply c.end in
-    from_left (decimal c.client) (decimal c.begin) last (task_text c.task)
+    from_left (decimal c.client) (decimal c.begin) last (task_text c.op)
     ∙ ap (λ s. decimal c.client ++ 32 ∷ (decimal c.begin ++ 32 ∷ (last ++ s)))
-    (sym (spaced_text (task_words c.task) (task_some c.task)))
+    (sym (spaced_text (task_words c.op) (task_some c.op)))
 
 front_words : (c : Call) → IsGiven c → words_of (front c) ≡ head_words c
 front_words c h =
     ap words_of (front_is c)
     ∙ words_cut (head_words c) (omega arith) (
       number_in_word c.client (let small = h.client in omega (arith, small)),
-      (number_in_word c.begin h.begin, (h.end_plain, words_plain c.task h.task)),
+      (number_in_word c.begin h.begin, (h.end_plain, words_plain c.op h.task)),
     )
 
 call_cut : (c : Call) → IsGiven c → IsCutAtArrow (call_text c) (front c) (answer_text c.reply)
@@ -471,7 +471,7 @@ call_cut c h = record {
       ap (list_any is_arrow) (front_words c h)
       ∙ no_arrow (head_words c) (
         number_other c.client (let small = h.client in omega (arith, small)),
-        (number_other c.begin h.begin, (h.end_other, task_other c.task h.task)),
+        (number_other c.begin h.begin, (h.end_other, task_other c.op h.task)),
       );
 }
 
@@ -481,19 +481,19 @@ written c = record {
   client = decimal c.client;
   begin = decimal c.begin;
   end = end_text c.reply c.end;
-  line = task_text c.task;
+  line = task_text c.op;
   reply = answer_text c.reply;
 }
 
 call_cut_parts : (c : Call) → IsGiven c → call_parts (call_text c) ≡ Some (written c)
 call_cut_parts c h =
     let last = end_text c.reply c.end in
-    let task : words_of (task_text c.task) ≡ task_words c.task =
-    words_cut (task_words c.task) (task_some c.task) (words_plain c.task h.task) in
+    let task : words_of (task_text c.op) ≡ task_words c.op =
+    words_cut (task_words c.op) (task_some c.op) (words_plain c.op h.task) in
     cut_gives (call_text c) (front c) (answer_text c.reply) (call_cut c h)
     ∙ ap (λ t. parts_of t (words_of (answer_text c.reply))) (front_words c h ∙
     ap (λ t. decimal c.client ∷ decimal c.begin ∷ last ∷ t) (sym task))
-    ∙ all_parts (decimal c.client) (decimal c.begin) last (task_text c.task) (answer_text c.reply)
+    ∙ all_parts (decimal c.client) (decimal c.begin) last (task_text c.op) (answer_text c.reply)
 
 -- tests that agree make no half
 whole : (a b : Bool) → a ≡ b → cond a (not b) b ≡ false
@@ -510,7 +510,7 @@ parts_read read c h =
       time_read c.begin h.begin,
       h.end_read,
       h.reply_read,
-      read c.task h.task h.line,
+      read c.op h.task h.line,
     ) refl
 
 line_read : (line : List ℕ) (parts : CallTexts) (c : Call) → Fits 4096 line → call_parts line ≡ Some parts →

@@ -115,21 +115,21 @@ goes_on work earlier (c ∷ cs) h k = go (λ g. goes_on work (c ∷ earlier) cs 
         let more = next g in
         elim (test c.client k) [
           | inl same ↦
-              let now = subst (λ q. drop (made_by q earlier) (forms (tasks_of q work)) ≡ task_text c.task ∷ drop
+              let now = subst (λ q. drop (made_by q earlier) (forms (tasks_of q work)) ≡ task_text c.op ∷ drop
               (made_by q earlier + 1) (forms (tasks_of q work))) same.1
-              (drop_at (tasks_of c.client work) (made_by c.client earlier) c.task e) in
+              (drop_at (tasks_of c.client work) (made_by c.client earlier) c.op e) in
               let made : made_by k earlier + 1 ≡ made_by k (c ∷ earlier) =
               ap (λ b. cond b (made_by k earlier + 1) (made_by k earlier)) (sym same.0) in (
                 more.0,
-                now ∙ ap (λ t. task_text c.task ∷ t) (ap (λ n. drop n (forms (tasks_of k work))) made ∙ more.1)
-                    ∙ ap (λ b. forms (cond b (c.task ∷ asked_by k cs) (asked_by k cs)) ++ more.0) (sym same.0),
+                now ∙ ap (λ t. task_text c.op ∷ t) (ap (λ n. drop n (forms (tasks_of k work))) made ∙ more.1)
+                    ∙ ap (λ b. forms (cond b (c.op ∷ asked_by k cs) (asked_by k cs)) ++ more.0) (sym same.0),
               )
           | inr other ↦
               let made : made_by k earlier ≡ made_by k (c ∷ earlier) =
               ap (λ b. cond b (made_by k earlier + 1) (made_by k earlier)) (sym other.0) in (
                 more.0,
                 ap (λ n. drop n (forms (tasks_of k work))) made ∙ more.1 ∙
-                    ap (λ b. forms (cond b (c.task ∷ asked_by k cs) (asked_by k cs)) ++ more.0) (sym other.0),
+                    ap (λ b. forms (cond b (c.op ∷ asked_by k cs) (asked_by k cs)) ++ more.0) (sym other.0),
               )
         ]
     go next false e g = absurd (none_some (length earlier + 1) g)
@@ -142,10 +142,10 @@ none_foreign work earlier [] h = refl
 none_foreign work earlier (c ∷ cs) h =
     let own = h c.client in
     let itself : (c.client == c.client) ≡ true = grind (arith, nat_tests) in
-    let first : drop (made_by c.client earlier) (forms (tasks_of c.client work)) ≡ task_text c.task ∷
+    let first : drop (made_by c.client earlier) (forms (tasks_of c.client work)) ≡ task_text c.op ∷
     (forms (asked_by c.client cs) ++ own.0) =
-    own.1 ∙ ap (λ b. forms (cond b (c.task ∷ asked_by c.client cs) (asked_by c.client cs)) ++ own.0) itself in
-    let next = at_drop (tasks_of c.client work) (made_by c.client earlier) c.task
+    own.1 ∙ ap (λ b. forms (cond b (c.op ∷ asked_by c.client cs) (asked_by c.client cs)) ++ own.0) itself in
+    let next = at_drop (tasks_of c.client work) (made_by c.client earlier) c.op
     (forms (asked_by c.client cs) ++ own.0) first in
     ap (λ b. cond b (first_foreign work (c ∷ earlier) (map Ok cs)) (Some (length earlier + 1))) next
     ∙ none_foreign work (c ∷ earlier) cs (λ k. ((h k).0, later k (test c.client k) (h k).0 (h k).1))
@@ -156,13 +156,13 @@ none_foreign work earlier (c ∷ cs) h =
         let made : made_by k (c ∷ earlier) ≡ made_by k earlier + 1 =
         ap (λ b. cond b (made_by k earlier + 1) (made_by k earlier)) same.0 in
         ap (λ n. drop n (forms (tasks_of k work))) made
-        ∙ drop_tail (forms (tasks_of k work)) (made_by k earlier) (task_text c.task) (forms (asked_by k cs) ++ left)
-        (g ∙ ap (λ b. forms (cond b (c.task ∷ asked_by k cs) (asked_by k cs)) ++ left) same.0)
+        ∙ drop_tail (forms (tasks_of k work)) (made_by k earlier) (task_text c.op) (forms (asked_by k cs) ++ left)
+        (g ∙ ap (λ b. forms (cond b (c.op ∷ asked_by k cs) (asked_by k cs)) ++ left) same.0)
     later k (inr other) left g =
         let made : made_by k (c ∷ earlier) ≡ made_by k earlier =
         ap (λ b. cond b (made_by k earlier + 1) (made_by k earlier)) other.0 in
         ap (λ n. drop n (forms (tasks_of k work))) made ∙ g ∙
-        ap (λ b. forms (cond b (c.task ∷ asked_by k cs) (asked_by k cs)) ++ left) other.0
+        ap (λ b. forms (cond b (c.op ∷ asked_by k cs) (asked_by k cs)) ++ left) other.0
 
 -- ---- tasks that are missing
 
@@ -177,7 +177,7 @@ made_in k earlier (c ∷ cs) =
     made_in k (c ∷ earlier) cs ∙ split (c.client == k)
   where
     split : (b : Bool) → cond b (made_by k earlier + 1) (made_by k earlier) + length
-        (asked_by k cs) ≡ made_by k earlier + length (cond b (c.task ∷ asked_by k cs) (asked_by k cs))
+        (asked_by k cs) ≡ made_by k earlier + length (cond b (c.op ∷ asked_by k cs) (asked_by k cs))
     split true = omega arith
     split false = refl
 

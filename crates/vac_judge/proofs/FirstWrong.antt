@@ -11,9 +11,10 @@ use Rattle.vac_judge.specs.declared.verdict.Wrong.{Wrong}
 use Rattle.vac_judge.specs.declared.verdict.Wrong.TheVariants as wrong
 use Rattle.vac_judge.specs.declared.verdict.Verdict.TheVariants.{Fault, Illegal}
 use Rattle.vac_judge.specs.Call.{Call, line_call}
-use Rattle.vac_spans.proofs.Order as spans
-use Rattle.vac_spans.proofs.Order.{passes, fails}
-use Rattle.vac_judge.specs.Order.{span_of, call_breaks_client, call_breaks_time, wrong_of}
+use Rattle.judge_time.proofs.Order as spans
+use Rattle.judge_time.proofs.Order.{passes, fails}
+use Rattle.judge_object.specs.Call.{span_of}
+use Rattle.vac_judge.specs.Order.{call_breaks_client, call_breaks_time, wrong_of}
 use Rattle.vac_lines.specs.Text.{is_right}
 use Rattle.vac_judge.specs.Verdict.{judged, unless_wrong, verdict_on}
 use Rattle.vac_judge.specs.Laws.{IsAnswerOf, GiveReplies, IsLinearization, state_after}
@@ -61,7 +62,7 @@ of_tests client time reply r (wrong.Reply e) h =
 
 -- what the sequential manager answers to a call behind these
 abbrev expected : ℕ → List Call → Call → Reply
-expected n cs c = (run (state_after (empty_state n) cs) c.task).1
+expected n cs c = (run (state_after (empty_state n) cs) c.op).1
 
 -- the tests on a call behind calls in a legal order
 abbrev TestsOn : ℕ → List Call → Call → Wrong → Type 0
@@ -99,9 +100,9 @@ of_cause n cs c (wrong.Reply e) l h = (
 )
 
 last_reply : (s : State) (cs : List Call) (c : Call) → GiveReplies s (cs ++ c ∷ []) →
-    IsAnswerOf (run (state_after s cs) c.task).1 c.reply
+    IsAnswerOf (run (state_after s cs) c.op).1 c.reply
 last_reply s [] c h = h.0
-last_reply s (d ∷ cs) c h = last_reply (run s d.task).0 cs c h.1
+last_reply s (d ∷ cs) c h = last_reply (run s d.op).0 cs c h.1
 
 -- with the call there is no linearization
 none_with : (n : ℕ) (cs : List Call) (c : Call) (w : Wrong) → IsCause n cs c w → IsLinearization n (cs ++ c ∷ []) → ⊥
@@ -133,12 +134,12 @@ find : (s : State) (earlier : List Call) (lines : List (Result Call CallFault)) 
     judged s earlier lines ≡ Illegal line w → Found s earlier lines line w
 find s earlier [] line w h = absurd (let e = h in cc)
 find s earlier (Err fault ∷ rest) line w h = absurd (not_fault (length earlier + 1) line fault w h)
-find s earlier (Ok c ∷ rest) line w h = decide (λ g. find (run s c.task).0 (c ∷ earlier) rest line w g)
+find s earlier (Ok c ∷ rest) line w h = decide (λ g. find (run s c.op).0 (c ∷ earlier) rest line w g)
     (wrong_of s earlier c) refl h
   where
-    decide : (judged (run s c.task).0 (c ∷ earlier) rest ≡ Illegal line w →
-        Found (run s c.task).0 (c ∷ earlier) rest line w) → (found : Option Wrong) → wrong_of s earlier c ≡ found
-        → unless_wrong found (length earlier + 1) (judged (run s c.task).0 (c ∷ earlier) rest) ≡ Illegal line w →
+    decide : (judged (run s c.op).0 (c ∷ earlier) rest ≡ Illegal line w →
+        Found (run s c.op).0 (c ∷ earlier) rest line w) → (found : Option Wrong) → wrong_of s earlier c ≡ found
+        → unless_wrong found (length earlier + 1) (judged (run s c.op).0 (c ∷ earlier) rest) ≡ Illegal line w →
         Found s earlier (Ok c ∷ rest) line w
     decide next None e g =
         let more = next g in
@@ -170,13 +171,13 @@ named : (s : State) (earlier before : List Call) (call : Call) (rest : List (Res
     judged s earlier (map Ok before ++ Ok call ∷ rest) ≡ Illegal (length earlier + length before + 1) w
 named s earlier [] call rest w h e =
     let same : length earlier + 1 ≡ length earlier + 0 + 1 = omega arith in
-    ap (λ x. unless_wrong x (length earlier + 1) (judged (run s call.task).0 (call ∷ earlier) rest)) e ∙
+    ap (λ x. unless_wrong x (length earlier + 1) (judged (run s call.op).0 (call ∷ earlier) rest)) e ∙
     ap (λ k. Illegal k w) same
 named s earlier (c ∷ cs) call rest w h e =
     let same : suc (length earlier) + length cs + 1 ≡ length earlier + suc (length cs) + 1 = omega arith in
-    ap (λ x. unless_wrong x (length earlier + 1) (judged (run s c.task).0 (c ∷ earlier) (map Ok cs ++ Ok call ∷ rest)))
+    ap (λ x. unless_wrong x (length earlier + 1) (judged (run s c.op).0 (c ∷ earlier) (map Ok cs ++ Ok call ∷ rest)))
     (wrong_none s earlier c h.0)
-    ∙ named (run s c.task).0 (c ∷ earlier) cs call rest w h.1 e ∙ ap (λ k. Illegal k w) same
+    ∙ named (run s c.op).0 (c ∷ earlier) cs call rest w h.1 e ∙ ap (λ k. Illegal k w) same
 
 first_wrong : (n : ℕ) (bytes : List ℕ) (line : ℕ) (w : Wrong) → verdict_on n bytes ≡ Illegal line w →
     IsFirstWrong n bytes line w
@@ -241,12 +242,12 @@ find_fault s earlier (Err f ∷ rest) line fault h =
       number = omega (arith, same.0);
       right = tt;
     }
-find_fault s earlier (Ok c ∷ rest) line fault h = decide (λ g. find_fault (run s c.task).0
+find_fault s earlier (Ok c ∷ rest) line fault h = decide (λ g. find_fault (run s c.op).0
     (c ∷ earlier) rest line fault g) (wrong_of s earlier c) refl h
   where
-    decide : (judged (run s c.task).0 (c ∷ earlier) rest ≡ Fault line fault →
-        Faulty (run s c.task).0 (c ∷ earlier) rest line fault) → (found : Option Wrong) → wrong_of s earlier c ≡ found
-        → unless_wrong found (length earlier + 1) (judged (run s c.task).0 (c ∷ earlier) rest) ≡ Fault line fault →
+    decide : (judged (run s c.op).0 (c ∷ earlier) rest ≡ Fault line fault →
+        Faulty (run s c.op).0 (c ∷ earlier) rest line fault) → (found : Option Wrong) → wrong_of s earlier c ≡ found
+        → unless_wrong found (length earlier + 1) (judged (run s c.op).0 (c ∷ earlier) rest) ≡ Fault line fault →
         Faulty s earlier (Ok c ∷ rest) line fault
     decide next None e g =
         let more = next g in
@@ -267,9 +268,9 @@ named_fault s earlier [] fault rest h =
     ap (λ k. Fault k fault) same
 named_fault s earlier (c ∷ cs) fault rest h =
     let same : suc (length earlier) + length cs + 1 ≡ length earlier + suc (length cs) + 1 = omega arith in
-    ap (λ x. unless_wrong x (length earlier + 1) (judged (run s c.task).0 (c ∷ earlier)
+    ap (λ x. unless_wrong x (length earlier + 1) (judged (run s c.op).0 (c ∷ earlier)
     (map Ok cs ++ Err fault ∷ rest))) (wrong_none s earlier c h.0)
-    ∙ named_fault (run s c.task).0 (c ∷ earlier) cs fault rest h.1 ∙ ap (λ k. Fault k fault) same
+    ∙ named_fault (run s c.op).0 (c ∷ earlier) cs fault rest h.1 ∙ ap (λ k. Fault k fault) same
 
 first_fault : (n : ℕ) (bytes : List ℕ) (line : ℕ) (fault : CallFault) → verdict_on n bytes ≡ Fault line fault →
     IsFirstFault n bytes line fault

@@ -9,7 +9,7 @@ use Rattle.vac_model.specs.State.{State, empty_state}
 use Rattle.vac_model.specs.Run.{run}
 use Rattle.vac_lines.specs.Lines.{lines_of}
 use Rattle.vac_lines.specs.TaskText.{task_text}
-use Rattle.vac_spans.proofs.Order.{fails}
+use Rattle.judge_time.proofs.Order.{fails}
 use Rattle.vac_judge.specs.declared.fault.CallFault.{CallFault}
 use Rattle.vac_judge.specs.declared.verdict.Wrong.{Wrong}
 use Rattle.vac_judge.specs.declared.verdict.Verdict.{Verdict}
@@ -38,9 +38,9 @@ counted k calls =
     omega (arith, made, size)
 
 with_one : (before : List Call) (c : Call)
-    → forms (asked_by c.client before) ++ task_text c.task ∷ [] ≡ forms (asked_by c.client (before ++ c ∷ []))
+    → forms (asked_by c.client before) ++ task_text c.op ∷ [] ≡ forms (asked_by c.client (before ++ c ∷ []))
 with_one before c =
-    sym (map-append task_text (asked_by c.client before) (c.task ∷ []))
+    sym (map-append task_text (asked_by c.client before) (c.op ∷ []))
     ∙ ap forms (sym (asked_split c.client before c [] refl))
 
 -- where a call is its client's next, the client's calls with it ask for its first tasks
@@ -51,11 +51,11 @@ asks_with work before c a h =
     let m = made_by c.client (calls_in [] (map Ok before)) in
     let done = forms (asked_by c.client before) in
     let more = drop (m + 1) tasks in
-    let left : a.0 ≡ task_text c.task ∷ more =
+    let left : a.0 ≡ task_text c.op ∷ more =
     sym (drop-append_seam done a.0) ∙ ap (λ i. drop i (done ++ a.0)) (sym (counted c.client before))
-    ∙ ap (drop m) (sym a.1) ∙ drop_at (tasks_of c.client work) m c.task h in (
+    ∙ ap (drop m) (sym a.1) ∙ drop_at (tasks_of c.client work) m c.op h in (
       more,
-      a.1 ∙ ap (λ l. done ++ l) left ∙ sym (append_assoc done (task_text c.task ∷ []) more)
+      a.1 ∙ ap (λ l. done ++ l) left ∙ sym (append_assoc done (task_text c.op ∷ []) more)
           ∙ ap (λ l. l ++ more) (with_one before c),
     )
 
@@ -65,11 +65,11 @@ next_with : (work : List Asked) (before : List Call) (c : Call) → AskForFirst 
 next_with work before c a =
     let m = made_by c.client (calls_in [] (map Ok before)) in
     let done = forms (asked_by c.client before) in
-    let whole : forms (tasks_of c.client work) ≡ done ++ task_text c.task ∷ a.0 =
-    a.1 ∙ ap (λ l. l ++ a.0) (sym (with_one before c)) ∙ append_assoc done (task_text c.task ∷ []) a.0 in
-    at_drop (tasks_of c.client work) m c.task a.0
-    (ap (drop m) whole ∙ ap (λ i. drop i (done ++ task_text c.task ∷ a.0)) (counted c.client before)
-    ∙ drop-append_seam done (task_text c.task ∷ a.0))
+    let whole : forms (tasks_of c.client work) ≡ done ++ task_text c.op ∷ a.0 =
+    a.1 ∙ ap (λ l. l ++ a.0) (sym (with_one before c)) ∙ append_assoc done (task_text c.op ∷ []) a.0 in
+    at_drop (tasks_of c.client work) m c.op a.0
+    (ap (drop m) whole ∙ ap (λ i. drop i (done ++ task_text c.op ∷ a.0)) (counted c.client before)
+    ∙ drop-append_seam done (task_text c.op ∷ a.0))
 
 -- ---- the line that a verdict names, and the lines before it
 
@@ -90,16 +90,16 @@ right_before : (s : State) (earlier before : List Call) (rest : List (Result Cal
     → AllRight s earlier before
 right_before s earlier [] rest h = tt
 right_before s earlier (c ∷ before) rest h =
-    go (λ g. right_before (run s c.task).0 (c ∷ earlier) before rest g) (wrong_of s earlier c) refl h
+    go (λ g. right_before (run s c.op).0 (c ∷ earlier) before rest g) (wrong_of s earlier c) refl h
   where
     go : (comes_first (length (c ∷ earlier) + length before + 1)
-        (judged (run s c.task).0 (c ∷ earlier) (map Ok before ++ rest)) ≡ true
-        → AllRight (run s c.task).0 (c ∷ earlier) before) → (found : Option Wrong) → wrong_of s earlier c ≡ found
+        (judged (run s c.op).0 (c ∷ earlier) (map Ok before ++ rest)) ≡ true
+        → AllRight (run s c.op).0 (c ∷ earlier) before) → (found : Option Wrong) → wrong_of s earlier c ≡ found
         → comes_first (length earlier + length (c ∷ before) + 1) (unless_wrong found (length earlier + 1)
-        (judged (run s c.task).0 (c ∷ earlier) (map Ok before ++ rest))) ≡ true → AllRight s earlier (c ∷ before)
+        (judged (run s c.op).0 (c ∷ earlier) (map Ok before ++ rest))) ≡ true → AllRight s earlier (c ∷ before)
     go next None e g =
         let same : length earlier + suc (length before) + 1 ≡ suc (length earlier) + length before + 1 = omega arith in
-        let more = judged (run s c.task).0 (c ∷ earlier) (map Ok before ++ rest) in
+        let more = judged (run s c.op).0 (c ∷ earlier) (map Ok before ++ rest) in
         (right_of s earlier c e, next (subst (λ i. comes_first i more ≡ true) same g))
     go next (Some w) e g =
         let late = le_of (length earlier + suc (length before) + 1) (length earlier + 1) g in
@@ -110,14 +110,14 @@ after_all : (s : State) (earlier : List Call) (lines : List (Result Call CallFau
     → comes_first (length earlier + 1) (judged s earlier lines) ≡ true
 after_all s earlier [] = refl
 after_all s earlier (Err fault ∷ rest) = le_to (length earlier + 1) (length earlier + 1) (omega arith)
-after_all s earlier (Ok c ∷ rest) = go (after_all (run s c.task).0 (c ∷ earlier) rest) (wrong_of s earlier c)
+after_all s earlier (Ok c ∷ rest) = go (after_all (run s c.op).0 (c ∷ earlier) rest) (wrong_of s earlier c)
   where
-    go : comes_first (length (c ∷ earlier) + 1) (judged (run s c.task).0 (c ∷ earlier) rest) ≡ true
+    go : comes_first (length (c ∷ earlier) + 1) (judged (run s c.op).0 (c ∷ earlier) rest) ≡ true
         → (found : Option Wrong) → comes_first (length earlier + 1)
-        (unless_wrong found (length earlier + 1) (judged (run s c.task).0 (c ∷ earlier) rest)) ≡ true
+        (unless_wrong found (length earlier + 1) (judged (run s c.op).0 (c ∷ earlier) rest)) ≡ true
     go next None =
         let more : length earlier + 1 ≤ suc (length earlier) + 1 = omega arith in
-        sooner (length earlier + 1) (suc (length earlier) + 1) (judged (run s c.task).0 (c ∷ earlier) rest) more next
+        sooner (length earlier + 1) (suc (length earlier) + 1) (judged (run s c.op).0 (c ∷ earlier) rest) more next
     go next (Some w) = le_to (length earlier + 1) (length earlier + 1) (omega arith)
 
 -- so a line after right calls comes first
@@ -129,10 +129,10 @@ comes_after s earlier [] lines h =
     subst (λ i. comes_first i (judged s earlier lines) ≡ true) same (after_all s earlier lines)
 comes_after s earlier (c ∷ before) lines h =
     let same : suc (length earlier) + length before + 1 ≡ length earlier + suc (length before) + 1 = omega arith in
-    let rest = judged (run s c.task).0 (c ∷ earlier) (map Ok before ++ lines) in
+    let rest = judged (run s c.op).0 (c ∷ earlier) (map Ok before ++ lines) in
     ap (λ w. comes_first (length earlier + suc (length before) + 1) (unless_wrong w (length earlier + 1) rest))
     (wrong_none s earlier c h.0)
-    ∙ subst (λ i. comes_first i rest ≡ true) same (comes_after (run s c.task).0 (c ∷ earlier) before lines h.1)
+    ∙ subst (λ i. comes_first i rest ≡ true) same (comes_after (run s c.op).0 (c ∷ earlier) before lines h.1)
 
 -- ---- the first line of another task
 

@@ -2,15 +2,16 @@
 use Rattle.std.proofs.Common.{◌≡◌, Bool, true, false, cond, List, map, Option, Some, None, refl, sym, ap, ◌∙◌, subst}
 use Rattle.vac_model.specs.State.{State}
 use Rattle.vac_model.specs.Run.{run}
-use Rattle.vac_spans.specs.declared.span.Span.{Span}
-use Rattle.vac_spans.specs.declared.span.Misplaced.{Misplaced}
-use Rattle.vac_spans.specs.declared.span.Misplaced.TheVariants as place
-use Rattle.vac_spans.specs.Order.{itself, misplaced}
-use Rattle.vac_spans.proofs.Order.{misplaced_mapped}
+use Rattle.judge_time.specs.declared.span.Span.{Span}
+use Rattle.judge_time.specs.declared.span.Misplaced.{Misplaced}
+use Rattle.judge_time.specs.declared.span.Misplaced.TheVariants as place
+use Rattle.judge_time.specs.Order.{itself, misplaced}
+use Rattle.judge_time.proofs.Order.{misplaced_mapped}
 use Rattle.vac_judge.specs.declared.verdict.Wrong.{Wrong}
 use Rattle.vac_judge.specs.declared.verdict.Wrong.TheVariants.{Client, Time, Reply}
 use Rattle.vac_judge.specs.Call.{Call}
-use Rattle.vac_judge.specs.Order.{span_of, call_breaks_client, call_breaks_time, wrong_of}
+use Rattle.judge_object.specs.Call.{span_of}
+use Rattle.vac_judge.specs.Order.{call_breaks_client, call_breaks_time, wrong_of}
 use Rattle.vac_lines.specs.Text.{is_right}
 use Rattle.vac_judge.specs.Judging.{TimesSay, JudgesTimes}
 
@@ -51,23 +52,23 @@ found client time reply last = cond client (Some Client) (cond time (Some Time) 
 -- what is wrong with the times is wrong with the call
 pub wrong_times : (s : State) (earlier : List Call) (c : Call) (w : Wrong) → JudgesTimes earlier c (Some w) →
     wrong_of s earlier c ≡ Some w
-wrong_times s earlier c Client h = ap (λ b. found b (call_breaks_time earlier c) (is_right c.reply (run s c.task).1)
-    (Some (Reply (run s c.task).1))) h
+wrong_times s earlier c Client h = ap (λ b. found b (call_breaks_time earlier c) (is_right c.reply (run s c.op).1)
+    (Some (Reply (run s c.op).1))) h
 wrong_times s earlier c Time h =
-    ap (λ b. found b (call_breaks_time earlier c) (is_right c.reply (run s c.task).1) (Some (Reply (run s c.task).1)))
+    ap (λ b. found b (call_breaks_time earlier c) (is_right c.reply (run s c.op).1) (Some (Reply (run s c.op).1)))
     h.0
-    ∙ ap (λ b. found false b (is_right c.reply (run s c.task).1) (Some (Reply (run s c.task).1))) h.1
+    ∙ ap (λ b. found false b (is_right c.reply (run s c.op).1) (Some (Reply (run s c.op).1))) h.1
 wrong_times s earlier c (Reply r) h = absurd h
 
 -- where the times are right, the reply decides
 pub wrong_reply : (s : State) (earlier : List Call) (c : Call) (same : Bool) → JudgesTimes earlier c None →
-    same ≡ is_right c.reply (run s c.task).1
-    → wrong_of s earlier c ≡ cond same None (Some (Reply (run s c.task).1))
+    same ≡ is_right c.reply (run s c.op).1
+    → wrong_of s earlier c ≡ cond same None (Some (Reply (run s c.op).1))
 wrong_reply s earlier c same h e =
-    ap (λ b. found b (call_breaks_time earlier c) (is_right c.reply (run s c.task).1) (Some (Reply (run s c.task).1)))
+    ap (λ b. found b (call_breaks_time earlier c) (is_right c.reply (run s c.op).1) (Some (Reply (run s c.op).1)))
     h.0
-    ∙ ap (λ b. found false b (is_right c.reply (run s c.task).1) (Some (Reply (run s c.task).1))) h.1
-    ∙ ap (λ b. cond b None (Some (Reply (run s c.task).1))) (sym e)
+    ∙ ap (λ b. found false b (is_right c.reply (run s c.op).1) (Some (Reply (run s c.op).1))) h.1
+    ∙ ap (λ b. cond b None (Some (Reply (run s c.op).1))) (sym e)
 
 -- a wrong that is found is none that is not
 pub no_wrong : (w : Wrong) → Some w ≡ None → ⊥

@@ -14,7 +14,8 @@ use Rattle.vac_judge.specs.declared.verdict.Verdict.TheVariants.{Legal}
 use Rattle.vac_judge.specs.Call.{Call, line_call}
 use Rattle.vac_judge.specs.Order.{wrong_of}
 use Rattle.vac_judge.specs.Verdict.{judged, unless_wrong, summary_of, is_legal, verdict_on}
-use Rattle.vac_judge.specs.Laws.{IsCallAt, GiveReplies, CallsTakeTime, CallsAreSequential, CallsKeepPrecedence}
+use Rattle.judge_object.specs.Linear.{IsCallAt, CallsTakeTime, CallsAreSequential, CallsKeepPrecedence}
+use Rattle.vac_judge.specs.Laws.{GiveReplies}
 use Rattle.vac_judge.specs.Laws.{IsLinearization}
 use Rattle.vac_judge.specs.Laws.{IsLegalHistory, LegalIsLinearization, state_after, LegalSummary}
 use Rattle.vac_judge.proofs.Order.{Each, FitsBefore, IsRight, right_of, wrong_none}
@@ -22,7 +23,7 @@ use Rattle.vac_judge.proofs.Order.{Each, FitsBefore, IsRight, right_of, wrong_no
 -- each call is right behind those before it
 abbrev pub AllRight : State → List Call → List Call → Type 0
 AllRight s earlier [] = ⊤
-AllRight s earlier (c ∷ cs) = IsRight s earlier c × AllRight (run s c.task).0 (c ∷ earlier) cs
+AllRight s earlier (c ∷ cs) = IsRight s earlier c × AllRight (run s c.op).0 (c ∷ earlier) cs
 
 -- each call takes time and fits in front of those behind it
 abbrev pub Pairwise : List Call → Type 0
@@ -47,8 +48,8 @@ legal_calls s earlier [] h = ([], refl, tt)
 legal_calls s earlier (Err fault ∷ rest) h = absurd (false_true h)
 legal_calls s earlier (Ok c ∷ rest) h =
     let both = unless_legal (wrong_of s earlier c) (length earlier + 1)
-    (judged (run s c.task).0 (c ∷ earlier) rest) h in
-    let more = legal_calls (run s c.task).0 (c ∷ earlier) rest both.1 in
+    (judged (run s c.op).0 (c ∷ earlier) rest) h in
+    let more = legal_calls (run s c.op).0 (c ∷ earlier) rest both.1 in
     (c ∷ more.0, ap (λ t. Ok c ∷ t) more.1, (right_of s earlier c both.0, more.2))
 
 -- calls that are right have this verdict
@@ -56,9 +57,9 @@ calls_legal : (s : State) (earlier calls : List Call) → AllRight s earlier cal
     judged s earlier (map Ok calls) ≡ Legal (summary_of (state_after s calls) (reverse_aux calls earlier))
 calls_legal s earlier [] h = refl
 calls_legal s earlier (c ∷ cs) h =
-    ap (λ w. unless_wrong w (length earlier + 1) (judged (run s c.task).0 (c ∷ earlier) (map Ok cs)))
+    ap (λ w. unless_wrong w (length earlier + 1) (judged (run s c.op).0 (c ∷ earlier) (map Ok cs)))
     (wrong_none s earlier c h.0)
-    ∙ calls_legal (run s c.task).0 (c ∷ earlier) cs h.1
+    ∙ calls_legal (run s c.op).0 (c ∷ earlier) cs h.1
 
 each_both : {X : Type 0} (P Q : X → Type 0) (xs : List X) → Each P xs → Each Q xs → Each (λ x. P x × Q x) xs
 each_both P Q [] p q = tt
@@ -82,14 +83,14 @@ AllBehind earlier calls = Each (λ c. Each (λ e. FitsBefore e c) earlier) calls
 
 replies_of : (s : State) (earlier calls : List Call) → AllRight s earlier calls → GiveReplies s calls
 replies_of s earlier [] h = tt
-replies_of s earlier (c ∷ cs) h = (h.0.reply, replies_of (run s c.task).0 (c ∷ earlier) cs h.1)
+replies_of s earlier (c ∷ cs) h = (h.0.reply, replies_of (run s c.op).0 (c ∷ earlier) cs h.1)
 
 behind_of : (s : State) (earlier calls : List Call) → AllRight s earlier calls → AllBehind earlier calls
 behind_of s earlier [] h = tt
 behind_of s earlier (c ∷ cs) h = (
   h.0.fits,
   each_right (FitsBefore c) (λ d. Each (λ e. FitsBefore e d) earlier) cs
-      (behind_of (run s c.task).0 (c ∷ earlier) cs h.1),
+      (behind_of (run s c.op).0 (c ∷ earlier) cs h.1),
 )
 
 pairwise_of : (s : State) (earlier calls : List Call) → AllRight s earlier calls → Pairwise calls
@@ -97,8 +98,8 @@ pairwise_of s earlier [] h = tt
 pairwise_of s earlier (c ∷ cs) h = (
   h.0.own,
   each_left (FitsBefore c) (λ d. Each (λ e. FitsBefore e d) earlier) cs
-      (behind_of (run s c.task).0 (c ∷ earlier) cs h.1),
-  pairwise_of (run s c.task).0 (c ∷ earlier) cs h.1,
+      (behind_of (run s c.op).0 (c ∷ earlier) cs h.1),
+  pairwise_of (run s c.op).0 (c ∷ earlier) cs h.1,
 )
 
 right_all : (s : State) (earlier calls : List Call) → GiveReplies s calls → AllBehind earlier calls → Pairwise calls →
@@ -106,7 +107,7 @@ right_all : (s : State) (earlier calls : List Call) → GiveReplies s calls → 
 right_all s earlier [] g b p = tt
 right_all s earlier (c ∷ cs) g b p = (
   record { own = p.0; fits = b.0; reply = g.0 },
-  right_all (run s c.task).0 (c ∷ earlier) cs g.1 (each_both (FitsBefore c)
+  right_all (run s c.op).0 (c ∷ earlier) cs g.1 (each_both (FitsBefore c)
       (λ d. Each (λ e. FitsBefore e d) earlier) cs p.1 b.1) p.2,
 )
 

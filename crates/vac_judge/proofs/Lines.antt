@@ -8,7 +8,7 @@ use Rattle.vac_judge.specs.declared.judge.Judge.{Judge}
 use Rattle.vac_judge.specs.declared.verdict.Wrong.{Wrong}
 use Rattle.vac_judge.specs.declared.verdict.Verdict.TheVariants.{Illegal}
 use Rattle.vac_judge.specs.Call.{Call}
-use Rattle.vac_judge.specs.Order.{span_of}
+use Rattle.judge_object.specs.Call.{span_of}
 use Rattle.vac_judge.specs.Verdict.{judged, unless_wrong}
 use Rattle.vac_judge.specs.Judging.{Follows, JudgesCall, Takes, DecidesVerdict}
 
@@ -27,7 +27,7 @@ pub ends_wrong : (judge after : Judge) (read : Result Call CallFault) (call : Ca
     → JudgesNext judge after call (Some wrong) → DecidesVerdict judge read (Illegal line wrong)
 ends_wrong judge after read call line wrong e n h = record {
   on = λ s earlier f more. ap (λ l. judged s earlier (l ∷ more)) e
-      ∙ ap (λ w. unless_wrong w (length earlier + 1) (judged (run s call.task).0 (call ∷ earlier) more))
+      ∙ ap (λ w. unless_wrong w (length earlier + 1) (judged (run s call.op).0 (call ∷ earlier) more))
       (h s earlier f).found_is
       ∙ ap (λ k. Illegal k wrong) (number_is judge line s earlier n f);
 }
@@ -36,11 +36,11 @@ pub takes_call : (judge after : Judge) (read : Result Call CallFault) (call : Ca
     JudgesNext judge after call None → Takes judge after read
 takes_call judge after read call e h = record {
   on = λ s earlier f. (
-    (run s call.task).0,
+    (run s call.op).0,
     call ∷ earlier,
     (h s earlier f).taken refl,
     λ more. ap (λ l. judged s earlier (l ∷ more)) e
-        ∙ ap (λ w. unless_wrong w (length earlier + 1) (judged (run s call.task).0 (call ∷ earlier) more))
+        ∙ ap (λ w. unless_wrong w (length earlier + 1) (judged (run s call.op).0 (call ∷ earlier) more))
         (h s earlier f).found_is,
   );
 }

@@ -49,7 +49,7 @@ call_at k (c ∷ cs) m h = turn (λ i g. call_at k cs i g) (test c.client k) m h
     }
     turn next (inl same) (suc i) g =
         let size : length (asked_by k (c ∷ cs)) ≡ suc (length (asked_by k cs)) =
-        ap (λ b. length (cond b (c.task ∷ asked_by k cs) (asked_by k cs))) same.0 in
+        ap (λ b. length (cond b (c.op ∷ asked_by k cs) (asked_by k cs))) same.0 in
         let more = next i (omega (arith, g, size)) in
         record {
           earlier = c ∷ more.earlier;
@@ -57,12 +57,12 @@ call_at k (c ∷ cs) m h = turn (λ i g. call_at k cs i g) (test c.client k) m h
           later = more.later;
           split = ap (λ t. c ∷ t) more.split;
           client = more.client;
-          place = ap (λ b. length (cond b (c.task ∷ asked_by k more.earlier) (asked_by k more.earlier))) same.0
+          place = ap (λ b. length (cond b (c.op ∷ asked_by k more.earlier) (asked_by k more.earlier))) same.0
               ∙ ap suc more.place;
         }
     turn next (inr other) i g =
         let size : length (asked_by k (c ∷ cs)) ≡ length (asked_by k cs) =
-        ap (λ b. length (cond b (c.task ∷ asked_by k cs) (asked_by k cs))) other.0 in
+        ap (λ b. length (cond b (c.op ∷ asked_by k cs) (asked_by k cs))) other.0 in
         let more = next i (omega (arith, g, size)) in
         record {
           earlier = c ∷ more.earlier;
@@ -70,7 +70,7 @@ call_at k (c ∷ cs) m h = turn (λ i g. call_at k cs i g) (test c.client k) m h
           later = more.later;
           split = ap (λ t. c ∷ t) more.split;
           client = more.client;
-          place = ap (λ b. length (cond b (c.task ∷ asked_by k more.earlier) (asked_by k more.earlier))) other.0
+          place = ap (λ b. length (cond b (c.op ∷ asked_by k more.earlier) (asked_by k more.earlier))) other.0
               ∙ more.place;
         }
 
@@ -95,12 +95,12 @@ asks_for work calls front one after w a h =
     let tasks : forms (tasks_of k work) ≡ forms (tasks_of k front) ++ task_text one.task ∷ forms (tasks_of k after) =
     ap (λ l. forms (tasks_of k l)) w ∙ ap forms (tasks_split front one after)
     ∙ map-append task_text (tasks_of k front) (one.task ∷ tasks_of k after) in
-    let asked : forms (asked_by k calls) ≡ done ++ task_text it.call.task ∷ rest =
+    let asked : forms (asked_by k calls) ≡ done ++ task_text it.call.op ∷ rest =
     ap (λ l. forms (asked_by k l)) it.split ∙ ap forms (asked_split k it.earlier it.call it.later it.client)
-    ∙ map-append task_text (asked_by k it.earlier) (it.call.task ∷ asked_by k it.later) in
-    let whole : done ++ task_text it.call.task ∷ (rest ++ a.0)
+    ∙ map-append task_text (asked_by k it.earlier) (it.call.op ∷ asked_by k it.later) in
+    let whole : done ++ task_text it.call.op ∷ (rest ++ a.0)
     ≡ forms (tasks_of k front) ++ task_text one.task ∷ forms (tasks_of k after) =
-    sym (append_assoc done (task_text it.call.task ∷ rest) a.0) ∙ ap (λ l. l ++ a.0) (sym asked) ∙ sym a.1 ∙ tasks in
+    sym (append_assoc done (task_text it.call.op ∷ rest) a.0) ∙ ap (λ l. l ++ a.0) (sym asked) ∙ sym a.1 ∙ tasks in
     let size : length done ≡ length (forms (tasks_of k front)) =
     forms_size (asked_by k it.earlier) ∙ it.place ∙ sym (forms_size (tasks_of k front)) in
     record {
@@ -110,7 +110,7 @@ asks_for work calls front one after w a h =
       split = it.split;
       client = it.client;
       place = it.place;
-      form = same_head done (forms (tasks_of k front)) (task_text it.call.task) (task_text one.task) (rest ++ a.0)
+      form = same_head done (forms (tasks_of k front)) (task_text it.call.op) (task_text one.task) (rest ++ a.0)
           (forms (tasks_of k after)) size whole;
     }
 
@@ -121,7 +121,7 @@ asked_more calls front one a =
     let k = one.client in
     let size : length (asked_by k calls) ≡ length (asked_by k a.earlier) + suc (length (asked_by k a.later)) =
     ap (λ l. length (asked_by k l)) a.split ∙ ap length (asked_split k a.earlier a.call a.later a.client)
-    ∙ length-append (asked_by k a.earlier) (a.call.task ∷ asked_by k a.later) in
+    ∙ length-append (asked_by k a.earlier) (a.call.op ∷ asked_by k a.later) in
     let place = a.place in
     omega (arith, size, place)
 

@@ -81,18 +81,18 @@ asked_both : (k : ℕ) (a b : List Call) → asked_by k (a ++ b) ≡ asked_by k 
 asked_both k [] b = refl
 asked_both k (c ∷ a) b =
     let more = asked_both k a b in
-    elim (c.client == k) as (λ v. cond v (c.task ∷ asked_by k (a ++ b)) (asked_by k (a ++ b))
-    ≡ cond v (c.task ∷ asked_by k a) (asked_by k a) ++ asked_by k b) [
-      | true ↦ ap (λ t. c.task ∷ t) more
+    elim (c.client == k) as (λ v. cond v (c.op ∷ asked_by k (a ++ b)) (asked_by k (a ++ b))
+    ≡ cond v (c.op ∷ asked_by k a) (asked_by k a) ++ asked_by k b) [
+      | true ↦ ap (λ t. c.op ∷ t) more
       | false ↦ more
     ]
 
 -- a call of a client stands among others
 pub asked_split : (k : ℕ) (earlier : List Call) (c : Call) (later : List Call) → c.client ≡ k
-    → asked_by k (earlier ++ c ∷ later) ≡ asked_by k earlier ++ c.task ∷ asked_by k later
+    → asked_by k (earlier ++ c ∷ later) ≡ asked_by k earlier ++ c.op ∷ asked_by k later
 asked_split k earlier c later e =
     asked_both k earlier (c ∷ later)
-    ∙ ap (λ b. asked_by k earlier ++ cond b (c.task ∷ asked_by k later) (asked_by k later))
+    ∙ ap (λ b. asked_by k earlier ++ cond b (c.op ∷ asked_by k later) (asked_by k later))
     (ap (λ x. x == k) e ∙ itself k)
 
 -- a task stands among others

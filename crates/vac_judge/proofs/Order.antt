@@ -11,9 +11,10 @@ use Rattle.vac_lines.specs.Text.{reply_text}
 use Rattle.vac_judge.specs.declared.verdict.Wrong.{Wrong}
 use Rattle.vac_judge.specs.declared.verdict.Wrong.TheVariants as wrong
 use Rattle.vac_judge.specs.Call.{Call}
-use Rattle.vac_spans.specs.Order as spans
-pub use Rattle.vac_spans.proofs.Tests.{both_false, false_both, turn_from, turn_test, time_from, time_test}
-use Rattle.vac_judge.specs.Order.{span_of, call_breaks_client, call_breaks_time, wrong_of}
+use Rattle.judge_time.specs.Order as spans
+pub use Rattle.judge_time.proofs.Tests.{both_false, false_both, turn_from, turn_test, time_from, time_test}
+use Rattle.judge_object.specs.Call.{span_of}
+use Rattle.vac_judge.specs.Order.{call_breaks_client, call_breaks_time, wrong_of}
 use Rattle.vac_lines.specs.Text.{is_right}
 use Rattle.vac_judge.specs.Laws.{IsAnswerOf}
 
@@ -31,7 +32,7 @@ pub record FitsBefore (e c : Call) : Type 0 where
 pub record IsRight (s : State) (earlier : List Call) (c : Call) : Type 0 where
   pub own : c.begin ≤ c.end
   pub fits : Each (λ e. FitsBefore e c) earlier
-  pub reply : IsAnswerOf (run s c.task).1 c.reply
+  pub reply : IsAnswerOf (run s c.op).1 c.reply
 
 -- two tests that pass none say that all fit
 fits_all : (c : Call) (earlier : List Call) → list_any (spans.overlaps span_of c) earlier ≡ false →
@@ -83,22 +84,22 @@ of_answer r (Some text) h = (bytes_eq-Decides text (reply_text r)).1 (sym h)
 pub right_of : (s : State) (earlier : List Call) (c : Call) → wrong_of s earlier c ≡ None → IsRight s earlier c
 right_of s earlier c h =
     let tests = found_none (call_breaks_client earlier c) (call_breaks_time earlier c)
-    (is_right c.reply (run s c.task).1)
-    (wrong.Reply (run s c.task).1) h in
+    (is_right c.reply (run s c.op).1)
+    (wrong.Reply (run s c.op).1) h in
     let client = both_false (nat_lt c.end c.begin) (list_any (spans.overlaps span_of c) earlier) tests.0 in
     record {
       own = time_from c.end c.begin client.0;
       fits = fits_all c earlier client.1 tests.1;
-      reply = answer_of (run s c.task).1 c.reply tests.2;
+      reply = answer_of (run s c.op).1 c.reply tests.2;
     }
 
 pub wrong_none : (s : State) (earlier : List Call) (c : Call) → IsRight s earlier c → wrong_of s earlier c ≡ None
 wrong_none s earlier c h =
-    let last : Option Wrong = Some (wrong.Reply (run s c.task).1) in
+    let last : Option Wrong = Some (wrong.Reply (run s c.op).1) in
     let client : call_breaks_client earlier c ≡ false = false_both (nat_lt c.end c.begin)
     (list_any (spans.overlaps span_of c) earlier) (time_test c.end c.begin h.own)
     (none_overlaps c earlier h.fits) in
-    let reply : is_right c.reply (run s c.task).1 ≡ true = of_answer (run s c.task).1 c.reply h.reply in
-    ap (λ b. found b (call_breaks_time earlier c) (is_right c.reply (run s c.task).1) last) client
-    ∙ ap (λ b. found false b (is_right c.reply (run s c.task).1) last) (none_ended c earlier h.fits)
+    let reply : is_right c.reply (run s c.op).1 ≡ true = of_answer (run s c.op).1 c.reply h.reply in
+    ap (λ b. found b (call_breaks_time earlier c) (is_right c.reply (run s c.op).1) last) client
+    ∙ ap (λ b. found false b (is_right c.reply (run s c.op).1) last) (none_ended c earlier h.fits)
     ∙ ap (λ b. found false false b last) reply

@@ -1,4 +1,4 @@
--- What being told a line makes of a history that is read.
+-- The effect of a reported line on a history that is read.
 use Rattle.std.specs.Prelude.{◌≡◌, Some, Result, Ok, Err}
 use Rattle.vac_lines.specs.declared.fault.LineFault.TheVariants.{LongLine}
 use Rattle.vac_streams.specs.declared.fault.StreamFault.{StreamFault}
@@ -13,20 +13,20 @@ use Rattle.vac_judge.specs.declared.reading.History.{History}
 use Rattle.vac_judge.specs.Call.{Call, line_call}
 use Rattle.vac_judge.specs.Judging.{Takes, DecidesVerdict, IsJudgeStop}
 
--- the call of a line that was told, or its fault; a pause is no call
+-- the call of a reported line, or its fault. A pause is no call, so its value here does not matter
 abbrev pub told_call : Told → Result Call CallFault
 told_call (told.Line text) = line_call text
 told_call told.LongLine = Err (fault.Line LongLine)
 told_call told.Pause = Err fault.BadCall
 
--- a line brought a verdict, which is kept
+-- a line decided the verdict, and the verdict is kept
 pub record BringsVerdict (x : History) (line : Told) (y : History) : Type 0 where
   pub verdict : Verdict
   pub found : y.found ≡ Some verdict
   pub ends : DecidesVerdict x.judge (told_call line) verdict
 
--- what being told this makes of a history: its judge took a line, or a line brought a verdict; a
--- pause changes nothing; or a fault of the judge ended it
+-- the effect of a reported line on a history: the judge took the line; the line decided the
+-- verdict; a pause changed nothing; or a fault of the judge ended the reading
 abbrev pub HearsCall : History → Told → Result Next StreamFault → History → Type 0
 HearsCall x line (Err stop) y = IsJudgeStop x.judge stop
 HearsCall x told.Pause (Ok next) y = (next ≡ GoOn) × (y ≡ x)

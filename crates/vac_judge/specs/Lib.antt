@@ -4,7 +4,6 @@ pub mod Order
 pub mod Verdict
 pub mod Laws
 pub mod Wrongs
-pub mod Follows
 pub mod Judging
 pub mod Reading
 pub mod Hearing

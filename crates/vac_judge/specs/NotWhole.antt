@@ -1,7 +1,7 @@
--- A history that is not of the work: which line of the work, which line of the history, or which
--- task the verdict names.
--- Not said: anything of a verdict that names none of them. Where the history is not whole, it is
--- that of the order.
+-- A history that does not cover the workload: the line of the workload, the line of the history or
+-- the task that the verdict names.
+-- Not said: anything of a verdict that names none of these. If the history checked against the
+-- workload is not legal for another reason, its verdict is that of the history alone.
 use Rattle.std.specs.Prelude.{◌≡◌, ◌↔◌, ◌⊎◌, ℕ, ◌+◌, true, false, Result, Ok, Err, List, [], ◌∷◌, ◌++◌, map, length}
 use Rattle.vac_lines.specs.Lines.{lines_of}
 use Rattle.vac_lines.specs.TaskText.{task_text}
@@ -12,11 +12,11 @@ use Rattle.vac_judge.specs.Laws.{IsLinearization, Lists}
 use Rattle.vac_judge.specs.Work.{Asked, line_asked, tasks_of, has_stopped, held_verdict}
 use Rattle.vac_judge.specs.Whole.{asked_by, forms}
 
--- each line of the work hands out a task, and these are the tasks
+-- each line of the workload gives a task, and the tasks are these
 abbrev pub HandsOut : List ℕ → List Asked → Type 0
 HandsOut tasks work = map line_asked (lines_of tasks) ≡ map Ok work
 
--- a line of the work hands out no task, and those before it hand out one each
+-- a line of the workload gives no task, and each line before it gives one
 -- Not said: which fault the line has.
 pub record IsFirstWithoutTask (tasks : List ℕ) (line : ℕ) : Type 0 where
   pub before : List Asked
@@ -25,22 +25,23 @@ pub record IsFirstWithoutTask (tasks : List ℕ) (line : ℕ) : Type 0 where
   pub handed : map line_asked (lines_of tasks) ≡ map Ok before ++ Err fault ∷ rest
   pub number : line ≡ length before + 1
 
--- the verdict names a line of the work exactly where it is the first that hands out no task,
--- whatever the history is
+-- the verdict names a line of the workload if and only if that line is the first that gives no
+-- task, whatever the history is
 abbrev pub BadTasksIsFirst : Type 0
 BadTasksIsFirst = (n : ℕ) (tasks bytes : List ℕ) (line : ℕ) →
     (held_verdict n tasks bytes ≡ BadTasks line) ↔ IsFirstWithoutTask tasks line
 
--- a client's calls ask for its first tasks, in their order
--- Not said: that the tasks are the same, only that their plain forms are.
+-- the calls of a client submit the first tasks of the client, in their order
+-- Not said: that the tasks are the same. Only their plain forms are.
 abbrev pub AskForFirst : ℕ → List Asked → List Call → Type 0
 AskForFirst client work calls = (left : List (List ℕ))
     × (forms (tasks_of client work) ≡ forms (asked_by client calls) ++ left)
 
--- a line is the first whose call does not ask for its client's next task: those before it are
--- calls in a legal order, each client's of which ask for its first tasks, and with its call its
--- client's do not
--- Not said: that the call is wrong in no other way; where it is, its task comes first.
+-- the line is the first whose call does not submit the next task of its client. The lines before
+-- it are calls whose order is a linearization, and each client submits its first tasks in them.
+-- With the call of the line, its client does not submit its first tasks
+-- Not said: that the call has no other fault. The task of a line is checked before its other
+-- faults.
 pub record IsFirstForeign (n : ℕ) (tasks bytes : List ℕ) (line : ℕ) : Type 0 where
   pub work : List Asked
   pub before : List Call
@@ -53,14 +54,14 @@ pub record IsFirstForeign (n : ℕ) (tasks bytes : List ℕ) (line : ℕ) : Type
   pub asked : (client : ℕ) → AskForFirst client work before
   pub foreign : AskForFirst call.client work (before ++ call ∷ []) → ⊥
 
--- the verdict names a line as one of another task exactly where it is the first such line
+-- the verdict names a line as foreign if and only if the line is the first whose call does not
+-- submit the next task of its client
 abbrev pub ForeignIsFirst : Type 0
 ForeignIsFirst = (n : ℕ) (tasks bytes : List ℕ) (line : ℕ) →
     (held_verdict n tasks bytes ≡ Foreign line) ↔ IsFirstForeign n tasks bytes line
 
--- one of the calls asks for a task that was handed out after these: it is its client's, has the
--- same plain form, and as many calls of the client stand before it as tasks of the client before
--- that task
+-- some call submits the task that follows the earlier tasks of the workload: the call has the
+-- client and the plain form of the task, and the client has as many earlier calls as earlier tasks
 pub record AsksForTask (calls : List Call) (before : List Asked) (task : Asked) : Type 0 where
   pub earlier : List Call
   pub call : Call
@@ -68,21 +69,21 @@ pub record AsksForTask (calls : List Call) (before : List Asked) (task : Asked) 
   pub split : calls ≡ earlier ++ call ∷ later
   pub client : call.client ≡ task.client
   pub place : length (asked_by task.client earlier) ≡ length (tasks_of task.client before)
-  pub form : task_text call.task ≡ task_text task.task
+  pub form : task_text call.op ≡ task_text task.task
 
--- one of the calls asks for a task, or is of its client and was never answered
+-- some call submits the task, or the client of the task has a pending call
 abbrev pub IsSettled : List Call → List Asked → Asked → Type 0
 IsSettled calls before task =
     AsksForTask calls before task ⊎ (has_stopped task.client calls ≡ true)
 
--- none of the calls asks for a task, and none of its client was never answered
+-- no call submits the task, and the client of the task has no pending call
 pub record IsLeftOut (calls : List Call) (before : List Asked) (task : Asked) : Type 0 where
   pub none : AsksForTask calls before task → ⊥
   pub answered : has_stopped task.client calls ≡ false
 
--- a client's task with this number, counted from 1, is the first task of the work that is left out:
--- the history is legal by itself, each client's calls ask for its first tasks, and each task that
--- was handed out before is settled
+-- the task with this number of this client, counted from 1, is the first task of the workload that
+-- is left out. The history is legal by itself, the calls of each client submit its first tasks,
+-- and each earlier task of the workload is submitted or belongs to a client with a pending call
 pub record IsFirstMissing (n : ℕ) (tasks bytes : List ℕ) (client number : ℕ) : Type 0 where
   pub work : List Asked
   pub calls : List Call
@@ -100,7 +101,8 @@ pub record IsFirstMissing (n : ℕ) (tasks bytes : List ℕ) (client number : �
   pub settled : (first rest : List Asked) (one : Asked) → before ≡ first ++ one ∷ rest →
       IsSettled calls first one
 
--- the verdict names a client's task as missing exactly where it is the first such task
+-- the verdict names a client's task as missing if and only if that task is the first that is left
+-- out
 abbrev pub MissingIsFirst : Type 0
 MissingIsFirst = (n : ℕ) (tasks bytes : List ℕ) (client number : ℕ) →
     (held_verdict n tasks bytes ≡ Missing client number)

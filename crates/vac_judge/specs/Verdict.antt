@@ -1,4 +1,4 @@
--- What the judge says of a history, as a function of all its bytes.
+-- The verdict of the judge on a history, as a function of all its bytes.
 use Rattle.std.specs.Prelude.{ℕ, ◌+◌, Bool, true, false, Option, Some, None, Result, Ok, Err, List, [], ◌∷◌, ◌++◌, map, length, codes, decimal}
 use Rattle.vac_model.specs.State.{State, empty_state, report}
 use Rattle.vac_model.specs.Run.{run}
@@ -15,7 +15,7 @@ use Rattle.vac_judge.specs.declared.verdict.Verdict.TheVariants.{Legal, Fault, I
 use Rattle.vac_judge.specs.Call.{Call, line_call}
 use Rattle.vac_judge.specs.Order.{wrong_of, clients_of_calls}
 
--- what is said of calls that are all right and leave this state
+-- the summary of calls that are all correct and leave this state
 abbrev pub summary_of : State → List Call → Summary
 summary_of s calls = record {
   calls = length calls;
@@ -23,18 +23,18 @@ summary_of s calls = record {
   report = report s;
 }
 
--- a line that is wrong ends it; otherwise the rest decides
+-- a wrong call decides the verdict; otherwise the rest of the lines decides
 abbrev pub unless_wrong : Option Wrong → ℕ → Verdict → Verdict
 unless_wrong None line rest = rest
 unless_wrong (Some wrong) line rest = Illegal line wrong
 
--- the verdict on these lines after earlier calls, newest first, which leave the state s
+-- the verdict on these lines after earlier calls, newest first, that leave the state s
 abbrev pub judged : State → List Call → List (Result Call CallFault) → Verdict
 judged s earlier [] = Legal (summary_of s earlier)
 judged s earlier (Err fault ∷ rest) = Fault (length earlier + 1) fault
 judged s earlier (Ok call ∷ rest) =
     unless_wrong (wrong_of s earlier call) (length earlier + 1)
-    (judged (run s call.task).0 (call ∷ earlier) rest)
+    (judged (run s call.op).0 (call ∷ earlier) rest)
 
 -- the verdict on a history of a system of n blocks
 abbrev pub verdict_on : ℕ → List ℕ → Verdict
@@ -45,7 +45,7 @@ abbrev pub call_fault_text : CallFault → List ℕ
 call_fault_text BadCall = codes "fault bad-call"
 call_fault_text (Line fault) = fault_text fault
 
--- what is said of a call that is wrong, up to what was expected
+-- the text of a wrong call: the kind of fault, the line and, for a wrong reply, the expected reply
 abbrev pub wrong_text : Wrong → ℕ → List ℕ
 wrong_text Client line = codes "illegal client " ++ decimal line
 wrong_text Time line = codes "illegal time " ++ decimal line
@@ -57,18 +57,18 @@ abbrev pub counts_text : Summary → List ℕ
 counts_text found =
     field_text (codes "legal calls=") found.calls ++ field_text (codes " clients=") found.clients
 
--- what is written of a verdict
+-- the output for a verdict
 abbrev pub verdict_text : Verdict → List ℕ
 verdict_text (Legal found) = as_line (counts_text found) ++ as_line (report_text found.report)
 verdict_text (Fault line fault) = as_line (call_fault_text fault ++ codes " " ++ decimal line)
 verdict_text (Illegal line wrong) = as_line (wrong_text wrong line)
 
--- whether a verdict is that a history is legal
+-- true if the verdict is that the history is legal
 abbrev pub is_legal : Verdict → Bool
 is_legal (Legal found) = true
 is_legal (Fault line fault) = false
 is_legal (Illegal line wrong) = false
 
--- what the judge writes of a history
+-- the output of the judge for a history
 abbrev pub judge_out : ℕ → List ℕ → List ℕ
 judge_out n bytes = verdict_text (verdict_on n bytes)

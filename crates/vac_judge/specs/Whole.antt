@@ -1,5 +1,5 @@
--- Held against the work, a history is legal exactly where it is a legal history in which each
--- client was asked for just its tasks.
+-- Checked against a workload, a history is legal if and only if it is a legal history in which
+-- each client submitted exactly its tasks.
 use Rattle.std.specs.Prelude.{◌≡◌, ◌↔◌, ℕ, ◌==◌, true, false, Ok, List, [], ◌∷◌, ◌++◌, map, if◌then◌else◌}
 use Rattle.vac_model.specs.declared.tasks.Task.{Task}
 use Rattle.vac_lines.specs.Lines.{lines_of}
@@ -8,26 +8,26 @@ use Rattle.vac_judge.specs.Call.{Call}
 use Rattle.vac_judge.specs.Laws.{IsLinearization, Lists}
 use Rattle.vac_judge.specs.Work.{Asked, line_asked, tasks_of, has_stopped, held_verdict, is_whole}
 
--- the tasks that a client's calls ask for, in their order
+-- the tasks that the calls of a client submit, in their order
 abbrev pub asked_by : ℕ → List Call → List Task
 asked_by client [] = []
 asked_by client (call ∷ calls) =
-    if call.client == client then call.task ∷ asked_by client calls else asked_by client calls
+    if call.client == client then call.op ∷ asked_by client calls else asked_by client calls
 
 -- the plain forms of tasks
 abbrev pub forms : List Task → List (List ℕ)
 forms tasks = map task_text tasks
 
--- a client's calls ask for its tasks, in their order: for all of them, or, where one of its calls
--- was never answered, for the first of them
--- Not said: that the tasks are the same, only that their plain forms are.
+-- the calls of a client submit its tasks in their order: all tasks, or the first tasks if one of
+-- the calls is pending
+-- Not said: that the tasks are the same. Only their plain forms are.
 pub record IsDoneBy (client : ℕ) (work : List Asked) (calls : List Call) : Type 0 where
   pub left : List (List ℕ)
   pub done : forms (tasks_of client work) ≡ forms (asked_by client calls) ++ left
   pub all : has_stopped client calls ≡ false → left ≡ []
 
--- each line of the work hands out a task, each line of the history is a call, their order is a
--- linearization, and each client's calls ask for its tasks
+-- each line of the workload gives a task, each line of the history is a call, the order of the
+-- calls is a linearization, and the calls of each client submit its tasks
 pub record IsWholeHistory (n : ℕ) (tasks bytes : List ℕ) : Type 0 where
   pub work : List Asked
   pub calls : List Call
@@ -36,7 +36,8 @@ pub record IsWholeHistory (n : ℕ) (tasks bytes : List ℕ) : Type 0 where
   pub linearization : IsLinearization n calls
   pub done : (client : ℕ) → IsDoneBy client work calls
 
--- the verdict is legal exactly for such a history of such work
+-- the verdict on a history and a workload is legal if and only if the history is legal and covers
+-- the workload
 abbrev pub LegalIsWhole : Type 0
 LegalIsWhole = (n : ℕ) (tasks bytes : List ℕ) →
     (is_whole (held_verdict n tasks bytes) ≡ true) ↔ IsWholeHistory n tasks bytes

@@ -1,5 +1,5 @@
-//! The numbers of a reply are those of its type. A proof knows the range of a value once the code
-//! has read it: these functions read, and do nothing else.
+//! The numbers of a reply fit the widths of their types. The prover knows the range of a value
+//! once the code has read the value: these functions read, and do nothing else.
 
 ghost use Rattle.std.specs.Prelude.{◌≤◌, All, length};
 ghost use Rattle.vac_judge.specs.CallText.{IsPick, IsReply};
@@ -7,7 +7,7 @@ ghost use Rattle.vac_judge.specs.CallText.{IsPick, IsReply};
 use vac_model::limits::MOST_PARTS;
 use vac_model::{Pick, Reply, Report, TripReply, UpdateReply, Why};
 
-/// Reads the id of a pick.
+/// Reads the id of a pick, so that the prover knows its range.
 fn read_pick(pick: Option<Pick>)
     ensures { IsPick pick }
 {
@@ -16,7 +16,7 @@ fn read_pick(pick: Option<Pick>)
     }
 }
 
-/// Reads the ids of all picks.
+/// Reads the ids of all picks of a trip.
 fn read_trip(trip: &TripReply)
     ensures { All IsPick trip.now.picks }
 {
@@ -25,7 +25,7 @@ fn read_trip(trip: &TripReply)
     read_pick(trip.picks[2]);
 }
 
-/// Reads the numbers of a report.
+/// Reads the numbers of a report, so that the prover knows their ranges.
 fn read_report(report: Report)
     ensures { IsReply (Reply.Report report) }
 {
@@ -34,22 +34,22 @@ fn read_report(report: Report)
     let _sums = (report.free, report.total, report.billed);
 }
 
-/// Reads how many changes an update has room for.
+/// Reads the number of changes for which an update has room.
 fn read_room(refused: [Option<Why>; MOST_PARTS])
     ensures { length refused ≤ MOST_PARTS }
 {
     let _room = refused.as_slice().len();
 }
 
-/// Reads how many changes an update has room for.
+/// Reads the number of changes for which the reply of an update has room.
 fn read_update(update: &UpdateReply)
     ensures { IsReply (Reply.Update update.now) }
 {
     read_room(update.refused);
 }
 
-/// The numbers of a reply are those of its type, as the laws on written lines ask of it. It does
-/// nothing.
+/// States that the numbers of a reply fit the widths of their types, as the laws on written lines
+/// require. The function only reads.
 pub fn numbers_of_a_reply(reply: &Reply)
     ensures { IsReply reply.now }
 {

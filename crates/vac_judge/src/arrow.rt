@@ -6,10 +6,10 @@ ghost use Rattle.vac_judge.specs.Parts.{IsCutAtArrow, shown_parts, NoParts};
 
 use vac_lines::cut_at;
 
-/// The word between a task's line and its reply.
+/// The arrow between a task's line and its reply.
 const ARROW: &[u8] = b"->";
 
-/// The texts that a call's line is made of.
+/// The texts of which a call's line consists.
 #[derive(Clone, Copy)]
 pub(crate) struct CallParts<'a> {
     pub(crate) client: &'a [u8],
@@ -19,7 +19,8 @@ pub(crate) struct CallParts<'a> {
     pub(crate) reply: &'a [u8],
 }
 
-/// What is before the first word that is an arrow, and what is after it.
+/// Cuts a line at its first word that is an arrow, and returns the texts before and after the
+/// arrow. Returns `None` if no word is an arrow or the arrow is the first word.
 fn cut_at_arrow(line: &[u8]) -> Option<(&[u8], &[u8])>
     ensures { MatchOption result (NoParts line.now)
         (λ cut. IsCutAtArrow line.now cut.0.now cut.1.now) }
@@ -37,8 +38,8 @@ fn cut_at_arrow(line: &[u8]) -> Option<(&[u8], &[u8])>
     None
 }
 
-/// The parts of a call's line, or `None` where no arrow has four words or more before it and one or
-/// more after it.
+/// Cuts a call's line into its parts. Returns `None` unless four words or more stand before the
+/// first arrow and one or more after it.
 pub(crate) fn cut_parts(line: &[u8]) -> Option<CallParts<'_>>
     ensures { MatchOption result (call_parts line.now ≡ None)
         (λ parts. call_parts line.now ≡ Some (shown_parts parts)) }

@@ -1,4 +1,4 @@
-//! Values by client, which contracts see as a finite map.
+//! Values by client, which contracts describe as a finite map.
 
 ghost use Rattle.std.specs.Prelude.{◌≡◌, OnOk};
 ghost use Rattle.std.specs.Option.{option_copied};
@@ -8,7 +8,7 @@ use std::alloc::{AllocError, Global};
 use std::collections::BTreeMap;
 use std::marker::Model;
 
-/// A value for each of some clients.
+/// A map from clients to values.
 #[derive(Drop)]
 pub(crate) struct ByClient<V> {
     entries: BTreeMap<u32, V>,
@@ -53,7 +53,7 @@ impl<V> ByClient<V> {
 }
 
 impl<V: Drop> ByClient<V> {
-    /// Puts a value in place of the one that a client has.
+    /// Sets the value of a client.
     pub(crate) fn insert(&mut self, client: u32, value: V) -> Result<(), AllocError>
         ensures { OnOk result (self.new ≡ map.insert self.old client value) }
     {

@@ -1,52 +1,53 @@
-//! Reading a line of a history: the call that it stands for, or its first fault.
+//! Reading a line of a history: its call, or its first fault.
 
 ghost use Rattle.std.specs.Prelude.{◌≡◌, ◌≢◌, true, false, IfOk, IfErr, Ok, Err};
 ghost use Rattle.vac_model.specs.Ranges.{is_task};
 ghost use Rattle.vac_judge.specs.Call.{line_call, parts_call, whole_call, is_half};
 ghost use Rattle.vac_judge.specs.Call.{at_client, at_time, at_end, reply_at};
-ghost use Rattle.vac_judge.specs.Order.{span_of};
+ghost use Rattle.judge_object.specs.Call.{span_of};
 ghost use Rattle.vac_judge.specs.Parts.{shown_parts, shown_call, shown_end, shown_reply};
 
 use crate::arrow::{CallParts, cut_parts};
 use crate::fault::CallFault;
+use judge_time::{NEVER, Span};
 use std::alloc::Global;
+use vac_clients::read_client;
 use vac_lines::{LineFault, has_bad_byte, read_line, read_memory_word};
 use vac_model::Task;
-use vac_spans::{NEVER, Span, read_client};
 
-/// The most bytes that a line of a history has before its end.
+/// Largest number of bytes of a line of a history, without its line end.
 pub const CALL_BYTES: usize = 4096;
 
-/// The word in the place of END where a call was never answered.
+/// The word in the place of END that marks a pending call.
 const NO_END: &[u8] = b"-";
 
-/// The text in the place of REPLY where a call was never answered.
+/// The text in the place of REPLY that marks a pending call.
 const NO_REPLY: &[u8] = b"?";
 
-/// When a call was answered, and with what.
+/// The end and the reply of a completed call.
 #[derive(Clone, Copy)]
 pub struct Answer<'a> {
-    /// A reading of the clock after the call was answered.
+    /// A reading of the clock after the call completed.
     pub end: u64,
-    /// The text of the answer.
+    /// The text of the reply.
     pub reply: &'a [u8],
 }
 
 /// A call of a history.
 #[derive(Drop)]
 pub struct CallLine<'a> {
-    /// Who called.
+    /// The client that made the call.
     pub client: u32,
     /// A reading of the clock before the call began.
     pub begin: u64,
-    /// What was asked for.
+    /// The task that the call submitted.
     pub task: Task,
-    /// When it was answered, and with what, or `None` where it never was.
+    /// The end and the reply, or `None` for a pending call.
     pub answer: Option<Answer<'a>>,
 }
 
 impl CallLine<'_> {
-    /// When the call ended, or [`NEVER`].
+    /// Returns the end of the call, [`NEVER`] for a pending call.
     fn end(&self) -> u128
         ensures { result ≡ shown_end self.now.answer }
     {
@@ -56,7 +57,7 @@ impl CallLine<'_> {
         }
     }
 
-    /// Who called, and when.
+    /// Returns the client and the interval of the call.
     pub(crate) fn span(&self) -> Span
         ensures { result ≡ span_of (shown_call self.now) }
     {
@@ -68,21 +69,21 @@ impl CallLine<'_> {
     }
 }
 
-/// The client that a word names.
+/// Reads a word as the number of a client.
 pub(crate) fn client_at(word: &[u8]) -> Result<u32, CallFault>
     ensures { result ≡ at_client word.now }
 {
     read_client(word).ok_or(CallFault::Line(LineFault::BadNumber))
 }
 
-/// The reading of the clock that a word writes.
+/// Reads a word as a reading of the clock.
 fn time_at(word: &[u8]) -> Result<u64, CallFault>
     ensures { result ≡ at_time word.now }
 {
     read_memory_word(word).ok_or(CallFault::Line(LineFault::BadNumber))
 }
 
-/// Whether only one of END and REPLY says that there was no answer.
+/// Returns whether exactly one of END and REPLY marks a pending call.
 fn is_half(end: &[u8], reply: &[u8]) -> bool
     ensures { result ≡ is_half end.now reply.now }
 {
@@ -90,7 +91,7 @@ fn is_half(end: &[u8], reply: &[u8]) -> bool
     if end == NO_END { has_reply } else { !has_reply }
 }
 
-/// When a call was answered and with what, or `None` where it never was.
+/// Reads the end and the reply of a call. Returns `None` for a pending call.
 fn answer_at<'a>(end: &[u8], reply: &'a [u8]) -> Result<Option<Answer<'a>>, CallFault>
     requires whole { is_half end.now reply.now ≡ false }
     ensures end { IfOk result (λ answer. at_end end.now ≡ Ok (shown_end answer)) }
@@ -104,7 +105,8 @@ fn answer_at<'a>(end: &[u8], reply: &'a [u8]) -> Result<Option<Answer<'a>>, Call
     Ok(Some(Answer { end, reply }))
 }
 
-/// The call of parts that are not half, or its first fault.
+/// Reads the call of the parts of a line, or finds the first fault, if END and REPLY agree on
+/// whether the call is pending.
 fn whole_call<'a>(alloc: Global, parts: CallParts<'a>) -> Result<CallLine<'a>, CallFault>
     requires whole { is_half parts.end.now parts.reply.now ≡ false }
     ensures call { IfOk result (λ call.
@@ -125,7 +127,7 @@ fn whole_call<'a>(alloc: Global, parts: CallParts<'a>) -> Result<CallLine<'a>, C
     })
 }
 
-/// The call of these parts, or its first fault.
+/// Reads the call of the parts of a line, or finds the first fault.
 fn parts_call<'a>(alloc: Global, parts: CallParts<'a>) -> Result<CallLine<'a>, CallFault>
     ensures call { IfOk result (λ call.
         parts_call (shown_parts parts.entry) ≡ Ok (shown_call call)) }
@@ -139,8 +141,8 @@ fn parts_call<'a>(alloc: Global, parts: CallParts<'a>) -> Result<CallLine<'a>, C
     whole_call(alloc, parts)
 }
 
-/// Reads a line of a history, which is given without its line end: the call that it stands for, or
-/// its first fault. Where memory is refused for a task of many words, the fault is
+/// Reads a line of a history, which is given without its line end. Returns the call, or the first
+/// fault of the line. If memory is refused for a task of many words, the fault is
 /// [`LineFault::Memory`], which is no fault of the line.
 pub fn read_call(alloc: Global, line: &[u8]) -> Result<CallLine<'_>, CallFault>
     ensures call { IfOk result (λ call. line_call line.now ≡ Ok (shown_call call)) }

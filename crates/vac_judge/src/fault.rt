@@ -1,12 +1,13 @@
-//! Why a line of a history is no call.
+//! Reasons why a line of a history is no call.
 
 use thiserror::Error;
 use vac_lines::LineFault;
 
-/// Why a line of a history is no call.
+/// The reason why a line of a history is no call.
 #[derive(Clone, Copy, Debug, PartialEq, Eq, Error)]
 pub enum CallFault {
-    /// No word is an arrow with four words or more before it and one or more after it.
+    /// The first arrow does not have four words or more before it and one or more after it, or
+    /// there is no arrow, or exactly one of END and REPLY marks a pending call.
     #[error("the line has no task and reply with an arrow between them")]
     BadCall,
     /// The line is too long or has a bad byte, a word that should be a number is none, or the

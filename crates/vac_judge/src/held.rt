@@ -1,4 +1,4 @@
-//! Judging a history that is held against the work that was handed out.
+//! Judging a history that is checked against a workload.
 
 ghost use Rattle.std.specs.Prelude.{◌≡◌, ◌≢◌, ◌≤◌, ◌++◌, IfOk, OnOk, OnErr, IfErr};
 ghost use Rattle.vac_lines.specs.Text.{Extends, field_text};
@@ -16,21 +16,22 @@ use vac_lines::{append_field, keep_whole, write_and_flush};
 use vac_model::limits::MOST_BLOCKS;
 use vac_streams::StreamFault;
 
-/// What is said of a history that is held against work. Lines are numbered from 1.
+/// The verdict on a history that is checked against a workload. Lines are numbered from 1.
 #[derive(Clone, Copy, Debug, PartialEq, Eq)]
 pub enum HeldVerdict {
-    /// The order decides. Where it is legal, the history is of all the work, but for what comes
-    /// after a call that was never answered.
+    /// The verdict on the history alone. If that verdict is legal, the history covers the
+    /// workload, except for the tasks of a client after its pending call.
     Judged(Verdict),
-    /// This line of the work hands out no task.
+    /// A line of the workload gives no task.
     BadTasks { line: u64 },
-    /// This line's task is not the next one that its client was handed.
+    /// The call of a line of the history does not submit the next task of its client.
     Foreign { line: u64 },
-    /// The task with this number among those of a client, counted from 1, was not asked for.
+    /// No call submits the task with this number among the tasks of a client, counted from 1.
     Missing { client: u32, number: u64 },
 }
 
-/// Whether a line comes before the one that a verdict names, or is that line.
+/// Returns whether a line comes before the line that a verdict names, or is that line. A legal
+/// verdict names no line, and any line comes first.
 fn comes_first(line: u64, verdict: &Verdict) -> bool
     ensures { result ≡ comes_first line verdict.now }
 {
@@ -41,7 +42,7 @@ fn comes_first(line: u64, verdict: &Verdict) -> bool
     }
 }
 
-/// The verdict on a history, held against the text of the work.
+/// Judges the text of a history, checked against the text of the workload.
 fn hold(
     alloc: Global,
     blocks: u32,
@@ -84,7 +85,7 @@ fn append_line(out: &mut Vec<u8>, text: &[u8], number: u64) -> Result<(), AllocE
     out.extend_from_slice(b"\n")
 }
 
-/// Appends that a client's task with this number is missing.
+/// Appends the line that reports a client's task with this number as missing.
 fn append_missing(out: &mut Vec<u8>, client: u32, number: u64) -> Result<(), AllocError>
     ensures ok { OnOk result
         (out.new.items ≡ out.old.items ++ held_text (HeldVerdict.Missing client number)) }
@@ -94,7 +95,7 @@ fn append_missing(out: &mut Vec<u8>, client: u32, number: u64) -> Result<(), All
     append_line(out, b" ", number)
 }
 
-/// Appends the text of a verdict. Where memory is refused, nothing is appended.
+/// Appends the text of a verdict. If memory is refused, nothing is appended.
 pub fn print_held(verdict: &HeldVerdict, out: &mut Vec<u8>) -> Result<(), AllocError>
     ensures ok { OnOk result (out.new.items ≡ out.old.items ++ held_text verdict.now) }
     ensures err { OnErr result (out.new.items ≡ out.old.items) }
@@ -109,15 +110,15 @@ pub fn print_held(verdict: &HeldVerdict, out: &mut Vec<u8>) -> Result<(), AllocE
     keep_whole(out, start, printed)
 }
 
-/// Whether a verdict is that a history is legal, and of all the work, but for what comes after a
-/// call that was never answered.
+/// Returns whether the verdict is that the history is legal and covers the workload, except for
+/// the tasks of a client after its pending call.
 fn is_whole(verdict: &HeldVerdict) -> bool
     ensures { result ≡ is_whole verdict.now }
 {
     matches!(verdict, HeldVerdict::Judged(Verdict::Legal(_)))
 }
 
-/// All that an input has.
+/// Reads an input to its end.
 fn read_all<R: Read>(alloc: Global, input: &mut R) -> Result<Vec<u8>, StreamFault>
     ensures bytes { IfOk result (λ bytes.
         IsReadWhole (R.remaining input.old) (R.remaining input.new) bytes.items) }
@@ -131,15 +132,16 @@ fn read_all<R: Read>(alloc: Global, input: &mut R) -> Result<Vec<u8>, StreamFaul
     }
 }
 
-/// Judges a history of a system of `blocks` blocks, and holds it against the work that was handed
-/// out, lines `CLIENT LINE`: reads both to their ends, and writes the verdict. Returns whether the
-/// history is legal, and of all the work, but for what comes after a call that was never answered.
+/// Judges a history of a system of `blocks` blocks and checks it against a workload of lines
+/// `CLIENT LINE`: reads both to their ends, and writes the verdict. Returns whether the history is
+/// legal and covers the workload, except for the tasks of a client after its pending call.
 ///
-/// Each call that was made must have its line: where the line of one that was never answered is
-/// left out, its task is missing.
+/// Each pending call must have its line too: if the line of a pending call is left out, its task
+/// counts as missing.
 ///
-/// After a fault of the output a prefix of the verdict's text was written, after any other nothing.
-/// Not said: how much memory it takes; it holds both texts as a whole.
+/// After a fault of the output a prefix of the verdict's text was written, after any other fault
+/// nothing.
+/// Not said: how much memory the function takes. It keeps both texts in memory as a whole.
 pub fn judge_work<V: Read, R: Read, W: Write>(
     alloc: Global,
     blocks: u32,

@@ -1,4 +1,4 @@
-//! Holding the calls of a history against the work.
+//! Checking the calls of a history against a workload.
 
 ghost use Rattle.std.specs.Prelude.{◌≡◌, ◌≢◌, ◌∷◌, ◌+◌, ◌||◌, is_none, true, [], IfOk, OnOk, IfErr, None, List, map};
 ghost use Rattle.std.specs.Str.{bytes_eq};
@@ -18,24 +18,24 @@ use vac_lines::{LineFault, print_task};
 use vac_model::Task;
 use vac_streams::StreamFault;
 
-/// How many calls a client made, and whether one was never answered.
+/// The number of calls of a client, and whether one of them is pending.
 #[derive(Clone, Copy, Drop)]
 pub(crate) struct CallCount {
-    /// How many calls it made.
+    /// Number of calls of the client.
     made: usize,
-    /// Whether one of them was never answered.
+    /// True if one of the calls is pending.
     stopped: bool,
 }
 
-/// The calls of each client, counted.
+/// The number of calls of each client.
 #[derive(Drop)]
 pub(crate) struct Holding {
     clients: ByClient<CallCount>,
-    /// How many calls there are.
+    /// Number of calls of all clients.
     count: u64,
 }
 
-/// Whether two tasks have one plain form.
+/// Returns whether two tasks have the same plain form.
 fn have_one_form(alloc: Global, wanted: &Task, given: &Task) -> Result<bool, AllocError>
     ensures { IfOk result (λ same. same ≡ bytes_eq (task_text wanted.now) (task_text given.now)) }
 {
@@ -46,7 +46,7 @@ fn have_one_form(alloc: Global, wanted: &Task, given: &Task) -> Result<bool, All
     Ok(wanted_text.as_slice() == given_text.as_slice())
 }
 
-/// The count after one more call.
+/// Returns the count after one more call.
 fn count_after(so_far: CallCount, call: &CallLine<'_>) -> Result<CallCount, StreamFault>
     ensures made { IfOk result (λ next. next.made ≡ so_far.made + 1) }
     ensures stopped { IfOk result (λ next.
@@ -59,7 +59,7 @@ fn count_after(so_far: CallCount, call: &CallLine<'_>) -> Result<CallCount, Stre
 }
 
 impl Holding {
-    /// No calls.
+    /// Creates the count of no calls.
     fn new(alloc: Global) -> Holding
         ensures { Counts result [] }
     {
@@ -69,7 +69,7 @@ impl Holding {
         }
     }
 
-    /// The count of a client's calls.
+    /// Returns the count of a client's calls.
     fn count_of(&self, client: u32) -> CallCount
         ensures { (calls : List Call) → Counts self.now calls → IsCallCount result client calls }
     {
@@ -82,7 +82,7 @@ impl Holding {
         }
     }
 
-    /// Counts one more call.
+    /// Adds one more call to the counts.
     fn count(&mut self, call: &CallLine<'_>, so_far: CallCount) -> Result<(), StreamFault>
         ensures counts { OnOk result ((calls : List Call) → Counts self.old calls →
             IsCallCount so_far call.now.client calls →
@@ -96,7 +96,8 @@ impl Holding {
         Ok(())
     }
 
-    /// Whether a call asks for the task that comes next for its client. Where it does, it counts.
+    /// Returns whether a call submits the next task of its client. If the call does, it is
+    /// counted.
     fn take(&mut self, alloc: Global, work: &Work, call: &CallLine<'_>) -> Result<bool, StreamFault>
         ensures next { IfOk result (λ next. (asked : List Asked) (calls : List Call) →
             IsWork work.now asked → Counts self.old calls →
@@ -117,8 +118,9 @@ impl Holding {
     }
 }
 
-/// The calls of a history, counted, and the first line whose call is not its client's next task.
-/// Where there is one, the calls after it do not count.
+/// Counts the calls of a history, and returns the counts with the first line whose call does not
+/// submit the next task of its client. If there is such a line, its call and the calls after it
+/// are not counted.
 pub(crate) fn hold_calls(
     alloc: Global,
     work: &Work,
@@ -147,8 +149,8 @@ pub(crate) fn hold_calls(
     Ok((held, None))
 }
 
-/// The first task of the work that no call asks for: its client, and its number among that
-/// client's.
+/// Returns the first task of the workload that no call submits: its client, and its number among
+/// the tasks of the client.
 pub(crate) fn first_missing(
     alloc: Global,
     work: &Work,

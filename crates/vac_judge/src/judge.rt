@@ -13,28 +13,30 @@ ghost use Rattle.vac_judge.specs.Verdict.{summary_of};
 use crate::call::{Answer, CallLine, read_call};
 use crate::fault::CallFault;
 use crate::verdict::{Summary, Verdict, Wrong};
+use judge_time::{Misplaced, Spans};
 use std::alloc::{AllocError, Global};
 use tx_alloc::FreeList;
 use vac_lines::{LineFault, is_text_of};
 use vac_model::Reply;
 use vac_model::limits::MOST_BLOCKS;
 use vac_plain::Heap;
-use vac_spans::{Misplaced, Spans};
 use vac_streams::StreamFault;
 
-/// A judge of a history that is given line by line: the state that the calls so far leave, and
-/// what the order of a further call is judged by.
+/// A judge of a history that is given line by line: the state that the calls so far leave, and the
+/// data by which the order of the next call is judged.
 ///
-/// It keeps the memory of the state and one number for each client, and nothing of the calls.
+/// A judge keeps the memory of the state and one number for each client, and nothing of the calls.
 #[derive(Drop)]
 pub struct Judge {
     heap: Heap,
     spans: Spans,
-    /// The text of the last reply that was expected.
+    /// Buffer for the text of the last expected reply.
     expected: Vec<u8>,
 }
 
-/// Whether a call may have been answered with this reply: any is right where it was never answered.
+/// Returns whether the reply of a call is the expected one. Any reply is correct for a pending
+/// call. The buffer is overwritten with the expected text; it is passed in so that its room is
+/// used again.
 fn is_expected(
     buffer: &mut Vec<u8>,
     answer: Option<Answer<'_>>,
@@ -48,7 +50,7 @@ fn is_expected(
     }
 }
 
-/// The fault of a line, where it is not that memory was refused.
+/// Returns the fault of a line itself, or an error if the fault is that memory was refused.
 fn own_fault(fault: CallFault) -> Result<CallFault, StreamFault>
     ensures own { IfOk result (λ found.
         (found ≡ fault) × (fault ≢ CallFault.Line LineFault.Memory)) }
@@ -61,7 +63,7 @@ fn own_fault(fault: CallFault) -> Result<CallFault, StreamFault>
 }
 
 impl Judge {
-    /// A history without calls, of a system of `blocks` blocks.
+    /// Creates a judge of a history without calls, for a system of `blocks` blocks.
     pub fn new(alloc: Global, blocks: u32) -> Result<Judge, StreamFault>
         requires some { 1 ≤ blocks }
         requires most { blocks ≤ MOST_BLOCKS }
@@ -75,7 +77,7 @@ impl Judge {
         })
     }
 
-    /// The number of the next line.
+    /// Returns the number of the next line.
     fn number(&self) -> Result<u64, StreamFault>
         ensures line { IfOk result (λ line. line ≡ self.now.spans.count + 1) }
         ensures refused { IfErr result (λ fault. IsJudgeStop self.now fault) }
@@ -87,7 +89,7 @@ impl Judge {
         Ok(count + 1)
     }
 
-    /// What is wrong with the times of a call, after the calls before it.
+    /// Returns the fault of the times of a call after the calls before it, if there is one.
     fn judge_times(&self, call: &CallLine<'_>) -> Option<Wrong>
         ensures { (s : State) (earlier : List Call) → Follows self.now s earlier →
             JudgesTimes earlier (shown_call call.now) result }
@@ -99,7 +101,7 @@ impl Judge {
         }
     }
 
-    /// Judges a call, and takes it where it is right.
+    /// Judges a call, and takes the call if it has no fault.
     fn judge_call(&mut self, call: &CallLine<'_>) -> Result<Option<Wrong>, AllocError>
         requires in_range { is_task call.now.task ≡ true }
         requires room { self.old.spans.count + 1 < 2 ^ 64 }
@@ -118,13 +120,14 @@ impl Judge {
         Ok(None)
     }
 
-    /// Judges a line, which is given without its end. Returns the verdict that it brings, whatever
-    /// lines follow; or `None`, where its call is right and was taken.
+    /// Judges a line, which is given without its end. Returns the verdict if the line decides it,
+    /// whatever lines follow. Returns `None` if the call of the line has no fault; the call is
+    /// then taken.
     ///
-    /// After a verdict or a fault, it can judge no further line.
+    /// After a verdict or a fault, the judge must not be used for further lines.
     ///
-    /// Not said: that it keeps no more than the heap, one number for each client and a reply, which
-    /// is read in the code.
+    /// Not said: that the judge keeps no more than the heap, one number for each client and a
+    /// reply, which is read in the code.
     pub fn judge_line(&mut self, alloc: Global, text: &[u8]) -> Result<Option<Verdict>, StreamFault>
         ensures judged { IfOk result (λ found. MatchOption found
             (Takes self.old self.new (line_call text.now))
@@ -144,7 +147,7 @@ impl Judge {
         }
     }
 
-    /// The verdict that a line brings which is too long.
+    /// Returns the verdict for an overlong line.
     pub(crate) fn long_line(&self) -> Result<Verdict, StreamFault>
         ensures judged { IfOk result (λ verdict.
             IsEnd self.now (Err (CallFault.Line LineFault.LongLine)) verdict) }
@@ -157,7 +160,7 @@ impl Judge {
         })
     }
 
-    /// What is said of the calls, where no further line follows.
+    /// Returns the summary of the calls judged so far.
     pub fn summary(&mut self) -> Summary
         ensures same { self.new ≡ self.old }
         ensures summary { (s : State) (earlier : List Call) → Follows self.old s earlier →

@@ -1,9 +1,9 @@
-//! A judge of histories: it says whether the order in which the calls of a transactional runtime
-//! are given is a linearization of them.
+//! A judge of histories: decides whether the order in which the calls of a transactional runtime
+//! are given is a linearization of the calls.
 //!
-//! A history is a text of lines `CLIENT BEGIN END LINE -> REPLY`, or `CLIENT BEGIN - LINE -> ?` of
-//! a call that was never answered, in the order in which the runtime claims that the calls took
-//! effect. The tasks are run over plain memory, one after the other in that order.
+//! A history is a text of lines `CLIENT BEGIN END LINE -> REPLY`, or `CLIENT BEGIN - LINE -> ?`
+//! for a pending call, in the order in which the runtime claims that the calls took effect. The
+//! tasks are run over plain memory, one after the other in that order.
 #![tactic(auto)]
 
 mod answers;

@@ -13,12 +13,12 @@ use vac_lines::write_and_flush;
 use vac_model::limits::MOST_BLOCKS;
 use vac_streams::{Next, Sink, StreamFault, read_lines};
 
-/// A history that is read.
+/// A history that is being read.
 #[derive(Drop)]
 struct History {
     alloc: Global,
     judge: Judge,
-    /// The verdict of the first line that brings one.
+    /// The verdict, if a line has decided it.
     found: Option<Verdict>,
 }
 
@@ -51,8 +51,7 @@ impl Sink<()> for History {
     }
 }
 
-/// The verdict on a history: reads the lines to the end of the input, or to the first that is not
-/// right.
+/// Judges a history: reads its lines to the end of the input, or to the first wrong line.
 pub(crate) fn judge_input<R: Read>(
     alloc: Global,
     blocks: u32,
@@ -78,7 +77,7 @@ pub(crate) fn judge_input<R: Read>(
     }
 }
 
-/// Whether a verdict is that a history is legal.
+/// Returns whether the verdict is that the history is legal.
 fn is_legal(verdict: &Verdict) -> bool
     ensures { result ≡ is_legal verdict.now }
 {
@@ -86,9 +85,10 @@ fn is_legal(verdict: &Verdict) -> bool
 }
 
 /// Judges a history of a system of `blocks` blocks: reads its lines to the end of the input, or to
-/// the first that is not right, and writes the verdict. Returns whether it is legal.
+/// the first wrong line, and writes the verdict. Returns whether the history is legal.
 ///
-/// After a fault of the output a prefix of the verdict's text was written, after any other nothing.
+/// After a fault of the output a prefix of the verdict's text was written, after any other fault
+/// nothing.
 pub fn judge_history<R: Read, W: Write>(
     alloc: Global,
     blocks: u32,

@@ -1,4 +1,4 @@
-//! What is said of a history, and its text.
+//! The verdict on a history, and its text.
 
 ghost use Rattle.std.specs.Prelude.{◌≡◌, ◌++◌, OnOk, OnErr};
 ghost use Rattle.vac_lines.specs.Text.{Extends};
@@ -9,36 +9,37 @@ use std::alloc::AllocError;
 use vac_lines::{append_field, keep_whole, print_fault, print_reply};
 use vac_model::{Reply, Report};
 
-/// What is wrong with a call, after the calls that come before it.
+/// The fault of a call, after the calls that come before it.
 #[derive(Clone, Copy, Debug, PartialEq, Eq)]
 pub enum Wrong {
-    /// It ends before it begins, or begins before an earlier call of its client ends.
+    /// The call ends before it begins, or begins before an earlier call of its client ends.
     Client,
-    /// It ends before an earlier call begins.
+    /// The call ends before an earlier call of the order begins.
     Time,
-    /// After the calls before it, the sequential manager gives this reply.
+    /// After the calls before it, the sequential manager gives this reply and not the reply of the
+    /// call.
     Reply(Reply),
 }
 
-/// What is said of a legal history.
+/// The summary of a legal history.
 #[derive(Clone, Copy, Debug, PartialEq, Eq)]
 pub struct Summary {
-    /// How many calls there are.
+    /// Number of calls.
     pub calls: u64,
-    /// How many clients made them.
+    /// Number of clients that made the calls.
     pub clients: u64,
-    /// The report of the state that they leave.
+    /// The report of the state that the calls leave.
     pub report: Report,
 }
 
-/// What is said of a history. Lines are numbered from 1.
+/// The verdict on a history. Lines are numbered from 1.
 #[derive(Clone, Copy, Debug, PartialEq, Eq)]
 pub enum Verdict {
     /// Each line is a call, and their order is a linearization.
     Legal(Summary),
-    /// This line is no call.
+    /// The line is no call.
     Fault { line: u64, fault: CallFault },
-    /// This line's call is wrong after those before it.
+    /// The call of the line is wrong after the calls before it.
     Illegal { line: u64, wrong: Wrong },
 }
 
@@ -51,7 +52,7 @@ fn append_counts(out: &mut Vec<u8>, found: &Summary) -> Result<(), AllocError>
     append_field(out, b" clients=", found.clients)
 }
 
-/// Appends what is said of a legal history.
+/// Appends the text of the verdict on a legal history.
 fn append_summary(out: &mut Vec<u8>, found: &Summary) -> Result<(), AllocError>
     ensures ok { OnOk result
         (out.new.items ≡ out.old.items ++ verdict_text (Verdict.Legal found.now)) }
@@ -85,7 +86,7 @@ fn append_fault_line(out: &mut Vec<u8>, fault: CallFault, line: u64) -> Result<(
     out.extend_from_slice(b"\n")
 }
 
-/// Appends what is wrong with the call of a line.
+/// Appends the fault of the call of a line.
 fn append_wrong(out: &mut Vec<u8>, wrong: &Wrong, line: u64) -> Result<(), AllocError>
     ensures ok { OnOk result (out.new.items ≡ out.old.items ++ wrong_text wrong.now line) }
     ensures err { OnErr result (Extends out.old.items out.new.items) }
@@ -101,7 +102,7 @@ fn append_wrong(out: &mut Vec<u8>, wrong: &Wrong, line: u64) -> Result<(), Alloc
     }
 }
 
-/// Appends what is wrong with the call of a line, as a line.
+/// Appends the fault of the call of a line, as a line.
 fn append_wrong_line(out: &mut Vec<u8>, wrong: &Wrong, line: u64) -> Result<(), AllocError>
     ensures ok { OnOk result
         (out.new.items ≡ out.old.items ++ verdict_text (Verdict.Illegal line wrong.now)) }
@@ -111,8 +112,8 @@ fn append_wrong_line(out: &mut Vec<u8>, wrong: &Wrong, line: u64) -> Result<(), 
     out.extend_from_slice(b"\n")
 }
 
-/// Appends the text of a verdict: two lines for a legal history, and one for any other. Where
-/// memory is refused, nothing is appended.
+/// Appends the text of a verdict: two lines for a legal history, one line otherwise. If memory is
+/// refused, nothing is appended.
 pub fn print_verdict(verdict: &Verdict, out: &mut Vec<u8>) -> Result<(), AllocError>
     ensures ok { OnOk result (out.new.items ≡ out.old.items ++ verdict_text verdict.now) }
     ensures err { OnErr result (out.new.items ≡ out.old.items) }

@@ -1,4 +1,4 @@
-//! The work that was handed out: reading it, and finding a client's tasks.
+//! The workload that was given out: reading the workload, and finding a client's tasks.
 
 ghost use Rattle.std.specs.Prelude.{◌≡◌, ◌≢◌, ◌<◌, ◌∷◌, ◌++◌, [], IfOk, OnOk, IfErr, MatchOption, MatchResult, Ok, Err, List, length, slice_get};
 ghost use Rattle.std.specs.Option.{option_copied};
@@ -16,16 +16,17 @@ use vac_lines::{LineFault, cut_at, read_line};
 use vac_model::Task;
 use vac_streams::StreamFault;
 
-/// The work that was handed out.
+/// A workload: the tasks that were given to clients.
 #[derive(Drop)]
 pub(crate) struct Work {
-    /// Whom each task was handed to, in their order.
+    /// The client of each task, in the order of the workload.
     clients: Vec<u32>,
-    /// The tasks of each client, in their order.
+    /// The tasks of each client, in the order of the workload.
     tasks: ByClient<Vec<Task>>,
 }
 
-/// The first line of a text, without its end, and what follows it; `None` where there is no line.
+/// Returns the first line of a text, without its end, and the text after the line. Returns `None`
+/// if there is no line.
 pub(crate) fn next_line(text: &[u8]) -> Option<(&[u8], &[u8])>
     ensures lines { MatchOption result (lines_of text.now ≡ [])
         (λ cut. lines_of text.now ≡ cut.0.now ∷ lines_of cut.1.now) }
@@ -41,7 +42,7 @@ pub(crate) fn next_line(text: &[u8]) -> Option<(&[u8], &[u8])>
     Some((text, &[]))
 }
 
-/// The client and the task that CLIENT and LINE hand out, or their first fault.
+/// Reads the client and the task that CLIENT and LINE give, or finds the first fault.
 fn text_asked(alloc: Global, client: &[u8], line: &[u8]) -> Result<(u32, Task), CallFault>
     ensures asked { IfOk result (λ asked. text_asked client.now line.now ≡ Ok (asked_of asked)) }
     ensures fault { IfErr result (λ fault. fault ≢ CallFault.Line LineFault.Memory →
@@ -52,7 +53,7 @@ fn text_asked(alloc: Global, client: &[u8], line: &[u8]) -> Result<(u32, Task), 
     Ok((client, task))
 }
 
-/// The client and the task of a line of the work, or its first fault.
+/// Reads the client and the task of a line of the workload, or finds its first fault.
 fn asked_at(alloc: Global, line: &[u8]) -> Result<(u32, Task), CallFault>
     ensures asked { IfOk result (λ asked. line_asked line.now ≡ Ok (asked_of asked)) }
     ensures fault { IfErr result (λ fault. fault ≢ CallFault.Line LineFault.Memory →
@@ -65,7 +66,7 @@ fn asked_at(alloc: Global, line: &[u8]) -> Result<(u32, Task), CallFault>
 }
 
 impl Work {
-    /// No work.
+    /// Creates an empty workload.
     fn new(alloc: Global) -> Work
         ensures { IsWork result [] }
     {
@@ -75,7 +76,8 @@ impl Work {
         }
     }
 
-    /// Takes the tasks of a client out.
+    /// Removes the tasks of a client from the workload and returns them. The list of clients does
+    /// not change.
     fn take_tasks(&mut self, alloc: Global, client: u32) -> Vec<Task>
         ensures tasks { result.items ≡ tasks_listed (map.get self.old.tasks client) }
         ensures left { self.new.tasks ≡ map.remove self.old.tasks client }
@@ -87,7 +89,7 @@ impl Work {
         }
     }
 
-    /// Puts a task after all others.
+    /// Appends a task to the workload.
     fn push(&mut self, alloc: Global, client: u32, task: Task) -> Result<(), AllocError>
         ensures { OnOk result ((work : List Asked) → IsWork self.old work →
             IsWork self.new (work ++ asked_of (client, task) ∷ [])) }
@@ -99,14 +101,14 @@ impl Work {
         Ok(())
     }
 
-    /// Whom each task was handed to, in their order.
+    /// Returns the client of each task, in the order of the workload.
     pub(crate) fn clients(&self) -> &[u32]
         ensures { result.now ≡ self.now.clients.items }
     {
         self.clients.as_slice()
     }
 
-    /// A client's task with this number, counted from 0.
+    /// Returns a client's task with this number, counted from 0.
     pub(crate) fn get(&self, client: u32, number: usize) -> Option<&Task>
         ensures { (work : List Asked) → IsWork self.now work →
             option_copied result ≡ slice_get (tasks_of client work) number }
@@ -118,7 +120,8 @@ impl Work {
     }
 }
 
-/// The work of these lines, or the number of the first line that hands out no task.
+/// Reads the lines of a workload. Returns the workload, or the number of the first line that gives
+/// no task.
 pub(crate) fn read_work(alloc: Global, text: &[u8]) -> Result<Result<Work, u64>, StreamFault>
     ensures work { IfOk result (λ found. MatchResult found
         (λ kept. (work : List Asked) × IsWork kept work

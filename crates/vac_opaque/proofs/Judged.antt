@@ -3,10 +3,10 @@ use Rattle.std.proofs.Common.{◌≡◌, ℕ, ◌+◌, cond, List, ◌∷◌, le
 use Rattle.std.proofs.Common.{ap, ◌∙◌}
 use Rattle.std.proofs.lemmas.List.{length-map}
 use Rattle.vac_lines.specs.declared.fault.LineFault.{LineFault}
-use Rattle.vac_spans.specs.declared.span.Misplaced.{Misplaced}
-use Rattle.vac_spans.specs.Order.{itself, misplaced}
-use Rattle.vac_spans.specs.Keeping.{Keeps}
-use Rattle.vac_spans.proofs.Order.{misplaced_mapped}
+use Rattle.judge_time.specs.declared.span.Misplaced.{Misplaced}
+use Rattle.judge_time.specs.Order.{itself, misplaced}
+use Rattle.judge_time.specs.Keeping.{Keeps}
+use Rattle.judge_time.proofs.Order.{misplaced_mapped}
 use Rattle.vac_opaque.specs.declared.finding.Breach.{Breach}
 use Rattle.vac_opaque.specs.declared.finding.Breach.TheVariants as breach
 use Rattle.vac_opaque.specs.declared.finding.Finding.TheVariants.{Fault, Illegal}

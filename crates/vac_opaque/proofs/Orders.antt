@@ -2,11 +2,11 @@
 use Rattle.std.proofs.Common.{◌≡◌, ◌⊎◌, true, false, cond, List, [], ◌∷◌, ◌++◌, Option, Some, None, refl, sym, ap, ◌∙◌}
 use Rattle.std.proofs.Common.{subst, inl, inr, append_assoc, append-nil}
 use mathlib.Core.List.{reverse_aux}
-use Rattle.vac_spans.specs.declared.span.Misplaced.{Misplaced}
-use Rattle.vac_spans.specs.Order.{misplaced}
-use Rattle.vac_spans.specs.Laws.{TakeTurns, KeepPrecedence}
-use Rattle.vac_spans.proofs.Order.{goes_on, last_placed, front_turns, front_precedence, turns_none, precedence_none}
-use Rattle.vac_spans.proofs.Order.{cause_of, of_cause}
+use Rattle.judge_time.specs.declared.span.Misplaced.{Misplaced}
+use Rattle.judge_time.specs.Order.{misplaced}
+use Rattle.judge_time.specs.Laws.{TakeTurns, KeepPrecedence}
+use Rattle.judge_time.proofs.Order.{goes_on, last_placed, front_turns, front_precedence, turns_none, precedence_none}
+use Rattle.judge_time.proofs.Order.{cause_of, of_cause}
 use Rattle.vac_opaque.specs.declared.finding.Breach.{Breach}
 use Rattle.vac_opaque.specs.declared.finding.Breach.TheVariants as breach
 use Rattle.vac_opaque.specs.Attempt.{Attempt, span_of_attempt}

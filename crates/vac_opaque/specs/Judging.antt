@@ -1,7 +1,7 @@
--- What judging a line does to a judge of attempts.
+-- The effect of a line on a judge of attempts.
 use Rattle.std.specs.Prelude.{◌≡◌, ℕ, Option, None, Result, List, ◌∷◌, map, length}
 use Rattle.vac_lines.specs.declared.fault.LineFault.{LineFault}
-use Rattle.vac_spans.specs.Keeping.{Keeps}
+use Rattle.judge_time.specs.Keeping.{Keeps}
 use Rattle.vac_opaque.specs.declared.finding.Breach.{Breach}
 use Rattle.vac_opaque.specs.declared.finding.Finding.{Finding}
 use Rattle.vac_opaque.specs.declared.judge.Judge.{Judge}
@@ -10,28 +10,28 @@ use Rattle.vac_opaque.specs.Words.{left_by}
 use Rattle.vac_opaque.specs.Covered.{image_of}
 use Rattle.vac_opaque.specs.Verdict.{breach_of, committed_of, judged_attempts}
 
--- the judge has judged these attempts at this many words
+-- the judge has judged these attempts, at this many words
 pub record FollowsAttempts (words : ℕ) (judge : Judge) (earlier : List Attempt) : Type 0 where
   pub size : length judge.memory.words.items ≡ words
   pub left : image_of judge.memory.words.items ≡ left_by earlier
   pub spans : Keeps judge.spans (map span_of_attempt earlier)
   pub committed : judge.committed ≡ committed_of earlier
 
--- this is wrong with an attempt; where nothing is, it was taken
+-- the first fault of an attempt, or none; an attempt without a fault was taken by the judge
 pub record JudgesAttempt (words : ℕ) (after : Judge) (earlier : List Attempt) (attempt : Attempt)
     (found : Option Breach) : Type 0 where
   pub found_is : breach_of earlier attempt ≡ found
   pub taken : found ≡ None → FollowsAttempts words after (attempt ∷ earlier)
 
--- the judge has taken a line: the verdict on it and the lines after it is that on the lines after
--- it
+-- the judge has taken a line: the verdict on this line and the following lines is the verdict on
+-- the following lines
 pub record TakesAttempt (judge after : Judge) (line : ℕ → Result Attempt LineFault) : Type 0 where
   pub on : (words : ℕ) (earlier : List Attempt) → FollowsAttempts words judge earlier →
       (attempts : List Attempt) × FollowsAttempts words after attempts
       × ((more : List (Result Attempt LineFault)) →
       judged_attempts earlier (line words ∷ more) ≡ judged_attempts attempts more)
 
--- this is the verdict, whatever lines follow
+-- the line decides the verdict, whatever lines follow
 pub record DecidesFinding (judge : Judge) (line : ℕ → Result Attempt LineFault)
     (finding : Finding) :
     Type 0 where

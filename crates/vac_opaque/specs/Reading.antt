@@ -1,4 +1,5 @@
--- What judging a text of attempts that is read returns and writes, as a function of all its bytes.
+-- The result and the output of judging a text of attempts that is read, as a function of all its
+-- bytes.
 use Rattle.std.specs.Prelude.{◌≡◌, ◌⊎◌, ℕ, Bool, Option, IfSome, List, [], ◌++◌}
 use Rattle.std.specs.Io.KnownBytes.{Appends, Consumes, IsAtEnd}
 use Rattle.vac_lines.specs.Writing.{AppendsPrefix}
@@ -7,10 +8,10 @@ use Rattle.vac_streams.specs.declared.fault.StreamFault.TheVariants as fault
 use Rattle.vac_opaque.specs.declared.finding.Finding.{Finding}
 use Rattle.vac_opaque.specs.Verdict.{finding_on, finding_text, is_opaque}
 
--- enough of the input was read to decide the verdict: all of it, or so much that the verdict holds
--- whatever follows; it is the verdict on the whole input
--- Not said: streams whose bytes no contract knows; that no byte is read after the chunk with the
--- first wrong line, which is read in the code.
+-- enough of the input was read to decide the verdict: all of the input, or a prefix whose verdict
+-- holds whatever follows. The verdict is that of the whole input
+-- Not said: anything of streams whose bytes no contract describes; that no byte is read after the
+-- chunk with the first wrong line, which is read in the code.
 pub record HasFinding (words : ℕ) (unread left : Option (List ℕ)) (finding : Finding) : Type 0 where
   pub bytes : List ℕ
   pub consumed : Consumes unread left bytes
@@ -18,7 +19,7 @@ pub record HasFinding (words : ℕ) (unread left : Option (List ℕ)) (finding :
       ⊎ ((x : List ℕ) → finding_on words (bytes ++ x) ≡ finding)
   pub of_input : IfSome unread (λ input. finding_on words input ≡ finding)
 
--- the verdict was written and nothing else, and this says whether it is that they are opaque
+-- exactly the verdict was written, and the returned value is true if the verdict is opaque
 pub record HasJudgedAttempts (words : ℕ) (opaque : Bool)
     (unread left held holds : Option (List ℕ)) :
     Type 0 where
@@ -27,16 +28,18 @@ pub record HasJudgedAttempts (words : ℕ) (opaque : Bool)
   pub answered : opaque ≡ is_opaque finding
   pub written : Appends held holds (finding_text finding)
 
--- the verdict was written in part
+-- a prefix of the verdict was written
 pub record HasJudgedAttemptsInPart (words : ℕ) (unread left held holds : Option (List ℕ))
     : Type 0 where
   pub finding : Finding
   pub is : HasFinding words unread left finding
   pub written : AppendsPrefix held holds (finding_text finding)
 
--- a fault ended it: one of the output while the verdict was written, any other before
--- Not said: which of Read, Memory and Bound ends it before it writes; that the output failed where
--- Write is returned, since no contract says what a reader or a writer gives.
+-- a fault ended the judging. After a fault of the output a prefix of the verdict was written,
+-- after any other fault nothing
+-- Not said: which of Read, Memory and Bound ends the judging before anything is written; that the
+-- output failed if Write is returned, since no contract describes the results of a reader or a
+-- writer.
 abbrev pub HasStoppedOnAttempts : ℕ → StreamFault → Option (List ℕ) → Option (List ℕ)
     → Option (List ℕ)
     → Option (List ℕ) → Type 0

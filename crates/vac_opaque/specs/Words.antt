@@ -1,5 +1,5 @@
--- What attempts leave at words, and which of their reads is the first that is not right. All words
--- are 0 at the beginning.
+-- The words that attempts leave, and the first wrong read of an attempt. All words are 0 at the
+-- beginning.
 use Rattle.std.specs.Prelude.{ℕ, ◌==◌, Option, Some, None, List, [], ◌∷◌, if◌then◌else◌}
 use Rattle.vac_opaque.specs.declared.attempt.Access.{Access}
 use Rattle.vac_opaque.specs.declared.attempt.Access.TheVariants.{Read, Write}
@@ -11,36 +11,36 @@ use Rattle.vac_opaque.specs.Attempt.{Attempt}
 abbrev pub Image : Type 0
 Image = ℕ → ℕ
 
--- the values at the beginning
+-- the image at the beginning: all words are 0
 abbrev pub zeros : Image
 zeros word = 0
 
--- one word has another value
+-- the image with another value at one word
 abbrev pub image_with : Image → ℕ → ℕ → Image
 image_with image word value = λ other. if word == other then value else image other
 
--- the words after an access
+-- the image after an access
 abbrev pub after_access : Image → Access → Image
 after_access image (Read word value) = image
 after_access image (Write word value) = image_with image word value
 
--- the words after these accesses, one after the other
+-- the image after some accesses, one after the other
 abbrev pub words_after : Image → List Access → Image
 words_after image [] = image
 words_after image (access ∷ more) = words_after (after_access image access) more
 
--- what committed attempts leave, one after the other; they are listed from the newest on
+-- the image after the committed ones of some attempts, which are listed from the newest on
 abbrev pub left_by : List Attempt → Image
 left_by [] = zeros
 left_by (attempt ∷ earlier) =
     if attempt.commits then words_after (left_by earlier) attempt.accesses else left_by earlier
 
--- a read of a word that has this value
+-- the breach of a read of this value at a word that has another value; otherwise the rest decides
 abbrev pub unless_same : ℕ → ℕ → ℕ → Option Breach → Option Breach
 unless_same word value is rest =
     if value == is then rest else Some (breach.Read word is)
 
--- the first read among accesses that gives another value than its word has at that point
+-- the first read among the accesses that gives another value than its word has at that point
 abbrev pub wrong_read : Image → List Access → Option Breach
 wrong_read image [] = None
 wrong_read image (Read word value ∷ more) =

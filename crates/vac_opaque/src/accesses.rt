@@ -10,7 +10,7 @@ use crate::words::{next_word, take_word};
 use std::alloc::AllocError;
 use vac_lines::LineFault;
 
-/// The access that three words write.
+/// Reads the access that three words write.
 fn access_at(words: u32, kind: &[u8], word: &[u8], value: &[u8]) -> Result<Access, LineFault>
     ensures access { result ≡ at_access words kind.now word.now value.now }
     ensures among { IfOk result (λ access. IsAmong words access) }
@@ -25,7 +25,8 @@ fn access_at(words: u32, kind: &[u8], word: &[u8], value: &[u8]) -> Result<Acces
     }
 }
 
-/// The access that a word and those after it write, and what is left after them.
+/// Reads the access that a word and the following words write, and returns the access and the rest
+/// of the line.
 fn read_access<'a>(
     words: u32,
     kind: &[u8],
@@ -45,7 +46,7 @@ fn read_access<'a>(
     Ok((access, rest))
 }
 
-/// Reads the accesses that are left of a line, in place of those that were read before.
+/// Reads the accesses in the rest of a line. The vector is cleared first; its room is used again.
 pub(crate) fn read_accesses(
     words: u32,
     text: Option<&[u8]>,

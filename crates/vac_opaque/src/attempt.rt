@@ -1,4 +1,4 @@
-//! Reading a line: the attempt that it stands for, or its first fault.
+//! Reading a line: its attempt, or its first fault.
 
 ghost use Rattle.std.specs.Prelude.{◌≡◌, ℕ, IfOk, MatchResult, Ok, Err};
 ghost use Rattle.vac_lines.specs.Lines.{words_of};
@@ -8,32 +8,32 @@ ghost use Rattle.vac_opaque.specs.Parts.{words_left, AllAmong, attempt_of, with_
 use crate::accesses::read_accesses;
 use crate::numbers::{client_at, number_at, outcome_at};
 use crate::words::take_word;
+use judge_time::Span;
 use std::alloc::AllocError;
 use vac_lines::{LineFault, has_bad_byte};
-use vac_spans::Span;
 
-/// The most bytes that a line has before its end.
+/// Largest number of bytes of a line, without its line end.
 pub const ATTEMPT_BYTES: usize = 1_048_576;
 
 /// A read or a write of a word.
 #[derive(Clone, Copy, Debug, PartialEq, Eq)]
 pub enum Access {
-    /// The word was read, and had this value.
+    /// A read of the word, which gave this value.
     Read { word: u32, value: u64 },
-    /// The word was given this value.
+    /// A write of this value to the word.
     Write { word: u32, value: u64 },
 }
 
-/// What a line says of an attempt before its reads and writes.
+/// The part of a line before its reads and writes.
 #[derive(Clone, Copy)]
 pub(crate) struct Head {
-    /// Who made it, and when.
+    /// The client and the interval of the attempt.
     pub(crate) span: Span,
-    /// Whether it committed.
+    /// True if the attempt committed.
     pub(crate) commits: bool,
 }
 
-/// The span that three words write.
+/// Reads the client and the interval that three words write.
 fn span_at(client: &[u8], begin: &[u8], end: &[u8]) -> Result<Span, LineFault>
     ensures { result ≡ read_span client.now begin.now end.now }
 {
@@ -43,7 +43,8 @@ fn span_at(client: &[u8], begin: &[u8], end: &[u8]) -> Result<Span, LineFault>
     Ok(Span { client, begin, end })
 }
 
-/// What a line says of an attempt before its reads and writes, and what is left after that.
+/// Reads the part of a line before its reads and writes, and returns the part and the rest of the
+/// line.
 fn read_head(line: &[u8]) -> Result<(Head, Option<&[u8]>), LineFault>
     ensures { MatchResult result
         (λ read. (words : ℕ) → words_attempt words (words_of line.now)
@@ -59,8 +60,9 @@ fn read_head(line: &[u8]) -> Result<(Head, Option<&[u8]>), LineFault>
     Ok((Head { span, commits }, rest))
 }
 
-/// Reads a line at `words` words, which is not too long and is given without its line end: the
-/// attempt that it stands for, whose accesses are left in `accesses`, or its first fault.
+/// Reads a line at `words` words. The line is given without its line end and is not too long.
+/// Returns the head of the attempt and leaves the accesses in `accesses`, or returns the first
+/// fault.
 pub(crate) fn read_attempt(
     words: u32,
     line: &[u8],

@@ -1,47 +1,48 @@
-//! What is said of a text of attempts, and its text.
+//! The verdict on a text of attempts, and its text.
 
 ghost use Rattle.std.specs.Prelude.{◌≡◌, ◌++◌, OnOk, OnErr};
 ghost use Rattle.vac_lines.specs.Text.{Extends};
 ghost use Rattle.vac_opaque.specs.Verdict.{read_text, finding_text};
 ghost use Rattle.vac_opaque.specs.Verdict.{is_opaque};
 
+use judge_time::Misplaced;
 use std::alloc::AllocError;
 use vac_lines::{LineFault, append_field, keep_whole, print_fault};
-use vac_spans::Misplaced;
 
-/// What is wrong with an attempt, after those that come before it.
+/// The fault of an attempt, after the attempts that come before it.
 #[derive(Clone, Copy, Debug, PartialEq, Eq)]
 pub enum Breach {
-    /// Its place in the order is wrong.
+    /// The position of the attempt in the order is wrong.
     Place(Misplaced),
-    /// A read of this word should give this value: the last that the attempt itself wrote there,
-    /// or, where it wrote none before, what the committed attempts before it left there.
+    /// A read of this word should give this value: the last value that the attempt itself wrote to
+    /// the word, or, if it wrote none before the read, the value that the committed attempts
+    /// before it left.
     Read { word: u32, expected: u64 },
 }
 
-/// What is said of attempts that are opaque.
+/// The counts of attempts that are opaque.
 #[derive(Clone, Copy, Debug, PartialEq, Eq)]
 pub struct Counts {
-    /// How many attempts there are.
+    /// Number of attempts.
     pub attempts: u64,
-    /// How many of them committed.
+    /// Number of committed attempts.
     pub committed: u64,
-    /// How many clients made them.
+    /// Number of clients that made the attempts.
     pub clients: u64,
 }
 
-/// What is said of a text of attempts. Lines are numbered from 1.
+/// The verdict on a text of attempts. Lines are numbered from 1.
 #[derive(Clone, Copy, Debug, PartialEq, Eq)]
 pub enum Finding {
-    /// Each line is an attempt, and their order shows that they are opaque.
+    /// Each line is an attempt, and the order of the lines shows that the attempts are opaque.
     Opaque(Counts),
-    /// This line is no attempt.
+    /// The line is no attempt.
     Fault { line: u64, fault: LineFault },
-    /// This line's attempt is wrong after those before it.
+    /// The attempt of the line is wrong after the attempts before it.
     Illegal { line: u64, breach: Breach },
 }
 
-/// Appends what is said of attempts that are opaque.
+/// Appends the counts of opaque attempts.
 fn append_counts(out: &mut Vec<u8>, counts: &Counts) -> Result<(), AllocError>
     ensures ok { OnOk result
         (out.new.items ≡ out.old.items ++ finding_text (Finding.Opaque counts.now)) }
@@ -53,7 +54,7 @@ fn append_counts(out: &mut Vec<u8>, counts: &Counts) -> Result<(), AllocError>
     out.extend_from_slice(b"\n")
 }
 
-/// Appends that a line is no attempt, and why.
+/// Appends the fault of a line that is no attempt.
 fn append_fault(out: &mut Vec<u8>, fault: LineFault, line: u64) -> Result<(), AllocError>
     ensures ok { OnOk result
         (out.new.items ≡ out.old.items ++ finding_text (Finding.Fault line fault)) }
@@ -64,7 +65,7 @@ fn append_fault(out: &mut Vec<u8>, fault: LineFault, line: u64) -> Result<(), Al
     out.extend_from_slice(b"\n")
 }
 
-/// Appends what is said of a read.
+/// Appends a wrong read: its line, its word and the expected value.
 fn append_read(out: &mut Vec<u8>, line: u64, word: u32, expected: u64) -> Result<(), AllocError>
     ensures ok { OnOk result (out.new.items ≡ out.old.items ++ read_text line word expected) }
     ensures err { OnErr result (Extends out.old.items out.new.items) }
@@ -74,7 +75,7 @@ fn append_read(out: &mut Vec<u8>, line: u64, word: u32, expected: u64) -> Result
     append_field(out, b" ", expected)
 }
 
-/// Appends what is wrong with the attempt of a line.
+/// Appends the fault of the attempt of a line.
 fn append_breach(out: &mut Vec<u8>, breach: &Breach, line: u64) -> Result<(), AllocError>
     ensures ok { OnOk result
         (out.new.items ≡ out.old.items ++ finding_text (Finding.Illegal line breach.now)) }
@@ -88,7 +89,7 @@ fn append_breach(out: &mut Vec<u8>, breach: &Breach, line: u64) -> Result<(), Al
     out.extend_from_slice(b"\n")
 }
 
-/// Appends the text of a verdict, which is one line. Where memory is refused, nothing is appended.
+/// Appends the text of a verdict, which is one line. If memory is refused, nothing is appended.
 pub fn print_finding(finding: &Finding, out: &mut Vec<u8>) -> Result<(), AllocError>
     ensures ok { OnOk result (out.new.items ≡ out.old.items ++ finding_text finding.now) }
     ensures err { OnErr result (out.new.items ≡ out.old.items) }
@@ -102,7 +103,7 @@ pub fn print_finding(finding: &Finding, out: &mut Vec<u8>) -> Result<(), AllocEr
     keep_whole(out, start, printed)
 }
 
-/// Whether a verdict is that the attempts are opaque.
+/// Returns whether the verdict is that the attempts are opaque.
 pub(crate) fn is_opaque(finding: &Finding) -> bool
     ensures { result ≡ is_opaque finding.now }
 {

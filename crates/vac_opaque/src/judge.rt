@@ -10,24 +10,24 @@ ghost use Rattle.vac_opaque.specs.Judging.{FollowsAttempts, JudgesAttempt, Takes
 use crate::attempt::{Access, Head, read_attempt};
 use crate::finding::{Breach, Counts, Finding};
 use crate::memory::Memory;
+use judge_time::Spans;
 use std::alloc::{AllocError, Global};
 use vac_lines::LineFault;
-use vac_spans::Spans;
 use vac_streams::StreamFault;
 
-/// A judge of attempts that are given line by line: the words that the committed ones leave, and by
-/// what the place of a further one is judged.
+/// A judge of attempts that are given line by line: the words that the committed attempts leave,
+/// and the data by which the position of the next attempt is judged.
 #[derive(Drop)]
 pub(crate) struct Judge {
     memory: Memory,
     spans: Spans,
-    /// How many attempts committed.
+    /// Number of committed attempts.
     committed: u64,
-    /// The accesses of the attempt at hand.
+    /// The accesses of the line that is judged. The vector is kept so that its room is used again.
     accesses: Vec<Access>,
 }
 
-/// How many attempts committed, after one more that did or did not.
+/// Returns the number of committed attempts after one more attempt.
 fn count_commit(committed: u64, commits: bool) -> Result<u64, StreamFault>
     ensures count { IfOk result (λ count.
         count ≡ (if commits then committed + 1 else committed)) }
@@ -41,7 +41,7 @@ fn count_commit(committed: u64, commits: bool) -> Result<u64, StreamFault>
 }
 
 impl Judge {
-    /// A judge of attempts at `words` words, which has seen none.
+    /// Creates a judge of attempts at `words` words, which has seen no attempts.
     pub(crate) fn new(alloc: Global, words: u32) -> Result<Judge, AllocError>
         ensures { IfOk result (λ judge. FollowsAttempts words judge []) }
     {
@@ -53,7 +53,7 @@ impl Judge {
         })
     }
 
-    /// The number of the next line.
+    /// Returns the number of the next line.
     fn next_line(&self) -> Result<u64, StreamFault>
         ensures line { IfOk result (λ line. line ≡ self.now.spans.count + 1) }
         ensures refused { IfErr result (λ fault. fault ≢ Write) }
@@ -61,7 +61,8 @@ impl Judge {
         self.spans.count().checked_add(1).ok_or(StreamFault::Bound)
     }
 
-    /// Judges the attempt whose accesses are at hand, and takes it where it is right.
+    /// Judges the attempt with this head and the accesses just read, and takes the attempt if it
+    /// has no fault.
     fn judge_attempt(&mut self, head: &Head) -> Result<Option<Breach>, StreamFault>
         requires among { AllAmong (length self.old.memory.words.items) self.old.accesses.items }
         requires room { self.old.spans.count + 1 < 2 ^ 64 }
@@ -86,8 +87,9 @@ impl Judge {
         Ok(None)
     }
 
-    /// Judges a line, which is not too long and is given without its end. Returns the verdict that
-    /// it brings, whatever lines follow; or `None`, where its attempt is right and was taken.
+    /// Judges a line, which is not too long and is given without its end. Returns the verdict if
+    /// the line decides it, whatever lines follow. Returns `None` if the attempt of the line has
+    /// no fault; the attempt is then taken.
     pub(crate) fn judge_line(&mut self, text: &[u8]) -> Result<Option<Finding>, StreamFault>
         ensures judged { IfOk result (λ found. MatchOption found
             (TakesAttempt self.old self.new (λ words. text_attempt words text.now))
@@ -104,7 +106,7 @@ impl Judge {
         }
     }
 
-    /// The verdict that a line which is too long brings.
+    /// Returns the verdict for an overlong line.
     pub(crate) fn long_line(&self) -> Result<Finding, StreamFault>
         ensures judged { IfOk result (λ finding.
             DecidesFinding self.now (λ words. Err LineFault.LongLine) finding) }
@@ -117,7 +119,7 @@ impl Judge {
         })
     }
 
-    /// What is said of the attempts, where no further line follows.
+    /// Returns the counts of the attempts judged so far.
     pub(crate) fn counts(&self) -> Counts
         ensures { (words : ℕ) (earlier : List Attempt) → FollowsAttempts words self.now earlier →
             result ≡ counts_of earlier }

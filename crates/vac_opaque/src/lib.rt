@@ -1,5 +1,5 @@
-//! A judge of opacity: it says whether the order in which the attempts of a transactional memory
-//! are given shows that they are opaque, aborted ones among them.
+//! A judge of opacity: decides whether the order in which the attempts of a transactional memory
+//! are given shows that the attempts, aborted ones included, are opaque.
 //!
 //! A text has a line `CLIENT BEGIN END commit|abort [r A V | w A V]..` for each attempt, in the
 //! order that the runtime claims for the attempts.

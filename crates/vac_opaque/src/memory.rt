@@ -1,4 +1,4 @@
-//! The words, and what an attempt does to them.
+//! The words, and the effect of an attempt on them.
 
 ghost use Rattle.std.specs.Prelude.{◌≡◌, ◌<◌, length, IfOk, OnOk, None, [], slice_set};
 ghost use Rattle.vac_opaque.specs.Words.{zeros, words_after, wrong_read};
@@ -9,20 +9,21 @@ use crate::attempt::Access;
 use crate::finding::Breach;
 use std::alloc::{AllocError, Global};
 
-/// How many words there are where the command line does not say.
+/// Number of words if the command line gives none.
 pub const USUAL_WORDS: u32 = 65_536;
 
-/// The most words that the command takes.
+/// Largest number of words that the command takes.
 pub const MOST_WORDS: u32 = 4_194_304;
 
-/// A value that a write covered.
+/// The value that a word had before a write.
 #[derive(Clone, Copy)]
 pub(crate) struct Covered {
     word: u32,
     value: u64,
 }
 
-/// The words, and what the writes of an attempt have covered, in their order.
+/// The words, and the values that the writes of the current attempt have covered, in the order of
+/// the writes.
 #[derive(Drop)]
 pub(crate) struct Memory {
     size: u32,
@@ -31,7 +32,7 @@ pub(crate) struct Memory {
     ghost sized: { length words.items ≡ size },
 }
 
-/// The value of a word; 0 where there is no such word.
+/// Returns the value of a word, 0 if there is no such word.
 fn word_of(words: &[u64], word: u32) -> u64
     ensures { result ≡ image_of words.now word }
 {
@@ -41,7 +42,7 @@ fn word_of(words: &[u64], word: u32) -> u64
     }
 }
 
-/// Gives a word a value, where there is such a word.
+/// Sets the value of a word, if there is such a word.
 fn set_word(words: &mut Vec<u64>, word: u32, value: u64)
     ensures { words.new.items ≡ slice_set words.old.items word value }
 {
@@ -52,7 +53,7 @@ fn set_word(words: &mut Vec<u64>, word: u32, value: u64)
 }
 
 impl Memory {
-    /// `size` words, all 0.
+    /// Creates `size` words, all 0.
     pub(crate) fn new(alloc: Global, size: u32) -> Result<Memory, AllocError>
         ensures zeros { IfOk result (λ memory. image_of memory.words.items ≡ zeros) }
         ensures size { IfOk result (λ memory. length memory.words.items ≡ size) }
@@ -66,14 +67,14 @@ impl Memory {
         })
     }
 
-    /// How many words there are.
+    /// Returns the number of words.
     pub(crate) fn size(&self) -> u32
         ensures { result ≡ length self.now.words.items }
     {
         self.size
     }
 
-    /// Forgets what was covered.
+    /// Forgets the covered values, so that the writes so far stay.
     pub(crate) fn keep(&mut self)
         ensures words { self.new.words.items ≡ self.old.words.items }
         ensures covered { self.new.covered.items ≡ [] }
@@ -81,7 +82,7 @@ impl Memory {
         self.covered.clear();
     }
 
-    /// Writes a value at a word, and keeps what it covers.
+    /// Writes a value to a word, and records the value that it covers.
     fn write(&mut self, word: u32, value: u64) -> Result<(), AllocError>
         ensures words { OnOk result
             (self.new.words.items ≡ slice_set self.old.words.items word value) }
@@ -97,8 +98,8 @@ impl Memory {
         Ok(())
     }
 
-    /// Does what an attempt did, and returns its first read that is not right, after which nothing
-    /// is done.
+    /// Applies the accesses of an attempt, and returns the first wrong read, if there is one.
+    /// Nothing is applied after a wrong read.
     pub(crate) fn run(&mut self, accesses: &[Access]) -> Result<Option<Breach>, AllocError>
         requires among { AllAmong (length self.old.words.items) accesses.now }
         ensures found { IfOk result (λ found.
@@ -126,7 +127,7 @@ impl Memory {
         Ok(None)
     }
 
-    /// Gives each word back what was covered.
+    /// Undoes the recorded writes, the latest first.
     pub(crate) fn undo(&mut self)
         ensures { self.new.words.items ≡ uncovered self.old.covered.items self.old.words.items }
     {

@@ -1,26 +1,26 @@
-//! What the words of a line stand for.
+//! The values of the words of a line.
 
 ghost use Rattle.std.specs.Prelude.{◌≡◌, ◌<◌, IfOk};
 ghost use Rattle.vac_opaque.specs.Attempt.{at_attempt_client, at_memory_word, at_word, first_of_two, at_outcome, at_access_kind};
 
+use vac_clients::read_client;
 use vac_lines::{LineFault, read_memory_word};
-use vac_spans::read_client;
 
-/// The client that a word names.
+/// Reads a word as the number of a client.
 pub(crate) fn client_at(word: &[u8]) -> Result<u32, LineFault>
     ensures { result ≡ at_attempt_client word.now }
 {
     read_client(word).ok_or(LineFault::BadNumber)
 }
 
-/// The reading of the clock, or the value, that a word writes.
+/// Reads a word as a reading of the clock or as a value.
 pub(crate) fn number_at(word: &[u8]) -> Result<u64, LineFault>
     ensures { result ≡ at_memory_word word.now }
 {
     read_memory_word(word).ok_or(LineFault::BadNumber)
 }
 
-/// The number of one of `words` words.
+/// Reads a text as the number of one of `words` words.
 pub(crate) fn word_at(words: u32, text: &[u8]) -> Result<u32, LineFault>
     ensures word { result ≡ at_word words text.now }
     ensures among { IfOk result (λ word. word < words) }
@@ -31,7 +31,7 @@ pub(crate) fn word_at(words: u32, text: &[u8]) -> Result<u32, LineFault>
     }
 }
 
-/// Whether a word is the first of two names, where it is one of them.
+/// Returns whether a word is the first of two names, or `None` if it is neither.
 fn is_first_of(first: &[u8], second: &[u8], word: &[u8]) -> Option<bool>
     ensures { result ≡ first_of_two first.now second.now word.now }
 {
@@ -44,14 +44,14 @@ fn is_first_of(first: &[u8], second: &[u8], word: &[u8]) -> Option<bool>
     }
 }
 
-/// Whether an attempt committed.
+/// Reads an outcome: true if the attempt committed.
 pub(crate) fn outcome_at(word: &[u8]) -> Result<bool, LineFault>
     ensures { result ≡ at_outcome word.now }
 {
     is_first_of(b"commit", b"abort", word).ok_or(LineFault::BadCommand)
 }
 
-/// Whether an access is a read.
+/// Reads the kind of an access: true for a read.
 pub(crate) fn kind_at(word: &[u8]) -> Result<bool, LineFault>
     ensures { result ≡ at_access_kind word.now }
 {

@@ -12,11 +12,11 @@ use std::io::{Read, Write};
 use vac_lines::write_and_flush;
 use vac_streams::{Next, Sink, StreamFault, read_lines};
 
-/// A text of attempts that is read.
+/// A text of attempts that is being read.
 #[derive(Drop)]
 struct Attempts {
     judge: Judge,
-    /// The verdict of the first line that brings one.
+    /// The verdict, if a line has decided it.
     found: Option<Finding>,
 }
 
@@ -49,8 +49,8 @@ impl Sink<()> for Attempts {
     }
 }
 
-/// The verdict on a text of attempts at `words` words: reads the lines to the end of the input, or
-/// to the first that is not right.
+/// Judges a text of attempts at `words` words: reads its lines to the end of the input, or to the
+/// first wrong line.
 fn find_in<R: Read>(alloc: Global, words: u32, input: &mut R) -> Result<Finding, StreamFault>
     ensures found { IfOk result (λ finding.
         HasFinding words (R.remaining input.old) (R.remaining input.new) finding) }
@@ -70,14 +70,17 @@ fn find_in<R: Read>(alloc: Global, words: u32, input: &mut R) -> Result<Finding,
 }
 
 /// Judges a text of attempts at `words` words: reads its lines to the end of the input, or to the
-/// first that is not right, and writes the verdict. Returns whether they are opaque.
+/// first wrong line, and writes the verdict. Returns whether the attempts are opaque.
 ///
-/// It keeps the words, one number for each client, a line, and what a line reads and writes.
+/// The judge keeps the words, one number for each client, one line, and the reads and writes of
+/// that line.
 ///
 /// # Errors
-/// After a fault of the output a prefix of the verdict's text was written, after any other nothing.
+/// After a fault of the output a prefix of the verdict's text was written, after any other fault
+/// nothing.
 ///
-/// Not said: how much memory it takes, and that it takes none for a line once it has grown.
+/// Not said: how much memory the function takes, and that a line takes no more memory once the
+/// buffers have grown.
 pub fn judge_attempts<R: Read, W: Write>(
     alloc: Global,
     words: u32,

@@ -5,8 +5,8 @@ ghost use Rattle.vac_opaque.specs.Parts.{words_left};
 
 use vac_lines::{LineFault, cut_at};
 
-/// The first word of what is left of a line, and what is left after it; `None` where nothing is
-/// left.
+/// Returns the first word of the rest of a line, and the text after that word. Returns `None` if
+/// no word is left.
 pub(crate) fn next_word(left: Option<&[u8]>) -> Option<(&[u8], Option<&[u8]>)>
     ensures { MatchOption result (words_left left.entry ≡ [])
         (λ cut. words_left left.entry ≡ cut.0.now ∷ words_left cut.1) }
@@ -18,7 +18,8 @@ pub(crate) fn next_word(left: Option<&[u8]>) -> Option<(&[u8], Option<&[u8]>)>
     }
 }
 
-/// The first word of what is left of a line that must have one, and what is left after it.
+/// Takes the first word of the rest of a line, and returns the word and the text after it. A line
+/// without a further word is a fault.
 pub(crate) fn take_word(left: Option<&[u8]>) -> Result<(&[u8], Option<&[u8]>), LineFault>
     ensures { MatchResult result
         (λ cut. words_left left.entry ≡ cut.0.now ∷ words_left cut.1)

@@ -13,58 +13,62 @@ use Rattle.std.proofs.lemmas.Bool.Decides.{nat_tests}
 use Rattle.std.proofs.lemmas.List.{length-map}
 use Rattle.std.proofs.lemmas.List.Concat.{flat_map-cons}
 use Rattle.std.proofs.lemmas.List.Elements.{All-cons, All-head, All-tail, All-nil}
-use Rattle.vac_model.specs.State.{State}
+use Rattle.vac_model.specs.State.{State, empty_state}
 use Rattle.vac_lines.specs.Lines.{lines_of}
 use Rattle.vac_lines.specs.Script.{as_line}
 use Rattle.vac_judge.specs.Laws.{Lists, IsLinearization}
-use Rattle.vac_quick.specs.declared.line.Line.{Line}
-use Rattle.vac_order.specs.declared.stuck.Stuck.{Stuck}
+use Rattle.judge_object.specs.declared.line.Line.{Line}
+use Rattle.judge_search.specs.declared.stuck.Stuck.{Stuck}
 use Rattle.vac_order.specs.declared.ordering.Outcome.TheVariants as outcome
-use Rattle.vac_order.specs.Orders.{IsMerge, IsOrderOf}
-use Rattle.vac_order.specs.Configurations.{start, answered, PlacesAtMost, Deepest}
-use Rattle.vac_order.specs.Searching.{IsUndecided}
-use Rattle.vac_order.specs.Walking.{AreDistinct}
-use Rattle.vac_order.specs.Calls.{call_of, calls_of, no_call, rest_of}
-use Rattle.vac_order.specs.Stuck.{AreStuck}
-use Rattle.vac_order.specs.Judging.{calls_at, IsLinearizedBy, HasNoOrder}
+use Rattle.judge_object.specs.Orders.{IsMerge, IsOrderOf}
+use Rattle.judge_search.specs.Configurations.{start, answered, PlacesAtMost, Deepest}
+use Rattle.judge_search.specs.Searching.{IsUndecided}
+use Rattle.judge_search.specs.Walking.{AreDistinct}
+use Rattle.judge_search.specs.Calls.{call_of, calls_of, no_call, rest_of}
+use Rattle.judge_search.specs.Stuck.{AreStuck}
+use Rattle.judge_search.specs.Judging.{calls_at, IsLinearizedBy, HasNoOrder}
 use Rattle.vac_order.specs.Reading.{first_wrong, texts_of, numbers_of, call_at, IsLineAt, AreKeptLines, ReadWhole}
 use Rattle.vac_order.specs.Reading.{ReadWrong}
 use Rattle.vac_order.specs.Found.{Wrong, NoOrder, Order, Undecided, calls_numbered}
 use Rattle.vac_order.specs.Found.{AreKeptInOrder}
 use Rattle.vac_order.specs.Found.{told_by, line_at, order_text, placed_text, none_text, open_text}
 use Rattle.vac_order.specs.Ordering.{FindsText, HasText}
-use Rattle.vac_order.proofs.Placing.{times}
+use Rattle.judge_search.proofs.Placing.{times}
 use Rattle.vac_order.proofs.Kept.{times_cons}
-use Rattle.vac_order.proofs.Judged.{order_given, none_given}
+use Rattle.judge_search.proofs.Judged.{order_given, none_given}
+use Rattle.vac_model.specs.declared.tasks.Task.{Task}
+use Rattle.judge_reservations.specs.Reserving.{reserving}
+use Rattle.vac_model.specs.declared.replies.Reply.{Reply}
 
 -- the calls as they are kept are those of the lines with their numbers
-pub kept_calls : (lines kept : List Line) → All (IsLineAt lines) kept →
+pub kept_calls : (lines kept : List (Line Task)) → All (IsLineAt lines) kept →
     calls_of kept ≡ calls_numbered (calls_of lines) (numbers_of kept)
 kept_calls lines [] h = refl
 kept_calls lines (k ∷ ks) h =
     ap (λ c. c ∷ calls_of ks) (sym (All-head (IsLineAt lines) k ks h).call)
     ∙ ap (λ l. call_at (calls_of lines) k.number ∷ l) (kept_calls lines ks (All-tail (IsLineAt lines) k ks h))
 
-numbers_first : (lines kept : List Line) → All (IsLineAt lines) kept → All (λ n. 1 ≤ n) (numbers_of kept)
+numbers_first : (lines kept : List (Line Task)) → All (IsLineAt lines) kept → All (λ n. 1 ≤ n) (numbers_of kept)
 numbers_first lines [] h = All-nil (λ n. 1 ≤ n)
 numbers_first lines (k ∷ ks) h =
     All-cons (λ n. 1 ≤ n) k.number (numbers_of ks) (All-head (IsLineAt lines) k ks h).first
     (numbers_first lines ks (All-tail (IsLineAt lines) k ks h))
 
-numbers_last : (lines kept : List Line) → All (IsLineAt lines) kept → All (λ n. n ≤ length lines) (numbers_of kept)
+numbers_last : (lines kept : List (Line Task)) → All (IsLineAt lines) kept →
+    All (λ n. n ≤ length lines) (numbers_of kept)
 numbers_last lines [] h = All-nil (λ n. n ≤ length lines)
 numbers_last lines (k ∷ ks) h =
     All-cons (λ n. n ≤ length lines) k.number (numbers_of ks) (All-head (IsLineAt lines) k ks h).last
     (numbers_last lines ks (All-tail (IsLineAt lines) k ks h))
 
 -- what stands at a place
-record AtPlace (lines kept : List Line) (p : ℕ) : Type 0 where
-  pub call : get_or (calls_of kept) p no_call ≡ call_at (calls_of lines) (get_or (numbers_of kept) p 0)
+record AtPlace (lines kept : List (Line Task)) (p : ℕ) : Type 0 where
+  pub call : get_or (calls_of kept) p (no_call reserving) ≡ call_at (calls_of lines) (get_or (numbers_of kept) p 0)
   pub text : get_or (texts_of kept) p [] ≡ get_or (texts_of lines) (get_or (numbers_of kept) p 0 - 1) []
   pub first : 1 ≤ get_or (numbers_of kept) p 0
   pub last : get_or (numbers_of kept) p 0 ≤ length lines
 
-at_place : (lines kept : List Line) (p : ℕ) → All (IsLineAt lines) kept → p < length kept → AtPlace lines kept p
+at_place : (lines kept : List (Line Task)) (p : ℕ) → All (IsLineAt lines) kept → p < length kept → AtPlace lines kept p
 at_place lines [] p h l = absurd (omega arith)
 at_place lines (k ∷ ks) zero h l = let own = All-head (IsLineAt lines) k ks h in
     record { call = sym own.call; text = sym own.text; first = own.first; last = own.last }
@@ -76,13 +80,13 @@ at_place lines (k ∷ ks) (suc p) h l =
 abbrev pub numbers_at : List ℕ → List ℕ → List ℕ
 numbers_at ns places = map (λ p. get_or ns p 0) places
 
-module _ (lines kept : List Line) (each : All (IsLineAt lines) kept) where
+module _ (lines kept : List (Line Task)) (each : All (IsLineAt lines) kept) where
   order_calls : (places : List ℕ) → All (λ p. p < length kept) places →
-      calls_at (calls_of kept) places ≡ calls_numbered (calls_of lines) (numbers_at (numbers_of kept) places)
+      calls_at reserving (calls_of kept) places ≡ calls_numbered (calls_of lines) (numbers_at (numbers_of kept) places)
   order_calls [] h = refl
   order_calls (p ∷ ps) h =
       let at = at_place lines kept p each (All-head (λ p. p < length kept) p ps h) in
-      ap (λ c. c ∷ calls_at (calls_of kept) ps) at.call ∙ ap (λ l. call_at (calls_of lines)
+      ap (λ c. c ∷ calls_at reserving (calls_of kept) ps) at.call ∙ ap (λ l. call_at (calls_of lines)
       (get_or (numbers_of kept) p 0) ∷ l) (order_calls ps (All-tail (λ p. p < length kept) p ps h))
 
   order_first : (places : List ℕ) → All (λ p. p < length kept) places →
@@ -215,7 +219,7 @@ numbers_distinct ns (p ∷ ps) d e h x =
         let whole = times_cons x (get_or ns p 0) (numbers_at ns ps) in omega arith
 
 -- what is found of the lines as they are kept
-module _ (lines kept : List Line) (k : AreKeptLines lines kept) (bytes : List ℕ)
+module _ (lines kept : List (Line Task)) (k : AreKeptLines lines kept) (bytes : List ℕ)
     (texts : texts_of lines ≡ lines_of bytes) (listed : Lists bytes (calls_of lines))
     (right : first_wrong bytes ≡ None) where
   long : length (calls_of lines) ≡ length lines
@@ -233,7 +237,8 @@ module _ (lines kept : List Line) (k : AreKeptLines lines kept) (bytes : List �
     merges = subst (IsMerge (calls_of lines)) (kept_calls lines kept k.each) k.merges;
   }
 
-  pub finds_order : (n steps : ℕ) (places : List ℕ) (text : List ℕ) → IsLinearizedBy n (calls_of kept) places →
+  pub finds_order : (n steps : ℕ) (places : List ℕ) (text : List ℕ) →
+      IsLinearizedBy reserving (empty_state n) (calls_of kept) places →
       text ≡ placed_text (texts_of kept) places
       → FindsText n steps bytes outcome.Ordered text
   finds_order n steps places text h e =
@@ -241,8 +246,8 @@ module _ (lines kept : List Line) (k : AreKeptLines lines kept) (bytes : List �
       (length-map kept call_of) h.within in
       let numbers = numbers_at (numbers_of kept) places in
       let inside : All (λ p. p < length (numbers_of kept)) places =
-      subst (λ m. All (λ p. p < m) places) (sym (length-map kept (λ (l : Line). l.number))) within in
-      let calls : calls_at (calls_of kept) places ≡ calls_numbered (calls_of lines) numbers =
+      subst (λ m. All (λ p. p < m) places) (sym (length-map kept (λ (l : Line Task). l.number))) within in
+      let calls : calls_at reserving (calls_of kept) places ≡ calls_numbered (calls_of lines) numbers =
       order_calls lines kept k.each places within in
       record {
         found = Order numbers;
@@ -254,17 +259,18 @@ module _ (lines kept : List Line) (k : AreKeptLines lines kept) (bytes : List �
             first = order_first lines kept k.each places within;
             last = subst (λ m. All (λ n. n ≤ m) numbers) (sym long) (order_last lines kept k.each places within);
           };
-          orders = subst (IsOrderOf (calls_of lines)) calls (order_given (calls_of lines) (calls_of kept)
-              (calls_at (calls_of kept) places) k.merges h.orders);
+          orders = subst (IsOrderOf (calls_of lines)) calls (order_given reserving (calls_of lines) (calls_of kept)
+              (calls_at reserving (calls_of kept) places) k.merges h.orders);
           linearization = subst (IsLinearization n) calls h.linearization;
         };
         answered = refl;
         text_is = e ∙ order_lines lines kept k.each bytes places texts within;
       }
 
-  pub finds_none : (n steps most : ℕ) (made : ℕ → Bool) (s : State) (found : List Stuck) (text : List ℕ)
-      → HasNoOrder n (calls_of kept) most (record { rest = rest_of made 0 (calls_of kept); state = s }) →
-      AreStuck s made (calls_of kept) found
+  pub finds_none : (n steps most : ℕ) (made : ℕ → Bool) (s : State) (found : List (Stuck Reply)) (text : List ℕ)
+      → HasNoOrder reserving (empty_state n) (calls_of kept) most
+      (record { rest = rest_of made 0 (calls_of kept); state = s }) →
+      AreStuck reserving s made (calls_of kept) found
       → text ≡ none_text most (told_by (numbers_of kept) found) → FindsText n steps bytes outcome.Illegal text
   finds_none n steps most made s found text h a e =
       let same = kept_calls lines kept k.each in
@@ -274,21 +280,23 @@ module _ (lines kept : List Line) (k : AreKeptLines lines kept) (bytes : List �
           calls = calls_of lines;
           numbers = numbers_of kept;
           kept = kept_are;
-          none = none_given n (calls_of lines) (calls_of kept) k.merges h.none;
+          none = none_given reserving (empty_state n) (calls_of lines) (calls_of kept) k.merges h.none;
           made = made;
           state = s;
-          deepest = subst (λ cs. Deepest (start n cs) most (record { rest = rest_of made 0 cs; state = s })) same
+          deepest = subst (λ cs. Deepest reserving (start (empty_state n) cs) most
+              (record { rest = rest_of made 0 cs; state = s })) same
               h.deepest;
-          bound = subst (λ cs. PlacesAtMost (answered cs) most (start n cs)) same h.bound;
+          bound = subst (λ cs. PlacesAtMost reserving (answered cs) most (start (empty_state n) cs)) same h.bound;
           found = found;
-          are = subst (λ cs. AreStuck s made cs found) same a;
+          are = subst (λ cs. AreStuck reserving s made cs found) same a;
           told = refl;
         };
         answered = refl;
         text_is = e;
       }
 
-  pub finds_nothing : (n steps most : ℕ) (text : List ℕ) → IsUndecided (start n (calls_of kept)) steps most →
+  pub finds_nothing : (n steps most : ℕ) (text : List ℕ) → IsUndecided reserving
+      (start (empty_state n) (calls_of kept)) steps most →
       text ≡ open_text most → FindsText n steps bytes outcome.Undecided text
   finds_nothing n steps most text h e = record {
     found = Undecided most;
@@ -296,7 +304,8 @@ module _ (lines kept : List Line) (k : AreKeptLines lines kept) (bytes : List �
       calls = calls_of lines;
       numbers = numbers_of kept;
       kept = kept_are;
-      undecided = subst (λ cs. IsUndecided (start n cs) steps most) (kept_calls lines kept k.each) h;
+      undecided = subst (λ cs. IsUndecided reserving (start (empty_state n) cs) steps most)
+          (kept_calls lines kept k.each) h;
     };
     answered = refl;
     text_is = e;

@@ -2,8 +2,10 @@
 use Rattle.std.proofs.Common.{◌≡◌, Ok, Result, List, [], ◌∷◌, map, refl, sym, ap, ◌∙◌, subst}
 use Rattle.vac_judge.specs.declared.fault.CallFault.{CallFault}
 use Rattle.vac_judge.specs.Call.{Call}
-use Rattle.vac_order.specs.Orders.{IsLinearizable}
+use Rattle.judge_object.specs.Orders.{IsLinearizable}
 use Rattle.vac_order.specs.Laws.{OrderIsLinearization, NoOrderMeansNone}
+use Rattle.judge_reservations.specs.Reserving.{reserving}
+use Rattle.vac_model.specs.State.{empty_state}
 
 pub tail_same : (a b : Result Call CallFault) (xs ys : List (Result Call CallFault)) → a ∷ xs ≡ b ∷ ys →
     (a ≡ b) × (xs ≡ ys)
@@ -23,9 +25,9 @@ calls_same (x ∷ xs) (y ∷ ys) e =
 
 pub order_is_linearization : OrderIsLinearization
 order_is_linearization n steps bytes numbers h calls l =
-    subst (IsLinearizable n) (calls_same h.calls calls (sym h.listed ∙ l))
+    subst (IsLinearizable reserving (empty_state n)) (calls_same h.calls calls (sym h.listed ∙ l))
     (record { order = _; orders = h.orders; linearization = h.linearization })
 
 pub no_order_means_none : NoOrderMeansNone
 no_order_means_none n steps bytes most stuck h calls l some =
-    h.none (subst (IsLinearizable n) (calls_same calls h.calls (sym l ∙ h.kept.listed)) some)
+    h.none (subst (IsLinearizable reserving (empty_state n)) (calls_same calls h.calls (sym l ∙ h.kept.listed)) some)

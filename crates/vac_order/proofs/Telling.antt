@@ -19,7 +19,7 @@ use Rattle.vac_judge.specs.Call.{Call, line_call}
 use Rattle.vac_judge.specs.Hearing.{told_call}
 use Rattle.vac_judge.proofs.Telling.{lines_told}
 use Rattle.vac_order.specs.declared.reading.HistoryText.{HistoryText}
-use Rattle.vac_order.specs.Calls.{calls_of}
+use Rattle.judge_search.specs.Calls.{calls_of}
 use Rattle.vac_order.specs.Reading.{wrong_behind, first_wrong, texts_of, IsHeld, TookLine}
 use Rattle.vac_order.specs.Reading.{HistoryHearsLine}
 use Rattle.vac_order.specs.Reading.{ReadWhole, ReadWrong}

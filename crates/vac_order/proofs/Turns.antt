@@ -13,16 +13,17 @@ use Rattle.vac_judge.specs.declared.call.CallLine.{CallLine}
 use Rattle.vac_judge.specs.declared.call.Answer.{Answer}
 use Rattle.vac_judge.specs.Parts.{shown_call, shown_end, shown_reply}
 use Rattle.vac_judge.specs.Order.{call_breaks_client}
-use Rattle.vac_judge.specs.Follows.{IsBehind, EachCall}
-use Rattle.vac_quick.specs.declared.line.Line.{Line}
+use Rattle.judge_object.specs.Call.{IsBehind, EachCall}
+use Rattle.judge_object.specs.declared.line.Line.{Line}
 use Rattle.vac_order.specs.declared.history.History.{History}
-use Rattle.vac_order.specs.Walk.{InTurn, IsTimed}
-use Rattle.vac_order.specs.Calls.{call_of, calls_of}
+use Rattle.judge_search.specs.Walk.{InTurn, IsTimed}
+use Rattle.judge_search.specs.Calls.{call_of, calls_of}
 use Rattle.vac_order.specs.Reading.{calls_overlap, AreNumbered, began_before, KeepsEnds, IsHeld, IsLineOf, Took}
 use Rattle.vac_order.specs.Reading.{texts_of}
 use Rattle.std.specs.Prelude.{◌-◌, ◌^◌}
 use Rattle.std.proofs.lemmas.List.{map-append}
-use Rattle.vac_order.proofs.Each.{test}
+use Rattle.judge_search.proofs.Each.{test}
+use Rattle.vac_model.specs.declared.tasks.Task.{Task}
 
 both_false : (a b : Bool) → (a || b) ≡ false → (a ≡ false) × (b ≡ false)
 both_false true b h = cc
@@ -118,7 +119,8 @@ turn_more calls c t n =
     let none = both_false (nat_lt c.end c.begin) (list_any (calls_overlap c) calls) n in
     turn_on calls c t (let f = none.0 in grind (arith, nat_tests)) none.1
 
-pub numbered_more : (n : ℕ) (lines : List Line) (l : Line) → AreNumbered n lines → l.number ≡ n + length lines →
+pub numbered_more : (n : ℕ) (lines : List (Line Task)) (l : Line Task) → AreNumbered n lines →
+    l.number ≡ n + length lines →
     AreNumbered n (lines ++ l ∷ [])
 numbered_more n [] l h e = (omega arith, tt)
 numbered_more n (x ∷ xs) l h e = (h.0, numbered_more (n + 1) xs l h.1 (omega arith))
@@ -160,7 +162,7 @@ pub said_none : (ends : FinMap nat_cmp ℕ) (calls : List Call) (c : Call) → K
 said_none ends calls c k l e = sym (said_of ends calls c k l ∙ ap (λ o. fits_behind o c.begin) e)
 
 -- a call that is in turn was taken
-pub took : (before after : History) (text : List ℕ) (c : Call) (l : Line) (n : ℕ) → IsHeld before →
+pub took : (before after : History) (text : List ℕ) (c : Call) (l : Line Task) (n : ℕ) → IsHeld before →
     after.ends ≡ insert before.ends c.client c.end
     → n ≡ length before.lines.items + 1 → IsLineOf n text c l → after.lines.items ≡ before.lines.items ++ l ∷ [] →
     call_breaks_client (calls_of before.lines.items) c ≡ false
@@ -181,7 +183,7 @@ took before after text c l n h e m i p f t =
         numbered = subst (AreNumbered 1) (sym p) (numbered_more 1 before.lines.items l h.numbered (let own =
             i.number_is in omega arith));
       };
-      texts = ap texts_of p ∙ map-append (λ (x : Line). x.text.items) before.lines.items (l ∷ []) ∙
+      texts = ap texts_of p ∙ map-append (λ (x : Line Task). x.text.items) before.lines.items (l ∷ []) ∙
           ap (λ u. texts_of before.lines.items ++ u ∷ []) i.text_is;
       calls = calls;
     }

@@ -18,7 +18,7 @@ use Rattle.vac_judge.specs.Call.{Call, line_call, call_parts, parts_call, ◌>>=
 use Rattle.vac_judge.specs.Laws.{Lists, LegalSummary}
 use Rattle.vac_order.specs.declared.ordering.Outcome.{Outcome}
 use Rattle.vac_order.specs.declared.ordering.Outcome.TheVariants as outcome
-use Rattle.vac_order.specs.Calls.{no_call}
+use Rattle.judge_search.specs.Calls.{no_call}
 use Rattle.vac_order.specs.Reading.{call_at}
 use Rattle.vac_order.specs.Found.{FoundOfText, Wrong, Order, NoOrder, Undecided, IsFound, calls_numbered, line_at}
 use Rattle.vac_order.specs.Found.{order_text}
@@ -26,6 +26,7 @@ use Rattle.vac_order.specs.Found.{found_text}
 use Rattle.vac_order.specs.Ordering.{outcome_of, FindsText}
 use Rattle.vac_order.specs.Laws.{IsJudgedLegal, IsOrderOfText, OrderIsJudgedLegal}
 use Rattle.vac_order.proofs.Lawful.{tail_same, calls_same}
+use Rattle.judge_reservations.specs.Reserving.{reserving}
 
 false_both : (a b : Bool) → (a || b) ≡ false → (a ≡ false) × (b ≡ false)
 false_both true b h = cc
@@ -56,7 +57,7 @@ clean line call e =
 -- the call of the line at a place
 read_at : (ls : List (List ℕ)) (cs : List Call) (p : ℕ)
     → ◌≡◌ {A = List (Result Call CallFault)} (map line_call ls) (map Ok cs) → p < length cs
-    → line_call (get_or ls p []) ≡ Ok (get_or cs p no_call)
+    → line_call (get_or ls p []) ≡ Ok (get_or cs p (no_call reserving))
 read_at [] [] p e l = absurd (omega arith)
 read_at [] (c ∷ cs) p e l = cc
 read_at (x ∷ xs) [] p e l = absurd (omega arith)

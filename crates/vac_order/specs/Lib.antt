@@ -1,15 +1,3 @@
-pub mod Orders
-pub mod Configurations
-pub mod Views
-pub mod Walk
-pub mod Searching
-pub mod Walking
-pub mod Checking
-pub mod Marks
-pub mod Calls
-pub mod Point
-pub mod Stuck
-pub mod Judging
 pub mod Reading
 pub mod Found
 pub mod Ordering

@@ -1,4 +1,4 @@
--- What ordering a history that is read returns and writes.
+-- The result and the output of ordering a history that is read.
 use Rattle.std.specs.Prelude.{◌≡◌, ◌⊎◌, ℕ, Option, IfSome, List, [], ◌++◌}
 use Rattle.std.specs.Io.KnownBytes.{Appends, Consumes, IsAtEnd}
 use Rattle.vac_lines.specs.Writing.{AppendsPrefix}
@@ -8,14 +8,14 @@ use Rattle.vac_order.specs.declared.ordering.Outcome.{Outcome}
 use Rattle.vac_order.specs.declared.ordering.Outcome.TheVariants as outcome
 use Rattle.vac_order.specs.Found.{FoundOfText, Wrong, Order, NoOrder, Undecided, IsFound, found_text}
 
--- what is returned for what is found
+-- the outcome that is returned for a result
 abbrev pub outcome_of : FoundOfText → Outcome
 outcome_of (Wrong verdict) = outcome.Illegal
 outcome_of (Order numbers) = outcome.Ordered
 outcome_of (NoOrder most stuck) = outcome.Illegal
 outcome_of (Undecided most) = outcome.Undecided
 
--- this is found of a text; this is what is written of it, and this is returned
+-- the text has some result; its output is this text, and its outcome is the returned one
 pub record FindsText (n steps : ℕ) (bytes : List ℕ) (result : Outcome) (text : List ℕ) :
     Type 0 where
   pub found : FoundOfText
@@ -23,10 +23,10 @@ pub record FindsText (n steps : ℕ) (bytes : List ℕ) (result : Outcome) (text
   pub answered : result ≡ outcome_of found
   pub text_is : text ≡ found_text bytes found
 
--- enough of the input was read to decide what is found: all of it, or so much that this holds
--- whatever follows
--- Not said: streams whose bytes no contract knows; that no byte is read after the chunk with the
--- first wrong line, which is read in the code.
+-- enough of the input was read to decide the result: all of the input, or a prefix for which the
+-- result holds whatever follows
+-- Not said: anything of streams whose bytes no contract describes; that no byte is read after the
+-- chunk with the first wrong line, which is read in the code.
 pub record HasText (n steps : ℕ) (unread left : Option (List ℕ)) (result : Outcome)
     (text : List ℕ) : Type 0 where
   pub bytes : List ℕ
@@ -35,14 +35,14 @@ pub record HasText (n steps : ℕ) (unread left : Option (List ℕ)) (result : O
       ⊎ ((x : List ℕ) → FindsText n steps (bytes ++ x) result text)
   pub of_input : IfSome unread (λ input. FindsText n steps input result text)
 
--- what is found was written and nothing else, and this was returned
+-- exactly the output for the result was written, and the outcome of the result was returned
 pub record HasOrdered (n steps : ℕ) (result : Outcome)
     (unread left held holds : Option (List ℕ)) : Type 0 where
   pub text : List ℕ
   pub is : HasText n steps unread left result text
   pub written : Appends held holds text
 
--- what is found was written in part
+-- a prefix of the output for the result was written
 pub record HasOrderedInPart (n steps : ℕ) (unread left held holds : Option (List ℕ)) :
     Type 0 where
   pub result : Outcome
@@ -50,8 +50,9 @@ pub record HasOrderedInPart (n steps : ℕ) (unread left held holds : Option (Li
   pub is : HasText n steps unread left result text
   pub written : AppendsPrefix held holds text
 
--- a fault ended it: one of the output while the text was written, any other before
--- Not said: which of Read, Memory and Bound ends it; that the output failed where Write is
+-- a fault ended the ordering. After a fault of the output a prefix of the text was written, after
+-- any other fault nothing
+-- Not said: which of Read, Memory and Bound ends the ordering; that the output failed if Write is
 -- returned.
 abbrev pub HasStoppedOrdering : ℕ → ℕ → StreamFault → Option (List ℕ) → Option (List ℕ)
     → Option (List ℕ) → Option (List ℕ) → Type 0

@@ -1,17 +1,18 @@
-//! The texts of what is found of a history.
+//! The texts of the results for a history.
 
 ghost use Rattle.std.specs.Prelude.{◌≡◌, ◌++◌, ◌<◌, All, OnOk, decimal, flat_map, length};
 ghost use Rattle.vac_lines.specs.Script.{as_line};
 ghost use Rattle.vac_order.specs.Found.{placed_text, stuck_text, none_text, open_text, told_by};
 ghost use Rattle.vac_order.specs.Reading.{texts_of, numbers_of};
 
-use crate::stuck::Stuck;
+use judge_object::Line;
+use judge_reservations::Asked;
+use judge_search::Stuck;
 use std::alloc::AllocError;
 use vac_lines::{append_field, print_reply};
 use vac_model::Reply;
-use vac_quick::Line;
 
-/// Appends a line of a text and a number.
+/// Appends a text and a number as a line.
 fn append_count(out: &mut Vec<u8>, text: &[u8], number: u64) -> Result<(), AllocError>
     ensures { OnOk result
         (out.new.items ≡ out.old.items ++ as_line (text.now ++ decimal number)) }
@@ -28,9 +29,9 @@ fn append_line(out: &mut Vec<u8>, text: &[u8]) -> Result<(), AllocError>
     out.extend_from_slice(b"\n")
 }
 
-/// Appends the lines at these places.
+/// Appends the lines at these positions.
 pub(crate) fn print_order(
-    lines: &[Line],
+    lines: &[Line<Asked>],
     places: &[usize],
     out: &mut Vec<u8>,
 ) -> Result<(), AllocError>
@@ -46,7 +47,7 @@ pub(crate) fn print_order(
     Ok(())
 }
 
-/// Appends the line of a call that is stuck, by its number.
+/// Appends the line of a blocked call: its number and the expected reply.
 fn print_stuck(number: u64, expected: &Reply, out: &mut Vec<u8>) -> Result<(), AllocError>
     ensures { OnOk result
         (out.new.items ≡ out.old.items ++ stuck_text (number, expected.now)) }
@@ -57,8 +58,12 @@ fn print_stuck(number: u64, expected: &Reply, out: &mut Vec<u8>) -> Result<(), A
     out.extend_from_slice(b"\n")
 }
 
-/// Appends the lines of the calls that are stuck.
-fn print_all_stuck(lines: &[Line], stuck: &[Stuck], out: &mut Vec<u8>) -> Result<(), AllocError>
+/// Appends the lines of the blocked calls.
+fn print_all_stuck(
+    lines: &[Line<Asked>],
+    stuck: &[Stuck<Reply>],
+    out: &mut Vec<u8>,
+) -> Result<(), AllocError>
     ensures { OnOk result (All (λ one. one.place < length lines.now) stuck.now →
         out.new.items ≡ out.old.items
         ++ flat_map stuck_text (told_by (numbers_of lines.now) stuck.now)) }
@@ -72,12 +77,12 @@ fn print_all_stuck(lines: &[Line], stuck: &[Stuck], out: &mut Vec<u8>) -> Result
     Ok(())
 }
 
-/// Appends that there is no order, that at most `most` answered calls have a place, and the calls
-/// that are stuck there.
+/// Appends the result that there is no order: the largest number `most` of completed calls that
+/// can be placed, and the calls that are then blocked.
 pub(crate) fn print_no_order(
     most: u64,
-    lines: &[Line],
-    stuck: &[Stuck],
+    lines: &[Line<Asked>],
+    stuck: &[Stuck<Reply>],
     out: &mut Vec<u8>,
 ) -> Result<(), AllocError>
     ensures { OnOk result (All (λ one. one.place < length lines.now) stuck.now →
@@ -88,7 +93,8 @@ pub(crate) fn print_no_order(
     print_all_stuck(lines, stuck, out)
 }
 
-/// Appends that neither is known, and that at most `most` answered calls had a place.
+/// Appends the result that the question is undecided, with the largest number `most` of completed
+/// calls that were placed.
 pub(crate) fn print_undecided(most: u64, out: &mut Vec<u8>) -> Result<(), AllocError>
     ensures { OnOk result (out.new.items ≡ out.old.items ++ open_text most) }
 {

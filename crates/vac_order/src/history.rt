@@ -1,26 +1,28 @@
-//! The calls of a history as they are read, each client's in turn.
+//! The calls of a history while it is read, each client's in turn.
 
 ghost use Rattle.std.specs.Prelude.{◌≡◌, ◌<◌, ◌^◌, true, [], not, IfOk, MatchBool};
 ghost use Rattle.vac_model.specs.Ranges.{is_task};
-ghost use Rattle.vac_lines.specs.Text.{given_text};
+ghost use Rattle.judge_object.specs.Rules.{given_text};
 ghost use Rattle.vac_judge.specs.Order.{call_breaks_client};
 ghost use Rattle.vac_judge.specs.Parts.{shown_call, shown_end, shown_reply};
-ghost use Rattle.vac_order.specs.Calls.{calls_of};
+ghost use Rattle.judge_search.specs.Calls.{calls_of};
 ghost use Rattle.vac_order.specs.Reading.{IsHeld, IsLineOf, Took};
 
+use judge_object::Line;
+use judge_reservations::Asked;
+use judge_time::{Ends, NEVER};
 use std::alloc::{AllocError, Global};
 use vac_judge::{Answer, CallLine};
-use vac_quick::Line;
-use vac_spans::{Ends, NEVER};
 
-/// The calls that were read, in the order of their lines, and when each client's last ended.
+/// The calls that were read, in the order of their lines, and the end of the last call of each
+/// client.
 #[derive(Drop)]
 pub(crate) struct History {
-    pub(crate) lines: Vec<Line>,
+    pub(crate) lines: Vec<Line<Asked>>,
     pub(crate) ends: Ends,
 }
 
-/// When a call ended, or [`NEVER`].
+/// Returns the end of a call, [`NEVER`] for a pending call.
 fn end_of(answer: Option<Answer<'_>>) -> u128
     ensures { result ≡ shown_end answer.entry }
 {
@@ -30,7 +32,7 @@ fn end_of(answer: Option<Answer<'_>>) -> u128
     }
 }
 
-/// The text of a reply, where there was one.
+/// Returns a copy of the text of the reply, or `None` for a pending call.
 fn reply_of(alloc: Global, answer: Option<Answer<'_>>) -> Result<Option<Vec<u8>>, AllocError>
     ensures { IfOk result (λ reply. given_text reply ≡ shown_reply answer.entry) }
 {
@@ -40,8 +42,13 @@ fn reply_of(alloc: Global, answer: Option<Answer<'_>>) -> Result<Option<Vec<u8>>
     }
 }
 
-/// The line of this number and text, which is this call's.
-fn line_of(alloc: Global, number: u64, text: &[u8], call: CallLine<'_>) -> Result<Line, AllocError>
+/// Makes the line with this number and text from its call.
+fn line_of(
+    alloc: Global,
+    number: u64,
+    text: &[u8],
+    call: CallLine<'_>,
+) -> Result<Line<Asked>, AllocError>
     requires { is_task call.task ≡ true }
     ensures line { IfOk result (λ line.
         IsLineOf number text.now (shown_call call.entry) line) }
@@ -55,14 +62,14 @@ fn line_of(alloc: Global, number: u64, text: &[u8], call: CallLine<'_>) -> Resul
         client: call.client,
         begin: call.begin,
         end,
-        task: call.task,
+        op: Asked::new(call.task),
         reply,
         soonest: call.begin,
     })
 }
 
 impl History {
-    /// No call.
+    /// Creates a history without calls.
     pub(crate) fn new(alloc: Global) -> History
         ensures held { IsHeld result }
         ensures lines { result.lines.items ≡ [] }
@@ -73,7 +80,7 @@ impl History {
         }
     }
 
-    /// Whether a call is in turn after those of its client.
+    /// Returns whether a call is in turn after the calls of its client.
     fn is_in_turn(&self, call: &CallLine<'_>) -> bool
         ensures { IsHeld self.now →
             result ≡ not (call_breaks_client (calls_of self.now.lines.items)
@@ -89,7 +96,8 @@ impl History {
         }
     }
 
-    /// Takes the call of a line with this text, where it is in turn. Returns whether it is.
+    /// Takes the call of a line with this text, if the call is in turn. Returns whether the call
+    /// was taken.
     pub(crate) fn take(
         &mut self,
         alloc: Global,

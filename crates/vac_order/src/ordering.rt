@@ -1,14 +1,16 @@
-//! Ordering a history: what is read, found and written.
+//! Ordering a history: reading, searching and writing the result.
 
 ghost use Rattle.std.specs.Prelude.{◌≡◌, ◌≤◌, ◌≢◌, ℕ, None, List, [], IfOk, IfErr};
-ghost use Rattle.vac_quick.specs.declared.line.Line.{Line};
+ghost use Rattle.judge_object.specs.declared.line.Line.{Line};
+ghost use Rattle.judge_reservations.specs.Reserving.{reserving};
 ghost use Rattle.vac_model.specs.State.{empty_state};
 ghost use Rattle.vac_lines.specs.Lines.{lines_of};
 ghost use Rattle.vac_judge.specs.Laws.{Lists};
 ghost use Rattle.vac_streams.specs.declared.fault.StreamFault.TheVariants.{Write};
-ghost use Rattle.vac_order.specs.Calls.{calls_of};
-ghost use Rattle.vac_order.specs.Judging.{IsFoundOfCalls};
-ghost use Rattle.vac_order.specs.Point.{point_at};
+ghost use Rattle.vac_model.specs.declared.tasks.Task.{Task};
+ghost use Rattle.judge_search.specs.Calls.{calls_of};
+ghost use Rattle.judge_search.specs.Judging.{IsFoundOfCalls};
+ghost use Rattle.judge_search.specs.Point.{point_at};
 ghost use Rattle.vac_order.specs.Reading.{IsHeld, AreKeptLines, texts_of, first_wrong};
 ghost use Rattle.vac_order.specs.Ordering.{FindsText, HasText, HasOrdered, HasStoppedOrdering};
 
@@ -16,53 +18,53 @@ use crate::found::{print_no_order, print_order, print_undecided};
 use crate::history::History;
 use crate::order::{Ordered, judge_lines};
 use crate::reading::{Reading, read_history};
-use crate::stuck::stuck_calls;
-use crate::walk::Finding;
+use judge_object::Watcher;
+use judge_reservations::Reservations;
+use judge_search::{Finding, stuck_calls};
 use std::alloc::{AllocError, Global};
 use std::io::{Read, Write};
 use vac_judge::print_verdict;
 use vac_lines::write_and_flush;
 use vac_model::limits::MOST_BLOCKS;
-use vac_quick::Watcher;
-use vac_sequential::{Machine, Sequential, SequentialFault};
 use vac_streams::StreamFault;
 
-/// How many steps a search makes at most, where nothing else is asked for.
+/// Largest number of steps of each search, if the command line gives none.
 pub const STEPS: u64 = 10_000_000;
 
-/// What was written of a history.
+/// The kind of result that was written for a history.
 #[derive(Clone, Copy, Debug, PartialEq, Eq)]
 pub enum Outcome {
-    /// Its lines, in an order that is a linearization.
+    /// The lines of the history, in an order that is a linearization.
     Ordered,
-    /// That there is no such order, or its first line that is no call or not in turn.
+    /// The statement that there is no such order, or the first line that is no call or not in
+    /// turn.
     Illegal,
-    /// That neither is known after the steps that were allowed.
+    /// The statement that neither is known after the allowed steps.
     Undecided,
 }
 
-/// A plain manager without entries.
-fn open(alloc: Global, blocks: u32) -> Result<Sequential, AllocError>
+/// Returns the state of a system without entries. The number of blocks is in range, so the one
+/// refusal left is that of memory.
+fn open(alloc: Global, blocks: u32) -> Result<Reservations, AllocError>
     requires some { 1 ≤ blocks }
     requires most { blocks ≤ MOST_BLOCKS }
-    ensures { IfOk result (λ manager. manager ≡ empty_state blocks) }
+    ensures { IfOk result (λ machine. machine ≡ empty_state blocks) }
 {
-    match Sequential::new(alloc, blocks) {
-        Ok(manager) => Ok(manager),
-        Err(SequentialFault::Memory) => Err(AllocError),
-        Err(SequentialFault::Arguments) => unreachable!(),
+    match Reservations::new(alloc, blocks) {
+        Ok(machine) => Ok(machine),
+        Err(_) => Err(AllocError),
     }
 }
 
-/// The text of what was found of calls.
-fn print_finding<M: Machine + Drop>(
+/// Writes the text of the finding for some calls into `text`, which is empty before.
+fn print_finding(
     alloc: Global,
-    ordered: &Ordered<M>,
+    ordered: &Ordered,
     text: &mut Vec<u8>,
 ) -> Result<Outcome, AllocError>
-    ensures { IfOk result (λ outcome. (lines : List Line) (n steps : ℕ) (bytes : List ℕ) →
+    ensures { IfOk result (λ outcome. (lines : List (Line Task)) (n steps : ℕ) (bytes : List ℕ) →
         AreKeptLines lines ordered.now.calls.lines.items →
-        IsFoundOfCalls (point_at M.state ordered.now.calls) n
+        IsFoundOfCalls reserving (point_at reserving ordered.now.calls) (empty_state n)
         (calls_of ordered.now.calls.lines.items)
         steps ordered.now.finding → texts_of lines ≡ lines_of bytes →
         Lists bytes (calls_of lines) → first_wrong bytes ≡ None → text.old.items ≡ [] →
@@ -86,31 +88,7 @@ fn print_finding<M: Machine + Drop>(
     }
 }
 
-/// What is found of a history, from the machine without entries on, and its text.
-fn order_from<M: Machine + Drop, P: Watcher>(
-    alloc: Global,
-    blocks: u32,
-    steps: u64,
-    history: History,
-    machine: M,
-    watcher: &mut P,
-) -> Result<(Outcome, Vec<u8>), AllocError>
-    requires some { 1 ≤ blocks }
-    requires most { blocks ≤ MOST_BLOCKS }
-    requires held { IsHeld history }
-    requires empty { M.state machine ≡ empty_state blocks }
-    ensures { IfOk result (λ found. (bytes : List ℕ) →
-        texts_of history.lines.items ≡ lines_of bytes →
-        Lists bytes (calls_of history.lines.items) → first_wrong bytes ≡ None →
-        FindsText blocks steps bytes found.0 found.1.items) }
-{
-    let ordered = judge_lines(alloc, blocks, history, machine, steps, watcher)?;
-    let mut text = Vec::new(alloc);
-    let outcome = print_finding(alloc, &ordered, &mut text)?;
-    Ok((outcome, text))
-}
-
-/// What is found of a history, and its text.
+/// Searches for an order of a history that was read, and returns the outcome with its text.
 fn order_calls<P: Watcher>(
     alloc: Global,
     blocks: u32,
@@ -126,11 +104,14 @@ fn order_calls<P: Watcher>(
         Lists bytes (calls_of history.lines.items) → first_wrong bytes ≡ None →
         FindsText blocks steps bytes found.0 found.1.items) }
 {
-    let manager = open(alloc, blocks)?;
-    order_from(alloc, blocks, steps, history, manager, watcher)
+    let machine = open(alloc, blocks)?;
+    let ordered = judge_lines(alloc, history, machine, steps, watcher)?;
+    let mut text = Vec::new(alloc);
+    let outcome = print_finding(alloc, &ordered, &mut text)?;
+    Ok((outcome, text))
 }
 
-/// Reads a history and finds what is to be written of it.
+/// Reads a history, and returns the outcome with the text to be written.
 fn find_text<R: Read, P: Watcher>(
     alloc: Global,
     blocks: u32,
@@ -154,14 +135,14 @@ fn find_text<R: Read, P: Watcher>(
     }
 }
 
-/// Orders a history of a system of `blocks` blocks, of which only each client's own order is known:
-/// reads its lines to the end of the input, or to the first that is no call or not in turn, looks
-/// for an order that is a linearization, quickly and then exactly, in at most `steps` steps each,
-/// and writes what was found.
+/// Orders a history of a system of `blocks` blocks, of which only each client's own order is
+/// known. Reads the lines to the end of the input, or to the first line that is no call or not in
+/// turn; searches for an order that is a linearization, quickly and then exactly, in at most
+/// `steps` steps each; and writes the result.
 ///
-/// After a fault of the output a prefix of the text was written, after any other nothing.
+/// After a fault of the output a prefix of the text was written, after any other fault nothing.
 ///
-/// Not said: what the watcher is told.
+/// Not said: the reports to the watcher.
 pub fn order_history<R: Read, W: Write, P: Watcher>(
     alloc: Global,
     blocks: u32,

@@ -14,7 +14,8 @@ use vac_judge::{CALL_BYTES, CallFault, Verdict, Wrong, read_call};
 use vac_lines::LineFault;
 use vac_streams::{MOST_LINES, Next, Sink, StreamFault, read_lines};
 
-/// A text that is read as a history: the calls so far, and what is wrong with the line after them.
+/// A text that is being read as a history: the calls so far, and the verdict on the line after
+/// them if that line is wrong.
 #[derive(Drop)]
 pub(crate) struct HistoryText {
     alloc: Global,
@@ -22,17 +23,17 @@ pub(crate) struct HistoryText {
     pub(crate) wrong: Option<Verdict>,
 }
 
-/// What a text is.
+/// The result of reading a text.
 #[derive(Drop)]
 pub(crate) enum Reading {
-    /// Its lines are these calls, each client's in turn.
+    /// All lines are calls, and the calls of each client are in turn.
     Whole(History),
-    /// Its first line that is no call, or not in turn.
+    /// The verdict on the first line that is no call or not in turn.
     Wrong(Verdict),
 }
 
 impl HistoryText {
-    /// The number of the next line.
+    /// Returns the number of the next line.
     fn number(&self) -> u64
         ensures { result ≡ next_line self.now }
     {
@@ -51,7 +52,7 @@ impl HistoryText {
         Next::Stop
     }
 
-    /// Takes a line as one more call.
+    /// Takes a line as one more call, or stops at the line if it is wrong.
     fn take_line(&mut self, line: &[u8]) -> Result<Next, StreamFault>
         ensures { HistoryHearsLine self.old (Line line.now) result self.new }
     {

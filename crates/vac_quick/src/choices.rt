@@ -1,20 +1,21 @@
-//! Which call a quick search makes next.
+//! The choice of the next call in a quick search.
 
 use crate::layout::Layout;
-use crate::line::Line;
 use crate::search::{QuickSearch, led_from, led_to};
 use crate::trail::Trail;
+use judge_object::{Line, Object};
+use judge_reservations::Asked;
 use std::alloc::{AllocError, Global};
-use vac_sequential::Machine;
+use vac_model::Reply;
 
-/// How many of the next calls tell how good a choice is, at most.
+/// Largest number of following calls by which the quality of a choice is measured.
 const FARTHEST: u64 = 128;
 
-/// For how many of these one counts that it makes.
+/// Number of calls that one measurement of a choice counts as.
 const MADE: u64 = 16;
 
-/// A call after which the one that ends first gives its reply: how far the next ones give theirs,
-/// and the machine after it.
+/// A call after which the call that ends first gives its reply: the number of following calls that
+/// then give theirs, the call's position and the state after the call.
 #[derive(Drop)]
 struct Help<M> {
     reach: u64,
@@ -22,12 +23,13 @@ struct Help<M> {
     machine: M,
 }
 
-/// How many calls give their replies in the order in which they end, after a machine in which one
-/// more call than here was made. It counts no farther than it must.
-fn reach_of<M: Machine + Drop>(
+/// Returns the number of calls that give their replies in the order of their ends, from the state
+/// `machine` on. In that state the call at position `made` is placed besides the calls of the
+/// trail. Counting stops at the first call that does not give its reply, or at `FARTHEST`.
+fn reach_of<M: Object<Op = Asked, Reply = Reply> + Drop>(
     text: &mut Vec<u8>,
     trail: &Trail,
-    lines: &[Line],
+    lines: &[Line<Asked>],
     layout: &Layout,
     made: usize,
     mut machine: M,
@@ -49,7 +51,8 @@ fn reach_of<M: Machine + Drop>(
     Ok(count)
 }
 
-/// Whether the first of two calls that help is the better one. Any is better than none.
+/// Returns whether the first helping call is better than the best one so far. Any helping call is
+/// better than none.
 fn is_better<M>(help: &Help<M>, best: &Option<Help<M>>) -> bool {
     match best {
         Some(best) => {
@@ -59,7 +62,7 @@ fn is_better<M>(help: &Help<M>, best: &Option<Help<M>>) -> bool {
     }
 }
 
-/// The place of a call that helps, where there is one.
+/// Returns the position of a helping call, or the number of calls if there is none.
 fn place_of<M>(help: &Option<Help<M>>, count: usize) -> usize {
     match help {
         Some(help) => help.place,
@@ -67,12 +70,13 @@ fn place_of<M>(help: &Option<Help<M>>, count: usize) -> usize {
     }
 }
 
-impl<M: Machine + Drop> QuickSearch<M> {
-    /// Whether a call that leads to a machine now is to come before the one that ends first, which
-    /// leads to another.
+impl<M: Object<Op = Asked, Reply = Reply> + Drop> QuickSearch<M> {
+    /// Returns whether the candidate must precede the call that ends first; a random deviation may
+    /// reverse the result. The candidate leads to the state `now`, the call that ends first to the
+    /// state `after`.
     fn is_first(
         &mut self,
-        lines: &[Line],
+        lines: &[Line<Asked>],
         place: usize,
         now: &M,
         after: &M,
@@ -95,9 +99,10 @@ impl<M: Machine + Drop> QuickSearch<M> {
         Ok(is_first)
     }
 
-    /// The same for one that names nothing in common with it, but that all blocks are in use, and
-    /// that does not give its reply after it.
-    fn is_full_first(&mut self, lines: &[Line], now: &M) -> Result<bool, AllocError> {
+    /// As `is_first`, for two calls that conflict only through the capacity. The candidate's reply
+    /// says that no block is left, and the candidate does not give its reply after the call that
+    /// ends first.
+    fn is_full_first(&mut self, lines: &[Line<Asked>], now: &M) -> Result<bool, AllocError> {
         if let Some(machine) = &self.machine
             && machine.hash() == now.hash()
         {
@@ -109,11 +114,11 @@ impl<M: Machine + Drop> QuickSearch<M> {
         Ok(led_to(&mut self.text, Some(now), lines, self.trail.low)?.is_some())
     }
 
-    /// The machine after one of these calls, where it is to come before the one that ends first,
-    /// which leads to another machine.
+    /// Returns the state after a candidate, if the candidate must precede the call that ends
+    /// first. That call leads to the state `after`.
     fn rival(
         &mut self,
-        lines: &[Line],
+        lines: &[Line<Asked>],
         layout: &Layout,
         place: usize,
         after: &M,
@@ -130,11 +135,11 @@ impl<M: Machine + Drop> QuickSearch<M> {
         if is_first { Ok(Some(now)) } else { Ok(None) }
     }
 
-    /// Looks among these calls for one that is to come before the one that ends first, which leads
-    /// to a machine.
+    /// Searches the candidates for one that must precede the call that ends first, which leads to
+    /// the state `after`.
     fn guard(
         &mut self,
-        lines: &[Line],
+        lines: &[Line<Asked>],
         layout: &Layout,
         rivals: &[usize],
         after: &M,
@@ -151,11 +156,11 @@ impl<M: Machine + Drop> QuickSearch<M> {
         Ok(None)
     }
 
-    /// A call that may be made, where the one that ends first gives its reply after it. How far the
-    /// next calls give theirs may be drawn.
+    /// Returns a call that may come next, if the call that ends first gives its reply after it.
+    /// The measure of the call is a random number if `is_drawn`.
     fn help(
         &mut self,
-        lines: &[Line],
+        lines: &[Line<Asked>],
         layout: &Layout,
         place: usize,
         is_drawn: bool,
@@ -181,11 +186,11 @@ impl<M: Machine + Drop> QuickSearch<M> {
         }))
     }
 
-    /// The best of the next calls of clients that help, and the place of another one, where there
-    /// is one.
+    /// Returns the best helping call among the next calls of all clients, and the position of
+    /// another helping call, if there is one.
     fn best_help(
         &mut self,
-        lines: &[Line],
+        lines: &[Line<Asked>],
         layout: &Layout,
         is_drawn: bool,
     ) -> Result<(Option<Help<M>>, usize), AllocError> {
@@ -206,11 +211,12 @@ impl<M: Machine + Drop> QuickSearch<M> {
         Ok((best, other))
     }
 
-    /// Makes a call after which the one that ends first gives its reply: that after which the most
-    /// do, or as it is drawn. None where the calls of all clients may not be looked at.
+    /// Makes a call after which the call that ends first gives its reply: the call after which
+    /// most of the following calls give theirs, or a random one. Returns `None` if no call helps,
+    /// or if the calls of all clients may not be looked at.
     fn look_ahead(
         &mut self,
-        lines: &[Line],
+        lines: &[Line<Asked>],
         layout: &Layout,
         may_look: bool,
     ) -> Result<Option<usize>, AllocError> {
@@ -236,10 +242,10 @@ impl<M: Machine + Drop> QuickSearch<M> {
         Ok(Some(place))
     }
 
-    /// Makes a planned call, which may come next. Returns whether it gives its reply there.
+    /// Makes a planned call, which may come next. Returns whether the call gives its reply there.
     fn keep_to_plan(
         &mut self,
-        lines: &[Line],
+        lines: &[Line<Asked>],
         layout: &Layout,
         place: usize,
     ) -> Result<bool, AllocError> {
@@ -250,8 +256,14 @@ impl<M: Machine + Drop> QuickSearch<M> {
         Ok(true)
     }
 
-    /// Makes the next call that is planned. One that does not give its reply there is left out.
-    fn planned(&mut self, lines: &[Line], layout: &Layout) -> Result<Option<usize>, AllocError> {
+    /// Makes the next planned call, and returns its position. A planned call that does not give
+    /// its reply is left out. Returns `None` if the plan is empty, if the next planned call may
+    /// not come next, or if it is the call that ends first and does not give its reply.
+    fn planned(
+        &mut self,
+        lines: &[Line<Asked>],
+        layout: &Layout,
+    ) -> Result<Option<usize>, AllocError> {
         'plan: for _ in 0..self.plan.len() {
             let Some(place) = self.plan.pop() else {
                 return Ok(None);
@@ -271,11 +283,11 @@ impl<M: Machine + Drop> QuickSearch<M> {
         Ok(None)
     }
 
-    /// Makes the call that ends first, or one of these that is to come before it, or after which
-    /// the call that ends first gives its reply.
+    /// Makes the call that ends first, or a candidate that must precede it. If the call that ends
+    /// first does not give its reply, makes a call after which it does.
     fn decide(
         &mut self,
-        lines: &[Line],
+        lines: &[Line<Asked>],
         layout: &Layout,
         rivals: &[usize],
     ) -> Result<Option<usize>, AllocError> {
@@ -291,11 +303,11 @@ impl<M: Machine + Drop> QuickSearch<M> {
         Ok(Some(low))
     }
 
-    /// Makes a call that is not planned in the machine, and returns its place.
+    /// Makes a call that is not planned, and returns its position.
     fn unplanned(
         &mut self,
         alloc: Global,
-        lines: &[Line],
+        lines: &[Line<Asked>],
         layout: &Layout,
     ) -> Result<Option<usize>, AllocError> {
         let low = self.trail.low;
@@ -312,11 +324,11 @@ impl<M: Machine + Drop> QuickSearch<M> {
         self.look_ahead(lines, layout, may_look)
     }
 
-    /// Makes the next call in the machine, and returns its place.
+    /// Makes the next call, planned or not, and returns its position.
     pub(crate) fn choose(
         &mut self,
         alloc: Global,
-        lines: &[Line],
+        lines: &[Line<Asked>],
         layout: &Layout,
     ) -> Result<Option<usize>, AllocError> {
         match self.planned(lines, layout)? {

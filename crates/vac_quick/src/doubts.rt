@@ -1,43 +1,44 @@
-//! The doubts of a quick search: choices between two calls that may have been wrong, and which of
-//! them are tried the other way.
+//! The choice points of a quick search: choices between two calls that may have been wrong, and
+//! the choices that are tried the other way.
 
 use crate::layout::Layout;
 use crate::trail::Trail;
 use std::alloc::{AllocError, Global};
 
-/// How many doubts are kept.
+/// Largest number of choice points that are kept.
 const MOST_DOUBTS: usize = 256;
 
-/// How many of the near ones are tried, and of those farther off.
+/// Largest number of choice points that are tried among those close to the blocked call, and again
+/// among those farther off.
 const MOST_TRIES: usize = 16;
 
-/// The two calls of a doubt: the one that was taken and the other.
+/// The two calls of a choice point: the call that was taken and the other call.
 #[derive(Clone, Copy)]
 pub(crate) struct Pair {
     pub(crate) taken: usize,
     pub(crate) other: usize,
 }
 
-/// A choice between two calls, and how many were made before it.
+/// A choice point, and the number of calls that were made before it.
 #[derive(Clone, Copy)]
 pub(crate) struct Doubt {
     at: usize,
     pair: Pair,
 }
 
-/// The doubts of a quick search.
+/// The choice points of a quick search.
 #[derive(Drop)]
 pub(crate) struct Doubts {
-    /// Choices that may have been wrong, the first one first.
+    /// The choice points on the trail, the earliest first.
     kept: Vec<Doubt>,
-    /// The doubts about what is planned, the next one last.
+    /// The choice points about the planned calls, the next one last.
     again: Vec<Pair>,
-    /// The doubts that are tried where nothing fits, and how many of them were.
+    /// The choice points to try when no call fits, and the number of those already tried.
     tries: Vec<Pair>,
     tried: usize,
 }
 
-/// Whether one of the calls of a doubt meets one of these calls.
+/// Returns whether one of the calls of a choice point meets one of the calls at these positions.
 fn meets_any(layout: &Layout, pair: Pair, places: &[usize]) -> bool {
     'places: for number in 0..places.len() {
         let place = places[number];
@@ -48,8 +49,8 @@ fn meets_any(layout: &Layout, pair: Pair, places: &[usize]) -> bool {
     false
 }
 
-/// Whether one of the calls of a doubt meets one of these calls, and none that one, where it is
-/// there.
+/// Returns whether one of the calls of a choice point meets a call of `met`, and no call of the
+/// choice point meets the call `but`, if that is given.
 fn meets_these(layout: &Layout, pair: Pair, met: &[usize], but: Option<usize>) -> bool {
     if let Some(place) = but
         && meets_any(layout, pair, [place].as_slice())
@@ -60,7 +61,7 @@ fn meets_these(layout: &Layout, pair: Pair, met: &[usize], but: Option<usize>) -
 }
 
 impl Doubts {
-    /// No doubt.
+    /// Creates an empty collection of choice points.
     pub(crate) fn new(alloc: Global) -> Doubts {
         Doubts {
             kept: Vec::new(alloc),
@@ -70,7 +71,7 @@ impl Doubts {
         }
     }
 
-    /// After how many calls the first one is.
+    /// Returns the number of calls before the first choice point, if there is one.
     pub(crate) fn first(&self) -> Option<usize> {
         if self.kept.is_empty() {
             return None;
@@ -78,7 +79,8 @@ impl Doubts {
         Some(self.kept[0].at)
     }
 
-    /// Notes a choice between two calls, after so many.
+    /// Adds a choice between two calls after `at` calls. The oldest choice point is dropped if
+    /// there are too many.
     pub(crate) fn add(&mut self, at: usize, pair: Pair) -> Result<(), AllocError> {
         if MOST_DOUBTS <= self.kept.len() {
             self.kept.remove(0);
@@ -87,7 +89,7 @@ impl Doubts {
         Ok(())
     }
 
-    /// Takes the last doubt about what comes after so many calls.
+    /// Removes and returns the last choice point, if it comes after at least `length` calls.
     fn take(&mut self, length: usize) -> Option<Doubt> {
         let count = self.kept.len();
         if count == 0 || self.kept[count - 1].at < length {
@@ -96,7 +98,7 @@ impl Doubts {
         self.kept.pop()
     }
 
-    /// Forgets the doubts about what comes after so many calls.
+    /// Drops the choice points that come after at least `length` calls.
     pub(crate) fn forget(&mut self, length: usize) {
         'doubts: for _ in 0..self.kept.len() {
             if self.take(length).is_none() {
@@ -105,7 +107,8 @@ impl Doubts {
         }
     }
 
-    /// Takes out the doubts about what comes after so many calls, the last one first.
+    /// Removes the choice points that come after at least `length` calls, and returns them, the
+    /// last one first.
     pub(crate) fn cut_to(
         &mut self,
         alloc: Global,
@@ -121,7 +124,7 @@ impl Doubts {
         Ok(doubts)
     }
 
-    /// Puts back the doubts that were taken out.
+    /// Puts back the choice points that were removed.
     pub(crate) fn put_back(&mut self, mut doubts: Vec<Doubt>) -> Result<(), AllocError> {
         'doubts: for _ in 0..doubts.len() {
             if let Some(doubt) = doubts.pop() {
@@ -131,12 +134,12 @@ impl Doubts {
         Ok(())
     }
 
-    /// Forgets the doubts about what was planned.
+    /// Drops the choice points about planned calls.
     pub(crate) fn plan_none(&mut self, alloc: Global) {
         self.again = Vec::new(alloc);
     }
 
-    /// Plans what these doubts are about.
+    /// Replaces the choice points about planned calls by these.
     pub(crate) fn plan(&mut self, alloc: Global, doubts: &[Doubt]) -> Result<(), AllocError> {
         let mut again = Vec::new(alloc);
         'doubts: for number in 0..doubts.len() {
@@ -146,7 +149,7 @@ impl Doubts {
         Ok(())
     }
 
-    /// Notes the doubts about a planned call again.
+    /// Adds the choice points about a planned call again, now that the call is made.
     pub(crate) fn note_again(
         &mut self,
         trail: &Trail,
@@ -170,7 +173,8 @@ impl Doubts {
         Ok(())
     }
 
-    /// A doubt, where the call that was taken came next.
+    /// Returns the choice point with this number, if its taken call stands at that point of the
+    /// trail.
     fn get(&self, trail: &Trail, number: usize) -> Option<Doubt> {
         if self.kept.len() <= number {
             return None;
@@ -182,7 +186,7 @@ impl Doubts {
         Some(doubt)
     }
 
-    /// After how many calls the last doubt about these is.
+    /// Returns the number of calls before the last choice point with this pair of calls.
     pub(crate) fn last_of(&self, trail: &Trail, pair: Pair) -> Option<usize> {
         let count = self.kept.len();
         'doubts: for back in 0..count {
@@ -196,8 +200,8 @@ impl Doubts {
         None
     }
 
-    /// Adds the last doubts that are about one of these calls and not about that one, where it is
-    /// there.
+    /// Adds the last choice points with a call that meets a call of `met`, except those with a
+    /// call that meets the call `but`, if that is given.
     fn add_tries(
         &mut self,
         trail: &Trail,
@@ -222,8 +226,8 @@ impl Doubts {
         Ok(())
     }
 
-    /// Looks for the doubts to try: those about a call that meets the one that ends first, the last
-    /// one first, and then those about a call that meets such a call.
+    /// Collects the choice points to try, the last one first: first those with a call that meets
+    /// the call that ends first, then those with a call that meets a call of the first kind.
     pub(crate) fn find_tries(
         &mut self,
         alloc: Global,
@@ -238,12 +242,12 @@ impl Doubts {
         self.add_tries(trail, layout, met.as_slice(), Some(low))
     }
 
-    /// How many are left to try.
+    /// Returns the number of choice points that are left to try.
     pub(crate) fn left(&self) -> usize {
         self.tries.len().saturating_sub(self.tried)
     }
 
-    /// The next one to try.
+    /// Returns the next choice point to try.
     pub(crate) fn next_try(&mut self) -> Option<Pair> {
         if self.tries.len() <= self.tried {
             return None;
@@ -252,12 +256,12 @@ impl Doubts {
         Some(self.tries[self.tried - 1])
     }
 
-    /// Leaves those that were not tried.
+    /// Gives up the choice points that were not tried.
     pub(crate) fn leave(&mut self) {
         self.tried = self.tries.len();
     }
 
-    /// The first of those that were tried. They are forgotten.
+    /// Returns the first of the collected choice points, and drops the collection.
     pub(crate) fn take_tried(&mut self, alloc: Global) -> Option<Pair> {
         if self.tries.is_empty() {
             return None;

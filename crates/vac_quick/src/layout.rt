@@ -1,58 +1,60 @@
-//! How the calls of a history lie, for a quick search. Nothing is promised of it.
+//! The layout of the calls of a history, precomputed for a quick search. Nothing is promised of
+//! the layout.
 
-use crate::line::Line;
+use judge_object::Line;
+use judge_reservations::Asked;
 use std::alloc::{AllocError, Global};
 use std::collections::BTreeMap;
 use vac_model::{Command, Kind, Task};
 
-/// How a call lies.
+/// The layout of one call.
 #[derive(Clone, Copy)]
 pub(crate) struct Spot {
-    /// The number of its client.
+    /// The number of the call's client.
     pub(crate) client: usize,
-    /// The place of its client's next call, or the number of calls.
+    /// The position of the client's next call, or the number of calls if there is none.
     pub(crate) next: usize,
-    /// Where its keys begin and end.
+    /// Start and end of the call's keys.
     from: usize,
     to: usize,
-    /// A bit for each of its keys.
+    /// A bit set with a bit for each key.
     mask: u64,
-    /// Whether its reply says that no block is left.
+    /// True if the call's reply says that no block is left.
     pub(crate) is_full: bool,
-    /// Whether it may leave blocks to others.
+    /// True if the call may free blocks.
     pub(crate) is_freeing: bool,
 }
 
-/// How all calls lie.
+/// The layout of all calls.
 #[derive(Drop)]
 pub(crate) struct Layout {
     spots: Vec<Spot>,
-    /// The items and customers that the calls name, one call's after the other's.
+    /// The items and customers that the calls name, call by call.
     keys: Vec<u64>,
-    /// The place of each client's first call.
+    /// The position of each client's first call.
     firsts: Vec<usize>,
-    /// How many calls were answered.
+    /// Number of completed calls.
     pub(crate) answered: u64,
 }
 
-/// The clients of calls: their numbers, and the place of each one's last call.
+/// The clients of the calls: their numbers, and the position of the last call of each.
 #[derive(Drop)]
 struct Clients {
     numbers: BTreeMap<u32, usize>,
     lasts: Vec<usize>,
 }
 
-/// The number of a customer among items and customers.
+/// Returns the key of a customer. Keys number customers and items together.
 fn customer_key(id: u32) -> u64 {
     (id as u64).wrapping_mul(4)
 }
 
-/// The number of an item among items and customers.
+/// Returns the key of an item. Keys number customers and items together.
 fn item_key(kind: Kind, id: u32) -> u64 {
     customer_key(id).wrapping_add(kind.number() + 1)
 }
 
-/// The customer that a command names, as a number among items and customers.
+/// Returns the key of the customer that a command names, if it names one.
 fn named_customer(command: &Command) -> Option<u64> {
     match *command {
         Command::NewCustomer { id } | Command::DropCustomer { id } | Command::Bill { id } => {
@@ -70,7 +72,7 @@ fn named_customer(command: &Command) -> Option<u64> {
     }
 }
 
-/// The item that a command names, as a number among items and customers.
+/// Returns the key of the item that a command names, if it names one.
 fn named_item(command: &Command) -> Option<u64> {
     match *command {
         Command::Add { kind, id, .. }
@@ -87,7 +89,7 @@ fn named_item(command: &Command) -> Option<u64> {
     }
 }
 
-/// Adds what a command names.
+/// Appends the keys of the customer and the item that a command names.
 fn add_command(command: &Command, keys: &mut Vec<u64>) -> Result<(), AllocError> {
     if let Some(key) = named_customer(command) {
         keys.push(key)?;
@@ -98,7 +100,7 @@ fn add_command(command: &Command, keys: &mut Vec<u64>) -> Result<(), AllocError>
     Ok(())
 }
 
-/// Adds what a task names.
+/// Appends the keys of the customers and items that a task names.
 fn add_keys(task: &Task, keys: &mut Vec<u64>) -> Result<(), AllocError> {
     match task {
         Task::One(command) => add_command(command, keys)?,
@@ -118,7 +120,7 @@ fn add_keys(task: &Task, keys: &mut Vec<u64>) -> Result<(), AllocError> {
     Ok(())
 }
 
-/// Whether a task may leave blocks to others.
+/// Returns whether a task may free blocks.
 fn is_freeing(task: &Task) -> bool {
     match task {
         Task::Trip { .. } => false,
@@ -126,7 +128,7 @@ fn is_freeing(task: &Task) -> bool {
     }
 }
 
-/// Whether a reply says that no block is left.
+/// Returns whether a reply says that no block is left.
 fn says_full(reply: &Option<Vec<u8>>) -> bool {
     let Some(text) = reply else {
         return false;
@@ -144,7 +146,7 @@ fn says_full(reply: &Option<Vec<u8>>) -> bool {
     false
 }
 
-/// A bit for each of the keys from a place on.
+/// Returns a bit set with a bit for each key from position `from` on.
 fn mask_of(keys: &[u64], from: usize) -> u64 {
     let mut mask = 0;
     'keys: for place in from..keys.len() {
@@ -153,7 +155,7 @@ fn mask_of(keys: &[u64], from: usize) -> u64 {
     mask
 }
 
-/// Whether a key is among those of these places.
+/// Returns whether a key is among the keys from position `from` up to position `to`.
 fn is_among(keys: &[u64], from: usize, to: usize, key: u64) -> bool {
     'keys: for place in from..to {
         if place < keys.len() && keys[place] == key {
@@ -164,7 +166,7 @@ fn is_among(keys: &[u64], from: usize, to: usize, key: u64) -> bool {
 }
 
 impl Clients {
-    /// The number of a client, or the next number.
+    /// Returns the number of a client; for a new client, the next free number.
     fn number(&self, client: u32) -> usize {
         match self.numbers.get(&client) {
             Some(number) => *number,
@@ -172,7 +174,7 @@ impl Clients {
         }
     }
 
-    /// Adds a client of the next number, whose first call is at a place.
+    /// Adds a client with the next number, whose first call is at this position.
     fn add(&mut self, client: u32, place: usize) -> Result<(), AllocError> {
         self.numbers.insert(client, self.lasts.len())?;
         self.lasts.push(place)?;
@@ -181,8 +183,8 @@ impl Clients {
 }
 
 impl Layout {
-    /// How these calls lie.
-    pub(crate) fn new(alloc: Global, lines: &[Line]) -> Result<Layout, AllocError> {
+    /// Computes the layout of the calls.
+    pub(crate) fn new(alloc: Global, lines: &[Line<Asked>]) -> Result<Layout, AllocError> {
         let mut layout = Layout {
             spots: Vec::new(alloc),
             keys: Vec::new(alloc),
@@ -201,7 +203,7 @@ impl Layout {
         Ok(layout)
     }
 
-    /// The number of a client whose next call is at a place.
+    /// Returns the number of the client whose next call is at this position.
     fn client_of(
         &mut self,
         clients: &mut Clients,
@@ -219,10 +221,10 @@ impl Layout {
         Ok(number)
     }
 
-    /// Adds a call, of which no next one is known.
-    fn add(&mut self, line: &Line, client: usize, count: usize) -> Result<(), AllocError> {
+    /// Adds a call whose client has no known next call.
+    fn add(&mut self, line: &Line<Asked>, client: usize, count: usize) -> Result<(), AllocError> {
         let from = self.keys.len();
-        add_keys(&line.task, &mut self.keys)?;
+        add_keys(line.op.task(), &mut self.keys)?;
         if line.reply.is_some() {
             self.answered = self.answered.wrapping_add(1);
         }
@@ -233,19 +235,19 @@ impl Layout {
             to: self.keys.len(),
             mask: mask_of(self.keys.as_slice(), from),
             is_full: says_full(&line.reply),
-            is_freeing: is_freeing(&line.task),
+            is_freeing: is_freeing(line.op.task()),
         })?;
         Ok(())
     }
 
-    /// Notes the next call of a client.
+    /// Sets the next call of a client's last call.
     fn follow(&mut self, last: usize, place: usize) {
         if last < self.spots.len() {
             self.spots.as_mut_slice()[last].next = place;
         }
     }
 
-    /// How the call at a place lies.
+    /// Returns the layout of the call at a position.
     pub(crate) fn spot(&self, place: usize) -> Spot {
         if place < self.spots.len() {
             return self.spots[place];
@@ -261,7 +263,7 @@ impl Layout {
         }
     }
 
-    /// Whether two calls name an item or a customer in common.
+    /// Returns whether two calls name an item or a customer in common.
     pub(crate) fn meets(&self, place: usize, other: usize) -> bool {
         let (a, b) = (self.spot(place), self.spot(other));
         if a.mask & b.mask == 0 {
@@ -276,7 +278,7 @@ impl Layout {
         false
     }
 
-    /// The place of each client's first call.
+    /// Returns the position of each client's first call.
     pub(crate) fn firsts(&self, alloc: Global) -> Result<Vec<usize>, AllocError> {
         Vec::from_slice(alloc, self.firsts.as_slice())
     }

@@ -1,27 +1,34 @@
-//! A quick search for an order. It is not believed: nothing is promised of it, and what it finds is
+//! A quick search for an order. Nothing is proved of the search, and the order that it proposes is
 //! checked.
 //!
-//! The call that ends first goes first, where it gives its reply. Another goes before it where only
-//! so both give theirs, and another yet where it gives its own only after that one: of several the
-//! one after which most of the next calls give theirs. Where both orders of two calls are right and
-//! lead to other states, that is noted as a doubt. Where nothing fits, some of the last doubts near
-//! the call that does not fit are tried the other way: what came after is made again, and taken
-//! back where that call still does not fit. Where none helps, the last one is decided the other way
-//! all the same; where there is none, the search goes back, and draws what it decides.
+//! In this crate "the call that ends first" is the unplaced call with the least end, and two calls
+//! meet if they name an item or a customer in common.
+//!
+//! The call that ends first is placed next if it gives its reply. Another call goes before it in
+//! two cases: if only in that order both calls give their replies, or if the call that ends first
+//! gives its reply only after the other call. Among several such calls the search takes the one
+//! after which most of the following calls give their replies.
+//!
+//! If both orders of two calls are correct and reach different states, the search records a choice
+//! point. If no call fits, some of the last choice points close to the blocked call are tried the
+//! other way: the calls after the choice point are made again, and undone if the blocked call
+//! still does not fit. If no try helps, the last choice point is decided the other way all the
+//! same. If there is no choice point, the search backtracks, and from then on deviates from these
+//! rules at random.
 
 use crate::layout::Layout;
-use crate::line::Line;
 use crate::search::{Quick, QuickSearch};
-use crate::watcher::Watcher;
+use judge_object::{Line, Object, Watcher};
+use judge_reservations::Asked;
 use std::alloc::{AllocError, Global};
-use vac_sequential::Machine;
+use vac_model::Reply;
 
-impl<M: Machine + Drop> QuickSearch<M> {
-    /// One step of the search.
+impl<M: Object<Op = Asked, Reply = Reply> + Drop> QuickSearch<M> {
+    /// Makes one step of the search.
     fn step(
         &mut self,
         alloc: Global,
-        lines: &[Line],
+        lines: &[Line<Asked>],
         layout: &Layout,
     ) -> Result<Quick, AllocError> {
         match self.choose(alloc, lines, layout)? {
@@ -31,13 +38,14 @@ impl<M: Machine + Drop> QuickSearch<M> {
     }
 }
 
-/// Looks, in at most `steps` steps, for an order of calls, which are given in the order in which
-/// they ended, and returns their places in it. Where none was answered, it looks for none.
+/// Searches, in at most `steps` steps, for an order of the calls, which are given in the order of
+/// their ends. Returns the positions of the calls in the order that is found. If no call is
+/// completed, nothing is searched.
 ///
-/// Not said: anything of what it finds, and that it finds anything.
-pub fn find_quickly<M: Machine + Drop, P: Watcher>(
+/// Not said: anything of the order that is found, or that an order is found.
+pub fn find_quickly<M: Object<Op = Asked, Reply = Reply> + Drop, P: Watcher>(
     alloc: Global,
-    lines: &[Line],
+    lines: &[Line<Asked>],
     machine: M,
     steps: u64,
     watcher: &mut P,

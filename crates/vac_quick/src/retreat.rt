@@ -1,18 +1,20 @@
-//! What a quick search takes back where nothing fits.
+//! Backtracking in a quick search when no call fits.
 
 use crate::doubts::Pair;
 use crate::layout::Layout;
-use crate::line::Line;
 use crate::search::{Cut, Quick, QuickSearch, led_to};
+use judge_object::{Line, Object};
+use judge_reservations::Asked;
 use std::alloc::{AllocError, Global};
-use vac_sequential::Machine;
+use vac_model::Reply;
 
-impl<M: Machine + Drop> QuickSearch<M> {
-    /// Takes back all but so many calls, and the machine with them.
+impl<M: Object<Op = Asked, Reply = Reply> + Drop> QuickSearch<M> {
+    /// Cuts the trail after `at` calls, with its choice points and kept states, and returns the
+    /// cut part.
     fn cut_to(
         &mut self,
         alloc: Global,
-        lines: &[Line],
+        lines: &[Line<Asked>],
         layout: &Layout,
         at: usize,
     ) -> Result<Cut<M>, AllocError> {
@@ -28,17 +30,17 @@ impl<M: Machine + Drop> QuickSearch<M> {
         })
     }
 
-    /// Plans nothing.
+    /// Empties the plan.
     fn plan_none(&mut self, alloc: Global) {
         self.plan = Vec::new(alloc);
         self.doubts.plan_none(alloc);
     }
 
-    /// Puts back what was taken back, in place of all that was made since.
+    /// Puts back a cut part, in the place of all calls made since.
     fn put_back(
         &mut self,
         alloc: Global,
-        lines: &[Line],
+        lines: &[Line<Asked>],
         layout: &Layout,
         cut: Cut<M>,
     ) -> Result<(), AllocError> {
@@ -58,7 +60,7 @@ impl<M: Machine + Drop> QuickSearch<M> {
         Ok(())
     }
 
-    /// Plans anew what was taken back, and notes which doubts there were about it.
+    /// Plans the calls of the cut part again, with their choice points.
     fn plan_again(&mut self, alloc: Global) -> Result<(), AllocError> {
         let Some(cut) = &self.cut else {
             return Ok(());
@@ -67,8 +69,13 @@ impl<M: Machine + Drop> QuickSearch<M> {
         self.doubts.plan(alloc, cut.doubts.as_slice())
     }
 
-    /// Puts back what was taken back last. Returns whether anything was.
-    fn undo(&mut self, alloc: Global, lines: &[Line], layout: &Layout) -> Result<bool, AllocError> {
+    /// Puts back the last cut part. Returns whether there was one.
+    fn undo(
+        &mut self,
+        alloc: Global,
+        lines: &[Line<Asked>],
+        layout: &Layout,
+    ) -> Result<bool, AllocError> {
         let Some(cut) = self.cut.take() else {
             return Ok(false);
         };
@@ -76,12 +83,12 @@ impl<M: Machine + Drop> QuickSearch<M> {
         Ok(true)
     }
 
-    /// Makes the call at a place in the stead of what was taken back, where it gives its reply, and
-    /// plans that anew. Puts it back where the call does not.
+    /// Makes the call at a position in the place of the cut part, if the call gives its reply, and
+    /// plans the cut part again. Puts the cut part back if the call does not give its reply.
     fn make_instead(
         &mut self,
         alloc: Global,
-        lines: &[Line],
+        lines: &[Line<Asked>],
         layout: &Layout,
         place: usize,
     ) -> Result<bool, AllocError> {
@@ -94,11 +101,11 @@ impl<M: Machine + Drop> QuickSearch<M> {
         Ok(true)
     }
 
-    /// Decides a doubt the other way, and plans what came after it anew.
+    /// Decides a choice point the other way, and plans the calls after it again.
     fn jump(
         &mut self,
         alloc: Global,
-        lines: &[Line],
+        lines: &[Line<Asked>],
         layout: &Layout,
         pair: Pair,
     ) -> Result<Option<Quick>, AllocError> {
@@ -114,11 +121,11 @@ impl<M: Machine + Drop> QuickSearch<M> {
         Ok(Some(self.go_on(lines, layout, pair.other)?))
     }
 
-    /// Tries the next doubt the other way.
+    /// Tries the next choice point the other way.
     fn try_next(
         &mut self,
         alloc: Global,
-        lines: &[Line],
+        lines: &[Line<Asked>],
         layout: &Layout,
     ) -> Result<Option<Quick>, AllocError> {
         'tries: for _ in 0..self.doubts.left() {
@@ -132,11 +139,11 @@ impl<M: Machine + Drop> QuickSearch<M> {
         Ok(None)
     }
 
-    /// Decides the last doubt the other way all the same.
+    /// Decides the last collected choice point the other way, although no try helped.
     fn try_last(
         &mut self,
         alloc: Global,
-        lines: &[Line],
+        lines: &[Line<Asked>],
         layout: &Layout,
     ) -> Result<Option<Quick>, AllocError> {
         if !self.tally.may_jump() {
@@ -152,8 +159,8 @@ impl<M: Machine + Drop> QuickSearch<M> {
         Ok(quick)
     }
 
-    /// Takes back so many calls, but leaves the machine as it is.
-    fn go_back(&mut self, lines: &[Line], layout: &Layout, count: u64) {
+    /// Takes back up to `count` calls, and leaves the state as it is.
+    fn go_back(&mut self, lines: &[Line<Asked>], layout: &Layout, count: u64) {
         'back: for _ in 0..count {
             let Some(length) = self.trail.go_back(lines, layout) else {
                 return;
@@ -162,11 +169,12 @@ impl<M: Machine + Drop> QuickSearch<M> {
         }
     }
 
-    /// Goes back, the farther the more often it had to.
+    /// Goes back a random number of calls, which tends to grow with the number of backtracks.
+    /// Gives up after too many backtracks.
     fn retreat(
         &mut self,
         alloc: Global,
-        lines: &[Line],
+        lines: &[Line<Asked>],
         layout: &Layout,
     ) -> Result<Quick, AllocError> {
         let Some(count) = self.tally.count_fail() else {
@@ -179,11 +187,11 @@ impl<M: Machine + Drop> QuickSearch<M> {
         Ok(Quick::On)
     }
 
-    /// Takes the last try back. Where there was none, looks for doubts to try.
+    /// Undoes the last try. If there was none, collects choice points to try.
     fn find_tries(
         &mut self,
         alloc: Global,
-        lines: &[Line],
+        lines: &[Line<Asked>],
         layout: &Layout,
     ) -> Result<(), AllocError> {
         if !self.undo(alloc, lines, layout)? && self.tally.count_jump() {
@@ -192,11 +200,11 @@ impl<M: Machine + Drop> QuickSearch<M> {
         Ok(())
     }
 
-    /// Goes on from where nothing fits.
+    /// Continues the search when no call fits.
     pub(crate) fn turn_back(
         &mut self,
         alloc: Global,
-        lines: &[Line],
+        lines: &[Line<Asked>],
         layout: &Layout,
     ) -> Result<Quick, AllocError> {
         self.find_tries(alloc, lines, layout)?;

@@ -1,20 +1,20 @@
-//! The state of a quick search: where it is, and how it got there.
+//! The data of a quick search: its current position and the way there.
 
 ghost use Rattle.std.specs.Prelude.{◌<◌, length, IfOk, IfSome};
 
 use crate::doubts::{Doubt, Doubts, Pair};
 use crate::layout::Layout;
-use crate::line::Line;
 use crate::tally::Tally;
 use crate::trail::{Tail, Trail};
 use crate::versions::{Version, Versions};
+use judge_object::{Line, Object};
+use judge_reservations::Asked;
 use std::alloc::{AllocError, Global};
 use vac_lines::is_right;
 use vac_model::Reply;
-use vac_sequential::Machine;
 
-/// What was taken back: after how many calls, these calls, the doubts about them and the machines
-/// that were kept there, each first one last, and the machine where the search was.
+/// A part that was cut off the trail: the number of calls before it, its calls, its choice points
+/// and its kept states, each with the earliest last, and the state at the end of the trail.
 #[derive(Drop)]
 pub(crate) struct Cut<M> {
     pub(crate) at: usize,
@@ -24,28 +24,28 @@ pub(crate) struct Cut<M> {
     pub(crate) machine: Option<M>,
 }
 
-/// The state of a quick search.
+/// The data of a quick search.
 #[derive(Drop)]
 pub(crate) struct QuickSearch<M> {
-    /// The machine where it is, but while that is changed.
+    /// The state after the calls of the trail; `None` while it changes.
     pub(crate) machine: Option<M>,
-    /// Machines where it was.
+    /// Kept states of earlier points of the search.
     pub(crate) versions: Versions<M>,
-    /// Where it is.
+    /// The calls made so far.
     pub(crate) trail: Trail,
-    /// What is to be made again, the next one last.
+    /// The planned calls, the next one last.
     pub(crate) plan: Vec<usize>,
-    /// What may have been chosen wrongly.
+    /// The choice points that may have been decided wrongly.
     pub(crate) doubts: Doubts,
-    /// What is put back where a try does not help.
+    /// The cut part that is put back if a try does not help.
     pub(crate) cut: Option<Cut<M>>,
-    /// How it fares.
+    /// Counts and random numbers of the search.
     pub(crate) tally: Tally,
-    /// The text of the last reply that was compared.
+    /// Buffer for the text of the last compared reply.
     pub(crate) text: Vec<u8>,
 }
 
-/// What a step of a quick search leads to.
+/// The result of one step of a quick search.
 #[derive(Drop)]
 pub(crate) enum Quick {
     On,
@@ -53,11 +53,11 @@ pub(crate) enum Quick {
     Missed,
 }
 
-/// The machine after the call at a place, where there is one, and its reply. It takes the place of
-/// the one before.
-pub(crate) fn made_at<M: Machine + Drop>(
+/// Runs the call at a position, if there is one, and returns the next state and the reply. The
+/// given state is used up.
+pub(crate) fn made_at<M: Object<Op = Asked, Reply = Reply> + Drop>(
     machine: M,
-    lines: &[Line],
+    lines: &[Line<Asked>],
     place: usize,
 ) -> Result<Option<(M, Reply)>, AllocError>
     ensures { IfOk result (λ made. IfSome made (λ _. place < length lines.now)) }
@@ -65,15 +65,15 @@ pub(crate) fn made_at<M: Machine + Drop>(
     if lines.len() <= place {
         return Ok(None);
     }
-    Ok(Some(machine.made(&lines[place].task)?))
+    Ok(Some(machine.made(&lines[place].op)?))
 }
 
-/// The machine after a call, where that gives its reply. It takes the place of the one before, and
-/// the reply's text is written over another.
-pub(crate) fn led_from<M: Machine + Drop>(
+/// Runs a call, and returns the next state if the call gives its reply. The given state is used
+/// up, and the buffer is overwritten with the text of the reply.
+pub(crate) fn led_from<M: Object<Op = Asked, Reply = Reply> + Drop>(
     text: &mut Vec<u8>,
     machine: M,
-    lines: &[Line],
+    lines: &[Line<Asked>],
     place: usize,
 ) -> Result<Option<M>, AllocError> {
     let Some((next, reply)) = made_at(machine, lines, place)? else {
@@ -86,11 +86,11 @@ pub(crate) fn led_from<M: Machine + Drop>(
     }
 }
 
-/// The machine after a call, where that gives its reply and the machine before it is there.
-pub(crate) fn led_to<M: Machine + Drop>(
+/// Runs a call on a copy of the state, and returns the next state if the call gives its reply.
+pub(crate) fn led_to<M: Object<Op = Asked, Reply = Reply> + Drop>(
     text: &mut Vec<u8>,
     machine: Option<&M>,
-    lines: &[Line],
+    lines: &[Line<Asked>],
     place: usize,
 ) -> Result<Option<M>, AllocError> {
     match machine {
@@ -99,8 +99,8 @@ pub(crate) fn led_to<M: Machine + Drop>(
     }
 }
 
-impl<M: Machine + Drop> QuickSearch<M> {
-    /// Where a search begins.
+impl<M: Object<Op = Asked, Reply = Reply> + Drop> QuickSearch<M> {
+    /// Creates a search at its beginning.
     pub(crate) fn new(
         alloc: Global,
         machine: M,
@@ -118,12 +118,12 @@ impl<M: Machine + Drop> QuickSearch<M> {
         })
     }
 
-    /// Notes a choice between two calls.
+    /// Records a choice between two calls.
     pub(crate) fn doubt(&mut self, taken: usize, other: usize) -> Result<(), AllocError> {
         self.doubts.add(self.trail.len(), Pair { taken, other })
     }
 
-    /// Keeps the machine where it is, where it is time to.
+    /// Keeps the current state, if the next one is due.
     fn keep(&mut self) -> Result<(), AllocError> {
         match &self.machine {
             Some(machine) => self.versions.keep(self.trail.len(), machine),
@@ -131,7 +131,7 @@ impl<M: Machine + Drop> QuickSearch<M> {
         }
     }
 
-    /// Forgets the machines to which the search does not go back.
+    /// Forgets the states to which the search cannot go back.
     fn forget(&mut self) {
         let mut needed = self.trail.settle();
         if let Some(first) = self.doubts.first() {
@@ -143,16 +143,20 @@ impl<M: Machine + Drop> QuickSearch<M> {
         self.versions.forget(needed);
     }
 
-    /// Takes the machine after all calls that were made: they are made again from the last one on
-    /// that is kept.
-    pub(crate) fn make_again(&mut self, lines: &[Line]) -> Result<(), AllocError> {
+    /// Rebuilds the state after all calls of the trail: runs the calls again from the last kept
+    /// state.
+    pub(crate) fn make_again(&mut self, lines: &[Line<Asked>]) -> Result<(), AllocError> {
         self.machine = None;
         self.machine = self.versions.made_again(lines, self.trail.path.as_slice())?;
         Ok(())
     }
 
-    /// Makes the call at a place in the machine, where it gives its reply there.
-    pub(crate) fn attempt(&mut self, lines: &[Line], place: usize) -> Result<bool, AllocError> {
+    /// Makes the call at a position, if the call gives its reply. Returns whether it does.
+    pub(crate) fn attempt(
+        &mut self,
+        lines: &[Line<Asked>],
+        place: usize,
+    ) -> Result<bool, AllocError> {
         self.keep()?;
         let Some(machine) = self.machine.take() else {
             return Ok(false);
@@ -165,17 +169,17 @@ impl<M: Machine + Drop> QuickSearch<M> {
         Ok(false)
     }
 
-    /// Takes the machine to which a call leads.
+    /// Replaces the current state by the state that a call leads to.
     pub(crate) fn move_to(&mut self, machine: M) -> Result<(), AllocError> {
         self.keep()?;
         self.machine = Some(machine);
         Ok(())
     }
 
-    /// Puts the call at a place, which was made in the machine, behind the others.
+    /// Appends the call at a position, which the current state includes, to the trail.
     pub(crate) fn go_on(
         &mut self,
-        lines: &[Line],
+        lines: &[Line<Asked>],
         layout: &Layout,
         place: usize,
     ) -> Result<Quick, AllocError> {

@@ -1,32 +1,33 @@
-//! How a quick search fares, and what it draws.
+//! Counts and random numbers of a quick search.
 
-/// How many calls it may look at beside the one that ends first, for each that there is.
+/// Number of calls, per completed call, that the search may look at beside the call that ends
+/// first.
 const LOOKS: u64 = 128;
 
-/// How often it goes back from where nothing fits, and how much farther each time.
+/// Largest number of backtracks, and the growth of their distance.
 const MOST_FAILS: u64 = 120;
 
 const FARTHER: u64 = 64;
 
-/// How often doubts are looked for before one more call fits.
+/// Largest number of times that choice points are collected before one more call fits.
 const MOST_JUMPS: u64 = 8;
 
-/// How a quick search fares.
+/// Counts and random numbers of a quick search.
 #[derive(Clone, Copy)]
 pub(crate) struct Tally {
-    /// The most answered calls that had a place.
+    /// Largest number of completed calls that were placed.
     most: u64,
-    /// How often it went back since, and how often it looked for doubts.
+    /// Number of backtracks since then, and number of collections of choice points.
     fails: u64,
     jumps: u64,
-    /// How many calls may still be looked at beside those that end first.
+    /// Number of calls that may still be looked at beside the calls that end first.
     looks: u64,
-    /// What is drawn next.
+    /// State of the pseudo-random generator.
     drawn: u64,
 }
 
 impl Tally {
-    /// That of a search that begins, for so many answered calls.
+    /// Creates the counts of a search that begins, for this number of completed calls.
     pub(crate) fn new(answered: u64) -> Tally {
         Tally {
             most: 0,
@@ -37,7 +38,7 @@ impl Tally {
         }
     }
 
-    /// A number below another, or 0.
+    /// Returns a pseudo-random number below `below`, or 0 if `below` is 0.
     pub(crate) fn draw(&mut self, below: u64) -> u64 {
         self.drawn = self
             .drawn
@@ -49,12 +50,13 @@ impl Tally {
         (self.drawn >> 33) % below
     }
 
-    /// Whether a drawn choice is made against the rule.
+    /// Returns whether the next choice deviates from the rule at random, with a chance of 1 in
+    /// `of`. Returns false as long as the search has not backtracked since its last progress.
     pub(crate) fn strays(&mut self, of: u64) -> bool {
         self.fails != 0 && self.draw(of) == 0
     }
 
-    /// Whether so many calls may be looked at. Where they may, they are counted.
+    /// Returns whether `count` more calls may be looked at. If so, the calls are counted.
     pub(crate) fn may_look(&mut self, count: u64) -> bool {
         if self.looks < count {
             return false;
@@ -63,8 +65,8 @@ impl Tally {
         true
     }
 
-    /// Whether more answered calls have a place than ever before. Where they have, the search has
-    /// not failed since.
+    /// Returns whether more completed calls are placed than ever before. If so, the counts of
+    /// failures start again.
     pub(crate) fn rises_to(&mut self, placed: u64) -> bool {
         if placed <= self.most {
             return false;
@@ -75,12 +77,12 @@ impl Tally {
         true
     }
 
-    /// Whether doubts may be looked for.
+    /// Returns whether choice points may be collected.
     pub(crate) fn may_jump(&self) -> bool {
         self.jumps < MOST_JUMPS
     }
 
-    /// Counts that doubts are looked for, where they may be.
+    /// Counts a collection of choice points, if one is allowed. Returns whether it is.
     pub(crate) fn count_jump(&mut self) -> bool {
         if self.jumps < MOST_JUMPS {
             self.jumps += 1;
@@ -89,8 +91,8 @@ impl Tally {
         false
     }
 
-    /// How many calls to go back, the more the more often it was done. None where it was done too
-    /// often.
+    /// Returns the number of calls to go back, which tends to grow with the number of backtracks.
+    /// Returns `None` after too many backtracks.
     pub(crate) fn count_fail(&mut self) -> Option<u64> {
         if MOST_FAILS <= self.fails {
             return None;

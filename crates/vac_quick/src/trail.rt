@@ -1,17 +1,18 @@
-//! Where a quick search is: which calls were made, and in which order.
+//! The trail of a quick search: the calls that were made, in their order.
 
 use crate::layout::Layout;
-use crate::line::Line;
+use judge_object::Line;
+use judge_reservations::Asked;
 use std::alloc::{AllocError, Global};
 
-/// How many calls the search goes back at most.
+/// Largest number of calls that the search takes back one by one.
 const MOST_BACK: usize = 8_192;
 
-/// How many of the last calls are looked at for those that a call meets.
+/// Number of last calls that are searched for calls that meet a call.
 const NEAR: usize = 262_144;
 
-/// A call that was made: its place, the first place that had no place in the order before it, and
-/// whether all blocks were in use there.
+/// A call that was made: its position, the first position without a place in the order before the
+/// call, and whether all blocks were known to be in use.
 #[derive(Clone, Copy)]
 pub(crate) struct Turn {
     pub(crate) place: usize,
@@ -19,7 +20,7 @@ pub(crate) struct Turn {
     is_full: bool,
 }
 
-/// Calls that were taken back, the first one last, and where the search was after them.
+/// Calls that were taken back, the earliest last, with the trail's data after them.
 #[derive(Drop)]
 pub(crate) struct Tail {
     turns: Vec<Turn>,
@@ -28,30 +29,30 @@ pub(crate) struct Tail {
     pub(crate) settled: usize,
 }
 
-/// Where a quick search is.
+/// The trail of a quick search.
 #[derive(Drop)]
 pub(crate) struct Trail {
-    /// What led there.
+    /// The calls that were made, in their order.
     pub(crate) path: Vec<Turn>,
-    /// How many answered calls have a place there.
+    /// Number of completed calls that are placed.
     pub(crate) placed: u64,
-    /// The first place whose call has none in the order.
+    /// The first position whose call is not placed.
     pub(crate) low: usize,
-    /// The place of each client's next call.
+    /// The position of each client's next call.
     pub(crate) heads: Vec<usize>,
-    /// Whether all blocks are known to be in use.
+    /// True if all blocks are known to be in use.
     is_full: bool,
-    /// How many of the first calls are not taken back one by one.
+    /// Number of first calls that are not taken back one by one.
     settled: usize,
 }
 
-/// Whether the call at a place was answered.
-fn is_answered(lines: &[Line], place: usize) -> bool {
+/// Returns whether the call at a position is completed.
+fn is_answered(lines: &[Line<Asked>], place: usize) -> bool {
     place < lines.len() && lines[place].reply.is_some()
 }
 
 impl Tail {
-    /// The places of its calls, the first one last.
+    /// Returns the positions of the calls, the earliest last.
     pub(crate) fn places(&self, alloc: Global) -> Result<Vec<usize>, AllocError> {
         let mut places = Vec::new(alloc);
         'turns: for number in 0..self.turns.len() {
@@ -62,7 +63,7 @@ impl Tail {
 }
 
 impl Trail {
-    /// Where a search begins.
+    /// Creates an empty trail.
     pub(crate) fn new(alloc: Global, layout: &Layout) -> Result<Trail, AllocError> {
         Ok(Trail {
             path: Vec::new(alloc),
@@ -74,12 +75,12 @@ impl Trail {
         })
     }
 
-    /// How many calls were made.
+    /// Returns the number of calls that were made.
     pub(crate) fn len(&self) -> usize {
         self.path.len()
     }
 
-    /// The place of a client's next call.
+    /// Returns the position of a client's next call.
     pub(crate) fn head(&self, client: usize) -> usize {
         if client < self.heads.len() {
             self.heads[client]
@@ -88,32 +89,32 @@ impl Trail {
         }
     }
 
-    /// Sets the place of a client's next call.
+    /// Sets the position of a client's next call.
     fn set_head(&mut self, client: usize, place: usize) {
         if client < self.heads.len() {
             self.heads.as_mut_slice()[client] = place;
         }
     }
 
-    /// Whether the call at a place was made.
+    /// Returns whether the call at a position was made.
     pub(crate) fn is_made(&self, layout: &Layout, place: usize) -> bool {
         place < self.head(layout.spot(place).client)
     }
 
-    /// Whether the call at a place, its client's next, may come next.
-    pub(crate) fn is_open(&self, lines: &[Line], place: usize) -> bool {
+    /// Returns whether the call at a position, which is its client's next one, may come next.
+    pub(crate) fn is_open(&self, lines: &[Line<Asked>], place: usize) -> bool {
         place < lines.len()
             && self.low < lines.len()
             && u128::from(lines[place].begin) <= lines[self.low].end
     }
 
-    /// Whether the call at a place was made as this one of them.
+    /// Returns whether the call at a position was made as the call with this number.
     pub(crate) fn is_at(&self, number: usize, place: usize) -> bool {
         number < self.path.len() && self.path[number].place == place
     }
 
-    /// Finds the first place whose call has none in the order.
-    fn find_low(&mut self, lines: &[Line], layout: &Layout) {
+    /// Finds the first position whose call is not placed.
+    fn find_low(&mut self, lines: &[Line<Asked>], layout: &Layout) {
         'places: for place in self.low..lines.len() {
             self.low = place;
             if !self.is_made(layout, place) {
@@ -123,8 +124,13 @@ impl Trail {
         self.low = lines.len();
     }
 
-    /// Puts a call at the end.
-    fn add(&mut self, lines: &[Line], layout: &Layout, turn: Turn) -> Result<(), AllocError> {
+    /// Appends a call to the trail.
+    fn add(
+        &mut self,
+        lines: &[Line<Asked>],
+        layout: &Layout,
+        turn: Turn,
+    ) -> Result<(), AllocError> {
         let spot = layout.spot(turn.place);
         self.path.push(turn)?;
         self.set_head(spot.client, spot.next);
@@ -134,8 +140,8 @@ impl Trail {
         Ok(())
     }
 
-    /// Takes the last call back.
-    fn take(&mut self, lines: &[Line], layout: &Layout) -> Option<Turn> {
+    /// Takes back the last call.
+    fn take(&mut self, lines: &[Line<Asked>], layout: &Layout) -> Option<Turn> {
         let turn = self.path.pop()?;
         self.low = turn.low;
         self.is_full = turn.is_full;
@@ -146,10 +152,10 @@ impl Trail {
         Some(turn)
     }
 
-    /// Puts the call at a place behind the others.
+    /// Appends the call at a position to the trail.
     pub(crate) fn go_on(
         &mut self,
-        lines: &[Line],
+        lines: &[Line<Asked>],
         layout: &Layout,
         place: usize,
     ) -> Result<(), AllocError> {
@@ -165,8 +171,8 @@ impl Trail {
         Ok(())
     }
 
-    /// Takes the last call back, unless it is too far back. Returns how many are left.
-    pub(crate) fn go_back(&mut self, lines: &[Line], layout: &Layout) -> Option<usize> {
+    /// Takes back the last call, unless the call is settled. Returns the number of calls left.
+    pub(crate) fn go_back(&mut self, lines: &[Line<Asked>], layout: &Layout) -> Option<usize> {
         if self.path.len() <= self.settled {
             return None;
         }
@@ -174,23 +180,23 @@ impl Trail {
         Some(self.path.len())
     }
 
-    /// Settles the calls that are too far back, and returns how many are.
+    /// Settles the calls that are too far back, and returns the number of settled calls.
     pub(crate) fn settle(&mut self) -> usize {
         let far = self.path.len().saturating_sub(MOST_BACK);
         self.settled = far.max(self.settled);
         self.settled
     }
 
-    /// Settles no call after these.
+    /// Limits the settled calls to the first `at` calls.
     pub(crate) fn settle_before(&mut self, at: usize) {
         self.settled = self.settled.min(at);
     }
 
-    /// Takes back all but so many calls.
+    /// Takes back all calls but the first `at` calls.
     pub(crate) fn cut_to(
         &mut self,
         alloc: Global,
-        lines: &[Line],
+        lines: &[Line<Asked>],
         layout: &Layout,
         at: usize,
     ) -> Result<Tail, AllocError> {
@@ -210,10 +216,10 @@ impl Trail {
         })
     }
 
-    /// Puts back what was taken back.
+    /// Puts back the calls that were taken back.
     pub(crate) fn put_back(
         &mut self,
-        lines: &[Line],
+        lines: &[Line<Asked>],
         layout: &Layout,
         tail: Tail,
     ) -> Result<(), AllocError> {
@@ -234,7 +240,7 @@ impl Trail {
         Ok(())
     }
 
-    /// The places of the calls that were made.
+    /// Returns the positions of the calls that were made.
     pub(crate) fn places(&self, alloc: Global) -> Result<Vec<usize>, AllocError> {
         let mut places = Vec::new(alloc);
         'path: for number in 0..self.path.len() {
@@ -243,12 +249,14 @@ impl Trail {
         Ok(places)
     }
 
-    /// The next calls of clients that may have to come before the one that ends first: those that
-    /// name something in common with it, or found all blocks in use where it may leave some.
+    /// Returns the next calls of clients that may have to precede the call that ends first. Such a
+    /// call names an item or a customer in common with the call that ends first. Or its reply says
+    /// that no block is left, all blocks are known to be in use, and the call that ends first may
+    /// free blocks.
     pub(crate) fn rivals(
         &self,
         alloc: Global,
-        lines: &[Line],
+        lines: &[Line<Asked>],
         layout: &Layout,
     ) -> Result<Vec<usize>, AllocError> {
         let low = self.low;
@@ -266,7 +274,8 @@ impl Trail {
         Ok(rivals)
     }
 
-    /// The last calls that meet the one that ends first, made ones and those that may come next.
+    /// Returns the calls that meet the call that ends first: the last calls of the trail, and the
+    /// next calls of clients.
     pub(crate) fn met(&self, alloc: Global, layout: &Layout) -> Result<Vec<usize>, AllocError> {
         let mut met = Vec::new(alloc);
         'path: for number in self.path.len().saturating_sub(NEAR)..self.path.len() {

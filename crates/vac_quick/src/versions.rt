@@ -1,39 +1,41 @@
-//! Machines that a quick search was at, from which it makes its calls again to go back.
+//! Kept states of a quick search, from which it rebuilds the state after going back.
 
-use crate::line::Line;
 use crate::search::made_at;
 use crate::trail::Turn;
+use judge_object::{Line, Object};
+use judge_reservations::Asked;
 use std::alloc::{AllocError, Global};
 use std::collections::VecDeque;
-use vac_sequential::Machine;
+use vac_model::Reply;
 
-/// After how many calls the next machine is kept, at most. The calls after one copy what they
-/// change, since it shares that; to go back makes fewer calls again than were made since.
+/// Largest number of calls between two kept states. A kept state shares its data with the running
+/// one, so the calls after it copy what they change; going back makes fewer calls again than were
+/// made since.
 const MOST_STRIDE: usize = 131_072;
 
-/// How many machines are kept before some are dropped.
+/// Number of states that are kept before some are dropped.
 const MOST_KEPT: usize = 8_192;
 
-/// A machine, and how many calls were made before it.
+/// A kept state, and the number of calls that were made before it.
 #[derive(Drop)]
 pub(crate) struct Version<M> {
     pub(crate) at: usize,
     pub(crate) machine: M,
 }
 
-/// The machines that are kept, in the order of their calls: the fewer, the longer nothing was taken
-/// back.
+/// The kept states, in the order of their calls. The longer nothing was taken back, the fewer
+/// states are kept.
 #[derive(Drop)]
 pub(crate) struct Versions<M> {
     kept: VecDeque<Version<M>>,
-    /// After how many calls the next one is kept.
+    /// Number of calls until the next state is kept.
     stride: usize,
-    /// How many are kept before some are dropped.
+    /// Number of states that are kept before some are dropped.
     most: usize,
 }
 
-impl<M: Machine + Drop> Versions<M> {
-    /// No machine.
+impl<M: Object<Op = Asked, Reply = Reply> + Drop> Versions<M> {
+    /// Creates an empty collection of states.
     pub(crate) fn new(alloc: Global) -> Versions<M> {
         Versions {
             kept: VecDeque::new(alloc),
@@ -42,7 +44,7 @@ impl<M: Machine + Drop> Versions<M> {
         }
     }
 
-    /// Whether the machine after so many calls is to be kept.
+    /// Returns whether the state after `at` calls is due to be kept.
     fn is_due(&self, at: usize) -> bool {
         match self.kept.back() {
             Some(last) => last.at.saturating_add(self.stride) <= at,
@@ -50,8 +52,8 @@ impl<M: Machine + Drop> Versions<M> {
         }
     }
 
-    /// Drops every second machine, but none without which more than `MOST_STRIDE` calls lie between
-    /// two. The first and the last stay.
+    /// Drops every second state, unless more than `MOST_STRIDE` calls would then lie between two
+    /// states. The first and the last state stay.
     fn thin(&mut self) -> Result<(), AllocError> {
         let count = self.kept.len();
         let mut last = 0;
@@ -73,7 +75,7 @@ impl<M: Machine + Drop> Versions<M> {
         Ok(())
     }
 
-    /// Keeps the machine after so many calls.
+    /// Keeps a copy of the state after `at` calls.
     fn push(&mut self, at: usize, machine: &M) -> Result<(), AllocError> {
         let machine = machine.copy()?;
         self.kept.push_back(Version { at, machine })?;
@@ -84,7 +86,7 @@ impl<M: Machine + Drop> Versions<M> {
         Ok(())
     }
 
-    /// Keeps the machine after so many calls, where it is time to.
+    /// Keeps the state after `at` calls, if it is due.
     pub(crate) fn keep(&mut self, at: usize, machine: &M) -> Result<(), AllocError> {
         if self.is_due(at) {
             self.push(at, machine)?;
@@ -93,8 +95,8 @@ impl<M: Machine + Drop> Versions<M> {
         Ok(())
     }
 
-    /// Keeps the machine after so many calls of `length`, where at least as many were made since
-    /// the last one that is kept as are left.
+    /// Keeps the state after `at` of `length` calls, if at least as many calls were made since the
+    /// last kept state as are left.
     fn keep_halfway(&mut self, at: usize, length: usize, machine: &M) -> Result<(), AllocError> {
         let since = match self.kept.back() {
             Some(last) => at.saturating_sub(last.at),
@@ -106,12 +108,13 @@ impl<M: Machine + Drop> Versions<M> {
         Ok(())
     }
 
-    /// The machine after the calls of a path: they are made again from the last one on that is
-    /// kept. Others are kept on the way, the nearer the denser, and the next one after the next
-    /// call, then more and more seldom. None is kept after more calls than the path has.
+    /// Rebuilds the state after the calls of a path: runs the calls again from the last kept
+    /// state. Further states are kept on the way, more densely toward the end. Then a state is
+    /// kept after the next call, and later ones more and more seldom. No kept state comes after
+    /// more calls than the path has.
     pub(crate) fn made_again(
         &mut self,
-        lines: &[Line],
+        lines: &[Line<Asked>],
         path: &[Turn],
     ) -> Result<Option<M>, AllocError> {
         self.stride = 1;
@@ -128,7 +131,7 @@ impl<M: Machine + Drop> Versions<M> {
         Ok(Some(machine))
     }
 
-    /// A copy of the last machine that is kept.
+    /// Returns a copy of the last kept state.
     fn last(&self) -> Result<Option<Version<M>>, AllocError> {
         match self.kept.back() {
             Some(last) => Ok(Some(Version {
@@ -139,7 +142,7 @@ impl<M: Machine + Drop> Versions<M> {
         }
     }
 
-    /// Forgets the machines that are not needed to go back to so many calls or more.
+    /// Drops the states that are not needed to go back to `at` calls or more.
     pub(crate) fn forget(&mut self, at: usize) {
         'kept: for _ in 0..self.kept.len() {
             match self.kept.get(1) {
@@ -150,7 +153,7 @@ impl<M: Machine + Drop> Versions<M> {
         }
     }
 
-    /// Takes out the machines after more calls than these, the last one first.
+    /// Removes the states after more than `at` calls, and returns them, the last one first.
     pub(crate) fn cut(&mut self, alloc: Global, at: usize) -> Result<Vec<Version<M>>, AllocError> {
         let mut cut = Vec::new(alloc);
         'kept: for _ in 0..self.kept.len() {
@@ -165,7 +168,7 @@ impl<M: Machine + Drop> Versions<M> {
         Ok(cut)
     }
 
-    /// Puts back the machines that were taken out. The next one is kept after the next call.
+    /// Puts back the states that were removed. A state is then kept after the next call.
     pub(crate) fn put_back(&mut self, mut cut: Vec<Version<M>>) -> Result<(), AllocError> {
         'cut: for _ in 0..cut.len() {
             if let Some(version) = cut.pop() {

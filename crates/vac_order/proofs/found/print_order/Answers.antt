@@ -3,12 +3,13 @@ use Rattle.std.proofs.Common.{append_assoc, append-nil}
 use Rattle.std.specs.Global.{Vec}
 use Rattle.std.proofs.lemmas.List.{take_all}
 use Rattle.vac_lines.specs.Script.{as_line}
-use Rattle.vac_quick.specs.declared.line.Line.{Line}
+use Rattle.judge_object.specs.declared.line.Line.{Line}
 use Rattle.vac_order.specs.Reading.{texts_of}
 use Rattle.vac_order.specs.Found.{placed_text}
 use Rattle.vac_order.proofs.Printing.{placed_next, all_get}
 use Rattle.vac_order.proofs.found.print_order.Goals as goal
 use Rattle.vac_order.proofs.found.print_order.Goals.{then-place-lines+in_ok-append_line, else-place-lines}
+use Rattle.vac_model.specs.declared.tasks.Task.{Task}
 
 pub places-init : goal.places-init
 places-init c = λ all. sym (append-nil c.args.out.now.items)
@@ -26,7 +27,7 @@ places-preserved c = λ all.
           let line = w.index-lines-place.result in
           ap (λ (v : Vec ℕ). v.items) w.out-is ∙ w.in_ok-append_line.ensures
           ∙ ap (λ t. c.places.out.items ++ as_line t) (w.as_slice.ensures.value ∙
-          sym (ap (λ (x : Line). x.text.items) w.index-lines-place.is))
+          sym (ap (λ (x : Line Task). x.text.items) w.index-lines-place.is))
           ∙ ap (λ t. t ++ as_line line.text.items) (c.places.invariant all)
           ∙ append_assoc old (placed_text (texts_of lines) (take i places)) (as_line line.text.items)
           ∙ ap (λ t. old ++ t) (sym (placed_next lines places i p line c.places-test.true refl within

@@ -2,8 +2,8 @@ use Rattle.std.proofs.Common.{◌≡◌, true, false, Some, sym, ap, ◌∙◌, 
 use Rattle.vac_model.specs.Run.{run}
 use Rattle.vac_judge.specs.declared.verdict.Wrong.TheVariants.{Reply}
 use Rattle.vac_judge.specs.Parts.{shown_call}
-use Rattle.vac_spans.specs.Keeping.{Keeps}
-use Rattle.vac_judge.specs.Order.{span_of}
+use Rattle.judge_time.specs.Keeping.{Keeps}
+use Rattle.judge_object.specs.Call.{span_of}
 use Rattle.vac_lines.specs.Text.{is_right}
 use Rattle.vac_judge.proofs.Keeping.{wrong_times, wrong_reply, no_wrong, well_placed}
 use Rattle.vac_judge.proofs.judge.Judge.judge_call.Goals as goal
@@ -18,7 +18,7 @@ pub returns-then-not-branch : goal.returns-then-not-branch
 returns-then-not-branch c = λ s earlier f.
     let call = shown_call c.args.call.now in
     let reply = c.run-reply.ensures.reply s f.heap in
-    let same : false ≡ is_right call.reply (run s call.task).1 =
+    let same : false ≡ is_right call.reply (run s call.op).1 =
     sym c.if-not-branch.true ∙ c.in_ok-is_expected.ensures ∙ ap (is_right call.reply) (sym reply) in
     record {
       found_is = wrong_reply s earlier call false (c.in_default.ensures s earlier f) same ∙
@@ -31,7 +31,7 @@ returns c = λ s earlier f.
     let call = shown_call c.args.call.now in
     let reply = c.run-reply.ensures.reply s f.heap in
     let times = c.in_default.ensures s earlier f in
-    let same : true ≡ is_right call.reply (run s call.task).1 =
+    let same : true ≡ is_right call.reply (run s call.op).1 =
     sym c.if-not-branch.false ∙ c.in_ok-is_expected.ensures ∙ ap (is_right call.reply) (sym reply) in
     let placed = well_placed earlier call c.span.result c.span.ensures times in
     record {

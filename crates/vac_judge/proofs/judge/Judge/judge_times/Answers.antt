@@ -1,5 +1,5 @@
 use Rattle.std.proofs.Common.{Some, None, ap, ◌∙◌}
-use Rattle.vac_spans.specs.declared.span.Misplaced.TheVariants as place
+use Rattle.judge_time.specs.declared.span.Misplaced.TheVariants as place
 use Rattle.vac_judge.specs.Parts.{shown_call}
 use Rattle.vac_judge.proofs.Keeping.{span_says}
 use Rattle.vac_judge.proofs.judge.Judge.judge_times.Goals as goal

@@ -1,9 +1,9 @@
 use Rattle.std.proofs.Common.{◌≡◌, ℕ, sym, ◌∙◌}
 use Rattle.std.proofs.lemmas.List.{length-map}
 use Rattle.vac_model.specs.declared.replies.Report.{Report}
-use Rattle.vac_spans.proofs.Order.{clients_mapped}
+use Rattle.judge_time.proofs.Order.{clients_mapped}
 use Rattle.vac_judge.specs.declared.verdict.Summary.{Summary}
-use Rattle.vac_judge.specs.Order.{span_of}
+use Rattle.judge_object.specs.Call.{span_of}
 use Rattle.vac_judge.proofs.judge.Judge.summary.Goals as goal
 
 -- a summary of these

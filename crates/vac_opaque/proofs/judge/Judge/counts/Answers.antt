@@ -1,6 +1,6 @@
 use Rattle.std.proofs.Common.{◌∙◌, ◌≡◌, ℕ}
 use Rattle.std.proofs.lemmas.List.{length-map}
-use Rattle.vac_spans.proofs.Order.{clients_mapped}
+use Rattle.judge_time.proofs.Order.{clients_mapped}
 use Rattle.vac_opaque.specs.declared.finding.Counts.{Counts}
 use Rattle.vac_opaque.specs.Attempt.{span_of_attempt}
 use Rattle.vac_opaque.proofs.judge.Judge.counts.Goals as goal

@@ -1,6 +1,6 @@
 use Rattle.std.proofs.Common.{◌≤◌, nat_le, sym, ap, ◌∙◌, arith}
 use Rattle.vac_judge.specs.Parts.{shown_call, shown_end}
-use Rattle.vac_order.specs.Calls.{calls_of}
+use Rattle.judge_search.specs.Calls.{calls_of}
 use Rattle.vac_order.proofs.Turns.{said_some, said_none}
 use Rattle.vac_order.proofs.history.History.is_in_turn.Goals as goal
 

@@ -3,7 +3,7 @@ use Rattle.std.specs.FinMap.{insert}
 use Rattle.vac_judge.specs.Parts.{shown_call}
 use Rattle.vac_judge.specs.Order.{call_breaks_client}
 use Rattle.vac_order.specs.declared.history.History.{History}
-use Rattle.vac_order.specs.Calls.{calls_of}
+use Rattle.judge_search.specs.Calls.{calls_of}
 use Rattle.vac_order.proofs.Turns.{took, timed_of, not_true}
 use Rattle.vac_order.proofs.history.History.take.Goals as goal
 

@@ -5,7 +5,7 @@ use Rattle.vac_judge.specs.declared.verdict.Verdict.TheVariants.{Illegal}
 use Rattle.vac_judge.specs.declared.verdict.Wrong.TheVariants.{Client}
 use Rattle.vac_judge.specs.Parts.{shown_call}
 use Rattle.vac_judge.specs.Order.{call_breaks_client}
-use Rattle.vac_order.specs.Calls.{call_of, calls_of}
+use Rattle.judge_search.specs.Calls.{call_of, calls_of}
 use Rattle.vac_order.specs.Reading.{Took, wrong_behind}
 use Rattle.vac_order.proofs.reading.HistoryText.take_line.Goals as goal
 

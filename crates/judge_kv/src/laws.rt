@@ -1,8 +1,0 @@
-//! Laws on quoted words. Each is the contract of a function that does nothing.
-
-ghost use Rattle.judge_kv.specs.Quoting.{QuotesAreRead};
-
-/// Bytes that are written as a quoted word are read back.
-pub fn quotes_are_read()
-    ensures { QuotesAreRead }
-{}

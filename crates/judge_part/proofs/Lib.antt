@@ -1,0 +1,10 @@
+pub mod Orders
+pub mod Sums
+pub mod Restricted
+pub mod Effects
+pub mod Numbers
+pub mod Outside
+pub mod Commands
+pub mod Tasks
+pub mod Trips
+pub mod Whole

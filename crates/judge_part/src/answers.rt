@@ -1,0 +1,298 @@
+//! The part of a completed command.
+
+ghost use Rattle.std.specs.Prelude.{◌≡◌, ◌&&◌, not, Some, None, if◌then◌else◌, List, ℕ};
+ghost use Rattle.vac_model.specs.declared.commands.Command.TheVariants as command;
+ghost use Rattle.vac_model.specs.declared.commands.Why.TheVariants.{SoldOut};
+ghost use Rattle.vac_model.specs.declared.replies.Reply.TheVariants as reply;
+ghost use Rattle.vac_model.specs.declared.tasks.Task.{Task};
+ghost use Rattle.vac_model.specs.declared.tasks.Task.TheVariants as task;
+ghost use Rattle.vac_lines.specs.Text.{reply_text};
+ghost use Rattle.judge_part.specs.Scopes.{is_closed};
+ghost use Rattle.judge_part.specs.Tasks as spec;
+
+use crate::scope::Scope;
+use vac_model::{Command, Kind, Task, Why};
+
+/// The part of a completed task.
+pub enum Part<'a> {
+    /// The task leaves nothing.
+    Nothing,
+    /// The task and its reply, as they are.
+    Same,
+    /// Another command, with the text of its reply.
+    Other(Command, &'a [u8]),
+}
+
+/// A command with the text of its reply.
+type Answered<'a> = (Command, &'a [u8]);
+
+/// Returns the part of a completed task on a scope.
+pub fn task_part<'a>(scope: &Scope, task: &Task, text: &'a [u8]) -> Part<'a>
+    ensures { spec.part_of task.now text.now result ≡ spec.task_part scope.now task.now text.now }
+{
+    match task {
+        Task::One(command) => match command_part(scope, *command, text) {
+            Some((command, seen)) => Part::Other(command, seen),
+            None => Part::Nothing,
+        },
+        Task::Leave { customer } => leave_part(scope, *customer, text),
+        Task::Trip { customer, .. } => trip_part(scope, *customer, text),
+        Task::Update { .. } => Part::Nothing,
+    }
+}
+
+/// Returns the part of a completed trip that asks for no item of the scope.
+fn trip_part<'a>(scope: &Scope, customer: u32, text: &[u8]) -> Part<'a>
+    ensures { (t : Task) (given : List ℕ) → spec.part_of t given result
+        ≡ spec.trip_part scope.now customer text.now }
+{
+    if !scope.has_customer(customer) {
+        Part::Nothing
+    } else if text.starts_with(b"trip cust=true ") {
+        Part::Other(Command::NewCustomer { id: customer }, b"true")
+    } else if text.starts_with(b"trip cust=exists ") {
+        Part::Other(
+            Command::NewCustomer { id: customer },
+            refusal_text(Why::Exists),
+        )
+    } else {
+        Part::Nothing
+    }
+}
+
+/// Returns the part of a completed leave.
+fn leave_part<'a>(scope: &Scope, customer: u32, text: &[u8]) -> Part<'a>
+    ensures { spec.part_of (task.Leave customer) text.now result
+        ≡ spec.leave_part scope.now customer text.now }
+{
+    if !scope.has_customer(customer) {
+        Part::Nothing
+    } else if scope.is_whole(customer) || text == b"-1".as_slice() {
+        Part::Same
+    } else {
+        Part::Other(Command::DropCustomer { id: customer }, b"true")
+    }
+}
+
+/// Returns the part of a completed command on a scope: a command with the text of its reply, or
+/// nothing.
+fn command_part<'a>(scope: &Scope, command: Command, text: &'a [u8]) -> Option<Answered<'a>>
+    ensures { spec.answered result ≡ spec.command_part scope.now command text.now }
+{
+    match command {
+        Command::Add { kind, id, .. } => {
+            if scope.has_item(kind, id) {
+                kept(command, text)
+            } else {
+                None
+            }
+        }
+        Command::Delete { kind, id, .. } => units_part(
+            scope,
+            (kind, id),
+            command,
+            text,
+            Why::NotFree,
+        ),
+        Command::DropFlight { id } => {
+            units_part(scope, (Kind::Flight, id), command, text, Why::InUse)
+        }
+        Command::NewCustomer { id } => {
+            if scope.has_customer(id) {
+                kept(command, text)
+            } else {
+                None
+            }
+        }
+        Command::DropCustomer { id } => kept_if(scope.has_customer(id), command, text),
+        Command::Free { kind, id } => kept_if(scope.is_closed(kind, id), command, text),
+        Command::Price { kind, id } => kept_if(scope.has_item(kind, id), command, text),
+        Command::Bill { id } => kept_if(scope.is_whole(id), command, text),
+        Command::Reserve {
+            customer,
+            kind,
+            id,
+            ..
+        } => {
+            let both = reserve_part(scope, customer, (kind, id), command, text);
+            booking_part(scope, customer, (kind, id), text, both)
+        }
+        Command::Cancel { customer, kind, id } => {
+            booking_part(scope, customer, (kind, id), text, Some((command, text)))
+        }
+        Command::Audit => None,
+    }
+}
+
+/// The text of a refusal.
+fn refusal_text(why: Why) -> &'static [u8]
+    ensures { result.now ≡ reply_text (reply.No why) }
+{
+    match why {
+        Why::NeedsCountAndPrice => b"false needs-count-and-price",
+        Why::TotalLimit => b"false total-limit",
+        Why::Full => b"false full",
+        Why::NoItem => b"false no-item",
+        Why::NotFree => b"false not-free",
+        Why::InUse => b"false in-use",
+        Why::Exists => b"false exists",
+        Why::NoCustomer => b"false no-customer",
+        Why::SoldOut => b"false sold-out",
+        Why::NotBooked => b"false not-booked",
+        Why::UnitLimit => b"false unit-limit",
+    }
+}
+
+/// Returns whether a reply is this refusal.
+fn is_refused(text: &[u8], why: Why) -> bool
+    ensures { result ≡ spec.is_reply (reply.No why) text.now }
+{
+    text == refusal_text(why)
+}
+
+/// Returns a command as it is, if a condition holds.
+fn kept_if(holds: bool, command: Command, text: &[u8]) -> Option<Answered<'_>>
+    ensures { spec.answered result
+        ≡ (if holds then Some (task.One command, text.now) else None) }
+{
+    if holds { Some((command, text)) } else { None }
+}
+
+/// Returns a command as it is, unless no block was left.
+fn kept(command: Command, text: &[u8]) -> Option<Answered<'_>>
+    ensures { spec.answered result ≡ spec.kept (task.One command) text.now }
+{
+    kept_if(!is_refused(text, Why::Full), command, text)
+}
+
+/// Returns a command that shows that a customer exists, and changes nothing.
+fn customer_exists<'a>(customer: u32) -> Option<Answered<'a>>
+    ensures { spec.answered result ≡ spec.customer_exists customer }
+{
+    Some((
+        Command::NewCustomer { id: customer },
+        refusal_text(Why::Exists),
+    ))
+}
+
+/// Returns a command that shows that a customer is missing.
+fn customer_missing<'a>(customer: u32) -> Option<Answered<'a>>
+    ensures { spec.answered result ≡ spec.customer_missing customer }
+{
+    Some((Command::Bill { id: customer }, b"-1"))
+}
+
+/// Returns an `Add` of no units, which changes nothing.
+fn probe(item: (Kind, u32)) -> Command
+    ensures { result ≡ command.Add item.0 item.1 0 None }
+{
+    Command::Add {
+        kind: item.0,
+        id: item.1,
+        num: 0,
+        price: None,
+    }
+}
+
+/// Returns a command that shows that an item exists, and changes nothing.
+fn item_exists<'a>(item: (Kind, u32)) -> Option<Answered<'a>>
+    ensures { spec.answered result ≡ spec.item_exists item.0 item.1 }
+{
+    Some((probe(item), b"true"))
+}
+
+/// Returns a command that shows that an item is missing, and changes nothing.
+fn item_missing<'a>(item: (Kind, u32)) -> Option<Answered<'a>>
+    ensures { spec.answered result ≡ spec.item_missing item.0 item.1 }
+{
+    Some((probe(item), refusal_text(Why::NeedsCountAndPrice)))
+}
+
+/// Returns a command on the units of an item as it is, if it was not refused for this reason or the
+/// item is closed; else a command that shows that the item exists.
+fn units_part<'a>(
+    scope: &Scope,
+    item: (Kind, u32),
+    command: Command,
+    text: &'a [u8],
+    why: Why,
+) -> Option<Answered<'a>>
+    ensures { spec.answered result
+        ≡ spec.units_part scope.now item (task.One command) text.now why }
+{
+    if !scope.has_item(item.0, item.1) {
+        None
+    } else if is_refused(text, why) && !scope.is_closed(item.0, item.1) {
+        item_exists(item)
+    } else {
+        Some((command, text))
+    }
+}
+
+/// Returns a command that shows if a customer exists, from the reply to a booking, or to the end of
+/// a booking, of an item outside the scope.
+fn customer_seen<'a>(customer: u32, text: &[u8]) -> Option<Answered<'a>>
+    ensures { spec.answered result
+        ≡ spec.customer_seen customer text.now }
+{
+    if is_refused(text, Why::NoCustomer) {
+        customer_missing(customer)
+    } else {
+        customer_exists(customer)
+    }
+}
+
+/// Returns a command that shows if an item exists, from the reply to a booking, or to the end of a
+/// booking, by a customer outside the scope.
+fn item_seen<'a>(item: (Kind, u32), text: &[u8]) -> Option<Answered<'a>>
+    ensures { spec.answered result
+        ≡ spec.item_seen item.0 item.1 text.now }
+{
+    if is_refused(text, Why::NoCustomer) {
+        None
+    } else if is_refused(text, Why::NoItem) {
+        item_missing(item)
+    } else {
+        item_exists(item)
+    }
+}
+
+/// Returns the part of a booking, or of the end of a booking, given the part for a customer and an
+/// item that both belong to the scope.
+fn booking_part<'a>(
+    scope: &Scope,
+    customer: u32,
+    item: (Kind, u32),
+    text: &[u8],
+    both: Option<Answered<'a>>,
+) -> Option<Answered<'a>>
+    ensures { spec.answered result
+        ≡ spec.booking_part scope.now customer item.0 item.1 text.now
+        (spec.answered both.entry) }
+{
+    match (scope.has_customer(customer), scope.has_item(item.0, item.1)) {
+        (true, true) => both,
+        (true, false) => customer_seen(customer, text),
+        (false, true) => item_seen(item, text),
+        (false, false) => None,
+    }
+}
+
+/// Returns the part of a `Reserve` of a customer and an item that both belong to the scope.
+fn reserve_part<'a>(
+    scope: &Scope,
+    customer: u32,
+    item: (Kind, u32),
+    command: Command,
+    text: &'a [u8],
+) -> Option<Answered<'a>>
+    ensures { spec.answered result
+        ≡ (if spec.is_reply (reply.No SoldOut) text.now && not (is_closed scope.now item)
+        then spec.customer_exists customer else spec.kept (task.One command) text.now) }
+{
+    if is_refused(text, Why::SoldOut) && !scope.is_closed(item.0, item.1) {
+        customer_exists(customer)
+    } else {
+        kept(command, text)
+    }
+}

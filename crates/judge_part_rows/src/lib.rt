@@ -1,0 +1,7 @@
+//! Tests of parts of histories: tasks and replies whose parts were worked out by hand.
+#![tactic(auto)]
+
+#[cfg(test)]
+mod commands;
+#[cfg(test)]
+mod fitting;

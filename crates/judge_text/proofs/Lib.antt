@@ -1,0 +1,5 @@
+pub mod Quotes
+pub mod Cutting
+pub mod Histories
+pub mod WordPlaces
+pub mod Legal

@@ -1,0 +1,46 @@
+-- The verdict on a text, in the words of Herlihy and Wing (TOPLAS 1990).
+use Rattle.std.specs.Prelude.{◌≡◌, ⊤, ℕ, Ok, Err, List}
+use Rattle.judge_object.specs.Rules.{Rules}
+use Rattle.judge_object.specs.Call.{Call}
+use Rattle.judge_object.specs.declared.line.Line.{Line}
+use Rattle.judge_object.specs.Orders.{IsLinearizable}
+use Rattle.judge_search.specs.Calls.{calls_of}
+use Rattle.judge_search.specs.Walk.{InTurn}
+use Rattle.judge_many.specs.declared.judging.Verdict.{Verdict}
+use Rattle.judge_many.specs.declared.judging.Verdict.TheVariants as verdict
+use Rattle.judge_many.specs.Many.{many}
+use Rattle.judge_many.specs.Verdict.{IsVerdictOn}
+use Rattle.judge_text.specs.declared.judging.TextVerdict.{TextVerdict}
+use Rattle.judge_text.specs.declared.judging.TextVerdict.TheVariants.{Fault, Judged}
+use Rattle.judge_text.specs.Language.{Language}
+use Rattle.judge_text.specs.Reading.{text_calls, AreNumbered}
+
+module _ {S O R : Type 0} (X : Rules S O R) (name : O → List ℕ) (L : Language O R) where
+  -- each line of a text is a call, each client's calls are in turn, and the calls have a
+  -- linearization, each object beginning in the state s
+  pub record IsLegalText (s : S) (text : List ℕ) : Type 0 where
+    pub calls : List (Call O)
+    pub are : text_calls X L text ≡ Ok calls
+    pub turn : InTurn calls
+    pub order : IsLinearizable (many X name) (λ k. s) calls
+
+  -- the verdict is on the calls of the lines, which are numbered from 1
+  pub record IsJudgedText (s : S) (text : List ℕ) (steps : ℕ) (v : Verdict O S) : Type 0 where
+    pub lines : List (Line O)
+    pub are : text_calls X L text ≡ Ok (calls_of lines)
+    pub numbered : AreNumbered 1 lines
+    pub judged : IsVerdictOn X name s steps lines v
+
+  -- what a verdict says of a text
+  abbrev pub IsVerdictOnText : S → List ℕ → ℕ → TextVerdict O S → Type 0
+  IsVerdictOnText s text steps (Fault number fault) = text_calls X L text ≡ Err (number, fault)
+  IsVerdictOnText s text steps (Judged counts v) = IsJudgedText s text steps v
+
+  -- a text is legal, or not, if the verdict says so
+  abbrev pub DecidesLegal : S → List ℕ → TextVerdict O S → Type 0
+  DecidesLegal s text (Fault number fault) = IsLegalText s text → ⊥
+  DecidesLegal s text (Judged counts verdict.Linearizable) = IsLegalText s text
+  DecidesLegal s text (Judged counts (verdict.NotLinearizable blocked)) = IsLegalText s text → ⊥
+  DecidesLegal s text (Judged counts (verdict.OutOfTurn place)) = IsLegalText s text → ⊥
+  DecidesLegal s text (Judged counts (verdict.Unknown open_)) = ⊤
+  DecidesLegal s text (Judged counts verdict.Touching) = ⊤

@@ -1,0 +1,34 @@
+//! Why a line of a history is no call.
+
+ghost use Rattle.std.specs.Prelude.{◌≡◌};
+ghost use Rattle.judge_text.specs.Faults.{fault_name};
+
+/// Why a line of a history is no call.
+#[derive(Clone, Copy, Debug, PartialEq, Eq)]
+pub enum CallFault {
+    /// There are fewer than six words, or the last but one is no `->`.
+    BadCall,
+    /// CLIENT, BEGIN or END is no number in its range.
+    BadNumber,
+    /// OPERATION is none of the object.
+    BadOperation,
+    /// REPLY is none of the object.
+    BadReply,
+    /// Only one of END and REPLY says that the call is pending.
+    HalfCall,
+}
+
+impl CallFault {
+    /// The name of the fault.
+    pub fn name(self) -> &'static [u8]
+        ensures { result.now ≡ fault_name self }
+    {
+        match self {
+            CallFault::BadCall => b"bad-call",
+            CallFault::BadNumber => b"bad-number",
+            CallFault::BadOperation => b"bad-operation",
+            CallFault::BadReply => b"bad-reply",
+            CallFault::HalfCall => b"half-call",
+        }
+    }
+}

@@ -1,0 +1,48 @@
+//! Reading a history.
+
+ghost use Rattle.std.specs.Prelude.{◌≡◌, ◌+◌, IfOk, length};
+ghost use Rattle.judge_text.specs.Reading.{IsReadingOf};
+
+use crate::fault::CallFault;
+use crate::line::read_call;
+use crate::worded::Worded;
+use judge_object::Line;
+use std::alloc::{AllocError, Global};
+use vac_lines::cut_at;
+
+/// The history or the fault as which a text is read.
+#[derive(Drop)]
+pub enum Reading<O> {
+    /// The calls of its lines.
+    History(Vec<Line<O>>),
+    /// The number of its first line that is no call, from 1 on, and why it is none.
+    Fault(u64, CallFault),
+}
+
+/// Reads a text as a history: a line ends at the byte 10, and what follows the last of them is a
+/// line if it has a byte.
+pub fn read_history<M: Worded>(alloc: Global, text: &[u8]) -> Result<Reading<M::Op>, AllocError>
+    ensures { IfOk result (λ reading. IsReadingOf M.rules M.language text.now reading) }
+{
+    let mut lines = Vec::new(alloc);
+    let mut rest = text;
+    'lines: while let Some((line, behind)) = cut_at(b'\n', rest) {
+        let number = lines.len() as u64 + 1;
+        match read_call::<M>(alloc, number, line)? {
+            Ok(call) => lines.push(call)?,
+            Err(fault) => return Ok(Reading::Fault(number, fault)),
+        }
+        rest = behind;
+    }
+    if rest.is_empty() {
+        return Ok(Reading::History(lines));
+    }
+    let number = lines.len() as u64 + 1;
+    match read_call::<M>(alloc, number, rest)? {
+        Ok(call) => {
+            lines.push(call)?;
+            Ok(Reading::History(lines))
+        }
+        Err(fault) => Ok(Reading::Fault(number, fault)),
+    }
+}

@@ -1,0 +1,21 @@
+//! Objects whose histories are written as text.
+
+ghost use Rattle.std.specs.Prelude.{◌≡◌, IfOk};
+ghost use Rattle.vac_lines.specs.Lines.{texts};
+ghost use Rattle.judge_text.specs.Language.{Language};
+
+use judge_many::Named;
+use std::alloc::{AllocError, Global};
+
+/// An object whose operations and replies are words of a line.
+pub trait Worded: Named {
+    ghost language: { Language Self.Op Self.Reply };
+
+    /// Returns the operation that these words write.
+    fn read_operation(alloc: Global, words: &[&[u8]]) -> Result<Option<Self::Op>, AllocError>
+        ensures { IfOk result (λ read. language.operation (texts words.now) ≡ read) };
+
+    /// Returns the reply that a word writes.
+    fn read_reply(alloc: Global, word: &[u8]) -> Result<Option<Self::Reply>, AllocError>
+        ensures { IfOk result (λ read. language.reply word.now ≡ read) };
+}

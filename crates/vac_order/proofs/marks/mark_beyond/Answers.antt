@@ -1,9 +1,0 @@
-use Rattle.std.proofs.Common.{ap, ◌∙◌}
-use Rattle.vac_order.specs.Marks.{is_made}
-use Rattle.vac_order.proofs.Marking.{mark_among}
-use Rattle.vac_order.proofs.marks.mark_beyond.Goals as goal
-
-pub returns : goal.returns
-returns c = λ low other.
-    ap (λ l. is_made low l other) c.in_ok-insert.ensures.items
-    ∙ mark_among low c.args.beyond.items c.args.place c.marks.number other

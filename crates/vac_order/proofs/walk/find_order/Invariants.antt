@@ -1,6 +1,0 @@
-use Rattle.vac_order.specs.Walking.{BestIsWithin, Walks}
-use Rattle.vac_order.proofs.walk.find_order.Given as goal
-
-abbrev pub invariant-walk : goal.invariant-walk
-invariant-walk g l = BestIsWithin l.walk × Walks (g.W.World.view l.fn.ground)
-    ((g.W.World.view l.fn.ground).at l.fn.start) l.made l.walk

@@ -1,6 +1,0 @@
-use Rattle.std.proofs.Common.{◌≡◌, take}
-use Rattle.vac_order.specs.Walking.{places_of}
-use Rattle.vac_order.proofs.walk.places_of.Given as goal
-
-abbrev pub invariant-path : goal.invariant-path
-invariant-path g l = l.places.items ≡ places_of (take l.number l.path)
