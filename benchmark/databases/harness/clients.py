@@ -16,6 +16,9 @@ TRIES = 64
 MOST_PAUSE = 0.05
 # How long a client looks for a database that does not answer, in seconds.
 PATIENCE = 30.0
+# Longest pause of a client that takes the end before the commit on purpose, in seconds: as long as a disk may take
+# to sync the commit. The data folders are in memory.
+EARLY_PAUSE = 0.004
 # The longest part of an error that a note keeps.
 MOST_NOTE = 200
 
@@ -71,6 +74,8 @@ class Client:
     def _before_commit(self) -> None:
         self._committing = time.monotonic_ns()
         self._send(Committing())
+        if self._behaviour.mistake is Mistake.EARLY_END:
+            time.sleep(self._random.uniform(0, EARLY_PAUSE))
 
     def _call(self, line: str, token: str, is_unknown: bool) -> str:
         """Tries a task until it has a reply. Raises `Unknown` if it is given up and a try may have taken

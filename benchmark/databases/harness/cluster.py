@@ -69,10 +69,19 @@ class Cluster:
         """Returns the processes of a node."""
         return family(self._processes[number].pid)
 
-    def kill(self, number: int) -> None:
-        """Kills all processes of a node."""
-        kill(self.pids(number))
+    def check_running(self, number: int) -> None:
+        """Raises `Damaged` if a node has ended by itself."""
+        process = self._processes[number]
+        if process.poll() is not None:
+            raise Damaged(f"node {number} ended with status {process.returncode}: {self._last_words(number)}")
+
+    def kill(self, number: int) -> int:
+        """Kills all processes of a node that runs, and returns how many there were."""
+        self.check_running(number)
+        pids = self.pids(number)
+        kill(pids)
         self._processes[number].wait()
+        return len(pids)
 
     def restart(self, number: int) -> None:
         """Starts a node that was killed, and waits until it accepts clients."""
@@ -88,8 +97,7 @@ class Cluster:
 
         if not wait_until(is_ready_or_over, START_PATIENCE, 0.05):
             raise Damaged(f"node {number} accepts no clients after {START_PATIENCE:.0f} seconds")
-        if process.poll() is not None:
-            raise Damaged(f"node {number} ended with status {process.returncode}: {self._last_words(number)}")
+        self.check_running(number)
 
     def await_settled(self) -> None:
         """Waits until the nodes that run have found each other."""

@@ -9,16 +9,21 @@ from collections import Counter
 from collections.abc import Iterator
 from contextlib import contextmanager
 from dataclasses import dataclass
+from typing import Any
 
 from harness.clients import Behaviour, Client
 from harness.database import Address, Database, Setting
 from harness.outcomes import CutShort, Damaged, Lost
-from harness.records import Recorder, Seat
+from harness.processes import end_with_parent, has_ended, send, wait_until
+from harness.records import Began, Committing, Recorder, Seat
 from harness.sessions import Session, open_session
+from harness.tasks import is_read
 
 # How long the clients may take to connect before the run, and to end after it, in seconds.
 CONNECT_PATIENCE = 90.0
 END_PATIENCE = 60.0
+# How long the status of a process that has ended may take to be known, in seconds.
+STATUS_PATIENCE = 5.0
 # Histories with more pending calls are mostly not decided by the judge.
 MOST_PENDING = 10
 
@@ -46,19 +51,37 @@ class Target:
                 del os.environ[name]
 
 
-def _work(target: Target, behaviour: Behaviour, seat: Seat, lines: list[str], pipe, deadline) -> None:
+@dataclass(frozen=True)
+class Shared:
+    """Memory that the harness and the clients share, without a lock, which a killed client might hold: until when
+    calls may begin (0 before the run), and of each client whether it is committing a task that writes."""
+    deadline: Any
+    committing: Any
+
+
+def _work(target: Target, behaviour: Behaviour, seat: Seat, lines: list[str], pipe, shared: Shared) -> None:
     """Runs a client in its process. The clients begin when their deadline is set."""
     signal.signal(signal.SIGINT, signal.SIG_IGN)
     signal.signal(signal.SIGTERM, signal.SIG_DFL)
+    end_with_parent(multiprocessing.parent_process().pid)()
+    writes = False
+
+    def send(message: object) -> None:
+        nonlocal writes
+        pipe.send(message)
+        if isinstance(message, Began):
+            writes = not is_read(message.line)
+        shared.committing[seat.number] = writes and isinstance(message, Committing)
+
     is_split = behaviour.mistake is not None and behaviour.mistake.value == "split"
-    client = Client(behaviour, seat, lambda: target.connect(seat.number, is_split), pipe.send)
+    client = Client(behaviour, seat, lambda: target.connect(seat.number, is_split), send)
     try:
-        if deadline.value == 0:
+        if shared.deadline.value == 0:
             _connect_first(client)
             pipe.send("connected")
-        while deadline.value == 0:
+        while shared.deadline.value == 0:
             time.sleep(0.005)
-        client.run(lines, lambda: time.monotonic() < deadline.value)
+        client.run(lines, lambda: time.monotonic() < shared.deadline.value)
     except BrokenPipeError:
         pass  # the harness has ended
 
@@ -89,8 +112,7 @@ class Crew:
         self._lock = threading.Lock()
         self._may_start = threading.Event()
         self._may_start.set()
-        # Without a lock, which a killed client might hold.
-        self._deadline = self._context.RawValue("d", 0.0)
+        self._shared = Shared(self._context.RawValue("d", 0.0), self._context.RawArray("b", max(tasks) + 1))
         self._connected: set[int] = set()
         self.failure: str | None = None
 
@@ -107,12 +129,12 @@ class Crew:
             time.sleep(0.01)
 
     def begin(self, seconds: float) -> None:
-        """Lets the clients make calls for so many seconds."""
-        self._deadline.value = time.monotonic() + seconds
+        """Lets the clients make calls until `finish`, and for so many seconds at most."""
+        self._shared.deadline.value = time.monotonic() + seconds
 
     def finish(self) -> None:
         """Lets the clients end after their current calls, and waits for them."""
-        self._deadline.value = min(self._deadline.value, time.monotonic()) or time.monotonic()
+        self._shared.deadline.value = min(self._shared.deadline.value, time.monotonic()) or time.monotonic()
         limit = time.monotonic() + END_PATIENCE
         for thread in self._threads:
             thread.join(max(0.1, limit - time.monotonic()))
@@ -127,14 +149,35 @@ class Crew:
         """Returns how the calls and tries of all clients ended so far."""
         return sum((recorder.counts for recorder in self.recorders.values()), Counter())
 
+    def completed(self) -> int:
+        """Returns the number of completed calls so far."""
+        return self.counts()["completed"]
+
+    def calls(self) -> dict[int, int]:
+        """Returns the number of completed calls of each client that has tasks left."""
+        return {number: recorder.counts["completed"] for number, recorder in self.recorders.items()
+                if not recorder.is_over}
+
+    def ended_connections(self) -> int:
+        """Returns how often clients have reported that their connection had ended."""
+        counts = self.counts()
+        return counts["lost"] + counts["unknown"]
+
     def has_enough_pending(self) -> bool:
         """Returns whether the judge may not decide the history with one more pending call of each client."""
         return self.counts()["pending"] + len(self._tasks) >= MOST_PENDING
 
     def pids(self) -> list[int]:
-        """Returns the processes of the clients."""
+        """Returns the processes of the clients that have not ended."""
         with self._lock:
-            return [process.pid for process in self._processes.values() if process.is_alive()]
+            pids = [process.pid for process in self._processes.values()]
+        # (`is_alive` would take the status of a process away from the thread that waits for it)
+        return [pid for pid in pids if not has_ended(pid)]
+
+    def committing(self) -> list[int]:
+        """Returns the processes of clients that are committing a task that writes."""
+        with self._lock:
+            return [process.pid for number, process in self._processes.items() if self._shared.committing[number]]
 
     def hold(self) -> None:
         """Starts no client until `release`."""
@@ -149,37 +192,41 @@ class Crew:
         for recorder in self.recorders.values():
             recorder.is_over = True
         self._may_start.set()
-        for pid in self.pids():
-            try:
-                os.kill(pid, signal.SIGKILL)
-            except ProcessLookupError:
-                pass
+        send(self.pids(), signal.SIGKILL)
 
     def _keep(self, number: int) -> None:
         recorder = self.recorders[number]
-        while not recorder.is_over and self.failure is None:
-            self._may_start.wait()
-            found = self._start_process(number)
-            if found is None:
-                continue
-            process, pipe = found
-            self._listen(recorder, pipe)
-            process.join()
-            if recorder.is_over:
-                return
-            if process.exitcode != -signal.SIGKILL:
-                self.failure = f"client {number} ended with status {process.exitcode}"
-                return
+        try:
+            while not recorder.is_over and self.failure is None:
+                self._may_start.wait()
+                found = self._start_process(number)
+                if found is not None:
+                    self._follow(recorder, *found)
+        except OSError as error:
+            self.failure = f"client {number} does not start: {error}"
+
+    def _follow(self, recorder: Recorder, process, pipe) -> None:
+        """Records what a client reports until its process has ended."""
+        self._listen(recorder, pipe)
+        process.join()
+        if recorder.is_over:
+            return
+        # Another thread that starts a process may take the status, and knows it a moment later.
+        wait_until(lambda: process.exitcode is not None, STATUS_PATIENCE)
+        if process.exitcode == -signal.SIGKILL:
             recorder.killed()
+        else:
+            self.failure = f"client {recorder.seat.number} ended with status {process.exitcode}"
 
     def _start_process(self, number: int):
         """Starts the process of a client, unless clients are held."""
         ours, theirs = self._context.Pipe(duplex=False)
         process = self._context.Process(
             target=_work, daemon=True, args=(self._target, self._behaviour, self.recorders[number].seat,
-                                             self._tasks[number], theirs, self._deadline))
+                                             self._tasks[number], theirs, self._shared))
         with self._lock:
             if self._may_start.is_set():
+                self._shared.committing[number] = False
                 with self._target.environment():
                     process.start()
                 self._processes[number] = process

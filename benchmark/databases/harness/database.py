@@ -13,6 +13,7 @@ from abc import ABC, abstractmethod
 from collections.abc import Callable, Mapping, Sequence
 from dataclasses import dataclass, field
 from enum import Enum
+from functools import cache
 from pathlib import Path
 
 from harness.keyvalue import Store
@@ -182,8 +183,9 @@ def program(name: str, *more: str) -> str:
     return found
 
 
+@cache
 def version_of(*words: str) -> str:
-    """Returns the first version number that a program prints."""
+    """Returns the first version number that a program prints, which is asked once."""
     done = subprocess.run(words, capture_output=True, text=True, timeout=PATIENCE, check=False)
     found = re.search(r"\d+\.\d+(\.\d+)?", done.stdout + done.stderr)
     return found.group(0) if found else "unknown"

@@ -63,8 +63,9 @@ class Disk:
         finally:
             os.close(handle)
 
-    def on(self) -> None:
-        """Restores the power. Raises `NoEffect` if bytes that were not synced are still there."""
+    def on(self) -> str:
+        """Restores the power, and returns what was lost. Raises `NoEffect` if bytes that were not synced are
+        still there."""
         self._unmount()
         self._mount()
         unsynced = self._folder / "unsynced"
@@ -72,6 +73,7 @@ class Disk:
             raise NoEffect("the loss of power lost no bytes that were not synced")
         if (self._folder / "synced").read_bytes() != WITNESS:
             raise CutShort("the loss of power lost bytes that were synced")
+        return f"{len(WITNESS)} bytes that were not synced are gone, and as many that were synced are there"
 
     def remove(self) -> None:
         """Unmounts and removes the file system."""

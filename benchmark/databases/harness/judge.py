@@ -1,4 +1,4 @@
-"""Calls of the program's proved judge, bounded in time and memory."""
+"""Calls of the proved judges, bounded in time and memory."""
 
 import subprocess
 import time
@@ -7,6 +7,7 @@ from enum import Enum
 from pathlib import Path
 
 from harness.outcomes import CutShort
+from harness.tasks import Workload
 
 # Blocks with which a history without a bound is judged.
 NO_BOUND = 262144
@@ -34,14 +35,22 @@ class Judgement:
     seconds: float
 
 
-def words_for(program: str) -> list[str]:
-    """Returns the command that judges a history on its standard input."""
-    return [program, "judge", "--any-order", "--blocks", str(NO_BOUND)]
+@dataclass(frozen=True)
+class Programs:
+    """The proved programs: of the reservations, whose tasks the first one also draws, and of keys."""
+    vacation: str
+    kv_judge: str
+
+    def judge(self, workload: Workload) -> list[str]:
+        """Returns the command that judges a history on its standard input."""
+        if workload is Workload.KEYS:
+            return [self.kv_judge]
+        return [self.vacation, "judge", "--any-order", "--blocks", str(NO_BOUND)]
 
 
-def judge(program: str, history: Path, patience: float = PATIENCE) -> Judgement:
-    """Judges a history. Without a verdict in time, or in memory, it is undecided."""
-    bounded = ["sh", "-c", f'ulimit -v {MEMORY}; exec "$@"', "judge", *words_for(program)]
+def judge(words: list[str], history: Path, patience: float = PATIENCE) -> Judgement:
+    """Judges a history by a command. Without a verdict in time, or in memory, it is undecided."""
+    bounded = ["sh", "-c", f'ulimit -v {MEMORY}; exec "$@"', "judge", *words]
     began = time.monotonic()
     try:
         with open(history, "rb") as calls:
@@ -51,6 +60,8 @@ def judge(program: str, history: Path, patience: float = PATIENCE) -> Judgement:
     except subprocess.TimeoutExpired:
         lines = [f"undecided: no verdict within {patience:.0f} seconds"]
     said = lines[0].split(" ")[0].rstrip(":")
+    if said == "touching":
+        said = "undecided"
     if said not in ("legal", "illegal", "undecided"):
         raise CutShort(f"the judge does not read the history: {lines[0]}")
     return Judgement(Verdict(said), lines[:MOST_LINES], time.monotonic() - began)

@@ -2,12 +2,13 @@
 transaction over a `Store`.
 
 An item is the value `USED FREE PRICE` of the key `i/KIND/ID`. A customer is the value of the key `c/ID`: `-`,
-and then `KIND/ID UNITS COST` for each booking. A token's reply is the value of the key `t/TOKEN`."""
+and then `KIND/ID UNITS COST` for each booking. A token's reply is the value of the key `t/TOKEN`, and a single
+key of the other workload is the key `k/KEY`."""
 
 from abc import ABC, abstractmethod
 from collections.abc import Callable
 
-from harness.tasks import KINDS, MOST_TOTAL, MOST_UNITS, REPORTED, Rules
+from harness.tasks import MOST_TOTAL, MOST_UNITS, REPORTED, Rules
 
 Item = tuple[int, int, int]
 Bookings = dict[str, tuple[int, int]]
@@ -186,6 +187,12 @@ class KeyValueRules(Rules):
                 _count(counts, customers=1, bookings=sum(units for units, _ in bookings),
                        billed=sum(cost for _, cost in bookings))
         return counts
+
+    def value(self, key: str) -> str | None:
+        return self.get(f"k/{key}")
+
+    def set_value(self, key: str, value: str) -> None:
+        self.put(f"k/{key}", value)
 
     def _give_back(self, key: str, units: int) -> None:
         """Gives units of a booking back to its item. The item of a booking may be missing only if the

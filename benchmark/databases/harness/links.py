@@ -7,6 +7,7 @@ import socket
 import subprocess
 import threading
 import time
+from collections.abc import Sequence
 from dataclasses import dataclass
 from random import Random
 
@@ -15,6 +16,8 @@ from harness.outcomes import CutShort, NoEffect
 
 # How long a connection to a server, or a program of the network, may take, in seconds.
 PATIENCE = 5
+# How long a node that is apart may try to reach another, in seconds.
+UNREACHED = 0.5
 # How long the answers of a connection are swallowed before it is cut, in seconds.
 SWALLOWED = 0.03
 
@@ -24,7 +27,7 @@ class Pair:
     """Both ends of a proxied connection."""
     client: socket.socket
     server: socket.socket
-    has_swallowed: int = 0
+    swallowed: int = 0
 
 
 class Proxy:
@@ -43,15 +46,15 @@ class Proxy:
         self._lock = threading.Lock()
         threading.Thread(target=self._accept, daemon=True).start()
 
-    def cut(self, draw: Random, most: int) -> int:
-        """Cuts some connections, and returns how many."""
+    def cut(self, draw: Random, most: int) -> tuple[int, int]:
+        """Cuts some connections, and returns how many, and the bytes of their replies that were swallowed."""
         with self._lock:
             chosen = draw.sample(self._pairs, min(most, len(self._pairs)))
             self._swallowing.update(chosen)
         time.sleep(SWALLOWED)
         for pair in chosen:
             self._close(pair)
-        return len(chosen)
+        return len(chosen), sum(pair.swallowed for pair in chosen)
 
     def swallow(self) -> None:
         """Swallows all answers from now on, and counts their bytes."""
@@ -98,6 +101,7 @@ class Proxy:
             while data := source.recv(65536):
                 if source is pair.server and (self._swallows_all or pair in self._swallowing):
                     self.swallowed += len(data)
+                    pair.swallowed += len(data)
                 else:
                     sink.sendall(data)
         except OSError:
@@ -158,14 +162,18 @@ class Network:
                       "--clear-groups"]
         return words
 
-    def part(self, one: int, port: int) -> None:
-        """Cuts a node off from all others, and checks that it reaches none of them at a port."""
-        for other in range(self._count):
-            if other != one:
-                self._drop(one, other)
-                self._drop(other, one)
-        for other in range(self._count):
-            if other != one and self._reaches(one, other, port):
+    def part(self, one: int, ports: Sequence[int]) -> None:
+        """Cuts a node off from all others. Checks that it reached each of them at its port before, and reaches
+        none of them afterwards."""
+        others = [number for number in range(self._count) if number != one]
+        for other in others:
+            if not self._reaches(one, other, ports[other], PATIENCE):
+                raise NoEffect(f"node {one} did not reach node {other} before the partition")
+        for other in others:
+            self._drop(one, other)
+            self._drop(other, one)
+        for other in others:
+            if self._reaches(one, other, ports[other], UNREACHED):
                 raise NoEffect(f"node {one} reaches node {other} in spite of the partition")
 
     def heal(self) -> None:
@@ -186,7 +194,9 @@ class Network:
         _ip("rule", "add", *words)
         self._rules.append(words)
 
-    def _reaches(self, one: int, other: int, port: int) -> bool:
-        """Returns whether a node can connect to another."""
-        words = [*self.inside(one, {}), "timeout", "0.3", "bash", "-c", f"</dev/tcp/{self.host(other)}/{port}"]
-        return subprocess.run(words, capture_output=True, timeout=PATIENCE, check=False).returncode == 0
+    def _reaches(self, one: int, other: int, port: int, seconds: float) -> bool:
+        """Returns whether a node can connect to another at a port."""
+        words = [*self.inside(one, {}), "timeout", str(seconds), "bash", "-c",
+                 f"</dev/tcp/{self.host(other)}/{port}"]
+        done = subprocess.run(words, capture_output=True, timeout=PATIENCE + seconds, check=False)
+        return done.returncode == 0

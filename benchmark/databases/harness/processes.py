@@ -1,5 +1,6 @@
 """Processes by id, users of servers, and waits that end."""
 
+import ctypes
 import os
 import pwd
 import signal
@@ -12,6 +13,8 @@ from harness.outcomes import CutShort, Missing
 
 # How long a signal may take to be obeyed, in seconds.
 SIGNAL_PATIENCE = 10.0
+# The request of prctl(2) that sets the signal at the death of the parent.
+SET_DEATH_SIGNAL = 1
 
 
 def wait_until(holds: Callable[[], bool], seconds: float, step: float = 0.01) -> bool:
@@ -82,6 +85,18 @@ def stop(pids: list[int]) -> None:
 def go_on(pids: list[int]) -> None:
     """Lets stopped processes go on, children first."""
     send(reversed(pids), signal.SIGCONT)
+
+
+def end_with_parent(parent: int) -> Callable[[], None]:
+    """Returns what a new process calls to be killed when the thread that has started it ends."""
+    libc = ctypes.CDLL(None, use_errno=True)
+
+    def obey() -> None:
+        libc.prctl(SET_DEATH_SIGNAL, signal.SIGKILL)
+        if os.getppid() != parent:
+            os._exit(1)
+
+    return obey
 
 
 def as_user(name: str | None) -> dict:

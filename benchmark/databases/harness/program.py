@@ -10,19 +10,21 @@ import signal
 import sys
 import tempfile
 from collections import Counter
-from collections.abc import Iterator
+from collections.abc import Callable, Iterator
 from datetime import date
+from functools import partial
 from pathlib import Path
 
 from harness import disk, spaces
-from harness.database import Database, Setting, Strength, program
+from harness.database import Database, Setting, program
 from harness.faults import FAULTS, NO_FAULT
-from harness.judge import NO_BOUND, Verdict, words_for
+from harness.judge import NO_BOUND, Programs, Verdict
 from harness.outcomes import CutShort, Missing
 from harness.progress import Progress
 from harness.records import Mistake, Policy
-from harness.runs import Plan, Result, run
+from harness.runs import READS, Plan, Result, run
 from harness.summary import Summary
+from harness.tasks import Workload
 
 HOME = Path(__file__).resolve().parent.parent
 ROOT = HOME.parent.parent
@@ -64,16 +66,26 @@ def read_options(arguments: list[str]) -> argparse.Namespace:
                         help="what clients do after an unknown outcome (default: ask); 'again' is wrong on purpose")
     parser.add_argument("--runs", type=_positive, default=1, help="runs of each setting (default: 1)")
     parser.add_argument("--seed", type=_positive, default=1, help="seed of the first run (default: 1)")
-    parser.add_argument("--seconds", type=float, default=6.0, help="length of the workload (default: 6)")
+    parser.add_argument("--seconds", type=float, default=5.0,
+                        help="length of the workload, which goes on until a fault had an effect (default: 5)")
     parser.add_argument("--clients", type=_positive, default=4, help="number of clients (default: 4)")
     parser.add_argument("--lag", type=float, default=0.5,
                         help="seconds in which nothing reaches the standby before a failover (default: 0.5)")
+    parser.add_argument("--reads", type=int, choices=range(101), default=READS, metavar="PERCENT",
+                        help=f"how many of a hundred tasks only read (default: {READS})")
     parser.add_argument("--keep", type=Path, metavar="FOLDER", help="keeps histories, records and server logs")
-    parser.add_argument("--table", type=Path, metavar="PAGE", help="writes the table of results into a page; with --keep, of all runs that the folder keeps")
+    parser.add_argument("--table", type=Path, metavar="PAGE",
+                        help="writes the table of results into a page; with --keep, of all runs that the folder keeps")
     parser.add_argument("--mistake", choices=[mistake.value for mistake in Mistake],
                         help="WRONG ON PURPOSE: tasks split in two transactions; a recorder that forgets pending"
                         " calls, takes the end before the commit, or goes on with a client after a pending call")
+    parser.add_argument("--workload", choices=[workload.value for workload in Workload],
+                        default=Workload.RESERVATIONS.value,
+                        help="what clients do: tasks of reservations, or get, put and compare-and-set of single keys"
+                        " (default: reservations)")
     parser.add_argument("--program", default=str(_own_program()), help="the proved program (default: %(default)s)")
+    parser.add_argument("--kv-judge", default=str(_judge_of_keys()),
+                        help="the proved judge of the workload 'keys' (default: %(default)s)")
     options = parser.parse_args(arguments)
     try:
         _chosen(options.database)
@@ -85,6 +97,12 @@ def read_options(arguments: list[str]) -> argparse.Namespace:
 def _own_program() -> Path:
     """Returns the program of this checkout, or of this unpacked tarball."""
     return next((file for file in (ROOT / "vacation", ROOT / "bin/vacation") if file.exists()), ROOT / "vacation")
+
+
+def _judge_of_keys() -> Path:
+    """Returns the judge of keys of this checkout, or of this unpacked tarball."""
+    own = ROOT / "crates/kv_judge/out/kv_judge"
+    return next((file for file in (own, ROOT / "bin/kv_judge") if file.exists()), own)
 
 
 def _chosen(word: str) -> list[tuple[str, Database, Setting]]:
@@ -119,6 +137,8 @@ def check_installed(database: Database) -> None:
 
 def check_rights(setting: Setting, fault: str) -> None:
     """Raises `Missing` unless a fault can be injected into a setting here."""
+    if fault not in setting.promises:
+        raise Missing("the setting has no such fault")
     needs = FAULTS[fault].needs if fault != NO_FAULT else None
     if needs and needs.disk:
         spaces.check_private()
@@ -129,36 +149,41 @@ def check_rights(setting: Setting, fault: str) -> None:
 
 
 def plans(options: argparse.Namespace) -> Iterator[Plan]:
-    """Returns all runs that the options ask for, and reports what is skipped."""
-    reported = set()
+    """Returns all runs that the options ask for, and reports once what is skipped."""
+    skipped: set[str] = set()
+
+    def is_skipped(what: str, check: Callable[[], None]) -> bool:
+        try:
+            check()
+        except Missing as missing:
+            if what not in skipped:
+                print(f"{what} skipped: {missing}", flush=True)
+            skipped.add(what)
+        return what in skipped
+
     for number in range(options.runs):
         for name, database, setting in _chosen(options.database):
             faults = [options.fault] if options.fault else list(setting.promises)
             fault = faults[number % len(faults)]
-            try:
-                if fault not in setting.promises:
-                    raise Missing(f"the setting has no fault {fault}")
-                check_installed(database)
-                check_rights(setting, fault)
-            except Missing as missing:
-                text = f"{name} fault={fault} skipped: {missing}"
-                if text not in reported:
-                    reported.add(text)
-                    print(text, flush=True)
+            if is_skipped(name.partition(":")[0], partial(check_installed, database)):
+                continue
+            if is_skipped(f"{name} fault={fault}", partial(check_rights, setting, fault)):
                 continue
             yield Plan(database, name, setting, fault, options.seed + number, Policy(options.policy),
                        Mistake(options.mistake) if options.mistake else None, options.seconds,
-                       options.clients, options.lag)
+                       options.clients, options.lag, options.reads, Workload(options.workload))
 
 
 def line_of(result: Result) -> str:
     """Returns the line of a run."""
     plan, counts = result.plan, Counter(result.record["counts"])
-    injected = sum("no effect" not in fault for fault in result.record["faults"])
+    injected = sum("effect" in fault for fault in result.record["faults"])
     more = f" mistake={plan.mistake.value}" if plan.mistake else ""
+    more += " workload=keys" if plan.workload is Workload.KEYS else ""
     text = (f"{plan.name} fault={plan.fault} policy={plan.policy.value}{more} seed={plan.seed}"
-            f" faults={injected} completed={counts['completed']} refused={counts['refused']}"
-            f" lost={counts['lost']} pending={counts['pending']} verdict={result.verdict.value}")
+            f" faults={injected} no-effect={len(result.record['faults']) - injected}"
+            f" completed={counts['completed']} refused={counts['refused']} lost={counts['lost']}"
+            f" pending={counts['pending']} verdict={result.verdict.value}")
     return text + (f" ({result.reason})" if result.reason else "")
 
 
@@ -166,8 +191,9 @@ def keep(result: Result, folder: Path) -> Path:
     """Copies what a run left to a folder, and returns its history there."""
     folder.mkdir(parents=True, exist_ok=True)
     plan = result.plan
-    mistake = f"-{plan.mistake.value}" if plan.mistake else ""
-    prefix = f"{plan.name.replace(':', '-')}-{plan.fault}-{plan.policy.value}{mistake}-{plan.seed}"
+    more = [plan.mistake.value] if plan.mistake else []
+    more += [plan.workload.value] if plan.workload is Workload.KEYS else []
+    prefix = "-".join([plan.name.replace(":", "-"), plan.fault, plan.policy.value, *more, str(plan.seed)])
     for file in result.history.parent.glob("run.*"):
         shutil.copyfile(file, folder / f"{prefix}{file.name.removeprefix('run')}")
     return folder / f"{prefix}.calls"
@@ -198,16 +224,23 @@ def _do(plan: Plan, options: argparse.Namespace, folder: Path, progress: Progres
     """Does a run, prints its line, and keeps what must be kept."""
     progress.about = f"{plan.name} {plan.fault} seed {plan.seed}"
     place = folder / "run"
-    result = run(plan, options.program, place, progress)
+    programs = Programs(options.program, options.kv_judge)
+    result = run(plan, programs, place, progress)
     print(line_of(result), flush=True)
     is_wanted = result.verdict in (Verdict.ILLEGAL, Verdict.DAMAGED)
     if options.keep or is_wanted:
-        kept = keep(result, options.keep or Path(tempfile.mkdtemp(prefix="vacation-history-")))
+        kept = keep(result, options.keep or _folder_beside(folder))
         if is_wanted:
-            print(f"  history: {kept}\n  judge it: {' '.join(words_for(options.program))} < {kept}\n"
-                  f"  explain it: {ROOT / 'explain'} --blocks {NO_BOUND} {kept}", flush=True)
+            print(f"  history: {kept}\n  judge it: {' '.join(programs.judge(plan.workload))} < {kept}")
+            if plan.workload is Workload.RESERVATIONS:
+                print(f"  explain it: {ROOT / 'explain'} --blocks {NO_BOUND} {kept}", flush=True)
     shutil.rmtree(place)
     return result
+
+
+def _folder_beside(folder: Path) -> Path:
+    """Makes a folder for a history, which stays when the temporary folder goes."""
+    return Path(tempfile.mkdtemp(prefix="vacation-history-", dir=folder.parent))
 
 
 def _give_temporary_folder(folder: Path) -> None:
@@ -221,16 +254,15 @@ def main(arguments: list[str]) -> int:
     """Does all runs, and returns the status."""
     options = read_options(arguments)
     signal.signal(signal.SIGTERM, lambda *_: sys.exit(128 + signal.SIGTERM))
-    spaces.furnish()
-    spaces.remove_leftovers()
-    if not os.access(options.program, os.X_OK):
-        sys.exit(f"databases: there is no program at {options.program}")
+    folder = spaces.furnish()
+    needed = options.kv_judge if options.workload == Workload.KEYS.value else options.program
+    if not os.access(needed, os.X_OK):
+        sys.exit(f"databases: there is no program at {needed}")
     summary, progress = Summary(), Progress()
-    with spaces.Folder() as folder:
-        (folder / "templates").mkdir()
-        _give_temporary_folder(folder / "tmp")
-        for plan in plans(options):
-            summary.add(_do(plan, options, folder, progress).record)
+    (folder / "templates").mkdir()
+    _give_temporary_folder(folder / "tmp")
+    for plan in plans(options):
+        summary.add(_do(plan, options, folder, progress).record)
     print(summary.text())
     if options.table:
         kept = summary_of(options.keep) if options.keep else summary

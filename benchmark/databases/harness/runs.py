@@ -5,10 +5,12 @@ import json
 import platform
 import signal
 import time
+import traceback
 from collections import Counter
-from collections.abc import Iterator
-from contextlib import contextmanager
+from collections.abc import Callable, Iterator
+from contextlib import ExitStack, contextmanager
 from dataclasses import dataclass, field
+from math import ceil
 from pathlib import Path
 from random import Random
 
@@ -17,24 +19,30 @@ from harness.cluster import Cluster, Needs
 from harness.crew import Crew, Target
 from harness.database import Database, Promise, Setting, Strength
 from harness.faults import FAULTS, NO_FAULT, Fault, Scene
-from harness.judge import Verdict, judge
+from harness.judge import Programs, Verdict, judge
 from harness.outcomes import CutShort, Damaged, Lost, NoEffect, Refused
 from harness.progress import Progress
 from harness.records import Call, Mistake, Policy, Recorder, Seat
 from harness.sessions import make_tables
-from harness.tasks import Load, draw
+from harness.tasks import Load, Workload, draw, draw_keys
 
-# Items of each kind, tasks of each client, and how many of a hundred tasks are trips and only read.
+# Items of each kind, tasks of each client for each second of the workload (more than it can do), and how many of a
+# hundred tasks are trips and only read.
 ITEMS = 8
-TASKS = 20_000
+TASKS = 2_500
 TRIPS = 60
 READS = 20
 # Seat of the harness's own final reads.
 FINAL = 999
-# How long the final state and the tokens may take to be read, in seconds, for each call.
-FINAL_PATIENCE = 20.0
+# How long the setup phase, the look-up of all tokens, and the final reads may take, in seconds.
+FINAL_PATIENCE = 40.0
+# How much longer than planned a workload may be on a busy machine, in seconds, and how many faults without effect
+# it may have before its planned end.
+MOST_LONGER, MOST_IDLE = 60.0, 5
 # Notes of errors that a record keeps.
 MOST_NOTES = 50
+# Frames of an error of the harness that a record keeps.
+MOST_FRAMES = 6
 # A run beyond its workload and all bounds of its parts is stopped after so many seconds.
 MOST_SECONDS = 300
 
@@ -52,6 +60,8 @@ class Plan:
     seconds: float = 6.0
     clients: int = 4
     lag: float = 0.5
+    reads: int = READS
+    workload: Workload = Workload.RESERVATIONS
 
     @property
     def promise(self) -> Promise:
@@ -85,8 +95,8 @@ class Trace:
 
     @property
     def injected(self) -> int:
-        """Number of faults that had an effect."""
-        return sum("no effect" not in fault for fault in self.faults)
+        """Number of faults whose effect was seen."""
+        return sum("effect" in fault for fault in self.faults)
 
     def add(self, recorder: Recorder) -> None:
         """Adds the record of a client."""
@@ -125,8 +135,8 @@ def time_limit(seconds: float) -> Iterator[None]:
 class Run:
     """One run of a plan, in an empty folder."""
 
-    def __init__(self, plan: Plan, program: str, folder: Path, progress: Progress):
-        self._plan, self._program, self._folder, self._progress = plan, program, folder, progress
+    def __init__(self, plan: Plan, programs: Programs, folder: Path, progress: Progress):
+        self._plan, self._programs, self._folder, self._progress = plan, programs, folder, progress
         self._fault = None if plan.fault == NO_FAULT else FAULTS[plan.fault]
         self._behaviour = Behaviour(plan.policy, plan.mistake)
         self.trace = Trace()
@@ -134,23 +144,32 @@ class Run:
     def do(self, templates: Path) -> tuple[Verdict, str]:
         """Does the run, and returns its verdict before the history is judged, and the reason: a run that can
         be judged is undecided."""
-        plan = self._plan
-        load = draw(self._program, {"clients": plan.clients, "tasks": TASKS, "user": TRIPS, "reads": READS,
-                                    "seed": plan.seed}, ITEMS)
+        plan, load = self._plan, self._drawn()
         cluster = Cluster(plan.database, plan.setting, self._folder, templates)
         try:
-            with time_limit(MOST_SECONDS + plan.seconds):
-                self._start(cluster, load)
-                self._work(cluster, load)
-                self._read(cluster, load)
+            with ExitStack() as stack:
+                stack.callback(cluster.keep_logs, self._folder, "run")
+                stack.callback(cluster.stop)
+                with time_limit(MOST_SECONDS + plan.seconds):
+                    self._start(cluster, load)
+                    self._work(cluster, load)
+                    self._read(cluster, load)
             return Verdict.UNDECIDED, self.trace.ended_early
         except Damaged as damaged:
             return Verdict.DAMAGED, str(damaged)
         except CutShort as cut_short:
             return Verdict.CUT_SHORT, str(cut_short)
-        finally:
-            cluster.stop()
-            cluster.keep_logs(self._folder, "run")
+        except Exception as error:  # of a client library or of the system: the run says nothing
+            self.trace.notes.insert(0, "".join(traceback.format_exception(error)[-MOST_FRAMES:]))
+            return Verdict.CUT_SHORT, f"the harness failed: {error!r}"
+
+    def _drawn(self) -> Load:
+        """Returns the tasks of the run."""
+        plan, tasks = self._plan, TASKS * ceil(self._plan.seconds + 1)
+        if plan.workload is Workload.KEYS:
+            return draw_keys(plan.clients, tasks, plan.reads, plan.seed)
+        return draw(self._programs.vacation, {"clients": plan.clients, "tasks": tasks, "user": TRIPS,
+                                              "reads": plan.reads, "seed": plan.seed}, ITEMS)
 
     def _start(self, cluster: Cluster, load: Load) -> None:
         """Starts the database, and runs the setup phase."""
@@ -172,7 +191,7 @@ class Run:
                     load.clients)
         try:
             crew.start()
-            crew.begin(self._plan.seconds)
+            crew.begin(self._plan.seconds + MOST_LONGER)
             self._inject_all(cluster, crew)
             self._progress.say("waiting for the last calls")
             crew.finish()
@@ -185,24 +204,38 @@ class Run:
         if not self.trace.counts["completed"]:
             raise CutShort("no call was completed")
         if self._fault and not self.trace.injected:
-            reasons = [fault["no effect"] for fault in self.trace.faults]
+            reasons = [fault.get("no effect", "") for fault in self.trace.faults]
             raise CutShort(f"no fault had an effect: {reasons[0]}" if reasons else "no fault was injected")
 
     def _inject_all(self, cluster: Cluster, crew: Crew) -> None:
+        """Injects faults while the clients work. Each fault waits for a call that was completed since the last
+        one. A workload in which no fault had an effect yet, or a client completed no call after it, goes on beyond
+        its planned end: on a busy machine clients may need seconds to start."""
         scene = Scene(cluster, crew, Random(f"choices {self._plan.seed}"), self._plan.lag, lambda text: None)
         limit = time.monotonic() + self._plan.seconds
-        if self._fault:
-            for gap in gaps(self._fault, self._plan.seed, self._plan.seconds):
-                self._watch(crew, min(limit, time.monotonic() + gap))
-                if time.monotonic() >= limit or not crew.is_working() or self._must_end(crew):
-                    break
-                self._inject(scene)
-        self._watch(crew, limit)
+        latest, completed, calls = limit + MOST_LONGER, 0, crew.calls()
+        for gap in gaps(self._fault, self._plan.seed, self._plan.seconds) if self._fault else ():
+            until = time.monotonic() + gap
+            self._watch(crew, lambda: time.monotonic() < (min(until, limit) if self._has_enough_faults() else until))
+            self._watch(crew, lambda: crew.completed() <= completed and time.monotonic() < latest)
+            is_late = time.monotonic() >= (limit if self._has_enough_faults() else latest)
+            if is_late or not crew.is_working() or self._must_end(crew):
+                break
+            self._inject(scene)
+            completed, calls = crew.completed(), crew.calls()
+        self._watch(crew, lambda: time.monotonic() < limit)
+        if self.trace.injected or not self._fault:
+            self._watch(crew, lambda: time.monotonic() < latest and any(
+                count <= calls.get(client, -1) for client, count in crew.calls().items()))
 
-    def _watch(self, crew: Crew, until: float) -> None:
-        """Waits while the clients work."""
-        while time.monotonic() < until and crew.is_working() and not self._must_end(crew):
-            self._progress.say(f"{crew.counts()['completed']} calls, {self.trace.injected} faults")
+    def _has_enough_faults(self) -> bool:
+        """Returns whether the workload may end: a fault had an effect, or none will."""
+        return self.trace.injected > 0 or len(self.trace.faults) >= MOST_IDLE
+
+    def _watch(self, crew: Crew, goes_on: Callable[[], bool]) -> None:
+        """Waits while the clients work and a condition holds."""
+        while goes_on() and crew.is_working() and not self._must_end(crew):
+            self._progress.say(f"{crew.completed()} calls, {self.trace.injected} faults")
             time.sleep(0.02)
 
     def _must_end(self, crew: Crew) -> bool:
@@ -217,7 +250,7 @@ class Run:
         scene.log = lambda text: notes.append(f"{time.monotonic_ns()} {text}")
         self._progress.say(f"fault {self._plan.fault}")
         try:
-            self._fault.inject(scene)
+            entry["effect"] = self._fault.inject(scene)
         except NoEffect as no_effect:
             entry["no effect"] = str(no_effect)
         finally:
@@ -230,14 +263,16 @@ class Run:
         cluster.await_settled()
         target = Target(self._plan.database, self._plan.setting, cluster.addresses())
         if self._plan.policy is Policy.ASK:
+            limit = time.monotonic() + FINAL_PATIENCE
             self.trace.calls = [found for call in self.trace.calls
-                                if (found := self._resolved(target, call)) is not None]
+                                if (found := self._resolved(target, call, limit)) is not None]
         done = self._run_here(cluster, load.reads, Seat(FINAL))
         if done < len(load.reads):
             raise CutShort(f"only {done} of {len(load.reads)} final reads were completed")
 
-    def _resolved(self, target: Target, call: Call) -> Call | None:
-        """Returns a call with the reply that its token has, or none if it took no effect."""
+    def _resolved(self, target: Target, call: Call, limit: float) -> Call | None:
+        """Returns a call with the reply that its token has, or none if it took no effect. Asks until a reading
+        of the clock."""
         if call.end is not None:
             return call
 
@@ -248,26 +283,34 @@ class Run:
             finally:
                 session.close()
 
-        reply = _retry(ask)
+        reply = _retry(ask, limit)
         self.trace.counts["pending"] -= 1
         self.trace.counts["took effect" if reply else "had no effect"] += 1
         return reply and Call(call.client, call.begin, time.monotonic_ns(), call.line, reply)
 
     def _run_here(self, cluster: Cluster, lines: list[str], seat: Seat) -> int:
-        """Runs tasks in this process, and returns how many were completed."""
+        """Runs tasks in this process up to the first that cannot be completed, and returns how many were."""
         target = Target(self._plan.database, self._plan.setting, cluster.addresses())
         recorder = Recorder(seat, Policy.LEAVE)
-        Client(Behaviour(Policy.LEAVE, patience=FINAL_PATIENCE), seat, lambda: target.connect(0),
-               recorder.take).run(lines)
+        limit = time.monotonic() + FINAL_PATIENCE
+
+        def has_time() -> bool:
+            is_whole = recorder.counts["completed"] == recorder.seat.position
+            self._progress.say(f"{recorder.counts['completed']} of {len(lines)} calls")
+            return is_whole and time.monotonic() < limit
+
+        Client(Behaviour(Policy.LEAVE, patience=FINAL_PATIENCE / 2), seat, lambda: target.connect(0),
+               recorder.take).run(lines, has_time)
         self.trace.calls += recorder.calls
+        self.trace.notes += recorder.notes
         if recorder.counts["damaged"]:
             raise Damaged(next(note for note in recorder.notes if note.startswith("damaged")))
         return recorder.counts["completed"]
 
 
-def _retry(ask):
+def _retry(ask: Callable[[], object], limit: float | None = None):
     """Returns what a query returns, which is tried again while the database refuses it or is not reached."""
-    limit = time.monotonic() + FINAL_PATIENCE
+    limit = time.monotonic() + FINAL_PATIENCE if limit is None else limit
     while True:
         try:
             return ask()
@@ -280,9 +323,11 @@ def _retry(ask):
 def _record(plan: Plan, trace: Trace) -> dict:
     """Returns what the record of a run says beside its verdict."""
     return {
-        "database": plan.name, "version": plan.database.version(), "fault": plan.fault,
+        "database": plan.name, "workload": plan.workload.value, "version": plan.database.version(),
+        "fault": plan.fault,
         "policy": plan.policy.value, "mistake": plan.mistake.value if plan.mistake else None,
         "seed": plan.seed, "seconds": plan.seconds, "clients": plan.clients, "lag": plan.lag,
+        "reads": plan.reads,
         "nodes": plan.setting.nodes, "arguments": dict(plan.setting.arguments),
         "session": list(plan.setting.session), "environment": dict(plan.setting.environment),
         "promise": plan.promise.strength.value, "source": plan.promise.source,
@@ -293,10 +338,10 @@ def _record(plan: Plan, trace: Trace) -> dict:
     }
 
 
-def run(plan: Plan, program: str, folder: Path, progress: Progress) -> Result:
+def run(plan: Plan, programs: Programs, folder: Path, progress: Progress) -> Result:
     """Does a run in a new folder, has its history judged, and leaves the history and a record there."""
     folder.mkdir()
-    one = Run(plan, program, folder, progress)
+    one = Run(plan, programs, folder, progress)
     verdict, reason = one.do(folder.parent / "templates")
     history = folder / "run.calls"
     history.write_text("".join(f"{call}\n" for call in one.trace.calls), encoding="ascii")
@@ -304,7 +349,7 @@ def run(plan: Plan, program: str, folder: Path, progress: Progress) -> Result:
     if verdict is Verdict.UNDECIDED:
         progress.say("judging")
         try:
-            judgement = judge(program, history)
+            judgement = judge(programs.judge(plan.workload), history)
             verdict = judgement.verdict
             record |= {"judge": judgement.lines, "judge seconds": round(judgement.seconds, 3)}
             if verdict is Verdict.ILLEGAL:

@@ -1,9 +1,14 @@
 """Namespaces of the harness: processes, mounts, networks and shared memory that the kernel removes when the
-harness ends, however it ends. What stays after SIGKILL is the temporary folder, which the next start removes."""
+harness ends, however it ends.
+
+The command is a guard outside of the namespaces, and the harness runs inside them. The guard makes the temporary
+folder, ends everything inside if a signal asks it to end, and removes the folder. After SIGKILL of the guard the
+kernel ends everything inside, and the folder stays. The next guard removes it."""
 
 import fcntl
 import os
 import shutil
+import signal
 import socket
 import struct
 import subprocess
@@ -13,20 +18,26 @@ import time
 from pathlib import Path
 
 from harness.outcomes import Missing
+from harness.processes import end_with_parent
 
 HOME = Path(__file__).resolve().parent.parent
 # The Python for which Debian installs client libraries, and the oldest version that will do.
 DEBIAN_PYTHON = "/usr/bin/python3"
 OLDEST = (3, 10)
 SPACES = ["--pid", "--fork", "--kill-child", "--mount", "--mount-proc", "--net", "--ipc"]
-# Tells the program inside whether it has namespaces.
-MARK = "VACATION_DATABASES_SPACES"
+# Variables that tell the program inside whether it has namespaces, and its temporary folder.
+MARK, FOLDER = "VACATION_DATABASES_SPACES", "VACATION_DATABASES_FOLDER"
 PREFIX = "vacation-databases-"
 # How old a folder without a lock must be before it is taken for a leftover, in seconds.
 LEFTOVER_AGE = 60
 # How long a trial of a program may take, in seconds.
 PATIENCE = 20
 SET_FLAGS, IS_UP = 0x8914, 1
+# Signals that ask the command to end, and the most memory that the data folders may fill.
+ENDING = (signal.SIGTERM, signal.SIGINT, signal.SIGHUP)
+MEMORY = "3g"
+# The file that names the name servers.
+RESOLVER = "/etc/resolv.conf"
 
 
 def _succeeds(words: list[str]) -> bool:
@@ -49,13 +60,53 @@ def _prefix() -> list[str]:
     return words if _succeeds([*words, "mount", "-t", "tmpfs", "tmpfs", "/dev/shm"]) else []
 
 
-def enter(arguments: list[str]) -> None:
-    """Replaces this process by the harness inside namespaces of its own, if it may have them."""
-    prefix = _prefix()
-    os.environ |= {MARK: "private" if prefix else "none", "PYTHONPATH": str(HOME),
-                   "PYTHONDONTWRITEBYTECODE": "1"}
-    words = [*prefix, _python(), "-m", "harness", *arguments]
-    os.execvp(words[0], words)
+def enter(arguments: list[str]) -> int:
+    """Runs the harness inside namespaces of its own, if it may have them, and returns its status."""
+    guard = Guard()
+    remove_leftovers()
+    prefix, python = _prefix(), _python()
+    with Folder() as folder:
+        environment = os.environ | {MARK: "private" if prefix else "none", FOLDER: str(folder.path),
+                                    "PYTHONPATH": str(HOME), "PYTHONDONTWRITEBYTECODE": "1"}
+        return guard.run([*prefix, python, "-m", "harness", *arguments], environment, folder.lock)
+
+
+class Guard:
+    """Runs a command, which ends with this process and at signals that ask this process to end. (The signals are
+    not passed on: `unshare` blocks them.)"""
+
+    def __init__(self) -> None:
+        self._asked: int | None = None
+        self._child: subprocess.Popen | None = None
+        for number in ENDING:
+            signal.signal(number, self._end)
+
+    def run(self, words: list[str], environment: dict[str, str], lock: int) -> int:
+        """Runs a command, which holds a lock, to its end, and returns its status."""
+        self._child = subprocess.Popen(words, env=environment, pass_fds=[lock], start_new_session=True,
+                                       preexec_fn=end_with_parent(os.getpid()))
+        if self._asked:
+            _kill(self._child.pid)
+        status = self._child.wait()
+        if self._asked:
+            return 128 + self._asked
+        return status if status >= 0 else 128 - status
+
+    def _end(self, number: int, _) -> None:
+        self._asked = number
+        if self._child is not None:
+            _kill(self._child.pid)
+
+
+def _kill(pid: int) -> None:
+    """Kills the first process inside the namespaces, which `unshare` outlives until the kernel has ended all
+    others. Without namespaces, or if that process does not run yet, kills the command itself."""
+    try:
+        is_unshare = Path(f"/proc/{pid}/comm").read_text(encoding="ascii").strip() == "unshare"
+        children = Path(f"/proc/{pid}/task/{pid}/children").read_text(encoding="ascii").split()
+        os.kill(int(children[0]) if is_unshare and children else pid, signal.SIGKILL)
+    except OSError:
+        pass  # the command has ended
 
 
 def are_private() -> bool:
@@ -69,14 +120,22 @@ def check_private() -> None:
         raise Missing("servers need the right to make namespaces (unshare, of root or of users)")
 
 
-def furnish() -> None:
-    """Prepares the namespaces: folders that servers write to, and a loopback device."""
+def furnish() -> Path:
+    """Prepares the namespaces: folders that servers write to, which are in memory, and a loopback device.
+    Returns the temporary folder."""
+    own = Path(os.environ[FOLDER])
     if not are_private():
-        return
-    for folder in ("/dev/shm", "/run"):
-        subprocess.run(["mount", "-t", "tmpfs", "tmpfs", folder], check=True, timeout=PATIENCE)
+        return own
+    for folder in ("/dev/shm", "/run", str(own)):
+        os.makedirs(folder, exist_ok=True)
+        subprocess.run(["mount", "-t", "tmpfs", "-o", f"size={MEMORY},mode=0711", "tmpfs", folder], check=True,
+                       timeout=PATIENCE)
+    # No name server is reached from here. Without this, each name that a server looks up takes five seconds.
+    if os.path.exists(RESOLVER):
+        subprocess.run(["mount", "--bind", os.devnull, RESOLVER], check=True, timeout=PATIENCE)
     with socket.socket(socket.AF_INET, socket.SOCK_DGRAM) as any_socket:
         fcntl.ioctl(any_socket, SET_FLAGS, struct.pack("16sh22x", b"lo", IS_UP))
+    return own
 
 
 def _lock(folder: Path) -> int | None:
@@ -106,14 +165,14 @@ def remove_leftovers() -> None:
 
 
 class Folder:
-    """A temporary folder, locked as long as this process lives."""
+    """A temporary folder, locked as long as this process or a holder of `lock` lives."""
 
-    def __enter__(self) -> Path:
+    def __enter__(self) -> "Folder":
         self.path = Path(tempfile.mkdtemp(prefix=PREFIX))
-        self._handle = _lock(self.path)
+        self.lock = _lock(self.path)
         self.path.chmod(0o711)  # users of servers go through it
-        return self.path
+        return self
 
     def __exit__(self, *_) -> None:
         shutil.rmtree(self.path, ignore_errors=True)
-        os.close(self._handle)
+        os.close(self.lock)

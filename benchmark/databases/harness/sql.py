@@ -10,7 +10,8 @@ from harness.outcomes import Lost, Refused
 from harness.tasks import KINDS, MOST_TOTAL, MOST_UNITS, REPORTED, Rules
 
 # No foreign keys: that a booking has its customer and its item rests on the transactions alone, so that a
-# history shows what these leave. The last table has the reply of each task that committed under a token.
+# history shows what these leave. The last tables have the reply of each task that committed under a token, and
+# the single keys of the other workload.
 TABLES = (
     """CREATE TABLE IF NOT EXISTS items (
         kind VARCHAR(8) NOT NULL, id BIGINT NOT NULL,
@@ -22,6 +23,7 @@ TABLES = (
         units BIGINT NOT NULL, cost BIGINT NOT NULL,
         PRIMARY KEY (customer, kind, item))""",
     "CREATE TABLE IF NOT EXISTS tokens (token VARCHAR(40) PRIMARY KEY, reply VARCHAR(2000) NOT NULL)",
+    "CREATE TABLE IF NOT EXISTS pairs (name VARCHAR(40) PRIMARY KEY, content VARCHAR(40) NOT NULL)",
 )
 
 # Parts of the rules: the rows that a command names.
@@ -213,6 +215,14 @@ class SqlRules(Rules):
     def audit(self) -> dict[str, int]:
         rows, _ = self._connection.run(AUDIT, {})
         return dict(zip(REPORTED, rows[0]))
+
+    def value(self, key: str) -> str | None:
+        return self._value("SELECT content FROM pairs WHERE name = :name", name=key)
+
+    def set_value(self, key: str, value: str) -> None:
+        values = {"name": key, "content": value}
+        if not self._changed("UPDATE pairs SET content = :content WHERE name = :name", values):
+            self._changed("INSERT INTO pairs (name, content) VALUES (:name, :content)", values)
 
     def _book(self, values: dict) -> None:
         """Moves units of an item to a booking, which is made unless it is there."""

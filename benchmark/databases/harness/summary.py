@@ -6,6 +6,7 @@ from datetime import date
 
 from harness.database import Strength
 from harness.judge import Verdict
+from harness.tasks import Workload
 
 # Status of the harness: everything as promised; a promise broken or a mistake not found; nothing to say, since
 # everything was skipped or cut short.
@@ -14,11 +15,17 @@ FINE, WRONG, NOTHING = 0, 1, 3
 
 @dataclass(frozen=True, order=True)
 class Case:
-    """A setting under a fault, with a policy and perhaps a mistake."""
+    """A setting under a fault, with a policy and perhaps a mistake, and perhaps another workload."""
     name: str
     fault: str
     policy: str
     mistake: str
+    workload: str = ""
+
+    @property
+    def clients(self) -> str:
+        """What the clients do."""
+        return " ".join(filter(None, [self.policy, self.mistake, self.workload]))
 
 
 @dataclass
@@ -62,7 +69,9 @@ class Summary:
 
     def add(self, record: dict) -> None:
         """Counts a run, of which the record of module `runs` is given."""
-        case = Case(record["database"], record["fault"], record["policy"], record["mistake"] or "")
+        workload = record.get("workload", Workload.RESERVATIONS.value)
+        case = Case(record["database"], record["fault"], record["policy"], record["mistake"] or "",
+                    "" if workload == Workload.RESERVATIONS.value else workload)
         self.rows.setdefault(case, Row(case, Strength(record["promise"]), record["source"])).add(record)
 
     @property
@@ -79,8 +88,7 @@ class Summary:
         lines = [titles]
         for row in self.rows.values():
             counts = [str(row.verdicts[verdict]) for verdict in Verdict]
-            policy = " ".join(filter(None, [row.case.policy, row.case.mistake]))
-            lines.append((row.case.name, row.case.fault, policy, row.strength.value, *counts, row.conclusion))
+            lines.append((row.case.name, row.case.fault, row.case.clients, row.strength.value, *counts, row.conclusion))
         widths = [max(map(len, column)) for column in zip(*lines)]
         return "\n".join("  ".join(word.ljust(width) for word, width in zip(line, widths)).rstrip()
                          for line in lines)
@@ -93,8 +101,8 @@ class Summary:
                  "|---|---|---|---|---|---|--:|--:|---|"]
         for row in self.rows.values():
             source = f"[{row.strength.value}]({row.source})" if "://" in row.source else row.strength.value
-            policy = " ".join(filter(None, [row.case.policy, row.case.mistake]))
-            lines.append(f"| `{row.case.name}` | {', '.join(sorted(row.versions))} | {row.case.fault} | {policy} "
+            lines.append(f"| `{row.case.name}` | {', '.join(sorted(row.versions))} | {row.case.fault} "
+                         f"| {row.case.clients} "
                          f"| {source} | {_legal(row.verdicts)} | {row.counts['completed']:,} "
                          f"| {row.counts['pending']} | {row.conclusion} |")
         return "\n".join(lines) + "\n"

@@ -1,19 +1,30 @@
-"""The tasks of docs/RULES.md, section 1: reading their lines, and the texts of their replies. How a command is
-done is left to the modules `sql` and `keyvalue`."""
+"""The workloads: the tasks of docs/RULES.md, section 1, and the operations on single keys of its section
+"Histories of a key-value store". Reads their lines, and makes the texts of their replies. How a command is done
+is left to the modules `sql` and `keyvalue`."""
 
 import subprocess
 from abc import ABC, abstractmethod
 from collections.abc import Callable, Iterable
 from dataclasses import dataclass
+from enum import Enum
+from random import Random
 
 KINDS = ("car", "flight", "room")
 MOST_TOTAL = 1_000_000_000
 MOST_UNITS = 10_000
 REPORTED = ("cars", "flights", "rooms", "customers", "bookings", "used", "free", "total", "billed")
 # The tasks that change nothing.
-READS = ("free", "price", "bill", "audit")
+READS = ("free", "price", "bill", "audit", "get")
+# The keys, and the values that they are given: so few that a comparison often holds.
+KEYS, VALUES = ('"a"', '"b"', '"c"', '"d"'), tuple(f'"{value}"' for value in range(5))
 # Longest time for which the program may draw tasks, in seconds.
 PATIENCE = 60
+
+
+class Workload(Enum):
+    """The tasks that clients run, and the judge to which their history goes."""
+    RESERVATIONS = "reservations"
+    KEYS = "keys"
 
 
 def is_read(line: str) -> bool:
@@ -55,6 +66,13 @@ class Rules(ABC):
                 return _number(self.leave(int(customer)))
             case ["update", *words]:
                 return self.update([change.split(" ") for change in " ".join(words).split(" ; ")])
+            case ["get", key]:
+                return self.value(key) or "-"
+            case ["put", key, value]:
+                self.set_value(key, value)
+                return "ok"
+            case ["cas", key, old, new]:
+                return self.compare_and_set(key, old, new)
         raise ValueError(f"no task: {line!r}")
 
     def trip(self, customer: int, asks: list[tuple[str, int]]) -> str:
@@ -82,6 +100,14 @@ class Rules(ABC):
                 self._midway()
             said.append(self._change(change) or "true")
         return " ".join(["update", *said])
+
+    def compare_and_set(self, key: str, old: str, new: str) -> str:
+        """Gives a key a new value if it has the old one."""
+        if self.value(key) != old:
+            return "false"
+        self._midway()
+        self.set_value(key, new)
+        return "true"
 
     def _change(self, words: list[str]) -> str | None:
         """Does an `add` or a `del` line."""
@@ -138,6 +164,14 @@ class Rules(ABC):
     def audit(self) -> dict[str, int]:
         """Returns the report of the state."""
 
+    @abstractmethod
+    def value(self, key: str) -> str | None:
+        """Returns the value of a single key, in quotes as its line has it, or none for a missing one."""
+
+    @abstractmethod
+    def set_value(self, key: str, value: str) -> None:
+        """Gives a single key a value."""
+
 
 def _said(refusal: str | None) -> str:
     return "true" if refusal is None else f"false {refusal}"
@@ -179,3 +213,20 @@ def draw(program: str, options: dict[str, int], items: int) -> Load:
     done = subprocess.run(words, check=True, capture_output=True, text=True, timeout=PATIENCE)
     tasks = read_tasks(done.stdout.splitlines())
     return Load(tasks.pop(0, []), dict(sorted(tasks.items())), final_reads(items))
+
+
+def draw_keys(clients: int, tasks: int, reads: int, seed: int) -> Load:
+    """Returns drawn operations on single keys, which have no value at first. The other operations are puts and
+    comparisons, with even odds."""
+    drawn = Random(f"keys {seed}")
+
+    def line() -> str:
+        key = drawn.choice(KEYS)
+        if drawn.randrange(100) < reads:
+            return f"get {key}"
+        if drawn.random() < 0.5:
+            return f"put {key} {drawn.choice(VALUES)}"
+        return " ".join(["cas", key, *drawn.sample(VALUES, 2)])
+
+    lines = {client: [line() for _ in range(tasks)] for client in range(1, clients + 1)}
+    return Load([], lines, [f"get {key}" for key in KEYS])

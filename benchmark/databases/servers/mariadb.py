@@ -15,8 +15,9 @@ FLUSH = f"{MANUAL}innodb-system-variables/#innodb_flush_log_at_trx_commit"
 # How long the program that prepares a folder may run, in seconds.
 PATIENCE = 60
 # Errors after which the transaction was rolled back, or the statement refused: a deadlock, a lock that is not
-# granted, a record that has changed, a failed certification of a commit; a key that is there, a value that is none.
-REFUSALS = {1213, 1205, 1020, 1180, 1062, 1048}
+# granted, a record that has changed, a failed certification of a commit; a key that is there, a value that is none;
+# a session to be ended that has ended.
+REFUSALS = {1213, 1205, 1020, 1180, 1062, 1048, 1094}
 # Errors of a connection that has ended, or of a server that shuts down or has lost the others.
 LOSSES = {0, 1047, 1053, 1152, 1158, 1159, 1160, 1161, 1184, 1317, 1927, 2002, 2003, 2006, 2013, 2014, 2055}
 ARGUMENTS = {"bind-address": "0.0.0.0", "innodb-buffer-pool-size": "32M", "innodb-log-file-size": "16M",

@@ -28,8 +28,7 @@ class PostgresqlConnection(DriverConnection):
     """A connection of psycopg2, which leaves transactions to the statements that are run."""
 
     def __init__(self, addresses: Sequence[Address], setting: Setting, wanted: str = "any"):
-        import psycopg2
-        # (a standby has no SERIALIZABLE)
+        import psycopg2  # (a standby has no SERIALIZABLE)
         isolation = setting.options.get("isolation", "SERIALIZABLE") if wanted != "any" else "REPEATABLE READ"
         self._begin, self._reads = f"BEGIN ISOLATION LEVEL {isolation}", setting.options.get("reads", "")
         try:
@@ -107,8 +106,9 @@ class Postgresql(Database):
         return PostgresqlConnection([address], setting)
 
     def terminate(self, node: Node) -> int:
-        return len(self._ask(node, "SELECT pg_terminate_backend(pid) FROM pg_stat_activity"
-                                   " WHERE backend_type = 'client backend' AND pid <> pg_backend_pid() LIMIT 2"))
+        return sum(ended for ended, in self._ask(  # (first those that wait for a standby)
+            node, "SELECT pg_terminate_backend(pid) FROM pg_stat_activity WHERE backend_type = 'client backend'"
+                  " AND pid <> pg_backend_pid() ORDER BY wait_event <> 'SyncRep' LIMIT 2"))
 
     def promote(self, node: Node) -> None:
         self._ask(node, "SELECT pg_promote(true, 30)")
