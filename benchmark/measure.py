@@ -18,9 +18,8 @@ from pathlib import Path
 import estimates
 import pages
 from picture import picture
-# (tests/stats takes `numbers_told` from here)
 from programs import (IS_CLONE, OURS, PARTS, PROGRAM, ROOT, TRIED, Judge, Ours, Peer, Pinner, give_up, has_option,
-                      lines_of, numbers_told, options_of)
+                      lines_of, options_of)
 
 # Names and options of a load. In each the bookings come to a steady number, for which there are more than
 # enough blocks: leaves give back as much as trips take, and no call is ever answered `full`.
@@ -280,7 +279,7 @@ def command():
     """The command line, without what names files of this machine."""
     words = sys.argv[1:]
     local = {i + more for i, word in enumerate(words) if word in ("--to", "--program") for more in (0, 1)}
-    return shlex.join(["./bench"] + [word for i, word in enumerate(words) if i not in local])
+    return shlex.join(["benchmark/run"] + [word for i, word in enumerate(words) if i not in local])
 
 
 def heading(plan, load):
@@ -491,7 +490,7 @@ def client_counts(text):
 
 
 def read_arguments():
-    parser = argparse.ArgumentParser(prog="bench", description=__doc__)
+    parser = argparse.ArgumentParser(prog="benchmark/run", description=__doc__)
     parser.add_argument("--quick", action="store_true",
                         help="within two minutes: one run of a few programs with 1 and 4 clients")
     parser.add_argument("--only", action="append", choices=list(SETTINGS), metavar="SETTING",

@@ -1,6 +1,6 @@
 """Puts what was measured into the project's pages, in the place of what stands there between two marks."""
 
-BEGIN, END = "<!-- measured by ./bench --pages -->", "<!-- end -->"
+BEGIN, END = "<!-- measured by benchmark/run --pages -->", "<!-- end -->"
 
 
 def put(path, lines):

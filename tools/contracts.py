@@ -36,6 +36,10 @@ class Line:
 def lines_of(root):
     """The clauses of all public calls of the tree at this folder."""
     ledger.ROOT, ledger.CRATES = root, root / "crates"
+    # What the ledger remembers is of the tree that it read before.
+    for remembered in vars(ledger).values():
+        if hasattr(remembered, "cache_clear"):
+            remembered.cache_clear()
     return [Line(f"{crate} {function.title()}", clause.kind, clause.name, clause.text)
             for crate in ledger.listed_crates() for file in ledger.sources(crate)
             for function in ledger.functions(file) if ledger.is_public(function)

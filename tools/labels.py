@@ -1,5 +1,5 @@
 #!/usr/bin/env python3
-"""Looks up what the line 'by:' of a plant names: a clause, a test of a crate of tests, or a script. ./plant --check
+"""Looks up what the line 'by:' of a plant names: a clause, a test of a crate of tests, or a script. ./dev mutate --check
 tells of each plant that names what is not there. Alone, it tries lines that name nothing of this repository, and
 tells which it takes for good."""
 

@@ -23,8 +23,8 @@ PAGES = ("JUDGE.md", "DATABASES.md", "USING.md", "RULES.md", "PROMISES.md", "THE
          "MEASURED.md")
 LICENSES = ("LICENSE-MIT", "LICENSE-APACHE")
 # What is packed as it stands in the tree, beside pages and licenses: folders, files and pictures.
-AS_IT_STANDS = ("bench", "benchmark", "explain", "tools/explaining", "include", "share", "docs/*.svg", "docs/anomaly",
-                "docs/measured.csv")
+AS_IT_STANDS = ("benchmark", "explain", "tools/explaining", "convert", "tools/converting", "include", "share",
+                "docs/*.svg", "docs/anomaly", "docs/histories", "docs/measured.csv")
 # Debian has a package named vacation already, which answers letters.
 DEBIAN_NAME = "pighvelo"
 PROGRAM_MODE, TEXT_MODE = 0o755, 0o644

@@ -1,6 +1,6 @@
 #!/usr/bin/env python3
 """Plants the wrong bodies of tests/plants, each in a copy of its crate, and tells what refuses it. Called by
-./plant.
+`./dev mutate`.
 
 A file tests/plants/CRATE.plants is a list of plants, blocks of lines with an empty line between them:
 
@@ -19,7 +19,6 @@ A line that begins with '#' is a comment."""
 import os
 import re
 import shutil
-import signal
 import subprocess
 import sys
 import tempfile
@@ -35,6 +34,15 @@ from labels import stale
 ROOT = Path(__file__).resolve().parent.parent
 LISTS = ROOT / "tests" / "plants"
 PARTS = ("src", "specs", "proofs")
+
+USAGE = """usage: ./dev mutate [CRATE|MUTANT].. [--jobs N] [--rows] [--goals] · ./dev mutate --check
+
+Tries the wrong bodies of tests/plants, each in a copy of its crate, and tells what refuses it.
+  --jobs N  the number of mutants that are tried at once (2)
+  --rows    runs the worked examples too, unproved, that must fail if a mutant says 'by: row'
+  --goals   prints each goal that stays open, in place of the first ones
+  --check   only sees that each old text is there, and what is to refuse it
+"""
 
 # So many plants are tried at once at most, and so often without the answers by hand that no longer fit.
 MOST_AT_ONCE, MOST_ROUNDS = 8, 6
@@ -426,6 +434,9 @@ def main():
     """Status 0: none survived. 1: one did, or could not be tried, or the lists can't be read."""
     sys.stdout.reconfigure(line_buffering=True)
     words = sys.argv[1:]
+    if {"-h", "--help"} & set(words):
+        print(USAGE, end="")
+        return
     options = {"rows": "--rows" in words, "goals": "--goals" in words, "jobs": 2}
     if "--jobs" in words:
         at = words.index("--jobs")

@@ -1,0 +1,33 @@
+"""The quick tests: builds the program with nothing proved, and runs the scripts of tests/ that end soon."""
+
+from __future__ import annotations
+
+import tempfile
+import time
+from collections.abc import Sequence
+from pathlib import Path
+
+from .runner import ROOT, python, run, say
+
+# The scripts of tests/ that together end within some five minutes; the others are for the gate.
+QUICK = ("rows", "examples", "pages", "library_page", "load", "tasks", "check", "judge", "order", "opaque", "history",
+         "attempts", "stats", "progress")
+
+
+def main(words: Sequence[str]) -> int:
+    """Returns 0 if the program can be built and all quick tests pass."""
+    if words:
+        say("usage: ./dev smoke")
+        return 2
+    began, failed = time.monotonic(), []
+    with tempfile.TemporaryDirectory() as folder:
+        program = Path(folder) / "vacation"
+        if python("tools/unproved.py", [program]):
+            say("the program does not compile")
+            return 1
+        for name in QUICK:
+            if run([ROOT / "tests" / name, program]):
+                failed.append(name)
+    say(f"{len(QUICK) - len(failed)} passed, {len(failed)} failed{': ' if failed else ''}{', '.join(failed)}; "
+        f"nothing is proved; {time.monotonic() - began:.0f} seconds")
+    return 1 if failed else 0
