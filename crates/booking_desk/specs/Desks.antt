@@ -1,4 +1,4 @@
--- What a desk does with its trips, in one round or in several.
+-- The progress of a desk with its trips, in one round or several.
 use Rattle.std.specs.Prelude.{◌≡◌, ℕ, ◌+◌, ◌*◌, ◌<◌, ◌≤◌, ◌⊎◌}
 use Rattle.std.specs.Prelude.{List, [], ◌∷◌, ◌++◌, length}
 use Rattle.tx_memory.specs.Image.{In}
@@ -17,11 +17,11 @@ use Rattle.booking_desk.specs.declared.settings.DeskSettings.{DeskSettings}
 use Rattle.booking_desk.specs.declared.trips.TheConstants.{DESKS}
 use Rattle.booking_desk.specs.Trips.{trip_of}
 
--- how many trips a desk has asked for, which is the number of the next one
+-- the number of trips that a desk has issued, which is the number of the next trip
 abbrev pub asked : Desk → ℕ
 asked d = d.booked + d.given_up
 
--- a desk that has asked for nothing
+-- a desk that has issued no trip
 abbrev pub new_desk : ℕ → Desk
 new_desk number = record { number = number; booked = 0; given_up = 0 }
 
@@ -29,18 +29,18 @@ new_desk number = record { number = number; booked = 0; given_up = 0 }
 abbrev pub new_desks : List Desk
 new_desks = new_desk 0 ∷ new_desk 1 ∷ new_desk 2 ∷ new_desk 3 ∷ []
 
--- a desk may go on: it is one of the four, and has asked for at most all of its trips
+-- the desk may go on: it is one of the four desks, and has issued at most all of its trips
 pub record MayServe (s : DeskSettings) (d : Desk) : Type 0 where
   pub number : d.number < DESKS
   pub within : asked d ≤ s.trips
 
--- the numbers ascend: none is below the first bound, all are below the second
+-- the numbers ascend; all are at least `low` and below `high`
 abbrev pub Ascend : ℕ → List ℕ → ℕ → Type 0
 Ascend low [] high = low ≤ high
 Ascend low (n ∷ ns) high = (low ≤ n) × Ascend (n + 1) ns high
 
--- each record is of the desk's trip with the number at its place, and of some reply, and there are
--- no others
+-- the lists are equally long, and each record is of the desk's trip with the number at its
+-- position, and of some reply
 abbrev pub AreTrips : ℕ → List ℕ → List Record → Type 0
 AreTrips desk [] [] = Unit {0}
 AreTrips desk [] (r ∷ rs) = ⊥
@@ -57,8 +57,8 @@ pub record BookedTrips : Type 0 where
   pub trips : List ℕ
   pub records : List Record
 
--- between two states of a desk these trips were booked, each once and in their order, and each has
--- its record; the others that were asked for were given up
+-- between two states of a desk exactly these trips were booked, each once and in their order, and
+-- each has its record; the other trips issued in between were given up
 pub record HasBooked (d d' : Desk) (x : BookedTrips) : Type 0 where
   pub same : d'.number ≡ d.number
   pub ascend : Ascend (asked d) x.trips (asked d')
@@ -70,18 +70,18 @@ pub record HasBooked (d d' : Desk) (x : BookedTrips) : Type 0 where
 abbrev pub session_of : RegionShown → CallerShown → SessionShown
 session_of region client = record { manager = region; client = client }
 
--- how many attempts are spent on a trip that is given up: all tries of all calls that ask for it
+-- the number of attempts that a trip takes before it is given up: all attempts of all its calls
 abbrev pub cost_of_giving_up : DeskSettings → ℕ
 cost_of_giving_up s = s.asks * TRIES
 
--- the least number of attempts for the trips that a desk asked for: one for each that was booked,
--- and the whole price for each that was given up
+-- the least number of attempts for the trips that a desk issued: one for each booked trip, and the
+-- cost of giving up for each trip given up
 abbrev pub cost_of : DeskSettings → Desk → ℕ
 cost_of s d = d.booked + d.given_up * cost_of_giving_up s
 
--- trips were asked for one after the other, from the number low to the number high, by the attempts
--- from one number to another. Those with these numbers were booked, each by the attempt that its
--- record names, which comes after those of the trips before; each other one cost this price
+-- the trips from `low` to `high` were issued one after the other, by the attempts from `from` to
+-- `to`: the trips in the list were booked, each by the attempt in its record, which comes after
+-- the attempts of the earlier trips, and each other trip cost at least `price` attempts
 abbrev pub Paid : ℕ → ℕ → ℕ → List ℕ → List Record → ℕ → ℕ → Type 0
 Paid price from low [] [] high to = from + high * price ≤ to + low * price
 Paid price from low [] (r ∷ rs) high to = ⊥
@@ -89,9 +89,9 @@ Paid price from low (n ∷ ns) [] high to = ⊥
 Paid price from low (n ∷ ns) (r ∷ rs) high to =
     (from + n * price < r.attempt + low * price) × Paid price r.attempt (n + 1) ns rs high to
 
--- a desk went on with its trips in this session: the records of what it booked, of this renewal,
--- are all that the client got. Each trip that was booked cost an attempt of its own, and each that
--- was given up all its attempts
+-- a desk went on with its trips in this session: the client's new records are exactly those of the
+-- trips it booked, in this renewal. Each booked trip cost an attempt of its own, and each trip
+-- given up cost all of its attempts
 pub record ServesTrips (s : DeskSettings) (d d' : Desk) (y y' : SessionShown) : Type 0 where
   pub session : GoesOn y y'
   pub grants : y'.client.value.grants ≡ y.client.value.grants
@@ -106,16 +106,16 @@ pub record ServesTrips (s : DeskSettings) (d d' : Desk) (y y' : SessionShown) : 
       done.records
       (asked d') y'.client.value.attempt.number
 
--- a desk served in a round: until no trip was left, or the clock was found to be at its last
--- version
+-- a desk served in a round: it went on until no trip was left, or until it found the clock at its
+-- last version
 pub record HasServed (s : DeskSettings) (d d' : Desk) (y y' : SessionShown) : Type 0 where
   pub serves : ServesTrips s d d' y y'
   pub why : (asked d' ≡ s.trips) ⊎ (y'.client.value.attempt.next_from ≡ y.manager.last)
 
--- why a trip was not booked: never for its numbers; all attempts of all calls met a conflict, and
--- the last one showed this one; or what a call of the manager says of refused memory, and of a
--- clock that was found at its last version
--- Not said: that `Memory` is returned only where memory was refused.
+-- the reason why a trip was not booked: never its arguments; for Busy, all attempts of all calls
+-- met a conflict, and the last attempt showed this one; for refused memory and a spent clock, the
+-- reason that a call of the manager gives
+-- Not said: that `Memory` is returned only if memory was refused.
 abbrev pub IsTripRefusal : RegionShown → Task → ℕ → Fault → Client → Client → Type 0
 IsTripRefusal region t asks fault.Arguments v v' = ⊥
 IsTripRefusal region t asks fault.Memory v v' = IsFault region t TRIES fault.Memory v v'

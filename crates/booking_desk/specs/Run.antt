@@ -1,4 +1,4 @@
--- What the desks leave in the end.
+-- The results of the desks.
 use Rattle.std.specs.Prelude.{◌≡◌, ℕ, ◌≤◌, ◌⊎◌, List, [], ◌∷◌, length, All}
 use Rattle.std.specs.List.{AllZip}
 use Rattle.stm_core.specs.Client.{Client, Record}
@@ -17,16 +17,16 @@ use Rattle.booking_desk.specs.Trips.{stock_of}
 use Rattle.booking_desk.specs.Desks.{asked, new_desks, MayServe, cost_of_giving_up}
 use Rattle.booking_desk.specs.Rounds.{WentOn, booked_by}
 
--- the record is of the stock, with this many units of each item, and of some reply
+-- the record is of the stock, with this number of units of each item, and of some reply
 abbrev pub IsStock : ℕ → Record → Type 0
 IsStock units r = (reply : Reply) × (r.tag ≡ code (stock_of units) reply)
 
--- the stock alone was added
+-- the only record is that of the stock
 abbrev pub IsStocked : ℕ → List Record → Type 0
 IsStocked units records = (r : Record) × IsStock units r × (records ≡ r ∷ [])
 
--- first comes the record of the stock. After it come those of the trips that are booked, and no
--- others: of each of the four desks in the order of their numbers, each once
+-- the record of the stock comes first, followed by exactly the records of the booked trips; those
+-- of each of the four desks are in the order of their trips' numbers, each once
 pub record Went (s : DeskSettings) (ds : List Desk) (records : List Record) : Type 0 where
   pub stock : Record
   pub stock_is : IsStock s.units stock
@@ -35,8 +35,9 @@ pub record Went (s : DeskSettings) (ds : List Desk) (records : List Record) : Ty
   pub each : AllZip (WentOn (cost_of_giving_up s) rest) new_desks ds
   pub number : length rest ≡ booked_by ds
 
--- the desks after some rounds, with as many renewals of the manager, which has room for as many
--- entries as the settings say, and whose one client is alone
+-- the desks after some of the allowed rounds: each desk may go on; the manager has room for as
+-- many entries as the settings say and was renewed once in each round; its client is solo, and the
+-- records of the client are those of the stock and of the booked trips
 pub record AreOn (s : DeskSettings) (p : OpenDesks) : Type 0 where
   pub own : p.client.table ≡ p.manager.table
   pub alone : HasAllGrants p.client.value
@@ -50,20 +51,20 @@ pub record AreOn (s : DeskSettings) (p : OpenDesks) : Type 0 where
 abbrev pub AreEnded : DeskSettings → List Desk → ℕ → Type 0
 AreEnded s ds rounds = All (λ d. asked d ≡ s.trips) ds ⊎ (rounds ≡ s.rounds)
 
--- what the desks leave: a manager that was closed, with these words, by its last client, which was
--- alone. So that client's records are one history, legal from the empty state, and its last state
--- has the report. The records are those of the stock and of the trips that are booked. The rounds
--- are the renewals of the manager
--- Not said: that a booked trip found anything free, which its reply says; in which round a trip was
--- booked; that desks run at once.
--- Not said: that a trip counted as given up was asked for, but where one before it and one after it
--- were booked in the same round.
--- Not said: how many tries a booked trip took: one that took long, with a trip counted as given up
--- before it, cannot be told from two.
--- Not said: that the region is the one that ran: one that was renewed more often, with nothing done
--- since, leaves the same words and records.
--- Not said: why a desk ended a round; that a round books a trip; which conflict a trip was given up
--- for.
+-- the results of the desks: a manager was closed with these words by its last client, which was
+-- solo. So the records of that client are one history, legal from the empty state, and its final
+-- state has the report. The records are those of the stock and of the booked trips. The number of
+-- rounds is the number of renewals of the manager
+-- Not said: that a booked trip found anything free, which its reply tells; the round in which a
+-- trip was booked; that desks run at once.
+-- Not said: that a trip counted as given up was issued, unless a trip before it and a trip after
+-- it were booked in the same round.
+-- Not said: the number of attempts of a booked trip. A trip with many attempts after a trip
+-- counted as given up cannot be told from two trips.
+-- Not said: that the region is the one that ran. A region that was renewed more often, with
+-- nothing done since, leaves the same words and records.
+-- Not said: why a desk ended a round; that a round books a trip; the conflict for which a trip was
+-- given up.
 pub record Desked (s : DeskSettings) (r : DeskReport) : Type 0 where
   pub region : RegionShown
   pub client : Client

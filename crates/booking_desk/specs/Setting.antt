@@ -1,11 +1,11 @@
--- Which settings the desks can be run with.
+-- The range of the settings of the desks.
 use Rattle.std.specs.Prelude.{Bool, ◌&&◌, nat_le, nat_lt}
 use Rattle.stm_words.specs.declared.version.TheConstants.{VERSION_LIMIT}
 use Rattle.vac_model.specs.declared.limits.TheConstants.{MOST_BLOCKS, MOST_AMOUNT}
 use Rattle.booking_desk.specs.declared.settings.DeskSettings.{DeskSettings}
 use Rattle.booking_desk.specs.declared.settings.TheConstants.{MOST_TRIPS, MOST_ASKS, MOST_ROUNDS}
 
--- all numbers are in their ranges
+-- all numbers of the settings are in their ranges
 abbrev pub is_desk_settings : DeskSettings → Bool
 is_desk_settings s =
     nat_le 1 s.blocks && nat_le s.blocks MOST_BLOCKS

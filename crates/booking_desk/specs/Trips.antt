@@ -8,11 +8,11 @@ use Rattle.vac_model.specs.declared.tasks.Task.{Task}
 use Rattle.vac_model.specs.declared.tasks.Task.TheVariants.{Trip, Update}
 use Rattle.booking_desk.specs.declared.trips.TheConstants.{DESKS, ITEMS, PRICE}
 
--- the item of each kind that a desk asks for in its trip of this number
+-- the item of each kind that a desk books in its trip of this number
 abbrev pub item_asked_for : ℕ → ℕ → ℕ
 item_asked_for desk number = 1 + (desk + number) % ITEMS
 
--- the customer of a desk's trip of this number, which is that of no other trip
+-- the customer of a desk's trip of this number; no other trip has this customer
 abbrev pub customer_of : ℕ → ℕ → ℕ
 customer_of desk number = 1 + desk + DESKS * number
 
@@ -22,11 +22,11 @@ trip_of desk number = Trip (customer_of desk number)
     ((Car, item_asked_for desk number) ∷ (Flight, item_asked_for desk number)
     ∷ (Room, item_asked_for desk number) ∷ [])
 
--- this many units of an item are added, at the one price of all items
+-- the command that adds this number of units of an item, at the common price of all items
 abbrev pub stocked : ℕ → Kind → ℕ → Command
 stocked units kind id = Add kind id units (Some PRICE)
 
--- the stock: two items of each kind, with this many units each
+-- the stock: two items of each kind, with this number of units each
 abbrev pub stock_of : ℕ → Task
 stock_of units = Update (stocked units Car 1 ∷ stocked units Car 2
     ∷ stocked units Flight 1 ∷ stocked units Flight 2

@@ -1,4 +1,4 @@
-//! A desk asks for its trips.
+//! A desk issues its trips.
 
 ghost use Rattle.std.specs.Prelude.{◌≡◌, ◌<◌, ◌≤◌, true, IfOk, IfErr};
 ghost use Rattle.vac_model.specs.Ranges.{is_task};
@@ -16,10 +16,10 @@ use std::alloc::Global;
 use vac_manager::{Client, Fault, Manager, Session};
 use vac_model::{Reply, Task};
 
-/// How many tries each call gets.
+/// Attempts that each call may make at most.
 pub(crate) const TRIES: u32 = 16;
 
-/// Asks for a trip, and again, after a pause, where the call met a conflict: by at most `asks`
+/// Issues a trip, and issues it again after a pause if the call met a conflict, in at most `asks`
 /// calls.
 fn ask(session: &mut Session<'_>, task: &Task, asks: u32) -> Result<Reply, Fault>
     requires range { is_task task.now ≡ true }
@@ -51,8 +51,9 @@ pub struct Served {
     pub desk: Desk,
 }
 
-/// One round of a desk: it goes on with its trips until none is left, or the clock is at its last
-/// version. Where memory is refused, the client is dropped, and its records with it.
+/// Runs one round of a desk: the desk goes on with its trips until none is left, or until the
+/// clock is at its last version. If memory is refused, the client is dropped, and its records with
+/// it.
 pub fn serve(
     alloc: Global,
     manager: &Manager,

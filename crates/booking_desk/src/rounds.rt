@@ -1,4 +1,5 @@
-//! Rounds of all desks: each gets a client and a thread of its own, and the clients are gathered.
+//! Rounds of all desks: each desk gets a client and a thread of its own, and the clients are
+//! gathered.
 
 ghost use Rattle.std.specs.Prelude.{◌≡◌, ◌<◌, ◌+◌, true, IfOk, IfErr};
 ghost use Rattle.booking_desk.specs.Setting.{is_desk_settings};
@@ -16,14 +17,14 @@ use std::thread::Threads;
 use stm_region::RegionFault;
 use vac_manager::{Client, Manager, RenewFault};
 
-/// The desks after a round, with the client that took in their clients.
+/// The desks after a round, with the client that gathered their clients.
 #[derive(Drop)]
 struct Round {
     client: Client,
     desks: Vec<Desk>,
 }
 
-/// The desks after some rounds, with the manager and its one client.
+/// The desks after some rounds, with the manager and its only client.
 #[derive(Drop)]
 pub(crate) struct OpenDesks {
     pub(crate) manager: Manager,
@@ -32,8 +33,8 @@ pub(crate) struct OpenDesks {
     pub(crate) rounds: u32,
 }
 
-/// One round of the desks, each in a thread of its own and by a client of its own, which is split
-/// off from this client and gathered into it again.
+/// Runs one round of the desks, each in a thread of its own and with a client of its own. The
+/// desks' clients are split off from this client and gathered into it again.
 fn serve_all<R: Threads + Sync>(
     rt: &R,
     alloc: Global,
@@ -78,7 +79,7 @@ fn serve_all<R: Threads + Sync>(
     Ok(round)
 }
 
-/// Renews the clock, and runs one more round.
+/// Renews the clock and runs one more round.
 pub(crate) fn go_on<R: Threads + Sync>(
     rt: &R,
     alloc: Global,

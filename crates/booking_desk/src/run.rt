@@ -1,4 +1,4 @@
-//! The desks from the opening of their manager to its end.
+//! The desks, from the opening of their manager to its closing.
 
 ghost use Rattle.std.specs.Prelude.{◌≡◌, ◌⊎◌, ◌↔◌, true, false, IfOk, IfErr, IsErrOf};
 ghost use Rattle.booking_desk.specs.Setting.{is_desk_settings};
@@ -15,8 +15,8 @@ use thiserror::Error;
 use vac_manager::{Fault, Manager, report_of};
 use vac_model::Report;
 
-/// What the desks leave: how far each of them came, after how many rounds, and the report of the
-/// words.
+/// The results of the desks: the progress of each desk, the number of rounds, and the report of
+/// the words.
 #[derive(Debug, Drop, PartialEq, Eq)]
 pub struct DeskReport {
     pub desks: Vec<Desk>,
@@ -24,7 +24,7 @@ pub struct DeskReport {
     pub report: Report,
 }
 
-/// Why the desks were not run to their end.
+/// The reason why the desks were not run to their end.
 #[derive(Clone, Copy, Debug, PartialEq, Eq, Error)]
 pub enum DeskFault {
     /// A setting is out of its range.
@@ -64,7 +64,7 @@ fn open(alloc: Global, settings: DeskSettings) -> Result<OpenDesks, DeskFault>
     }
 }
 
-/// Closes the manager, and returns what the desks leave.
+/// Closes the manager, and returns the results of the desks.
 fn close(open_desks: OpenDesks, settings: DeskSettings) -> Result<DeskReport, DeskFault>
     requires on { AreOn settings open_desks }
     requires ended { AreEnded settings open_desks.desks.items open_desks.rounds }
@@ -85,7 +85,7 @@ fn close(open_desks: OpenDesks, settings: DeskSettings) -> Result<DeskReport, De
     }
 }
 
-/// Runs rounds until no trip is left, or `settings.rounds` of them were run.
+/// Runs rounds until no trip is left, or until `settings.rounds` rounds were run.
 fn run_rounds<R: Threads + Sync>(
     rt: &R,
     alloc: Global,
@@ -102,10 +102,10 @@ fn run_rounds<R: Threads + Sync>(
     close(open_desks, settings)
 }
 
-/// Opens a manager with a stock, and has four desks book their trips in threads of their own, in
-/// rounds. Each round begins with a renewal of the clock, and ends when each desk has no trip left
-/// or has found the clock at its last version. The rounds end when no trip is left, or when there
-/// are no more of them.
+/// Opens a manager with a stock, and lets four desks book their trips in threads of their own, in
+/// rounds. Each round begins with a renewal of the clock. A round ends when each desk has no trip
+/// left or has found the clock at its last version. The rounds end when no trip is left, or when
+/// all of them were run.
 pub fn run_desks<R: Threads + Sync + AllocGlobal>(
     rt: &R,
     settings: DeskSettings,

@@ -7,34 +7,34 @@ use stm_core::MOST_RENEWALS;
 use stm_words::VERSION_LIMIT;
 use vac_model::limits::{MOST_AMOUNT, MOST_BLOCKS};
 
-/// The most trips of a desk.
+/// Largest number of trips of a desk.
 pub const MOST_TRIPS: u32 = 1_000_000;
 
-/// The most calls by which a desk asks for one trip.
+/// Largest number of calls in which a desk issues one trip.
 pub const MOST_ASKS: u32 = 1_000_000;
 
-/// The most rounds. Each begins with a renewal.
+/// Largest number of rounds. Each round begins with a renewal.
 pub const MOST_ROUNDS: u32 = MOST_RENEWALS;
 
-/// The settings of the desks.
+/// Settings of the desks.
 #[derive(Clone, Copy, Debug, PartialEq, Eq)]
 pub struct DeskSettings {
-    /// For how many entries there is room, 1 to 262,144.
+    /// Capacity in entries, 1 to 262,144.
     pub blocks: u32,
-    /// The version that the clock of each round ends at, 1 to 2^62 - 1.
+    /// Last version of the clock of each round, 1 to 2^62 - 1.
     pub last: u64,
-    /// How many units of each item there are, 0 to 1,000,000.
+    /// Units of each item, 0 to 1,000,000.
     pub units: u32,
-    /// How many trips each desk has to book, 0 to 1,000,000.
+    /// Trips that each desk has to book, 0 to 1,000,000.
     pub trips: u32,
-    /// By how many calls a desk asks for a trip before it gives it up, 1 to 1,000,000.
+    /// Calls in which a desk issues a trip before the desk gives it up, 1 to 1,000,000.
     pub asks: u32,
-    /// How many rounds there are at most, 0 to 65,535.
+    /// Largest number of rounds, 0 to 65,535.
     pub rounds: u32,
 }
 
 impl DeskSettings {
-    /// Whether all numbers are in their ranges.
+    /// Returns whether all numbers are in their ranges.
     pub fn is_in_range(&self) -> bool
         ensures { result ≡ is_desk_settings self.now }
     {

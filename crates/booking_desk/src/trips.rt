@@ -9,16 +9,17 @@ ghost use Rattle.booking_desk.specs.declared.settings.TheConstants.{MOST_TRIPS};
 use std::alloc::{AllocError, Global};
 use vac_model::{Command, Kind, Task};
 
-/// How many desks there are.
+/// Number of desks.
 pub const DESKS: u32 = 4;
 
-/// How many items there are of each kind.
+/// Number of items of each kind.
 pub const ITEMS: u32 = 2;
 
-/// The price of each item.
+/// Price of each item.
 pub const PRICE: u32 = 50;
 
-/// The trip of this number of a desk: a car, a flight and a room for a customer of its own.
+/// Returns the trip of this number of a desk: a car, a flight and a room for a customer of its
+/// own.
 pub(crate) fn trip(alloc: Global, desk: u32, number: u32) -> Task
     requires desk { desk < DESKS }
     requires number { number < MOST_TRIPS }
@@ -33,7 +34,7 @@ pub(crate) fn trip(alloc: Global, desk: u32, number: u32) -> Task
     task
 }
 
-/// One item of the stock.
+/// Returns the command that adds one item of the stock.
 fn item(kind: Kind, id: u32, units: u32) -> Command
     ensures { result ≡ Command.Add kind id units (Some PRICE) }
 {
@@ -45,7 +46,7 @@ fn item(kind: Kind, id: u32, units: u32) -> Command
     }
 }
 
-/// The stock, `units` units of each item, as one task.
+/// Returns the stock as one task: `units` units of each item.
 pub(crate) fn stock(alloc: Global, units: u32) -> Result<Task, AllocError>
     requires units { units ≤ MOST_AMOUNT }
     ensures task { IfOk result (λ task. task ≡ stock_of units) }

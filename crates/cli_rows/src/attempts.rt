@@ -1,4 +1,4 @@
-//! The text of a load's attempts, worked out from the layout of the words.
+//! The text of a load's attempts, worked out by hand from the layout of the words.
 
 use crate::same::same;
 use crate::small_load::SETTINGS;
@@ -10,7 +10,7 @@ use vac_attempts::{Ledger, write_attempts};
 use vac_history::Watch;
 use vac_load::{Keepers, Settings, run_load_kept};
 
-/// A watch that stands still.
+/// A clock that always shows 0.
 #[derive(Clone, Copy, Drop)]
 struct Still;
 
@@ -22,9 +22,10 @@ impl Watch for Still {
     }
 }
 
-/// The roots stand in words 1 to 4, the heads of the free lists in 8 to 15, and the blocks of eight
-/// words from 16 on, one in each of the first four lists. An item takes its block from the first
-/// list that has one. The task asks for the free units of the flight, its block's sixth word.
+/// The attempts of the load. The roots are words 1 to 4, the heads of the free lists words 8 to
+/// 15, and the blocks of eight words start at word 16, one in each of the first four lists. An
+/// item takes its block from the first list that has one. The task asks for the free units of the
+/// flight, which are the sixth word of its block.
 const WANTS: &[u8] = b"0 0 0 commit w 8 16 w 9 24 w 10 32 w 11 40\n\
     0 0 0 commit r 1 0 r 8 16 r 16 0 w 8 0 w 16 1 w 20 0 w 21 300 w 22 300 w 23 80 r 1 0 w 17 0 \
     w 18 0 w 19 1 w 1 16 w 19 0\n\
@@ -36,7 +37,7 @@ const WANTS: &[u8] = b"0 0 0 commit w 8 16 w 9 24 w 10 32 w 11 40\n\
     r 47 0 r 4 0 w 41 0 w 42 0 w 43 1 w 4 40 w 43 0\n\
     1 0 0 commit r 2 24 r 24 1 r 29 200\n";
 
-/// The settings of a load of one question.
+/// The settings of a load with one question.
 const ONE_QUESTION: Settings = Settings {
     tasks: 1,
     items: 1,
@@ -45,10 +46,10 @@ const ONE_QUESTION: Settings = Settings {
     ..SETTINGS
 };
 
-/// What keeps the attempts of a load.
+/// The recorders of a load's attempts.
 type Kept = Keepers<Ledger<Still>>;
 
-/// The attempts of the load.
+/// Runs the load and returns the recorders of its attempts.
 fn attempted<R: Threads + Wait + Abort + AllocGlobal>(rt: &R) -> Kept {
     let alloc = rt.alloc();
     let mut clients = Vec::new(alloc);

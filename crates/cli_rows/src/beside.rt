@@ -1,4 +1,4 @@
-//! Loops of a load's clients in threads, while one more client asks for reports.
+//! Loops of a load's clients in threads, beside one more client that asks for reports.
 ghost use Rattle.std.specs.Prelude.{◌≡◌, ◌*◌};
 
 use crate::loading::opened;
@@ -16,11 +16,11 @@ use vac_load::{FixedDraws, PcgDraws, Settings, Tally, client_loop};
 use vac_manager::{Client, Manager, Session};
 use vac_model::{Command, Reply, Report, Task};
 
-/// How many loops there are.
+/// Number of loops.
 const LOOPS: u32 = 4;
 
-/// Each task is a trip with one ask, for an item with more units than there are asks for it. So
-/// each that is answered books one unit.
+/// Settings in which each task is a trip with one ask. The item has more units than there are asks
+/// for it, so each completed trip books one unit.
 const TRIPS: Settings = Settings {
     clients: LOOPS,
     tasks: 1_000,
@@ -31,16 +31,16 @@ const TRIPS: Settings = Settings {
     ..SETTINGS
 };
 
-/// The word of the opening: by it each item gets 500 units, at 90 each.
+/// The drawn word of the setup phase: it gives each item 500 units, at 90 each.
 const STOCK: u32 = 4;
 
-/// The most reports that are asked for.
+/// Largest number of reports that are issued.
 const MOST_REPORTS: u32 = 1_000_000;
 
-/// How many tries each report gets.
+/// Attempts that each report may make at most.
 const TRIES: u32 = 1_000;
 
-/// The report of the opening after `trips` trips.
+/// Returns the report of the state after the setup phase and `trips` trips.
 fn after(trips: u64) -> Report {
     Report {
         cars: 4,
@@ -55,17 +55,17 @@ fn after(trips: u64) -> Report {
     }
 }
 
-/// What the threads show each other.
+/// Counters that the threads share.
 #[derive(Drop)]
 struct Shown {
-    /// How many reports were answered.
+    /// Completed reports.
     reports: AtomicU32,
-    /// How many loops are over.
+    /// Loops that have ended.
     over: AtomicU32,
 }
 
 impl Shown {
-    /// Waits until one more report was answered.
+    /// Waits until one more report completed. Bounded loop: a test must end.
     fn wait_for_a_report(&self) {
         let seen = self.reports.load(Ordering::SeqCst);
         for _ in 0..1_000_000u32 {
@@ -77,7 +77,7 @@ impl Shown {
     }
 }
 
-/// A gate that waits for a report after each sixteenth answer that it is told of.
+/// A gate that waits for a report after each sixteenth completed call.
 #[derive(Drop)]
 struct Paced<'a> {
     shown: &'a Shown,
@@ -96,7 +96,7 @@ impl<'a> Gate for Paced<'a> {
     }
 }
 
-/// A client whose loop is over, and how its tasks ended.
+/// A client whose loop has ended, with the counts of its tasks.
 type Looped = (Client, Tally);
 
 /// Runs the loop of a client.
@@ -112,13 +112,14 @@ fn run_loop(alloc: Global, manager: &Manager, client: Client, shown: &Shown, str
     (session.into_client(), tally)
 }
 
-/// The reports that were answered.
+/// Counts of the completed reports.
 #[derive(Clone, Copy, Debug, PartialEq, Eq)]
 struct Reports {
-    /// Those of the opening after some trips, no fewer than in the report before.
+    /// Reports of the state after the setup phase and some trips, no fewer trips than in the
+    /// report before.
     sound: u32,
     others: u32,
-    /// How many trips there had been in the last report.
+    /// Number of trips in the last report.
     trips: u64,
 }
 
@@ -133,7 +134,7 @@ impl Reports {
     }
 }
 
-/// Asks for reports until all loops are over.
+/// Asks for reports until all loops have ended.
 fn ask_for_reports(manager: &Manager, client: Client, shown: &Shown) -> (Client, Reports)
     requires { client.table ≡ manager.now.table }
     ensures { result.0.table ≡ manager.now.table }
@@ -156,7 +157,7 @@ fn ask_for_reports(manager: &Manager, client: Client, shown: &Shown) -> (Client,
     (session.into_client(), reports)
 }
 
-/// Two clients run their loops.
+/// Runs the loops of two clients in threads.
 fn two_loops<R: Threads + Sync>(
     rt: &R,
     alloc: Global,
@@ -183,7 +184,7 @@ fn two_loops<R: Threads + Sync>(
     )
 }
 
-/// Two clients run their loops, while another one asks for reports.
+/// Runs the loops of two clients in threads, while another client asks for reports.
 fn two_loops_and_reports<R: Threads + Sync>(
     rt: &R,
     alloc: Global,
@@ -214,8 +215,8 @@ fn two_loops_and_reports<R: Threads + Sync>(
     )
 }
 
-/// What all threads leave: the client that took in the others, how the tasks of each loop ended,
-/// and the reports.
+/// The results of all threads: the client that gathered the others, the counts of each loop, and
+/// the reports.
 #[derive(Drop)]
 struct Left {
     client: Client,
@@ -232,7 +233,7 @@ fn split(rt: &impl Abort, manager: &Manager, client: &mut Client) -> Client
     manager.split(client).expect(rt, "there are grants")
 }
 
-/// Takes in another client.
+/// Gathers another client.
 fn gather(manager: &Manager, client: &mut Client, other: Client)
     requires mine { client.old.table ≡ manager.now.table }
     requires other { other.table ≡ manager.now.table }
@@ -241,7 +242,7 @@ fn gather(manager: &Manager, client: &mut Client, other: Client)
     manager.gather(client, other);
 }
 
-/// Four clients run their loops, while a fifth one asks for reports.
+/// Runs the loops of four clients in threads, while a fifth client asks for reports.
 fn four_loops_and_reports<R: Threads + Sync + Abort>(
     rt: &R,
     alloc: Global,
@@ -284,7 +285,7 @@ fn four_loops_and_reports<R: Threads + Sync + Abort>(
     }
 }
 
-/// The report of the words that a manager leaves.
+/// Returns the report of the words of a closed manager.
 fn audited(
     rt: &impl Abort,
     alloc: Global,
@@ -299,7 +300,7 @@ fn audited(
     audit_words(alloc, words.as_slice())
 }
 
-/// How many tasks ended.
+/// Returns the number of tasks that ended.
 fn ended(tally: Tally) -> u64 {
     tally
         .answered
@@ -308,8 +309,8 @@ fn ended(tally: Tally) -> u64 {
         .wrapping_add(tally.spent)
 }
 
-/// A report with one number from before a trip and another from after it would not be that of the
-/// opening after any number of trips.
+/// Fails if a report mixes numbers from before a trip with numbers from after the trip: such a
+/// report is not that of any number of trips.
 #[test]
 fn loops_beside_reports(rt: HostRuntime) -> Result<(), Fail> {
     let alloc = rt.alloc();

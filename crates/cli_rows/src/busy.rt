@@ -33,7 +33,8 @@ impl<'a> Gate for Rival<'a> {
     }
 }
 
-/// How the tasks of a session end while another one is their rival, and how often that one booked.
+/// Returns the counts of a session's tasks beside a rival session, and the number of the rival's
+/// bookings.
 fn loop_beside_rival(
     alloc: Global,
     settings: &Settings,
@@ -47,7 +48,7 @@ fn loop_beside_rival(
     (tally, gate.answered)
 }
 
-/// Each task has one try, and its car is booked between its reads and its commit.
+/// Gives each task one attempt, and books its car between its reads and its commit.
 #[test]
 fn each_task_is_busy(rt: HostRuntime) {
     let alloc = rt.alloc();

@@ -1,4 +1,4 @@
-//! Command lines and the statuses by which they end.
+//! Command lines and their exit statuses.
 
 use crate::example::{ANSWERS, DUMP, SCRIPT};
 use crate::failing::{NEVER, Pieces, Sink, Stop};
@@ -11,7 +11,7 @@ use std::thread::Threads;
 use std::time::Clock;
 use vac_cli::{Open, run_words};
 
-/// The words of a command line.
+/// Returns the words of a command line.
 fn words_of(alloc: Global, words: &[&str]) -> Result<Vec<String>, AllocError> {
     let mut owned = Vec::new(alloc);
     for word in words {
@@ -20,7 +20,7 @@ fn words_of(alloc: Global, words: &[&str]) -> Result<Vec<String>, AllocError> {
     Ok(owned)
 }
 
-/// How a command line ended: its status, and whether nothing was said of errors.
+/// The end of a command line: its status, and true if no error message was written.
 pub(crate) type Ended = (u8, bool);
 
 /// Runs a command line.
@@ -37,10 +37,10 @@ pub(crate) fn run_line<
     (status, errors.is_empty())
 }
 
-/// What `--version` writes.
-const VERSION: &[u8] = b"vacation 0.1.0\nrattle-kit-13f logic dac8208d650f15bf\n";
+/// The output of `--version`.
+const VERSION: &[u8] = b"vacation 0.1.0\nrattle-kit-13b logic dac8208d650f15bf\n";
 
-/// Command lines, their statuses and what they write.
+/// Command lines, with their statuses and outputs.
 const ROWS: [(&[&str], u8, &[u8]); 16] = [
     (&["vacation", "run"], 0, ANSWERS),
     (&["vacation", "run", "--blocks", "1"], 0, ANSWERS),

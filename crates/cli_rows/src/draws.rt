@@ -5,7 +5,7 @@ use crate::small_load::SETTINGS;
 use vac_draws::{Draws, FixedDraws, PcgDraws, tasks_of};
 use vac_model::{Kind, Task};
 
-/// The first word that PCG's reference code gives from the seed 42 in the stream 54.
+/// The first word that PCG's reference code gives for the seed 42 in the stream 54.
 const REFERENCE: u32 = 0xa15c02b7;
 
 #[test]

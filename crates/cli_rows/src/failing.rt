@@ -1,4 +1,4 @@
-//! Readers and writers that give and take little, and that fail.
+//! Readers and writers that transfer few bytes at a call, and that fail.
 
 use std::alloc::Global;
 use std::io;
@@ -12,7 +12,7 @@ pub(crate) const NEVER: usize = usize::MAX;
 pub(crate) struct Pieces<'a> {
     bytes: &'a [u8],
     most: usize,
-    /// How many calls were made.
+    /// Calls made so far.
     pub(crate) calls: usize,
     fails_at: usize,
     error: ErrorKind,
@@ -49,17 +49,17 @@ impl Read for Pieces<'_> {
     }
 }
 
-/// What a writer does at the call at which it takes nothing.
+/// The result of the call at which a writer takes no byte.
 #[derive(Clone, Copy, Debug, PartialEq, Eq)]
 pub(crate) enum Stop {
-    /// It returns that it took no byte.
+    /// The call returns that it took no byte.
     Nothing,
-    /// It returns this error.
+    /// The call returns this error.
     Fails(ErrorKind),
 }
 
 impl Stop {
-    /// Whether the caller writes again.
+    /// Returns whether the caller writes again after this result.
     pub(crate) fn is_tried_again(self) -> bool {
         self == Stop::Fails(ErrorKind::Interrupted)
     }
@@ -73,9 +73,9 @@ pub(crate) struct Sink {
     calls: usize,
     stops_at: usize,
     stop: Stop,
-    /// Whether every byte that was taken was flushed.
+    /// True if every byte taken was flushed.
     pub(crate) is_flushed: bool,
-    /// Whether it can be flushed.
+    /// True if flushing succeeds.
     flushes: bool,
 }
 
@@ -92,7 +92,7 @@ impl Sink {
         }
     }
 
-    /// A writer that takes all bytes and cannot be flushed.
+    /// Returns a writer that takes all bytes and cannot be flushed.
     pub(crate) fn without_flush(alloc: Global) -> Sink {
         Sink {
             flushes: false,

@@ -1,4 +1,4 @@
-//! Command lines over input and output that fail: what is written then, and the status.
+//! Command lines over input and output that fail, with their outputs and statuses.
 
 use crate::command_lines::{Ended, run_line};
 use crate::example::{DUMP, SCRIPT};
@@ -11,7 +11,7 @@ use std::thread::Threads;
 use std::time::Clock;
 use vac_cli::Open;
 
-/// A command line that reads an input, and what it writes where nothing fails.
+/// A command line that reads an input, with its output if nothing fails.
 #[derive(Clone, Copy)]
 struct Row {
     words: &'static [&'static str],
@@ -24,7 +24,7 @@ struct Row {
 /// A history of one call.
 const HISTORY: &[u8] = b"1 0 5 newcust 1 -> true\n";
 
-/// Calls that write nothing before they have read their input.
+/// Command lines that write nothing before they have read their input.
 const ROWS: [Row; 3] = [
     Row {
         words: &["vacation", "judge"],
@@ -85,7 +85,7 @@ const LONG_HISTORY: &[&str] = &[
     "--history",
 ];
 
-/// The command line of a row ends so and writes this, where each of its first three reads fails in
+/// Checks the end and the output of a command line when each of its first three reads fails in
 /// turn.
 fn fail_each_read<T: Threads + Wait + Clock + Sync + Abort + AllocGlobal + Open>(
     rt: &T,
@@ -123,7 +123,7 @@ fn reads_that_are_interrupted(rt: HostRuntime) {
     }
 }
 
-/// The status of a command line over a writer, and the writer.
+/// Runs a command line over a writer, and returns its status and the writer.
 fn write_to<T: Threads + Wait + Clock + Sync + Abort + AllocGlobal + Open>(
     rt: &T,
     words: &[&str],
@@ -134,7 +134,7 @@ fn write_to<T: Threads + Wait + Clock + Sync + Abort + AllocGlobal + Open>(
     (status, out)
 }
 
-/// The writer takes seven bytes, fails once, and would take more after that.
+/// Uses a writer that takes seven bytes, fails once, and would take more afterwards.
 #[test]
 fn writes_that_fail_once(rt: HostRuntime) {
     let stop = Stop::Fails(ErrorKind::Other);

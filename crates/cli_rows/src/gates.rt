@@ -8,7 +8,7 @@ use std::test::Fail;
 use stm_attempt::{Gate, Point};
 use vac_load::{FixedDraws, Settings};
 
-/// A gate that counts the commits that have stored their values.
+/// A gate that counts the commits that have written back their values.
 #[derive(Drop)]
 struct Stored<'a>(&'a AtomicU32);
 
@@ -20,7 +20,7 @@ impl<'a> Gate for Stored<'a> {
     }
 }
 
-/// The words of one client make questions, those of the other trips that book, in two rounds.
+/// Draws questions for one client and trips that book for the other, in two rounds.
 #[test]
 fn each_gate_stays_with_its_client(rt: HostRuntime) -> Result<(), Fail> {
     let (asking, booking) = (AtomicU32::new(0), AtomicU32::new(0));

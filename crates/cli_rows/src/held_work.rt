@@ -1,4 +1,4 @@
-//! Histories that are held against the work that was handed out.
+//! Histories that are checked against the workload that was handed out.
 
 use crate::texts::Row;
 use crate::verdicts::BLOCKS;
@@ -7,7 +7,8 @@ use std::test::Fail;
 use vac_judge::judge_work;
 use vac_streams::StreamFault;
 
-/// What is written of a history, held against these tasks, and whether it is legal.
+/// Returns whether a history is legal when it is checked against these tasks, and the judge's
+/// output.
 fn held(alloc: Global, tasks: &str, history: &str) -> Result<(bool, Vec<u8>), StreamFault> {
     let mut tasks = tasks.as_bytes();
     let mut history = history.as_bytes();
@@ -16,7 +17,7 @@ fn held(alloc: Global, tasks: &str, history: &str) -> Result<(bool, Vec<u8>), St
     Ok((legal, text))
 }
 
-/// The work of most histories.
+/// The workload of most histories.
 const WORK: &str = "0 newcust 3\n1 bill 3\n2 audit\n1 newcust 4\n1 bill 4\n";
 
 #[test]

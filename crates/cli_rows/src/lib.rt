@@ -1,7 +1,8 @@
-//! Tests of the load, of the program's calls and of the judges: scripts, dumps, checks and command
-//! lines over input and output that fail, histories held against work, drawn tasks, loads of one
-//! client, of several that meet, and with memory refused, the times of a history, the text of
-//! attempts, and verdicts and orders that were worked out by hand.
+//! Tests of the load, of the program's calls and of the judges. The tests run scripts, dumps,
+//! checks and command lines over input and output that fail. They check histories against
+//! workloads, drawn tasks, loads of one client, loads of several clients that meet, loads with
+//! memory refused, the times of a history, and the text of attempts. Verdicts and linearizations
+//! were worked out by hand.
 #![tactic(auto)]
 
 #[cfg(test)]

@@ -1,5 +1,5 @@
-//! Loads and openings as tests make them. Nothing is said of what they leave, but for whose client
-//! it is.
+//! Loads and setup phases as the tests run them. Contracts say nothing about their results, except
+//! which manager a client belongs to.
 ghost use Rattle.std.specs.Prelude.{◌≡◌, true, IfOk};
 ghost use Rattle.vac_draws.specs.Setting.{is_settings};
 
@@ -11,7 +11,7 @@ use stm_attempt::{Gate, NoGate};
 use vac_load::{Draws, FixedDraws, LoadFault, LoadReport, Settings, open, run_load, run_load_with};
 use vac_manager::{Client, Fault, Manager, Session};
 
-/// A load of one client, all of whose words are 0.
+/// Runs a load of one client that draws only zeros.
 pub(crate) fn load_of_zeros<R: Threads + Wait + AllocGlobal>(
     rt: &R,
     settings: &Settings,
@@ -22,7 +22,7 @@ pub(crate) fn load_of_zeros<R: Threads + Wait + AllocGlobal>(
     run_load_with(rt, settings, FixedDraws(0), clients)
 }
 
-/// What a load leaves whose words are drawn from the seed of its settings.
+/// Runs a load whose words are drawn from the seed of its settings, and returns its report.
 pub(crate) fn seeded_load<R: Threads + Wait + Abort + AllocGlobal>(
     rt: &R,
     settings: &Settings,
@@ -33,7 +33,7 @@ pub(crate) fn seeded_load<R: Threads + Wait + Abort + AllocGlobal>(
     loaded
 }
 
-/// What a load of these clients leaves, whose opening has words that are 0.
+/// Runs a load of these clients, whose setup phase draws only zeros, and returns its report.
 pub(crate) fn gated_load<R: Threads + Wait + Abort + AllocGlobal, G: Gate + Send + Drop>(
     rt: &R,
     settings: &Settings,
@@ -45,7 +45,7 @@ pub(crate) fn gated_load<R: Threads + Wait + Abort + AllocGlobal, G: Gate + Send
     loaded
 }
 
-/// A manager with the entries of the opening, and its client.
+/// Returns a manager with the entries of the setup phase, and its client.
 pub(crate) fn opened<D: Draws>(
     alloc: Global,
     settings: &Settings,

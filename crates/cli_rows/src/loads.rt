@@ -50,7 +50,7 @@ fn one_client_asks_a_thousand_times(rt: HostRuntime) {
     same(&rt, &report.used, &report.bookings);
 }
 
-/// The version at which an opening found the clock spent, where that ended the load.
+/// Returns the version at which the setup phase found the clock spent, if that ended the load.
 fn spent_in_opening(loaded: Result<LoadReport, LoadFault>) -> Option<u64> {
     match loaded {
         Err(LoadFault::Opening(fault)) => spent_at(fault),

@@ -1,4 +1,4 @@
-//! The opening of a load, and the loop of one client.
+//! The setup phase of a load, and the loop of one client.
 
 ghost use Rattle.std.specs.Prelude.{◌≡◌, true};
 ghost use Rattle.vac_draws.specs.Setting.{is_settings};
@@ -12,7 +12,7 @@ use vac_load::{Draws, FixedDraws, PcgDraws, Settings, Tally, client_loop};
 use vac_manager::{Fault, Session};
 use vac_model::{Command, Reply, Task};
 
-/// A gate that counts the answers that it is told of.
+/// A gate that counts the completed calls.
 #[derive(Drop)]
 struct Answers(u64);
 
@@ -24,7 +24,8 @@ impl Gate for Answers {
     }
 }
 
-/// How the tasks of one client end, how many answers its gate is told of, and a report after them.
+/// Runs the loop of one client, and returns the counts of its tasks, the completed calls that its
+/// gate counted, and a report afterwards.
 fn loop_alone<D: Draws>(
     alloc: Global,
     settings: &Settings,

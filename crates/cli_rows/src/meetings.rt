@@ -8,8 +8,8 @@ use std::test::Fail;
 use stm_attempt::{Gate, Point};
 use vac_load::{FixedDraws, Settings};
 
-/// A gate that shows that its client is at its first commit, and waits until it sees the other's.
-/// It counts the answers that it is told of.
+/// A gate that shows that its client is at its first commit, and waits until the other client
+/// shows the same. The gate counts the completed calls.
 #[derive(Drop)]
 struct Meeting<'a> {
     mine: &'a AtomicBool,

@@ -1,4 +1,4 @@
-//! Texts of a few attempts, and what is written of them.
+//! Texts of a few attempts, with the judge's output.
 
 use crate::texts::{Row, fill_up, in_pieces};
 use std::alloc::{AllocError, Global};
@@ -6,10 +6,10 @@ use std::test::Fail;
 use vac_opaque::{ATTEMPT_BYTES, judge_attempts};
 use vac_streams::StreamFault;
 
-/// How many words there are where the rows are judged.
+/// Words of the memory that the attempts are judged for.
 const WORDS: u32 = 8;
 
-/// What is written of a text of attempts.
+/// Returns the judge's output for a text of attempts.
 fn judged_attempts(alloc: Global, text: &[u8]) -> Result<Vec<u8>, StreamFault> {
     let mut input = text;
     let mut output = Vec::new(alloc);
@@ -133,7 +133,7 @@ fn lines_that_are_no_attempts(rt: HostRuntime) -> Result<(), Fail> {
     Ok(())
 }
 
-/// A line of `bytes` bytes: the last value that it writes is filled up with leading zeros.
+/// Returns a line of `bytes` bytes: leading zeros fill up the last value that the line has.
 fn filled_attempt(alloc: Global, bytes: usize) -> Result<Vec<u8>, AllocError> {
     let mut line = Vec::new(alloc);
     line.extend_from_slice(b"0 0 0 abort")?;
@@ -160,7 +160,7 @@ fn attempts_of_most_bytes(rt: HostRuntime) -> Result<(), Fail> {
     Ok(())
 }
 
-/// What is written of a text that is given in two pieces, the first of `first` bytes.
+/// Returns the judge's output for a text that is given in two pieces, the first of `first` bytes.
 fn attempts_in_pieces(alloc: Global, text: &[u8], first: usize) -> Result<Vec<u8>, StreamFault> {
     let mut input = in_pieces(text, first);
     let mut output = Vec::new(alloc);

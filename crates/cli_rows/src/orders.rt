@@ -1,16 +1,16 @@
-//! Histories of a few lines of which no order is claimed, and what is written of them.
+//! Histories of a few lines that claim no order, with the output of the search.
 
 use crate::texts::Row;
+use judge_object::Watcher;
 use std::alloc::Global;
 use std::test::Fail;
 use vac_order::{Outcome, order_history};
-use vac_quick::Watcher;
 use vac_streams::StreamFault;
 
-/// The blocks of the system.
+/// Blocks of the system.
 const BLOCKS: u32 = 9;
 
-/// What is written of a history in `steps` steps, and what is returned.
+/// Searches for a linearization in at most `steps` steps, and returns the outcome and the output.
 fn ordered(alloc: Global, steps: u64, history: &str) -> Result<(Outcome, Vec<u8>), StreamFault> {
     let mut history = history.as_bytes();
     let mut text = Vec::new(alloc);
@@ -18,18 +18,18 @@ fn ordered(alloc: Global, steps: u64, history: &str) -> Result<(Outcome, Vec<u8>
     Ok((outcome, text))
 }
 
-/// Only before the first call does the last one give its reply.
+/// A history whose last call gives its reply only before the first call.
 const LAST_FIRST: &str = "1 0 9 newcust 1 -> true\n2 0 9 newcust 2 -> true\n3 0 9 leave 1 -> -1\n";
 
-/// Its lines in the order that is found.
+/// The lines of `LAST_FIRST` in the linearization found.
 const PUT_FIRST: &str = "3 0 9 leave 1 -> -1\n1 0 9 newcust 1 -> true\n2 0 9 newcust 2 -> true\n";
 
-/// Each of two orders of the third call and the fourth is right, and the bill tells that the one
-/// that ended later came first.
+/// A history in which both orders of the third and the fourth call give correct replies; the bill
+/// shows that the call that ended later came first.
 const GOES_BACK: &str = "0 0 1 add car 1 9 50 -> true\n0 1 2 newcust 1 -> true\n\
     1 3 8 reserve 1 car 1 -> true\n2 3 9 add car 1 1 80 -> true\n0 10 11 bill 1 -> 80\n";
 
-/// Its lines in the order that is found.
+/// The lines of `GOES_BACK` in the linearization found.
 const GONE_BACK: &str = "0 0 1 add car 1 9 50 -> true\n0 1 2 newcust 1 -> true\n\
     2 3 9 add car 1 1 80 -> true\n1 3 8 reserve 1 car 1 -> true\n0 10 11 bill 1 -> 80\n";
 
@@ -67,18 +67,20 @@ fn histories_that_have_an_order(rt: HostRuntime) -> Result<(), Fail> {
     Ok(())
 }
 
-/// Write skew: the trip found the customer whom the bill left out, and the bill has no flight.
+/// Write skew: the trip found the customer whom the leave removed, and the leave's bill has no
+/// flight.
 const WRITE_SKEW: &str = "0 0 1 add car 1 1 5 -> true\n0 1 2 add flight 1 1 8 -> true\n\
     0 2 3 newcust 1 -> true\n0 3 4 reserve 1 car 1 -> true\n1 5 9 leave 1 -> 5\n\
     2 5 9 trip 1 flight 1 -> trip cust=exists car=- flight=1:true room=-\n";
 
-/// A state that never was: the audit saw the car of the update, and not its flight.
+/// A state that never existed: the audit saw the car of the update, and not its flight.
 const HALF_AN_UPDATE: &str = "0 0 1 add car 1 2 5 -> true\n\
     1 2 9 update add car 1 1 6 ; add flight 1 1 6 -> update true true\n\
     2 3 4 audit -> cars=1 flights=0 rooms=0 customers=0 bookings=0 used=0 free=3 total=3 \
     billed=0\n";
 
-/// Any order of the first three calls leads to one state, and in none does the last give its reply.
+/// A history whose first three calls reach one state in any order; in none of these orders does
+/// the last call give its reply.
 const NEVER_RIGHT: &str = "0 0 9 newcust 1 -> true\n1 0 9 newcust 2 -> true\n\
     2 0 9 newcust 3 -> true\n3 0 9 bill 1 -> 7\n";
 
@@ -165,7 +167,7 @@ fn searches_that_are_cut_short(rt: HostRuntime) -> Result<(), Fail> {
     Ok(())
 }
 
-/// Counts the searches that begin.
+/// A watcher that counts the searches that begin.
 #[derive(Drop)]
 struct Begun {
     searches: u64,
@@ -179,7 +181,7 @@ impl Watcher for Begun {
     }
 }
 
-/// How many searches are begun for a history, and what is returned.
+/// Returns the number of searches begun for a history, and the outcome.
 fn searches(alloc: Global, steps: u64, history: &str) -> Result<(u64, Outcome), StreamFault> {
     let mut history = history.as_bytes();
     let mut text = Vec::new(alloc);
@@ -191,12 +193,12 @@ fn searches(alloc: Global, steps: u64, history: &str) -> Result<(u64, Outcome), 
 #[test]
 fn searches_that_decide(rt: HostRuntime) -> Result<(), Fail> {
     let rows: [(&str, u64, u64, Outcome); 7] = [
-        // nothing is looked for
+        // no search is needed
         ("1 2 - add car 1 1 5 -> ?\n", 10, 0, Outcome::Ordered),
-        // the quick search finds an order, in just as many steps
+        // the quick search finds a linearization, in exactly as many steps
         (LAST_FIRST, 3, 1, Outcome::Ordered),
         (GOES_BACK, 7, 1, Outcome::Ordered),
-        // that there is none, only the exact one can tell
+        // only the exact search can decide that there is no linearization
         (NEVER_RIGHT, 100, 2, Outcome::Illegal),
         (WRITE_SKEW, 100, 2, Outcome::Illegal),
         (GOES_BACK, 6, 2, Outcome::Undecided),

@@ -1,7 +1,7 @@
-//! Memory that is refused to a load: it names its fault, or counts the task that was refused, and
-//! the load that is run again answers as it should. The script `tests/refused_calls` runs this test
-//! with each allocation refused in turn, and reads the lines that it prints; in any other run none
-//! is refused.
+//! Loads with memory refused. Such a load names its fault or counts the task that was refused, and
+//! the load that is run again afterwards gives the correct replies. The script
+//! `tests/refused_calls` runs this test with each allocation refused in turn, and reads the lines
+//! that the test prints. In any other run no allocation is refused.
 
 use crate::loading::load_of_zeros;
 use crate::same::same;
@@ -16,8 +16,8 @@ const TWO_ROUNDS: Settings = Settings {
     ..SETTINGS
 };
 
-/// What was refused, where something was: the load, its thread, a command of its opening, or a task
-/// that it then counts so. No other fault may be named.
+/// Returns what was refused, if anything was: the load, its thread, a command of its setup phase,
+/// or a task that the load then counts as refused memory. Any other fault fails the test.
 fn refused(rt: &impl Abort, loaded: &Result<LoadReport, LoadFault>) -> Option<&'static str> {
     match loaded {
         Ok(

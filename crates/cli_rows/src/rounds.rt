@@ -35,7 +35,7 @@ fn a_clock_that_ends_is_renewed(rt: HostRuntime) {
     same(&rt, &(in_one, in_two), &(Ok(half), Ok(whole)));
 }
 
-/// Words that count up, the next of which is shown.
+/// Words that count up; the next word is shown in a shared counter.
 #[derive(Drop)]
 struct Recording<'a> {
     next: u32,
@@ -53,7 +53,7 @@ impl<'a> Draws for Recording<'a> {
     }
 }
 
-/// A gate that counts the answers that it is told of.
+/// A gate that counts the completed calls in a shared counter.
 #[derive(Drop)]
 struct Counting<'a>(&'a AtomicU32);
 
@@ -65,7 +65,8 @@ impl<'a> Gate for Counting<'a> {
     }
 }
 
-/// How far the words of the opening and of the client went, and how many answers were told.
+/// Shared counters: the words drawn by the setup phase, the words drawn by the client, and the
+/// completed calls.
 #[derive(Drop)]
 struct Shown {
     opening: AtomicU32,
@@ -73,7 +74,7 @@ struct Shown {
     answers: AtomicU32,
 }
 
-/// A load of one client, in words that count up, which are shown.
+/// Runs a load of one client with words that count up, and shows how many were drawn.
 fn counted_load<'a, R: Threads + Wait + AllocGlobal>(
     rt: &R,
     settings: &Settings,
@@ -93,7 +94,8 @@ fn counted_load<'a, R: Threads + Wait + AllocGlobal>(
     run_load_with(rt, settings, opening, clients)
 }
 
-/// What the load leaves, how far the words of the client went, and how many answers were told.
+/// Returns the result of the load, the number of words that the client drew, and the number of
+/// completed calls.
 fn counted<R: Threads + Wait + AllocGlobal>(
     rt: &R,
     settings: &Settings,

@@ -1,4 +1,4 @@
-//! The settings of a small load, and what it leaves where each task is a trip to the first car.
+//! The settings of a small load, and its reports if each task is a trip to the first car.
 
 use vac_load::{Settings, Tally};
 use vac_manager::Fault;
@@ -44,7 +44,7 @@ pub(crate) const SIX_TRIPS: Report = Report {
     billed: 300,
 };
 
-/// The tally where each task was answered.
+/// Returns the counts of a load in which each task completed.
 pub(crate) fn all_answered(answered: u64) -> Tally {
     Tally {
         answered,
@@ -54,7 +54,7 @@ pub(crate) fn all_answered(answered: u64) -> Tally {
     }
 }
 
-/// The version at which the clock was found spent, where that is the fault.
+/// Returns the version at which the clock was found spent, if the fault is a spent clock.
 pub(crate) fn spent_at(fault: Fault) -> Option<u64> {
     match fault {
         Fault::Spent { version } => Some(version.get()),

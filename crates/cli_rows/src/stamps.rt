@@ -11,7 +11,7 @@ use vac_history::{Journal, Since, write_history};
 use vac_manager::{Keep, Place, Placed};
 use vac_model::{Command, Reply, Task};
 
-/// A clock that shows how often it was read before.
+/// A clock that shows the number of its earlier readings.
 #[derive(Drop)]
 struct Readings {
     count: Cell<u64>,
@@ -32,7 +32,7 @@ impl Clock for Readings {
 /// The journal of a client, by this clock.
 type Kept<'a> = Journal<Since<'a, Readings>>;
 
-/// Keeps a call that made this customer by this version.
+/// Records a call that made this customer with this version.
 fn keep(rt: &impl Abort, journal: &mut Kept<'_>, id: u32, version: u64) {
     let version = Version::new(version).expect(rt, "it is a version");
     let place = Place {
@@ -48,7 +48,8 @@ fn keep(rt: &impl Abort, journal: &mut Kept<'_>, id: u32, version: u64) {
     );
 }
 
-/// Whether the history of the opening and of a client is written, and its text.
+/// Writes the history of the setup phase and of a client, and returns whether that succeeds, and
+/// the text.
 fn written(
     rt: &impl Abort,
     alloc: Global,
@@ -62,7 +63,8 @@ fn written(
     (written, out)
 }
 
-/// The start is reading 0. Each call is kept with the reading before it and the one after it.
+/// Starts the clock at reading 0. Each call is recorded with the reading before the call and the
+/// reading after it.
 #[test]
 fn calls_have_the_readings_around_them(rt: HostRuntime) {
     let clock = Readings {

@@ -8,7 +8,7 @@ use std::io::{ErrorKind, Read, Write};
 use std::process::Abort;
 use vac_cli::{StreamFault, check_words, dump_script, run_script};
 
-/// Which call is made.
+/// The function that is called.
 #[derive(Clone, Copy, Debug, PartialEq, Eq)]
 enum Call {
     Run,
@@ -16,7 +16,8 @@ enum Call {
     Check,
 }
 
-/// A call with its input, how often it reads that byte by byte, what it returns and what it writes.
+/// A call with its input, the number of its reads if each read gives one byte, its result and its
+/// output.
 #[derive(Clone, Copy)]
 struct Row {
     call: Call,
@@ -26,12 +27,12 @@ struct Row {
     output: &'static [u8],
 }
 
-/// The words of the dump, but for one that is no pointer.
+/// The words of the dump, except that one word is no pointer.
 const DAMAGED: &[u8] =
     b"0\n17\n0\n0\n0\n0\n0\n0\n0\n0\n0\n0\n0\n0\n0\n0\n7\n0\n0\n0\n0\n100\n100\n50\n";
 
-/// The last read of a whole input gives no byte. A check stops at the end of a line that is no
-/// word.
+/// Calls over input that does not fail. The last read of a complete input gives no byte. A check
+/// stops at the end of a line that is no word.
 const ROWS: [Row; 6] = [
     Row {
         call: Call::Run,
@@ -78,10 +79,10 @@ const ROWS: [Row; 6] = [
     },
 ];
 
-/// What a call returns.
+/// The result of a call.
 type Ended = Result<bool, StreamFault>;
 
-/// Makes the call of a row.
+/// Makes a call.
 fn play<R: Read, W: Write>(alloc: Global, call: Call, input: &mut R, output: &mut W) -> Ended {
     match call {
         Call::Run => run_script(alloc, 1024, input, output).map(|()| true),
@@ -90,8 +91,8 @@ fn play<R: Read, W: Write>(alloc: Global, call: Call, input: &mut R, output: &mu
     }
 }
 
-/// What is written before a read of the script, byte by byte, fails: the output lines of the lines
-/// that have ended.
+/// Returns the output before a byte-by-byte read of the script fails: the output lines of the
+/// script's lines that have ended.
 fn written_before(call: Call, fails_at: usize) -> &'static [u8] {
     match (call, fails_at) {
         (Call::Run, 17..=27) => b"true\n",
@@ -101,8 +102,8 @@ fn written_before(call: Call, fails_at: usize) -> &'static [u8] {
     }
 }
 
-/// What the call of a row returns and writes, and how often it reads, where one of its reads, byte
-/// by byte, fails.
+/// Returns the result, the output and the number of reads of a call when one of its byte-by-byte
+/// reads fails.
 fn play_reading(
     alloc: Global,
     row: &Row,
@@ -115,7 +116,7 @@ fn play_reading(
     (ended, out, input.calls)
 }
 
-/// What it should return and write, where that read fails for good.
+/// Returns the expected result and output when this read fails for good.
 fn wanted_of_reads(row: &Row, fails_at: usize) -> (Ended, &'static [u8]) {
     if fails_at < row.reads {
         (Err(StreamFault::Read), written_before(row.call, fails_at))
@@ -124,7 +125,7 @@ fn wanted_of_reads(row: &Row, fails_at: usize) -> (Ended, &'static [u8]) {
     }
 }
 
-/// The call of a row, each of whose reads fails in turn.
+/// Checks a call when each of its reads fails in turn.
 fn fail_each_read(rt: &impl Abort, alloc: Global, row: &Row) {
     for fails_at in 0..row.reads.saturating_add(2) {
         let (ended, out, calls) = play_reading(alloc, row, fails_at, ErrorKind::Other);
@@ -142,7 +143,7 @@ fn readers_that_fail(rt: HostRuntime) {
     }
 }
 
-/// The call of a row, each of whose reads is interrupted in turn.
+/// Checks a call when each of its reads is interrupted in turn.
 fn interrupt_each_read(rt: &impl Abort, alloc: Global, row: &Row) {
     let reads = row.reads.saturating_add(1);
     for fails_at in 0..row.reads {
@@ -159,7 +160,7 @@ fn readers_that_are_interrupted(rt: HostRuntime) {
     }
 }
 
-/// What the call of a row returns, and its writer, which takes nothing at one write.
+/// Returns the result of a call and its writer, which takes nothing at one write.
 fn play_writing(alloc: Global, row: &Row, stops_at: usize, stop: Stop) -> (Ended, Sink) {
     let mut input = Pieces::of(row.input, 5, NEVER, ErrorKind::Other);
     let mut out = Sink::new(alloc, 1, stops_at, stop);
@@ -167,12 +168,12 @@ fn play_writing(alloc: Global, row: &Row, stops_at: usize, stop: Stop) -> (Ended
     (ended, out)
 }
 
-/// Whether it writes all in the end.
+/// Returns whether the call writes its complete output.
 fn is_whole(row: &Row, stops_at: usize, stop: Stop) -> bool {
     stop.is_tried_again() || stops_at >= row.output.len()
 }
 
-/// What it should return and write.
+/// Returns the expected result and output.
 fn wanted_of_writes(row: &Row, stops_at: usize, stop: Stop) -> (Ended, &'static [u8]) {
     if is_whole(row, stops_at, stop) {
         (Ok(row.answer), row.output)
@@ -182,7 +183,7 @@ fn wanted_of_writes(row: &Row, stops_at: usize, stop: Stop) -> (Ended, &'static 
     }
 }
 
-/// The call of a row, each of whose writes is stopped in turn.
+/// Checks a call when each of its writes is stopped in turn.
 fn stop_each_write(rt: &impl Abort, alloc: Global, row: &Row, stop: Stop) {
     for stops_at in 0..row.output.len().saturating_add(2) {
         let (ended, out) = play_writing(alloc, row, stops_at, stop);

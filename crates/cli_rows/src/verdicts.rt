@@ -1,4 +1,4 @@
-//! Histories of a few lines, and what is written of them.
+//! Histories of a few lines, with the judge's output.
 
 use crate::texts::{Row, fill_up, in_pieces};
 use std::alloc::{AllocError, Global};
@@ -6,10 +6,10 @@ use std::test::Fail;
 use vac_judge::{CALL_BYTES, Judge, Verdict, judge_history, print_verdict};
 use vac_streams::StreamFault;
 
-/// The blocks of the system.
+/// Blocks of the system.
 pub(crate) const BLOCKS: u32 = 4;
 
-/// The verdict on these lines.
+/// Returns the verdict on these lines.
 fn verdict_on(alloc: Global, lines: &[&str]) -> Result<Verdict, StreamFault> {
     let mut judge = Judge::new(alloc, BLOCKS)?;
     for line in lines {
@@ -20,7 +20,7 @@ fn verdict_on(alloc: Global, lines: &[&str]) -> Result<Verdict, StreamFault> {
     Ok(Verdict::Legal(judge.summary()))
 }
 
-/// The text of the verdict on these lines.
+/// Returns the text of the verdict on these lines.
 fn judged(alloc: Global, lines: &[&str]) -> Result<Vec<u8>, StreamFault> {
     let verdict = verdict_on(alloc, lines)?;
     let mut text = Vec::new(alloc);
@@ -146,7 +146,7 @@ fn lines_that_are_no_calls(rt: HostRuntime) -> Result<(), Fail> {
     Ok(())
 }
 
-/// A line of `bytes` bytes: its reply is filled up.
+/// Returns a line of `bytes` bytes, whose reply is filled up.
 fn filled_call(alloc: Global, bytes: usize) -> Result<Vec<u8>, AllocError> {
     let mut line = Vec::new(alloc);
     line.extend_from_slice(b"0 0 0 newcust 1 -> ")?;
@@ -154,7 +154,7 @@ fn filled_call(alloc: Global, bytes: usize) -> Result<Vec<u8>, AllocError> {
     Ok(line)
 }
 
-/// The text of the verdict that a first line brings, or none where its call is right.
+/// Returns the text of the verdict after a first line, empty if the call of the line is correct.
 fn first_judged(alloc: Global, line: &[u8]) -> Result<Vec<u8>, StreamFault> {
     let mut judge = Judge::new(alloc, BLOCKS)?;
     let mut text = Vec::new(alloc);
@@ -196,7 +196,8 @@ fn long_lines_in_pieces(rt: HostRuntime) -> Result<(), Fail> {
     Ok(())
 }
 
-/// What is written of a history that is given in two pieces, the first of `first` bytes.
+/// Returns the judge's output for a history that is given in two pieces, the first of `first`
+/// bytes.
 fn history_in_pieces(alloc: Global, history: &[u8], first: usize) -> Result<Vec<u8>, StreamFault> {
     let mut input = in_pieces(history, first);
     let mut text = Vec::new(alloc);

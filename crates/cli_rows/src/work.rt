@@ -1,4 +1,4 @@
-//! Histories that are held against the tasks in a file.
+//! Histories that are checked against the tasks in a file.
 
 use crate::command_lines::{Ended, run_line};
 use crate::failing::{NEVER, Pieces, Sink, Stop};
@@ -11,10 +11,10 @@ use std::thread::Threads;
 use std::time::Clock;
 use vac_cli::Open;
 
-/// The name of the one file that there is.
+/// The name of the only file that exists.
 const NAME: &str = "tasks.txt";
 
-/// One file, whose reads fail at one of them, and how all others fail to open.
+/// One file that fails at one read; all other files fail to open with this error.
 #[derive(Drop)]
 struct Shelf {
     bytes: &'static [u8],
@@ -37,11 +37,11 @@ impl Open for Shelf {
 /// A history of one call.
 const HISTORY: &[u8] = b"1 0 5 newcust 1 -> true\n";
 
-/// What is said of it where it is whole.
+/// The judge's output for `HISTORY` if the history is complete.
 const WHOLE: &[u8] = b"legal calls=1 clients=1\ncars=0 flights=0 rooms=0 customers=1 bookings=0 \
     used=0 free=0 total=0 billed=0\n";
 
-/// Judges a history by the tasks in the file of this name.
+/// Judges a history against the tasks in the file of this name.
 fn judge<T: Threads + Wait + Clock + Sync + Abort + AllocGlobal, R: Read, W: Write>(
     rt: &T,
     files: &Shelf,
@@ -53,7 +53,7 @@ fn judge<T: Threads + Wait + Clock + Sync + Abort + AllocGlobal, R: Read, W: Wri
     run_line(rt, files, words, input, output)
 }
 
-/// Tasks in the file, a history, the judge's status, and what it writes.
+/// Tasks in the file, a history, the judge's status, and its output.
 const AGAINST_WORK: [(&[u8], &[u8], u8, &[u8]); 6] = [
     (b"1 newcust 1\n", HISTORY, 0, WHOLE),
     (
@@ -84,8 +84,8 @@ fn histories_against_work(rt: HostRuntime) {
     }
 }
 
-/// The file's name, the read of it that fails, how other files fail to open, what is written, and
-/// how often the history is read.
+/// The name of the file, the read of the file that fails, the error of opening other files, the
+/// output, and the number of reads of the history.
 const FAILING: [(&str, usize, ErrorKind, &[u8], usize); 4] = [
     ("other.txt", NEVER, ErrorKind::NotFound, b"fault open\n", 0),
     (
@@ -99,7 +99,7 @@ const FAILING: [(&str, usize, ErrorKind, &[u8], usize); 4] = [
     (NAME, 1, ErrorKind::NotFound, b"fault read\n", 0),
 ];
 
-/// The file is opened before the history is read. One that cannot be opened has its own fault.
+/// Opens the file before the history is read. A file that cannot be opened has a fault of its own.
 #[test]
 fn files_that_fail(rt: HostRuntime) {
     for (name, fails_at, missing, output, reads) in FAILING {
@@ -116,14 +116,14 @@ fn files_that_fail(rt: HostRuntime) {
     }
 }
 
-/// The tasks of the history.
+/// The file with the tasks of the history.
 const FILE: Shelf = Shelf {
     bytes: b"1 newcust 1\n",
     fails_at: NEVER,
     missing: ErrorKind::NotFound,
 };
 
-/// The writer takes seven bytes, fails once, and would take more after that.
+/// Uses a writer that takes seven bytes, fails once, and would take more afterwards.
 #[test]
 fn a_verdict_that_is_cut(rt: HostRuntime) {
     let mut input = HISTORY;
@@ -136,7 +136,7 @@ fn a_verdict_that_is_cut(rt: HostRuntime) {
     );
 }
 
-/// The work is read to its end, and then the history fails.
+/// Reads the tasks to their end; then the read of the history fails.
 #[test]
 fn a_history_that_fails(rt: HostRuntime) {
     let mut input = Pieces::of(HISTORY, 9, 1, ErrorKind::Other);

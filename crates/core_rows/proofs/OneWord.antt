@@ -190,7 +190,7 @@ may_release r d e k a x h q = subst (λ (y : ClientShown). IsAllowed Free r (rel
 one_gone : (k old : ℕ) → without ((k, old) ∷ []) k ≡ []
 one_gone k old = rw (same_number k) refl
 
--- who gives its one lock back, or releases it, holds none
+-- a client that gives its one lock back, or releases it, holds none
 pub given_free : (r : RegionShown) (d e : ClientShown) (k : ℕ) → HasLock k d.value → e ≡ acted r (give_back k) 0 d →
     IsFreeHanded e.value
 given_free r d e k h q = subst (λ (y : ClientShown). IsFreeHanded y.value) (sym q) (

@@ -1,4 +1,5 @@
-//! Events played one by one: what each finds, which are refused, and the order that comes of them.
+//! Events played one by one: the word that each finds, the events that are refused, and the
+//! resulting order.
 ghost use Rattle.std.specs.Prelude.{◌≤◌};
 
 use crate::events::{
@@ -124,7 +125,8 @@ fn a_lock_given_back_under_a_read(rt: HostRuntime) {
     assert_eq!(rt; core.order(), [reader(1, 3, 0, 0)].as_slice());
 }
 
-/// Client 2 writes and ticks twice between a read of client 1 and its won tick and validation.
+/// Client 2 writes and ticks twice between a read of client 1 and client 1's won tick and
+/// validation.
 #[test]
 fn a_writer_decided_below_the_clock(rt: HostRuntime) {
     let core = two_begun(&rt, rt.alloc());
@@ -157,7 +159,7 @@ fn a_writer_decided_below_the_clock(rt: HostRuntime) {
     assert_eq!(rt; core.order(), want.as_slice());
 }
 
-/// A writer stores two words of a stripe before it releases it.
+/// A writer stores two words of a stripe before it releases the stripe's lock.
 #[test]
 fn two_words_of_one_stripe(rt: HostRuntime) {
     let core = opened(&rt, rt.alloc(), 4);
@@ -192,7 +194,7 @@ fn theorems(_rt: HostRuntime) {
     law_theorem::<FreeLaw, Global>();
 }
 
-/// Its clock is at its last version, 1, and word 9 is 5.
+/// Returns a core whose clock is at its last version, 1, and whose word 9 is 5.
 fn spent(rt: &impl Abort, alloc: Global) -> Core {
     let core = Core::start(alloc, &[0; 32], 1, 32).expect(rt, "there is memory");
     let acts = [

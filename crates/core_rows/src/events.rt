@@ -1,11 +1,11 @@
-//! Events with what comes of them, as the tests write lists of them down.
+//! Events with their expected outcomes, as the tests write lists of them down.
 
 use crate::moves::{Kind, Move};
 use std::alloc::{AllocError, Allocator};
 use std::process::Abort;
 use stm_replay::{Core, Event, NotAllowed};
 
-/// An event that a test asks for.
+/// An event that a test plays.
 #[derive(Clone, Copy)]
 pub(crate) enum Act<'a> {
     Plain(Move),
@@ -21,22 +21,22 @@ pub(crate) enum Act<'a> {
     },
 }
 
-/// What comes of an event.
+/// The expected outcome of an event.
 #[derive(Clone, Copy, Debug, PartialEq, Eq)]
 pub(crate) enum Outcome {
-    /// It is played, and its client's last step found this word, or none.
+    /// The event is played, and its client's last step found this word, or none.
     Found(Option<u64>),
-    /// It is not allowed.
+    /// The event is not allowed.
     Refused,
 }
 
-/// It is played and finds no word.
+/// The event is played and finds no word.
 pub(crate) const DONE: Outcome = Outcome::Found(None);
 
-/// It is not allowed.
+/// The event is not allowed.
 pub(crate) const REFUSED: Outcome = Outcome::Refused;
 
-/// It is played and finds a word.
+/// Returns the outcome of an event that is played and finds a word.
 pub(crate) fn finds(word: u64) -> Outcome {
     Outcome::Found(Some(word))
 }
@@ -108,7 +108,7 @@ pub(crate) fn renew<'a>(client: u32, last: u64) -> Act<'a> {
 }
 
 impl<'a> Act<'a> {
-    /// The client that does it.
+    /// Returns the client of the event.
     pub(crate) fn client(&self) -> u32 {
         match self {
             Act::Plain(turn) => turn.client,
@@ -116,7 +116,7 @@ impl<'a> Act<'a> {
         }
     }
 
-    /// Its kind.
+    /// Returns the kind of the event.
     pub(crate) fn kind(&self) -> Kind {
         match self {
             Act::Plain(turn) => turn.kind,
@@ -125,7 +125,7 @@ impl<'a> Act<'a> {
         }
     }
 
-    /// The event.
+    /// Returns the event itself.
     pub(crate) fn event<A: Allocator + Copy>(&self, alloc: A) -> Result<Event<A>, AllocError> {
         match *self {
             Act::Plain(turn) => turn.event(alloc, 0, &[]),
@@ -148,7 +148,7 @@ impl<'a> Act<'a> {
     }
 }
 
-/// Plays events one by one, and looks at what comes of each.
+/// Plays events one by one and compares each outcome with the expected one.
 pub(crate) fn played<A: Allocator + Copy>(
     rt: &impl Abort,
     alloc: A,

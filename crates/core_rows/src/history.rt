@@ -1,5 +1,5 @@
-//! The history of a random list, worked out anew from who was allowed what, and held against what
-//! the core shows.
+//! The history of a random list, computed anew from the events that were allowed, and compared
+//! with the history that the core shows.
 
 use crate::moves::{Kind, Move, Shape, below};
 use crate::player::{Player, Stage};
@@ -9,8 +9,8 @@ use std::process::Abort;
 use stm_core::MOST_GRANTS;
 use stm_replay::{Core, Entry, Event};
 
-/// A decided attempt: its point is the place of a writer's won tick, or of a reader's begin, among
-/// the events.
+/// A decided attempt; its point is the position of a writer's won tick, or of a reader's begin,
+/// among the events.
 #[derive(Drop)]
 struct Decided {
     entry: Entry,
@@ -22,7 +22,7 @@ struct Decided {
 #[derive(Drop)]
 pub(crate) struct History {
     pub shape: Shape,
-    /// The image of the first opening, and that of the present renewal.
+    /// The images of the first opening and of the present renewal.
     first: Vec<u64>,
     opening: Vec<u64>,
     renewal: u32,
@@ -54,17 +54,17 @@ impl History {
         })
     }
 
-    /// Whether the clock is at the last version.
+    /// Returns whether the clock is at the last version.
     pub(crate) fn is_spent(&self) -> bool {
         self.clock == self.shape.last
     }
 
-    /// How many clients there were.
+    /// Returns the number of clients so far.
     pub(crate) fn known(&self) -> u32 {
         self.players.len().min(1000) as u32
     }
 
-    /// How many clients are out.
+    /// Returns the number of clients that are out.
     pub(crate) fn outs(&self) -> u32 {
         let mut outs = 0u32;
         for player in self.players.iter() {
@@ -73,7 +73,7 @@ impl History {
         outs
     }
 
-    /// A client that is out: the next after this many others, or the last.
+    /// Returns the client that is out after skipping `others` others, or the last one that is out.
     pub(crate) fn out_after(&self, others: u32) -> u32 {
         let mut left = others.wrapping_add(1);
         let mut client = 0u32;
@@ -88,7 +88,7 @@ impl History {
         chosen
     }
 
-    /// The event of a move; a tick has what its client is going to write.
+    /// Returns the event of a move; a tick carries the writes that its client plans.
     pub(crate) fn event(&self, alloc: Global, turn: &Move, tag: u64) -> Result<Event, AllocError> {
         match self.player(turn.client) {
             Some(player) => turn.event(alloc, tag, &player.goal),
@@ -96,12 +96,12 @@ impl History {
         }
     }
 
-    /// What is known of a client.
+    /// Returns the known state of a client.
     pub(crate) fn player(&self, client: u32) -> Option<&Player> {
         self.players.get(client.wrapping_sub(1) as usize)
     }
 
-    /// The value of an address in the image of a version.
+    /// Returns the value of an address in the image of a version.
     fn value_at(&self, version: u64, addr: u32) -> u64 {
         let mut newest = 0;
         let mut value = self.opening.get(addr as usize).map_or(0, |word| *word);
@@ -117,16 +117,16 @@ impl History {
         value
     }
 
-    /// The data word of an address: the newest value, but for one that a decided writer has not
-    /// stored yet.
+    /// Returns the data word of an address: the newest value, without a write that a decided
+    /// writer has yet to store.
     fn cell(&self, addr: u32) -> u64 {
         let owed = self.players.iter().find(|player| player.owes(addr));
         let version = owed.map_or(u64::MAX, |player| player.wv.wrapping_sub(1));
         self.value_at(version, addr)
     }
 
-    /// The word of a lock: held or not, with the version of the newest decided writer that does
-    /// not hold it still.
+    /// Returns the version of the newest decided writer of a lock that does not hold the lock any
+    /// more, with the held bit if the lock is held.
     fn lock_word(&self, lock: u32) -> u64 {
         let mut version = 0;
         for attempt in self.decided.iter() {
@@ -146,14 +146,14 @@ impl History {
         version.wrapping_mul(2).wrapping_add(u64::from(held))
     }
 
-    /// Whether the writer of a version holds a lock still.
+    /// Returns whether the writer of a version still holds a lock.
     fn is_kept(&self, version: u64, lock: u32) -> bool {
         self.players
             .iter()
             .any(|player| player.wv == version && player.holds(lock))
     }
 
-    /// The word that an event will find.
+    /// Returns the word that an event will find.
     pub(crate) fn expected(&self, turn: &Move) -> Option<u64> {
         match turn.kind {
             Kind::Begin | Kind::Finish | Kind::Tick => Some(self.clock),
@@ -165,7 +165,7 @@ impl History {
         }
     }
 
-    /// Whether the rules allow an event.
+    /// Returns whether the rules allow an event.
     pub(crate) fn allows(&self, turn: &Move) -> bool {
         let Some(player) = self.player(turn.client).filter(|player| player.out) else {
             return false;
@@ -180,7 +180,7 @@ impl History {
         player.may(turn, &self.shape) && others_may
     }
 
-    /// Takes an event that was allowed. True where it decides.
+    /// Applies an event that was allowed. Returns whether the event decides an attempt.
     pub(crate) fn takes(
         &mut self,
         rt: &impl Abort,
@@ -212,7 +212,7 @@ impl History {
         Ok(decides)
     }
 
-    /// The clock begins anew, on the newest image.
+    /// Renews the clock on the newest image.
     fn renews(&mut self, alloc: Global, last: u64) -> Result<(), AllocError> {
         let mut image = Vec::new(alloc);
         for addr in 0..self.shape.words {
@@ -227,8 +227,8 @@ impl History {
         Ok(())
     }
 
-    /// A client that is split off comes, and one that is gathered goes and leaves its grants and
-    /// one more.
+    /// Adds a client that is split off, or removes one that is gathered. Returns the grants that a
+    /// gathered client leaves, with its own.
     fn comes_and_goes(&mut self, alloc: Global, turn: &Move) -> Result<u32, AllocError> {
         if turn.kind == Kind::Split {
             self.players.push(Player::new(alloc, 0))?;
@@ -245,7 +245,7 @@ impl History {
         }
     }
 
-    /// A client drops its plan to write where a lock or a tick was refused.
+    /// Drops the client's plan to write if a lock or a tick was refused.
     pub(crate) fn drops(&mut self, turn: &Move) {
         if matches!(turn.kind, Kind::Lock | Kind::Tick) {
             if let Some(player) = self.players.get_mut(turn.client.wrapping_sub(1) as usize) {
@@ -254,9 +254,9 @@ impl History {
         }
     }
 
-    /// Plans what a client reads and writes in the attempt that it begins, and what it reads next.
-    /// Now and then the writes are none that can be ticked, an address twice or one outside, or
-    /// the locks come in the wrong order.
+    /// Plans the reads and writes of the attempt that a client begins, and its next read. Now and
+    /// then no tick may carry the writes, an address occurs twice or lies outside, or the locks
+    /// come in the wrong order.
     pub(crate) fn plans(&mut self, rng: &mut Pcg32, turn: &Move) -> Result<(), AllocError> {
         let words = self.shape.words;
         let aim = below(rng, words);
@@ -290,7 +290,7 @@ impl History {
         Ok(())
     }
 
-    /// Holds the words found and the length of the order against the history.
+    /// Compares the words found and the length of the order with the history.
     pub(crate) fn fits(&self, rt: &impl Abort, core: &Core) {
         let mut client = 0;
         assert_eq!(rt; core.found(client), None);
@@ -302,7 +302,7 @@ impl History {
         assert_eq!(rt; core.order().len(), self.decided.len());
     }
 
-    /// Holds the order, and all that was read, against the history.
+    /// Compares the order and all reads with the history.
     pub(crate) fn fits_whole(
         &self,
         rt: &impl Abort,
@@ -315,7 +315,7 @@ impl History {
         self.is_serial(rt, alloc, core.order())
     }
 
-    /// What an attempt has read was in the image of its read version.
+    /// Asserts that an attempt has read words of the image of its read version.
     fn reads_of_one_version(&self, rt: &impl Abort, player: &Player) {
         if player.out && player.stage != Stage::Resting {
             for (addr, value) in player.reads.iter() {
@@ -324,9 +324,9 @@ impl History {
         }
     }
 
-    /// Played one by one in the order, from the first image on, each decided attempt reads what is
-    /// there, and the last leaves the newest image. The points rise, so that no attempt is there
-    /// twice, and so do the versions of a renewal.
+    /// Asserts that the order is serial. Played one by one from the first image on, each decided
+    /// attempt reads what is there, and the last leaves the newest image. The points rise, so that
+    /// no attempt occurs twice, and so do the versions of a renewal.
     fn is_serial(
         &self,
         rt: &impl Abort,
@@ -353,7 +353,7 @@ impl History {
         Ok(())
     }
 
-    /// An image has the newest values.
+    /// Asserts that an image has the newest values.
     fn is_newest(&self, rt: &impl Abort, image: &[u64]) {
         let mut addr = 0;
         for value in image {
@@ -364,7 +364,7 @@ impl History {
 }
 
 impl Decided {
-    /// What a client decides now.
+    /// Returns the attempt that a client decides now.
     fn of(
         alloc: Global,
         client: u32,
@@ -386,7 +386,7 @@ impl Decided {
         })
     }
 
-    /// Reads and writes an image at one go.
+    /// Plays the attempt on an image as one step: asserts its reads and applies its writes.
     fn plays(&self, rt: &impl Abort, image: &mut [u64]) {
         for (addr, value) in self.reads.iter() {
             assert_eq!(rt; image.get(*addr as usize), Some(value));

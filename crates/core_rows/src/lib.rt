@@ -1,7 +1,7 @@
-//! Tests of the words of a transactional memory, of its core, its logs and its regions: events
-//! played one by one, with and without the memory that they take, random lists of events beside a
-//! history that is worked out anew, worked rows of logs, many addresses, openings and closings,
-//! clocks that end and go on, two threads, and each growth refused.
+//! Tests of the words of a transactional memory, of its core, its logs and its regions. Events are
+//! played one by one, with and without the memory that they take. Random lists of events run
+//! beside a history that is computed anew. There are worked examples of logs, many addresses,
+//! openings and closings, clocks that end and go on, two threads, and each growth refused.
 #![tactic(auto)]
 
 #[cfg(test)]

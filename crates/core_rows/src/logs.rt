@@ -1,4 +1,4 @@
-//! Read logs and write logs: worked rows, many addresses, and each growth refused.
+//! Read logs and write logs: worked examples, many addresses, and each growth refused.
 ghost use Rattle.std.specs.Prelude.{ℕ, ◌%◌, ◌<◌, ◌≤◌};
 ghost use Rattle.stm_logs.specs.Log.{IsStriped};
 
@@ -22,7 +22,7 @@ fn clear<A: Allocator + Copy>(log: &mut WriteLog<A>)
     log.clear();
 }
 
-/// Puts a value at an address whose lock is its remainder by the number of stripes.
+/// Puts a value at an address; the lock of the address is its remainder by the number of stripes.
 fn put<A: Allocator + Copy>(
     log: &mut WriteLog<A>,
     stripes: u32,
@@ -36,18 +36,18 @@ fn put<A: Allocator + Copy>(
     log.put(Addr(addr), addr % stripes, value)
 }
 
-/// How many words and locks a log has, and what it has at the address 9.
+/// Returns the numbers of words and locks of a log, and its value at address 9.
 fn sizes_and_nine(log: &WriteLog) -> (usize, usize, Option<u64>) {
     (log.len(), log.lock_count(), log.get(Addr(9)))
 }
 
-/// The locks of a log that has two.
+/// Returns the locks of a log that has two.
 fn two_locks(rt: &impl Abort, log: &WriteLog) -> [u32; 2] {
     assert_eq!(rt; log.lock_count(), 2);
     [log.nth_lock(0), log.nth_lock(1)]
 }
 
-/// The words of a lock.
+/// Returns the words of a lock.
 fn words_of(rt: &impl Abort, alloc: Global, log: &WriteLog, lock: u32) -> Vec<(Addr, u64)> {
     let Ok(words) = log.words_of(lock).collect(alloc) else {
         panic!(rt; "there is no memory")
@@ -55,7 +55,7 @@ fn words_of(rt: &impl Abort, alloc: Global, log: &WriteLog, lock: u32) -> Vec<(A
     words
 }
 
-/// A log in which three values were put, two of them at the address 9.
+/// Returns a log in which three values were put, two of them at address 9.
 fn replaced(alloc: Global) -> Result<WriteLog, AllocError> {
     let mut log = new_log(alloc);
     put(&mut log, 10, 9, 1)?;
@@ -111,7 +111,7 @@ fn put_two(
     put(log, stripes, second.0, second.1)
 }
 
-/// A log whose words have two locks.
+/// Returns a log whose words have two locks.
 fn of_two_locks(alloc: Global) -> Result<WriteLog, AllocError> {
     let mut log = new_log(alloc);
     put_two(&mut log, 4, (9, 1), (6, 2))?;
@@ -119,7 +119,7 @@ fn of_two_locks(alloc: Global) -> Result<WriteLog, AllocError> {
     Ok(log)
 }
 
-/// The words of a log, each with its lock: lock after lock, those of each by address.
+/// Returns the words of a log with their locks: lock by lock, and within a lock by address.
 fn words_by_lock(alloc: Global, log: &WriteLog) -> Result<Vec<(u32, Addr, u64)>, AllocError> {
     let mut found = Vec::new(alloc);
     for lock in log.locks() {
@@ -148,7 +148,7 @@ fn locks_come_with_their_words(rt: HostRuntime) -> Result<(), Fail> {
     Ok(())
 }
 
-/// Pushes the addresses from 0 on until memory is refused.
+/// Pushes the addresses from 0 on until `count` or until memory is refused.
 fn push_all<A: Allocator + Copy>(log: &mut ReadLog<A>, count: u32) {
     for addr in 0..count {
         if log.push(Addr(addr)).is_err() {
@@ -157,7 +157,7 @@ fn push_all<A: Allocator + Copy>(log: &mut ReadLog<A>, count: u32) {
     }
 }
 
-/// A log has so many addresses, which are those from 0 on, in this order.
+/// Asserts that a log has exactly the addresses from 0 to `count` - 1, in this order.
 fn expect_rising<A: Allocator + Copy>(rt: &impl Abort, log: &ReadLog<A>, count: usize) {
     same(rt, &log.len(), &count);
     for i in 0..log.len() {
@@ -183,7 +183,7 @@ fn a_read_log_is_a_list(rt: HostRuntime) -> Result<(), Fail> {
     Ok(())
 }
 
-/// Puts the addresses below count, up or down, each with its own number for a value.
+/// Puts the addresses below `count`, upwards or downwards, each with its own number as value.
 fn put_all<A: Allocator + Copy>(
     log: &mut WriteLog<A>,
     stripes: u32,
@@ -201,8 +201,8 @@ fn put_all<A: Allocator + Copy>(
     Ok(())
 }
 
-/// The words of a lock are ascending, each with its own number for a value. Returns how many there
-/// are.
+/// Asserts that the words of a lock ascend, each with its own number as value. Returns their
+/// number.
 fn expect_words<A: Allocator + Copy>(
     rt: &impl Abort,
     log: &WriteLog<A>,
@@ -222,7 +222,8 @@ fn expect_words<A: Allocator + Copy>(
     words
 }
 
-/// The log has the addresses below count and no others, each below its lock, all of them ascending.
+/// Asserts that the log has exactly the addresses below `count`, each under its lock, all of them
+/// ascending.
 fn expect_all<A: Allocator + Copy>(rt: &impl Abort, log: &WriteLog<A>, stripes: u32, count: u32)
     requires { 0 < stripes }
 {
@@ -254,7 +255,7 @@ fn many_addresses(rt: HostRuntime) -> Result<(), Fail> {
     Ok(())
 }
 
-/// Puts addresses until memory is refused, and says how many the log then has.
+/// Puts addresses until memory is refused. Returns the number of addresses that the log then has.
 fn put_some<A: Allocator + Copy>(log: &mut WriteLog<A>, count: u32) -> u32
     requires { IsStriped log.old 1000000 }
     ensures striped { IsStriped log.new 1000000 }
@@ -268,7 +269,7 @@ fn put_some<A: Allocator + Copy>(log: &mut WriteLog<A>, count: u32) -> u32
     count
 }
 
-/// Fills a log up to so many addresses, puts one of them again, and fills it anew.
+/// Fills a log until memory is refused, puts one address again, and fills the log anew.
 fn fill_twice<A: Allocator + Copy>(rt: &impl Abort, heap: A, most: u32) {
     let mut log = new_log(heap);
     let count = put_some(&mut log, 200);
@@ -283,7 +284,7 @@ fn fill_twice<A: Allocator + Copy>(rt: &impl Abort, heap: A, most: u32) {
     same(rt, &again, &count);
 }
 
-/// In heaps of these sizes no growth, the first, and so on up to all of them have room.
+/// The heaps have room for no growth, for the first, and so on up to all of them.
 #[test]
 fn each_growth_of_the_write_log_is_refused(rt: HostRuntime) -> Result<(), Fail> {
     for (size, most) in [
@@ -300,7 +301,7 @@ fn each_growth_of_the_write_log_is_refused(rt: HostRuntime) -> Result<(), Fail> 
     Ok(())
 }
 
-/// Fills a read log up to so many addresses, and then begins anew.
+/// Fills a read log until memory is refused, and then begins anew.
 fn fill_list<A: Allocator + Copy>(rt: &impl Abort, heap: A, most: usize) {
     let mut log = ReadLog::new(heap);
     push_all(&mut log, 5_000);

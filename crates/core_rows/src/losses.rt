@@ -1,4 +1,4 @@
-//! What the steps of a client find where another one commits between them.
+//! The words that the steps of a client find if another client commits between them.
 ghost use Rattle.std.specs.Prelude.{◌≡◌, ◌<◌};
 ghost use Rattle.stm_core.specs.Core.{IsFreeHanded};
 
@@ -11,8 +11,8 @@ use stm_region::{Client, Region};
 use stm_words::FreeLaw;
 use tx_memory::Addr;
 
-/// The two words that a read finds at its lock, where another client writes the word between the
-/// load of the value and the check; `None` where the first one says no.
+/// Returns the two words that a read finds at its lock if another client writes the word between
+/// the load of the value and the check. Returns `None` if the first word does not allow the read.
 fn read_across(
     alloc: Global,
     region: &Region<FreeLaw>,
@@ -38,8 +38,8 @@ fn read_across(
     Ok(Some((first, second)))
 }
 
-/// What the exchange of a lock word finds, where another client writes the word between the probe
-/// and the exchange; `None` where the probe says no.
+/// Returns the result of the exchange of a lock word if another client writes the word between the
+/// probe and the exchange. Returns `None` if the probe does not allow the exchange.
 fn lock_across(
     alloc: Global,
     region: &Region<FreeLaw>,
@@ -67,8 +67,8 @@ fn lock_across(
     Ok(Some(found))
 }
 
-/// What the exchange of the clock finds, where another client, which writes another word, exchanges
-/// it between the lock and the tick; `None` where no tick is lost.
+/// Returns the value that the exchange of the clock finds if another client, which writes another
+/// word, exchanges the clock between the lock and the tick. Returns `None` if no tick is lost.
 fn tick_across(
     alloc: Global,
     region: &Region<FreeLaw>,

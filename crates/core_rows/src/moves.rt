@@ -1,4 +1,4 @@
-//! What a client of a random list may ask for next, as plain numbers.
+//! The next event of a client of a random list, as plain numbers.
 
 ghost use Rattle.std.specs.Prelude.{◌<◌, ◌≤◌};
 ghost use Rattle.stm_words.specs.declared.version.TheConstants.{VERSION_LIMIT};
@@ -9,7 +9,7 @@ use std::alloc::{AllocError, Allocator};
 use stm_replay::{Event, Writes};
 use stm_words::VERSION_LIMIT;
 
-/// How many words and stripes a region has, and its last version.
+/// Numbers of words and stripes of a region, and its last version.
 #[derive(Clone, Copy, Debug)]
 pub(crate) struct Shape {
     pub words: u32,
@@ -20,7 +20,8 @@ pub(crate) struct Shape {
 }
 
 impl Shape {
-    /// A few words and stripes, so that clients meet, and a last version that is often reached.
+    /// Draws few words and stripes, so that clients conflict, and a last version that is often
+    /// reached.
     pub(crate) fn drawn(rng: &mut Pcg32) -> Shape {
         Shape {
             words: 1 + below(rng, 5),
@@ -29,7 +30,7 @@ impl Shape {
         }
     }
 
-    /// This shape with another last version, where a region may have it.
+    /// Returns this shape with another last version, if a region may have it.
     pub(crate) fn renewed(self, last: u64) -> Option<Shape> {
         if 1 <= last && last < VERSION_LIMIT {
             Some(Shape {
@@ -42,13 +43,13 @@ impl Shape {
         }
     }
 
-    /// The lock of an address.
+    /// Returns the lock of an address.
     pub(crate) fn lock_of(&self, addr: u32) -> u32 {
         addr % self.stripes
     }
 }
 
-/// A number below a bound.
+/// Returns a random number below a bound.
 pub(crate) fn below(rng: &mut Pcg32, bound: u32) -> u32
     requires { 0 < bound }
     ensures { result < bound }
@@ -75,7 +76,7 @@ pub(crate) enum Kind {
 }
 
 impl Kind {
-    /// Any kind.
+    /// Returns a random kind of event.
     pub(crate) fn drawn(rng: &mut Pcg32) -> Kind {
         match below(rng, 14) {
             0 => Kind::Begin,
@@ -96,19 +97,19 @@ impl Kind {
     }
 }
 
-/// An event but for its tag and its writes.
+/// An event without its tag and its writes.
 #[derive(Clone, Copy, Debug)]
 pub(crate) struct Move {
     pub kind: Kind,
     pub client: u32,
     /// The lock, the address or the other client.
     pub place: u32,
-    /// The value to store, the clock's value to tick from, or the new last version.
+    /// The value to store, the clock value to tick from, or the new last version.
     pub number: u64,
 }
 
 impl Move {
-    /// A move without a number.
+    /// Returns a move without a number.
     pub(crate) fn of(kind: Kind, client: u32, place: u32) -> Move {
         Move {
             kind,
@@ -118,7 +119,7 @@ impl Move {
         }
     }
 
-    /// A renewal with this last version.
+    /// Returns a renewal with this last version.
     pub(crate) fn renewal(client: u32, last: u64) -> Move {
         Move {
             kind: Kind::Renew,
@@ -128,7 +129,7 @@ impl Move {
         }
     }
 
-    /// The event with this tag and these writes.
+    /// Returns the event with this tag and these writes.
     pub(crate) fn event<A: Allocator + Copy>(
         &self,
         alloc: A,

@@ -1,15 +1,15 @@
-//! A client of a random list, by what it was allowed to do and what it found: nothing here is
-//! known from the core.
+//! A client of a random list, modelled by the events that it was allowed and the words that they
+//! found. Nothing here is taken from the core.
 
 use crate::moves::{Kind, Move, Shape};
 use std::alloc::{AllocError, Global};
 
 #[derive(Clone, Copy, Debug, PartialEq, Eq)]
 pub(crate) enum Stage {
-    /// No attempt, or one that ended as a reader.
+    /// No attempt, or an attempt that ended as a reader.
     Resting,
     Running,
-    /// It aborts: it can only give its locks back.
+    /// The attempt aborts: it can only give its locks back.
     Ending,
     /// A decided writer.
     Committed,
@@ -20,12 +20,12 @@ pub(crate) struct Player {
     pub out: bool,
     pub grants: u32,
     pub stage: Stage,
-    /// What its last event found.
+    /// The word that the last event found.
     pub seen: Option<u64>,
     pub rv: u64,
     pub wv: u64,
     pub tag: u64,
-    /// The places of its begin and of its won tick among the events played.
+    /// Positions of the begin and of the won tick among the events played.
     pub began: u64,
     pub ticked: u64,
     pub from: u64,
@@ -36,8 +36,8 @@ pub(crate) struct Player {
     pub writes: Vec<(u32, u64)>,
     pub stored: Vec<u32>,
     pub passed: usize,
-    /// How much it is going to read, which address next, what it is going to write, and whether it
-    /// tries to take the greatest lock first, which the rules forbid.
+    /// The plan of the attempt: the number of reads, the next address to read, the writes, and
+    /// whether the attempt tries to take the greatest lock first, which the rules forbid.
     pub wanted: usize,
     pub aim: u32,
     pub falls: bool,
@@ -71,24 +71,24 @@ impl Player {
         }
     }
 
-    /// Whether it holds a lock.
+    /// Returns whether the client holds a lock.
     pub(crate) fn holds(&self, lock: u32) -> bool {
         self.held.iter().any(|pair| pair.0 == lock)
     }
 
-    /// Whether it has decided to write an address and has not stored it.
+    /// Returns whether the client has decided to write an address and has not stored it.
     pub(crate) fn owes(&self, addr: u32) -> bool {
         self.stage == Stage::Committed
             && self.writes.iter().any(|pair| pair.0 == addr)
             && !self.stored.contains(&addr)
     }
 
-    /// Whether it runs an attempt that has no write version.
+    /// Returns whether the client runs an attempt without a write version.
     fn is_reading(&self) -> bool {
         self.stage == Stage::Running && self.wv == 0
     }
 
-    /// Whether its last event was a probe of this lock that found it free.
+    /// Returns whether the last event was a probe of this lock that found it free.
     fn found_free(&self, lock: u32) -> bool {
         self.fetched.is_none()
             && self
@@ -96,13 +96,13 @@ impl Player {
                 .is_some_and(|(probed, word)| probed == lock && word % 2 == 0)
     }
 
-    /// Whether its last probe found a version that is not too new.
+    /// Returns whether the last probe found a version that is not too new.
     fn found_old(&self) -> bool {
         self.probed.is_some_and(|probe| probe.1 / 2 <= self.rv)
     }
 
-    /// Whether its plan may be ticked: some writes in the region, no address twice, their locks
-    /// just those held.
+    /// Returns whether a tick may carry the planned writes: at least one, all in the region, no
+    /// address twice, and their locks exactly the held ones.
     fn is_ready(&self, shape: &Shape) -> bool {
         let twice = match self.goal.as_slice() {
             [first, second] => first.0 == second.0,
@@ -115,7 +115,7 @@ impl Player {
             && self.missing(shape).is_none()
     }
 
-    /// Whether the rules allow an event, but for what they ask of another client.
+    /// Returns whether the rules allow an event, apart from their conditions on another client.
     pub(crate) fn may(&self, turn: &Move, shape: &Shape) -> bool {
         let place = turn.place;
         let bare = self.held.is_empty();
@@ -149,21 +149,22 @@ impl Player {
         }
     }
 
-    /// Whether it has not stored something of a lock yet.
+    /// Returns whether the client has yet to store an address of a lock.
     fn owes_at(&self, lock: u32, shape: &Shape) -> bool {
         self.writes
             .iter()
             .any(|pair| shape.lock_of(pair.0) == lock && self.owes(pair.0))
     }
 
-    /// The lock of the next read word to be validated.
+    /// Returns the lock of the next read word to be validated.
     fn next_read(&self, shape: &Shape) -> Option<u32> {
         self.reads
             .get(self.passed)
             .map(|read| shape.lock_of(read.0))
     }
 
-    /// Takes an event that was allowed, with the word that it found. True where it decides.
+    /// Applies an event that was allowed, with the word that it found. Returns whether the event
+    /// decides the attempt.
     pub(crate) fn moves(
         &mut self,
         turn: &Move,
@@ -208,7 +209,7 @@ impl Player {
         self.from = clock;
     }
 
-    /// It has no attempt any more.
+    /// Ends the attempt for a renewal of the clock.
     fn renews(&mut self) {
         self.stage = Stage::Resting;
         self.wv = 0;
@@ -219,20 +220,20 @@ impl Player {
         self.forgets();
     }
 
-    /// It is gathered by another client.
+    /// Marks the client as gathered by another client.
     pub(crate) fn leaves(&mut self) {
         self.out = false;
         self.stage = Stage::Resting;
         self.seen = None;
     }
 
-    /// The probe and the value that its last event may have found are of no use any more.
+    /// Forgets the last probe and the last fetched value.
     fn forgets(&mut self) {
         self.probed = None;
         self.fetched = None;
     }
 
-    /// A check: the value is read where the word is as it was.
+    /// Applies a check: the value counts as read if the word has not changed.
     fn checks(&mut self, word: u64) -> Result<(), AllocError> {
         let read = self.fetched;
         let found = self.probed.map_or(word, |probe| probe.1);
@@ -244,7 +245,7 @@ impl Player {
         Ok(())
     }
 
-    /// A try to take a lock, won where the word is as it was.
+    /// Applies a try to take a lock, which succeeds if the word has not changed.
     fn locks(&mut self, lock: u32, word: u64) -> Result<(), AllocError> {
         let found = self.probed.map(|probe| probe.1);
         self.forgets();
@@ -256,7 +257,7 @@ impl Player {
         Ok(())
     }
 
-    /// A try to move the clock on. True where it decides.
+    /// Applies a try to tick the clock. Returns whether the tick decides the attempt.
     fn ticks(&mut self, from: u64, tag: u64, place: u64, clock: u64) -> Result<bool, AllocError> {
         self.forgets();
         self.from = clock;
@@ -274,7 +275,8 @@ impl Player {
         Ok(decides)
     }
 
-    /// A validation of the lock of a read word. True where it decides.
+    /// Applies a validation of the lock of a read word. Returns whether the validation decides the
+    /// attempt.
     fn looks(&mut self, lock: u32, word: u64) -> bool {
         let mine = word % 2 == 0 || self.holds(lock);
         if !mine || self.rv < word / 2 {
@@ -300,7 +302,7 @@ impl Player {
         self.writes.clear();
     }
 
-    /// What it does next by the rules of an attempt.
+    /// Returns the client's next move by the rules of an attempt.
     pub(crate) fn next(&self, client: u32, shape: &Shape) -> Move {
         let (kind, place, number) = match self.stage {
             Stage::Resting => (Kind::Begin, 0, 0),
@@ -324,7 +326,7 @@ impl Player {
         }
     }
 
-    /// What it does next to hold no lock, where it holds one.
+    /// Returns the next move towards holding no lock, or `None` if the client holds none.
     pub(crate) fn rests(&self, client: u32) -> Option<Move> {
         let (kind, place, number) = if self.stage == Stage::Committed {
             self.next_store()
@@ -342,7 +344,7 @@ impl Player {
         })
     }
 
-    /// Gives a lock back, or begins anew.
+    /// Returns the move that gives a lock back, or begins anew if none is held.
     fn give_up(&self) -> (Kind, u32, u64) {
         match self.held.first() {
             Some(pair) => (Kind::GiveBack, pair.0, 0),
@@ -350,7 +352,8 @@ impl Player {
         }
     }
 
-    /// Stores what is not stored, then releases, then begins anew.
+    /// Returns the move that stores the next planned write, then releases the locks, then begins
+    /// anew.
     fn next_store(&self) -> (Kind, u32, u64) {
         let waiting = self.writes.iter().find(|pair| self.owes(pair.0));
         if let Some(pair) = waiting {
@@ -362,8 +365,8 @@ impl Player {
         }
     }
 
-    /// Probes the lock of the address that it is going to read, then fetches; a lock held or too
-    /// new is a conflict.
+    /// Returns the move that probes the lock of the next address to read, and then fetches the
+    /// address. A lock that is held or too new is a conflict.
     fn next_look(&self, shape: &Shape) -> (Kind, u32, u64) {
         let lock = shape.lock_of(self.aim);
         match self.probed {
@@ -376,7 +379,7 @@ impl Player {
         }
     }
 
-    /// Probes and takes the locks of what it is going to write, then ticks.
+    /// Returns the move that probes and takes the locks of the planned writes, and then ticks.
     fn next_lock(&self, shape: &Shape) -> (Kind, u32, u64) {
         let strange = self.held.iter().any(|pair| !self.aims_at(pair.0, shape));
         match self.missing(shape) {
@@ -394,12 +397,12 @@ impl Player {
         }
     }
 
-    /// Whether it is going to write an address of this lock.
+    /// Returns whether the plan writes an address of this lock.
     fn aims_at(&self, lock: u32, shape: &Shape) -> bool {
         self.goal.iter().any(|pair| shape.lock_of(pair.0) == lock)
     }
 
-    /// The next lock that it needs and does not hold.
+    /// Returns the next lock that the plan needs and the client does not hold.
     fn missing(&self, shape: &Shape) -> Option<u32> {
         let mut missing = (0..shape.stripes).filter(|lock| self.aims_at(*lock, shape)
             && !self.holds(*lock));

@@ -1,4 +1,4 @@
-//! Random lists of events by fixed seeds, most of them by the rules of an attempt.
+//! Random lists of events from fixed seeds, most of them by the rules of an attempt.
 
 use crate::history::History;
 use crate::moves::{Kind, Move, Shape, below};
@@ -13,16 +13,17 @@ use stm_words::VERSION_LIMIT;
 
 const LISTS: u64 = 2000;
 
-/// How many moves are drawn before the renewal, for the one client that is left, and after.
+/// Numbers of moves drawn before the renewal, for the one client that is left, and after the
+/// renewal.
 const EVENTS: [u32; 3] = [48, 8, 32];
 
-/// What has happened in all lists.
+/// Counts of what happened in all lists.
 #[derive(Clone, Copy, Debug)]
 struct Tally {
     refused: u64,
     readers: u64,
     writers: u64,
-    /// Writers that their last validation decided.
+    /// Number of writers that were decided by their last validation.
     validated: u64,
     lost_locks: u64,
     lost_ticks: u64,
@@ -111,7 +112,7 @@ fn opening(rng: &mut Pcg32, alloc: Global, shape: &Shape) -> Result<Vec<u64>, Al
     Ok(image)
 }
 
-/// A move of some client: mostly the next by the rules, now and then any other.
+/// Draws a move of some client: mostly the next by the rules, now and then any other.
 fn drawn(rng: &mut Pcg32, history: &History) -> Move {
     let client = if below(rng, 20) == 0 {
         below(rng, 10)
@@ -129,7 +130,8 @@ fn drawn(rng: &mut Pcg32, history: &History) -> Move {
     }
 }
 
-/// Another kind of move, or another place or number.
+/// Returns another kind of move for the same client, at the same or another place, with the same
+/// or another number.
 fn stray(rng: &mut Pcg32, turn: Move) -> Move {
     let place = below(rng, 6);
     let number = u64::from(below(rng, 12));
@@ -161,7 +163,7 @@ struct Trial {
 }
 
 impl Trial {
-    /// Plays a move, and holds what the core shows then against the history.
+    /// Plays a move, and compares the state of the core with the history.
     fn plays(&mut self, rt: &impl Abort, core: Core, turn: Move) -> Result<Core, AllocError> {
         self.tag = self.tag.wrapping_add(1);
         let list = self.list;
@@ -191,13 +193,14 @@ impl Trial {
         Ok(core)
     }
 
-    /// Plays a move that has to be allowed.
+    /// Plays a move that must be allowed.
     fn must_play(&mut self, rt: &impl Abort, core: Core, turn: Move) -> Result<Core, AllocError> {
         assert!(rt; self.history.allows(&turn));
         self.plays(rt, core, turn)
     }
 
-    /// Takes an event that was allowed. True where it decides or reads.
+    /// Applies an event that was allowed. Returns whether the event decides an attempt or is a
+    /// check.
     fn takes(
         &mut self,
         rt: &impl Abort,
@@ -212,7 +215,7 @@ impl Trial {
         Ok(decides || turn.kind == Kind::Check)
     }
 
-    /// Plays moves as they are drawn.
+    /// Plays random moves.
     fn goes_on(&mut self, rt: &impl Abort, core: Core, many: u32) -> Result<Core, AllocError> {
         let mut core = core;
         for _ in 0..many {
@@ -222,7 +225,7 @@ impl Trial {
         Ok(core)
     }
 
-    /// Splits clients off the first that is out.
+    /// Splits clients off the first client that is out.
     fn splits(&mut self, rt: &impl Abort, core: Core, many: u32) -> Result<Core, AllocError> {
         let client = self.history.out_after(0);
         let mut core = core;
@@ -232,7 +235,8 @@ impl Trial {
         Ok(core)
     }
 
-    /// Lets a client store and release what it has decided, or give back what it holds.
+    /// Plays a client's moves until it has stored and released its decided writes, or given back
+    /// its locks. Bounded loop: a client has fewer than 16 such moves.
     fn settles(&mut self, rt: &impl Abort, core: Core, client: u32) -> Result<Core, AllocError> {
         let mut core = core;
         for _ in 0..16 {
@@ -273,8 +277,8 @@ impl Trial {
         Ok(core)
     }
 
-    /// Renews the clock by a client that is left alone, after tries while others are out, with a
-    /// last version that no region has, and in the midst of what it does.
+    /// Renews the clock by a client that is left alone. Before that, plays renewals with other
+    /// clients out, with a last version that no region has, and in the middle of an attempt.
     fn renews(&mut self, rt: &impl Abort, core: Core) -> Result<Core, AllocError> {
         let last = 1 + u64::from(below(&mut self.rng, 16));
         let client = self.history.out_after(below(&mut self.rng, 4));
@@ -305,8 +309,8 @@ impl Trial {
     }
 }
 
-/// Plays one list, with a renewal in its midst. In some of them the first client splits off as
-/// many as it may.
+/// Plays one list, with a renewal in the middle. In every 32nd list the first client splits off as
+/// many clients as it may.
 fn one_list(rt: &impl Abort, alloc: Global, list: u64, tally: Tally) -> Result<Tally, AllocError> {
     let mut rng = Pcg32::new(list, 54);
     let shape = Shape::drawn(&mut rng);

@@ -1,5 +1,6 @@
-//! Memory that is refused to the core as running code, each growth in turn: what it shows is as
-//! before, and the same call, made again once there is memory, goes on as if none had been refused.
+//! Memory refused to the core as running code, each growth in turn. The core shows the same state
+//! as before, and the same call, repeated once there is memory, goes on as if no memory had been
+//! refused.
 
 use crate::events::{
     Act, DONE, Outcome, begin, check, fetch, finds, finish, gather, lock, probe, put, release,
@@ -12,7 +13,7 @@ use std::process::Abort;
 use std::test::Fail;
 use stm_replay::{Core, Entry, NotAllowed};
 
-/// What memory was refused to: the opening, the writes of a tick, or an event.
+/// The call that was refused memory: the opening, the writes of a tick, or an event.
 #[derive(Clone, Copy, Debug, PartialEq, Eq)]
 enum Refused {
     Start,
@@ -20,14 +21,14 @@ enum Refused {
     Play(Kind),
 }
 
-/// How many words are held back, and given up where memory is refused.
+/// Number of words held back, and freed when memory is refused.
 const HELD_BACK: usize = 4_096;
 
 fn start<A: Allocator + Copy>(alloc: A) -> Result<Core<A>, AllocError> {
     Core::start(alloc, &[3; 8], 100, 512)
 }
 
-/// Plays an event that is allowed. Says what was refused where memory was.
+/// Plays an event that is allowed. Returns the call that was refused memory, if one was.
 fn play<A: Allocator + Copy>(
     rt: &impl Abort,
     alloc: A,
@@ -52,8 +53,8 @@ fn play<A: Allocator + Copy>(
     }
 }
 
-/// Plays a list of events in what memory there is beside some that is held back. What is refused
-/// once is not refused again without it.
+/// Plays a list of events with little memory, some of which is held back. A call that was refused
+/// memory is repeated after the memory held back was freed, and then succeeds.
 fn play_all<A: Allocator + Copy>(
     rt: &impl Abort,
     alloc: A,
@@ -87,8 +88,8 @@ fn play_all<A: Allocator + Copy>(
     Ok(refused)
 }
 
-/// Plays a list of events in more and more memory, until none is refused. Says what was refused,
-/// in that order.
+/// Plays a list of events with more and more memory, until none is refused. Returns the refused
+/// calls in their order.
 fn refusals(
     rt: &impl Abort,
     alloc: Global,
@@ -166,8 +167,8 @@ fn each_growth_of_one_client_is_refused(rt: HostRuntime) -> Result<(), Fail> {
     Ok(())
 }
 
-/// A client is split off, reads three times and writes while the first one reads; the first one's
-/// validation decides the fifth record.
+/// A client is split off, reads three times and writes while the first client reads; the first
+/// client's validation decides the fifth record.
 #[test]
 fn each_growth_of_two_clients_is_refused(rt: HostRuntime) -> Result<(), Fail> {
     let acts = [

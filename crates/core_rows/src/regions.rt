@@ -15,7 +15,7 @@ use stm_region::{
 use stm_words::FreeLaw;
 use tx_memory::Addr;
 
-/// What a read finds at an address, where no lock stops it.
+/// Returns the value that a read finds at an address, or `None` if a lock stops the read.
 pub(crate) fn read_at(
     region: &Region<FreeLaw>,
     client: &mut Client<FreeLaw>,
@@ -41,7 +41,7 @@ pub(crate) fn read_at(
     Some(value)
 }
 
-/// Writes a word without reading any, by one try. Returns whether it committed.
+/// Writes a word without reading any, in one attempt. Returns whether the attempt committed.
 pub(crate) fn write_at(
     alloc: Global,
     region: &Region<FreeLaw>,
@@ -79,7 +79,7 @@ pub(crate) fn write_at(
     Ok(true)
 }
 
-/// The same, where there is memory for it.
+/// As `write_at`, but panics if memory is refused.
 pub(crate) fn writes(
     rt: &impl Abort,
     alloc: Global,
@@ -100,7 +100,7 @@ pub(crate) fn writes(
     written
 }
 
-/// Why a region does not open.
+/// Returns the reason why a region does not open.
 fn refused(alloc: Global, image: &[u64], last: u64, stripes: u32) -> Option<RegionFault> {
     match Region::<FreeLaw>::new(alloc, image, last, stripes) {
         Ok(_) => None,
@@ -124,7 +124,7 @@ fn refuses_an_opening_in_order(rt: HostRuntime) -> Result<(), Fail> {
     Ok(())
 }
 
-/// Why no client splits off.
+/// Returns the reason why no client splits off.
 fn stays_whole(region: &Region<FreeLaw>, client: &mut Client<FreeLaw>) -> Option<RegionFault>
     requires own { client.old.table ≡ region.now.table }
     requires free { IsFreeHanded client.old.value }
@@ -189,7 +189,8 @@ fn a_spent_clock_ticks_no_more(rt: HostRuntime) -> Result<(), Fail> {
     Ok(())
 }
 
-/// Writes the address as long as no try commits.
+/// Writes the address until an attempt commits. The number of attempts is bounded, so that the
+/// loop ends.
 fn write_until_done(
     alloc: Global,
     region: &Region<FreeLaw>,

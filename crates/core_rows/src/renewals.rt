@@ -12,7 +12,7 @@ use stm_region::{Client, Region, RegionFault, RenewFault};
 use stm_words::FreeLaw;
 use tx_memory::Addr;
 
-/// Renews `times` times.
+/// Renews the region `times` times.
 fn renew_times(
     rt: &impl Abort,
     alloc: Global,
@@ -66,7 +66,7 @@ fn a_spent_clock_goes_on(rt: HostRuntime) -> Result<(), Fail> {
     Ok(())
 }
 
-/// The contracts say it of each region, whatever the clock before had reached.
+/// The contracts state version 0 for every region, whatever value the clock had before.
 #[test]
 fn a_new_and_a_renewed_region_begin_at_version_0(rt: HostRuntime) -> Result<(), Fail> {
     let alloc = rt.alloc();
@@ -84,8 +84,8 @@ fn a_new_and_a_renewed_region_begin_at_version_0(rt: HostRuntime) -> Result<(), 
 }
 
 /// Renews a region with last version 0, past the last version, with a client out, without memory,
-/// and then as far as it goes. Returns the refusals, the last versions before and after, whether
-/// the words are those of the opening, and the clock.
+/// and then with the greatest last version. Returns the refusals, the last versions before and
+/// after, whether the words are those of the opening, and the clock.
 fn refused_and_renewed<A: Allocator + Copy>(
     rt: &impl Abort,
     heap: A,
@@ -111,7 +111,7 @@ fn refused_and_renewed<A: Allocator + Copy>(
     )
 }
 
-/// Each refusal keeps the region, so that the next one meets it as it was.
+/// Each refusal keeps the region, so that the next one finds it as it was.
 #[test]
 fn refuses_a_renewal_in_order(rt: HostRuntime) -> Result<(), Fail> {
     let none = LocalHeap::new(rt.alloc(), 1_000)?;
@@ -131,7 +131,7 @@ fn refuses_a_renewal_in_order(rt: HostRuntime) -> Result<(), Fail> {
     Ok(())
 }
 
-/// How a renewal came out.
+/// The outcome of a renewal.
 #[derive(Clone, Copy, Debug, PartialEq, Eq, Drop)]
 enum Outcome {
     Renewed,
@@ -139,12 +139,12 @@ enum Outcome {
     Closed,
 }
 
-/// Whether these are the words of the opening.
+/// Returns whether these are the words of the opening.
 fn are_threes(words: &[u64]) -> bool {
     words == [3u64; 512].as_slice()
 }
 
-/// Ends a region. Returns whether the words are those of the opening.
+/// Closes a region. Returns whether the words are those of the opening.
 fn closes_alike<A: Allocator + Copy>(
     rt: &impl Abort,
     heap: A,
@@ -158,8 +158,8 @@ fn closes_alike<A: Allocator + Copy>(
     are_threes(words.as_slice())
 }
 
-/// Opens a region in a heap, renews it in another one, and ends it. Returns how the renewal came
-/// out, and whether the words are those of the opening.
+/// Opens a region in one heap, renews it in another one, and closes it. Returns the outcome of the
+/// renewal, and whether the words are those of the opening.
 fn renew_in<A: Allocator + Copy>(rt: &impl Abort, heap: A, small: A) -> (Outcome, bool) {
     let (region, client) = open(rt, heap, &[3; 512], 100, 32);
     match region.renew(small, client, 1) {
@@ -172,7 +172,7 @@ fn renew_in<A: Allocator + Copy>(rt: &impl Abort, heap: A, small: A) -> (Outcome
     }
 }
 
-/// How a renewal in a heap of this size comes out.
+/// Returns the outcome of a renewal in a heap of this size.
 fn renewal_in(
     rt: &impl Abort,
     alloc: Global,
@@ -186,7 +186,7 @@ fn renewal_in(
     Ok(outcome)
 }
 
-/// The first growth is made before any word moves; after it the region can only be closed.
+/// The first growth comes before any word moves; after it the region can only be closed.
 #[test]
 fn each_growth_of_a_renewal_is_refused(rt: HostRuntime) -> Result<(), Fail> {
     let heap = LocalHeap::new(rt.alloc(), 100_000)?;
@@ -210,7 +210,7 @@ fn open_in<A: Allocator + Copy>(small: A, heap: A) -> Result<bool, RegionFault> 
     }
 }
 
-/// Whether a heap of this size is one in which the region opens; else it has no room.
+/// Returns whether a region opens in a heap of this size; if not, the heap has no room for it.
 fn opening_in(
     rt: &impl Abort,
     alloc: Global,
@@ -227,7 +227,7 @@ fn opening_in(
     Ok(true)
 }
 
-/// In each heap that is too small the region is not opened, and in those that follow it is.
+/// No heap that is too small opens the region, and every larger heap does.
 #[test]
 fn each_growth_of_an_opening_is_refused(rt: HostRuntime) -> Result<(), Fail> {
     let heap = LocalHeap::new(rt.alloc(), 100_000)?;

@@ -1,5 +1,5 @@
-//! What tests ask of their answers, and of regions that open and close, in functions of their own:
-//! a test has no way out where it asks.
+//! Assertions on results, and regions that open and close, in functions of their own: a test
+//! cannot leave early at an assertion.
 ghost use Rattle.std.specs.Prelude.{◌≡◌, length};
 ghost use Rattle.stm_core.specs.Core.{IsFreeHanded};
 
@@ -17,7 +17,7 @@ pub(crate) fn holds(rt: &impl Abort, said: bool) {
     assert!(rt; said);
 }
 
-/// A region of these words, and its first client.
+/// Opens a region on these words. Returns the region and its first client.
 pub(crate) fn open<A: Allocator + Copy>(
     rt: &impl Abort,
     alloc: A,
@@ -35,7 +35,7 @@ pub(crate) fn open<A: Allocator + Copy>(
     opened
 }
 
-/// Another client of the region.
+/// Splits another client off.
 pub(crate) fn split<A: Allocator + Copy>(
     rt: &impl Abort,
     region: &Region<FreeLaw, A>,
@@ -52,7 +52,7 @@ pub(crate) fn split<A: Allocator + Copy>(
     other
 }
 
-/// The words and the clock of a region whose clients are all back.
+/// Closes a region whose clients are all gathered. Returns its words and its clock.
 pub(crate) fn close<A: Allocator + Copy>(
     rt: &impl Abort,
     alloc: A,
@@ -71,7 +71,7 @@ pub(crate) fn close<A: Allocator + Copy>(
 /// A region that a refusal left open, its client, and the refusal.
 pub(crate) type Left<A> = (Region<FreeLaw, A>, Client<FreeLaw>, RegionFault);
 
-/// A region that does not close.
+/// Tries to close a region with clients out. Returns the region, the client and the refusal.
 pub(crate) fn stays_open<A: Allocator + Copy>(
     rt: &impl Abort,
     alloc: A,
@@ -89,7 +89,7 @@ pub(crate) fn stays_open<A: Allocator + Copy>(
     left
 }
 
-/// A region whose clock is renewed.
+/// Renews the clock of a region.
 pub(crate) fn renewed<A: Allocator + Copy>(
     rt: &impl Abort,
     alloc: A,
@@ -109,7 +109,8 @@ pub(crate) fn renewed<A: Allocator + Copy>(
     renewed
 }
 
-/// A region that is not renewed and stays as it was.
+/// Tries a renewal that is refused. Returns the region and the client as they were, and the
+/// refusal.
 pub(crate) fn stays_old<A: Allocator + Copy>(
     rt: &impl Abort,
     alloc: A,

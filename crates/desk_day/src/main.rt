@@ -1,12 +1,13 @@
 //! A day at the desks: four desks book 25 trips each, in threads of their own, by clients of one
-//! manager. Whatever conflicts they meet, each trip is booked.
+//! manager. Each trip is booked, whatever conflicts the desks meet.
 #![tactic(auto)]
 
 use booking_desk::{DeskReport, DeskSettings, run_desks};
 use std::io;
 use std::process::ExitCode;
 
-/// Room for a thousand entries, a clock that does not end, a hundred units of each item.
+/// Settings with room for a thousand entries, the greatest last version, and a hundred units of
+/// each item.
 const SETTINGS: DeskSettings = DeskSettings {
     blocks: 1_000,
     last: (1 << 62) - 1,
@@ -16,7 +17,7 @@ const SETTINGS: DeskSettings = DeskSettings {
     rounds: 10_000,
 };
 
-/// Prints a line for each desk, and what they leave.
+/// Prints a line for each desk, and a line for the report.
 fn tell(rt: &HostRuntime, found: &DeskReport) -> io::Result<()> {
     for desk in &found.desks {
         println!(rt;

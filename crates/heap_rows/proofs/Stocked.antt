@@ -299,7 +299,7 @@ stock_represents = record {
   customers = customers_are;
 }
 
--- what is found is one of the entries
+-- an entry that is found is one of the entries
 IsIn : {K X : Type 0} → K → X → List (K × X) → Type 0
 IsIn k x [] = ⊥
 IsIn k x (e ∷ es) = ((k ≡ e.0) × (x ≡ e.1)) ⊎ IsIn k x es

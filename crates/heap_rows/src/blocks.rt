@@ -1,4 +1,5 @@
-//! Blocks of a heap in plain memory: which are free at first, and which come when.
+//! Blocks of a heap in plain memory: the free blocks at first, and the order in which blocks are
+//! taken.
 ghost use Rattle.std.specs.Prelude.{◌≡◌, ◌≤◌, IfOk};
 ghost use Rattle.tx_alloc.specs.Pool.{HasPool};
 
@@ -9,7 +10,7 @@ use tx_alloc::{
 };
 use tx_memory::{Addr, Flat, TxMem};
 
-/// The words that are not 0, with their places.
+/// Returns the words that are not 0, with their indices.
 fn filled(alloc: Global, words: &[u64]) -> Result<Vec<(usize, u64)>, AllocError> {
     words
         .iter()
@@ -45,7 +46,7 @@ fn words_of_heaps_without_entries(rt: HostRuntime) -> Result<(), Fail> {
     Ok(())
 }
 
-/// Takes three blocks, looked for from these lists on.
+/// Takes three blocks, searching from these lists on.
 fn take_three<M: TxMem>(
     memory: &mut M,
     first: FreeList,
@@ -130,7 +131,8 @@ fn the_search_goes_round_and_ends(rt: HostRuntime) -> Result<(), Fail> {
     Ok(())
 }
 
-/// Whether these are the words that are not 0 of a heap whose lists have a piece of it each.
+/// Returns whether these are the words other than 0 of a partitioned heap, whose free lists have a
+/// part of it each.
 fn has_pieces(alloc: Global, blocks: usize, expected: &[(usize, u64)]) -> Result<bool, AllocError>
     requires some { 1 ≤ blocks }
     requires few { blocks ≤ 10 }
@@ -140,7 +142,7 @@ fn has_pieces(alloc: Global, blocks: usize, expected: &[(usize, u64)]) -> Result
     Ok(words.len() == 16 + 8 * blocks && found.as_slice() == expected)
 }
 
-/// The words of a heap of eight blocks, one in each list.
+/// The words other than 0 of a heap of eight blocks, one in each list.
 const EIGHT: [(usize, u64); 8] = [
     (8, 16),
     (9, 24),
@@ -152,7 +154,7 @@ const EIGHT: [(usize, u64); 8] = [
     (15, 72),
 ];
 
-/// The words of a heap of nine: the first list has two.
+/// The words other than 0 of a heap of nine blocks: the first list has two.
 const NINE: [(usize, u64); 9] = [
     (8, 16),
     (9, 32),
@@ -165,7 +167,7 @@ const NINE: [(usize, u64); 9] = [
     (16, 24),
 ];
 
-/// The words of a heap of ten: the first two lists have two each.
+/// The words other than 0 of a heap of ten blocks: the first two lists have two each.
 const TEN: [(usize, u64); 10] = [
     (8, 16),
     (9, 32),
@@ -205,7 +207,7 @@ fn take_many<M: TxMem>(memory: &mut M, start: FreeList, many: u32) -> Result<Opt
     Ok(last)
 }
 
-/// Takes a block for each of the lists below this one.
+/// Takes a block for each of the lists below `lists`.
 fn take_of_each<M: TxMem>(memory: &mut M, lists: u32) -> Result<(), M::Stop>
     requires pool { HasPool (M.view memory.old) }
     requires lists { lists ≤ 8 }
@@ -218,7 +220,7 @@ fn take_of_each<M: TxMem>(memory: &mut M, lists: u32) -> Result<(), M::Stop>
     Ok(())
 }
 
-/// List 1 has three blocks: the first is taken, and the two others are list 0.
+/// List 1 has three blocks: the first is taken, and the two others become list 0.
 #[test]
 fn a_dry_list_gets_what_is_behind_the_block(rt: HostRuntime) -> Result<(), Fail> {
     let words = spread_words(rt.alloc(), 24)?;
@@ -234,8 +236,8 @@ fn a_dry_list_gets_what_is_behind_the_block(rt: HostRuntime) -> Result<(), Fail>
     Ok(())
 }
 
-/// Each list has 66 blocks. List 7 is dry, and list 0 follows it: its first block is taken, the
-/// next 63 are list 7, and the last two stay.
+/// Each list has 66 blocks. List 7 is exhausted, and list 0 follows it: its first block is taken,
+/// the next 63 become list 7, and the last two stay.
 #[test]
 fn a_run_has_sixty_four_blocks(rt: HostRuntime) -> Result<(), Fail> {
     let words = spread_words(rt.alloc(), 528)?;
@@ -254,8 +256,7 @@ fn a_run_has_sixty_four_blocks(rt: HostRuntime) -> Result<(), Fail> {
     Ok(())
 }
 
-/// A block is found in the last list that is looked at, and one that is the last of all leaves
-/// none.
+/// The last list that is searched has a block, and taking the very last block leaves none.
 #[test]
 fn the_last_list_and_the_last_block(rt: HostRuntime) -> Result<(), Fail> {
     let mut eight = Flat::new(spread_words(rt.alloc(), 8)?);

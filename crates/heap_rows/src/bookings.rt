@@ -12,7 +12,7 @@ use tx_alloc::Block;
 use tx_list::{Key, first, next};
 use tx_memory::{Flat, TxRead};
 
-/// Whether a walk along the list comes by these blocks and no others.
+/// Returns whether a walk along the list meets exactly these blocks.
 fn has_blocks<M: TxRead>(memory: &mut M, blocks: &[Block]) -> Result<bool, M::Stop>
     requires stock { HasStock (M.view memory.old) }
     ensures origin { M.origin memory.new ≡ M.origin memory.old }
@@ -44,7 +44,7 @@ fn random_key(random: &mut Pcg32) -> Key
     }
 }
 
-/// The words that no call may change: all but the head and the words that lead on.
+/// Returns the words that no call may change: all but the head and the words that link the blocks.
 fn fixed(alloc: Global, words: &[u64]) -> Result<Vec<u64>, AllocError> {
     words
         .iter()

@@ -5,16 +5,16 @@ use crate::walks::cars;
 use std::test::Fail;
 use vac_model::{Command, Kind, Reply};
 
-/// How many cars are added, in ascending order.
+/// Number of cars that are added, in ascending order.
 const CARS: u32 = 1_000;
 
-/// How many steps there are: each car is added, and then the odd ones are removed.
+/// Number of steps: each car is added, and then the odd ones are removed.
 const STEPS: u32 = 1_500;
 
-/// How many units each car has.
+/// Number of units of each car.
 const UNITS: u32 = 3;
 
-/// The command of a step, counted from 1.
+/// Returns the command of a step, counted from 1.
 fn command_of(step: u32) -> Command {
     let kind = Kind::Car;
     if step <= CARS {
@@ -33,7 +33,7 @@ fn command_of(step: u32) -> Command {
     }
 }
 
-/// How many cars there are after a step.
+/// Returns the number of cars after a step.
 fn cars_after(step: u32) -> u64 {
     if step <= CARS {
         u64::from(step)

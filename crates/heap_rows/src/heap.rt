@@ -1,4 +1,4 @@
-//! Plain memory that holds a state, called with tasks and commands.
+//! Plain memory that holds a state, with calls for tasks and commands.
 
 ghost use Rattle.std.specs.Prelude.{◌≤◌};
 ghost use Rattle.vac_model.specs.declared.limits.TheConstants.{MOST_BLOCKS};
@@ -16,7 +16,7 @@ pub(crate) struct Heap {
 }
 
 impl Heap {
-    /// The memory of a state without entries, with room for `blocks` of them.
+    /// Returns the memory of a state without entries, with room for `blocks` of them.
     pub(crate) fn new(alloc: Global, blocks: u32) -> Result<Heap, AllocError>
         requires some { 1 ≤ blocks }
         requires most { blocks ≤ MOST_BLOCKS }
@@ -25,7 +25,7 @@ impl Heap {
         Ok(Heap { memory })
     }
 
-    /// The reply to a task, or `None` where it cannot be asked for.
+    /// Runs a task and returns its reply, or `None` if the task is not valid.
     pub(crate) fn answer(&mut self, task: &Task) -> Option<Reply> {
         if !task.is_in_range() {
             return None;
@@ -33,7 +33,7 @@ impl Heap {
         Some(self.memory.run(task, FreeList::new(0)))
     }
 
-    /// The reply to a task that only reads, or `None` to any other.
+    /// Returns the reply to a task that only reads, or `None` for any other task.
     pub(crate) fn look(&mut self, task: &Task) -> Option<Reply> {
         if !only_reads(task) {
             return None;
@@ -41,7 +41,7 @@ impl Heap {
         Some(self.memory.read(task))
     }
 
-    /// The heap as it is, and what the audit returns for its words.
+    /// Returns the heap as it is, and the result of the audit of its words.
     pub(crate) fn audited(self, alloc: Global) -> (Heap, Result<Report, AuditFault>) {
         let Heap { memory } = self;
         let words = memory.words();
@@ -50,7 +50,7 @@ impl Heap {
         (Heap { memory }, found)
     }
 
-    /// The reply to a command.
+    /// Runs a command and returns its reply.
     pub(crate) fn one(&mut self, command: Command) -> Option<Reply> {
         self.answer(&Task::One(command))
     }
@@ -66,7 +66,7 @@ impl Heap {
         })
     }
 
-    /// Makes a customer.
+    /// Creates a customer.
     pub(crate) fn join(&mut self, id: u32) -> Option<Reply> {
         self.one(Command::NewCustomer { id })
     }

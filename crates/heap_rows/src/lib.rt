@@ -1,4 +1,4 @@
-//! Tests of the structures in words over plain memory and of what walks over them: blocks, lists of
+//! Tests of the structures in words over plain memory and of the walks over them: blocks, lists of
 //! bookings, tables, the records in them, reports, audits and tasks, with words and answers that
 //! were worked out by hand.
 #![tactic(auto)]

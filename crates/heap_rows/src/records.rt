@@ -1,4 +1,4 @@
-//! Items and customers in plain memory: which words are written.
+//! Items and customers in plain memory: the words that are written.
 ghost use Rattle.std.specs.Prelude.{◌≡◌, IfOk};
 ghost use Rattle.vac_records.specs.Items.{IsNode};
 
@@ -11,7 +11,8 @@ use vac_records::{
     set_price, sum_at, total_at, units_at, used_at,
 };
 
-/// An item of 100 units at 50, then 5 more units, then another price.
+/// Creates an item of 100 units at 50, then adds 5 units, then changes the price. Returns the
+/// item.
 fn make_and_change<M: TxMem>(memory: &mut M, node: Block) -> Result<Item, M::Stop>
     requires { IsNode (M.view memory.old) node }
     ensures origin { M.origin memory.new ≡ M.origin memory.old }
@@ -23,7 +24,7 @@ fn make_and_change<M: TxMem>(memory: &mut M, node: Block) -> Result<Item, M::Sto
     item_at(memory, node)
 }
 
-/// The numbers of an item, read one by one.
+/// Returns the numbers of an item, read one by one.
 fn numbers<M: TxMem>(memory: &mut M, node: Block) -> Result<(u64, u64, u64, u64), M::Stop>
     requires { IsNode (M.view memory.old) node }
     ensures { M.origin memory.new ≡ M.origin memory.old }
@@ -63,7 +64,8 @@ fn an_item_in_plain_memory(rt: HostRuntime) -> Result<(), Fail> {
     Ok(())
 }
 
-/// A customer without bookings; and the block's words, read as a booking's.
+/// Creates a customer without bookings. Returns the words of its block, read as those of a
+/// booking.
 fn make_customer<M: TxMem>(memory: &mut M, node: Block) -> Result<(Booking, u64, u64), M::Stop>
     requires { IsNode (M.view memory.old) node }
     ensures { M.origin memory.new ≡ M.origin memory.old }
@@ -80,7 +82,7 @@ fn a_customer_in_plain_memory(rt: HostRuntime) -> Result<(), Fail> {
     let mut flat = Flat::new(vec![in rt.alloc(); 9u64; 24]?);
     let Ok(read) = make_customer(&mut flat, Block(Addr(8)));
     assert_eq!(rt; read, (Booking { units: 0, sum: 9 }, 0, 9));
-    // The key, the head of the bookings and the spare words are written, and nothing else.
+    // Only the key, the head of the bookings and the spare words are written.
     let words = flat.words();
     for (i, word) in words.iter().enumerate() {
         let expected = match i {

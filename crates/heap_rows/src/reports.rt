@@ -27,7 +27,7 @@ fn no_entries(rt: HostRuntime) -> Result<(), Fail> {
     Ok(())
 }
 
-/// The words of a heap whose seven blocks are all taken.
+/// Returns the words of a heap whose seven blocks are all taken.
 fn stock(alloc: Global) -> Result<Vec<u64>, AllocError>
     ensures { IfOk result (λ words. words.items ≡ stock_words) }
 {

@@ -1,7 +1,8 @@
 //! The shape of a table in words, and the words around it.
 
-/// The black nodes on each way down from a node, one more for the end, or `None` where the tree is
-/// no red-black tree of keys from `low` to below `high`.
+/// Returns the number of black nodes on each path down from a node, with one for the end, or
+/// `None` if the tree is no red-black tree of keys from `low` to below `high`. The parameter
+/// `fuel` bounds the recursion, as the prover needs a measure.
 fn blacks_of(words: &[u64], node: u64, low: u64, high: u64, red: bool, fuel: u32) -> Option<u32> {
     if node == 0 {
         return Some(1);
@@ -31,7 +32,7 @@ fn blacks_of(words: &[u64], node: u64, low: u64, high: u64, red: bool, fuel: u32
     on_left.checked_add(1)
 }
 
-/// Whether the table is a red-black tree with a black root, no deeper than 36 nodes.
+/// Returns whether the table is a red-black tree with a black root, no deeper than 36 nodes.
 pub(crate) fn is_red_black(words: &[u64]) -> bool {
     let Some(root) = words.get(3) else {
         return false;
@@ -39,8 +40,8 @@ pub(crate) fn is_red_black(words: &[u64]) -> bool {
     blacks_of(words, *root, 0, u64::MAX, true, 36).is_some()
 }
 
-/// Whether the words outside of the table, and the keys and payloads of all blocks, are as they
-/// were at the start.
+/// Returns whether the words outside of the table, and the keys and payloads of all blocks, are as
+/// they were at the start.
 pub(crate) fn rest_is_kept(words: &[u64], start: &[u64]) -> bool {
     let mut kept = words.len() == start.len();
     for (i, (word, before)) in words.iter().zip(start.iter()).enumerate() {

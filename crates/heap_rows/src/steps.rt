@@ -14,14 +14,15 @@ use tx_tree::{find, insert, least_above, remove};
 
 const ROOT: Addr = Addr(3);
 
-/// What is done with the block of a number: it is put under its key, or the entry of its key goes.
+/// A step on the block of a number: the block is put under its key, or the entry of its key is
+/// removed.
 #[derive(Clone, Copy)]
 pub(crate) enum Step {
     Put(usize),
     Cut(usize),
 }
 
-/// When the shape is looked at.
+/// The times at which the shape of the table is tested.
 #[derive(Clone, Copy, PartialEq, Eq)]
 pub(crate) enum Look {
     AfterEachStep,
@@ -33,8 +34,8 @@ pub(crate) fn holds(fact: bool) -> Result<(), Fail> {
     Ok(())
 }
 
-/// The words of a heap whose blocks have these keys. Their links lead nowhere yet, and each has a
-/// payload of its own.
+/// Returns the words of a heap whose blocks have these keys. Their links point nowhere yet, and
+/// each block has a payload of its own.
 fn words_of(alloc: Global, keys: &[u64]) -> Result<Vec<u64>, AllocError> {
     let mut words = vec![in alloc; 0u64; 16]?;
     for key in keys {
@@ -49,7 +50,7 @@ fn words_of(alloc: Global, keys: &[u64]) -> Result<Vec<u64>, AllocError> {
     Ok(words)
 }
 
-/// A heap with an empty table.
+/// Returns a heap with an empty table, or `None` if the words are not those of one.
 fn table(words: Vec<u64>, blocks: usize) -> Option<Flat>
     ensures { IfSome result (λ flat. HasEntries (flat_view flat) 3 blocks 0) }
 {
@@ -65,7 +66,7 @@ fn table(words: Vec<u64>, blocks: usize) -> Option<Flat>
     Some(Flat::new(words))
 }
 
-/// Puts a block under its key, unless the table has the key. Returns how many entries there are.
+/// Puts a block under its key, unless the table has the key. Returns the number of entries.
 fn put(flat: &mut Flat, blocks: usize, count: usize, number: usize) -> usize
     requires { HasEntries (flat_view flat.old) 3 blocks count }
     ensures { HasEntries (flat_view flat.new) 3 blocks result }
@@ -88,7 +89,7 @@ fn put(flat: &mut Flat, blocks: usize, count: usize, number: usize) -> usize
     }
 }
 
-/// Takes the entry of a key out. Returns how many entries are left, and the block.
+/// Removes the entry of a key. Returns the number of entries left, and the block.
 fn cut(flat: &mut Flat, blocks: usize, count: usize, key: u64) -> (usize, Option<Block>)
     requires { HasEntries (flat_view flat.old) 3 blocks count }
     ensures { HasEntries (flat_view flat.new) 3 blocks result.0 }
@@ -100,7 +101,7 @@ fn cut(flat: &mut Flat, blocks: usize, count: usize, key: u64) -> (usize, Option
     }
 }
 
-/// Whether a walk by the next greater keys gives the entries of the map, and nothing else.
+/// Returns whether a walk by the next greater keys gives exactly the entries of the map.
 fn same_entries(flat: &mut Flat, blocks: usize, count: usize, map: &BTreeMap<u64, u32>) -> bool
     requires { HasEntries (flat_view flat.old) 3 blocks count }
     ensures { HasEntries (flat_view flat.new) 3 blocks count }
@@ -120,8 +121,8 @@ fn same_entries(flat: &mut Flat, blocks: usize, count: usize, map: &BTreeMap<u64
     same && next.is_none()
 }
 
-/// Takes a step beside the library's map. Returns how many entries there are, and whether the
-/// answer was the map's.
+/// Takes a step beside the library's map. Returns the number of entries, and whether the answer
+/// was the map's.
 fn take_step(
     flat: &mut Flat,
     keys: &[u64],
@@ -151,7 +152,8 @@ fn take_step(
     }
 }
 
-/// The memory as it is, and whether its table is well shaped, where it is to be looked at.
+/// Returns the memory as it is, and whether its table is well shaped. With `Look::AtTheEnd` the
+/// shape is not tested here and counts as good.
 fn looked_at(flat: Flat, look: Look) -> (Flat, bool)
     ensures { result.0 ≡ flat }
 {
@@ -160,8 +162,8 @@ fn looked_at(flat: Flat, look: Look) -> (Flat, bool)
     (Flat::new(words), well_shaped)
 }
 
-/// Takes the steps beside the library's map. All answers, the shape, the entries in order and the
-/// words outside are compared. Returns how many entries are left.
+/// Takes the steps beside the library's map, and compares all answers, the shape, the entries in
+/// order and the words outside. Returns the number of entries left.
 pub(crate) fn play(alloc: Global, keys: &[u64], steps: &[Step], look: Look) -> Result<usize, Fail> {
     let start = words_of(alloc, keys)?;
     let mut flat = table(words_of(alloc, keys)?, keys.len()).ok_or("no heap")?;

@@ -5,12 +5,12 @@ use std::alloc::{AllocError, Global};
 use std::test::Fail;
 use tx_tree::height_is_logarithmic;
 
-/// In which order the blocks of a heap are put or cut.
+/// The order in which the blocks of a heap are put or cut.
 #[derive(Clone, Copy)]
 enum Order {
     Ascending,
     Descending,
-    /// The first, the last, the second, the last but one, and so on.
+    /// First, last, second, last but one, and so on.
     Alternating,
 }
 
@@ -27,7 +27,7 @@ fn numbers(alloc: Global, count: usize, order: Order) -> Result<Vec<usize>, Allo
     Ok(numbers)
 }
 
-/// The keys from 1 on.
+/// Returns the keys from 1 to `count`.
 fn rising_keys(alloc: Global, count: u64) -> Result<Vec<u64>, AllocError> {
     let mut keys = Vec::new(alloc);
     for n in 0..count {
@@ -36,7 +36,7 @@ fn rising_keys(alloc: Global, count: u64) -> Result<Vec<u64>, AllocError> {
     Ok(keys)
 }
 
-/// Different keys, as far as there are at most 65,537 of them, in no order.
+/// Returns keys in mixed order. The keys differ if there are at most 65,537 of them.
 fn mixed_keys(alloc: Global, count: u64) -> Result<Vec<u64>, AllocError> {
     let mut keys = Vec::new(alloc);
     for n in 0..count {
@@ -52,7 +52,7 @@ fn draw(state: &mut u64) -> u64 {
     *state / 8_589_934_592
 }
 
-/// Random steps: mostly puts in five hundred, mostly cuts in the next five hundred.
+/// Returns random steps: mostly puts in five hundred steps, mostly cuts in the next five hundred.
 fn random_steps(
     alloc: Global,
     seed: u64,
@@ -130,7 +130,7 @@ fn the_odd_ones_of_a_thousand_entries_go(rt: HostRuntime) -> Result<(), Fail> {
     for number in 0..1_000usize {
         steps.push(Step::Put(number))?;
     }
-    // Block n has the key n + 1.
+    // The key of block n is n + 1.
     for number in 0..500usize {
         steps.push(Step::Cut(2 * number))?;
     }

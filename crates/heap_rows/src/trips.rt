@@ -1,4 +1,4 @@
-//! Trips: which items are picked, and what is refused as blocks run out.
+//! Trips: the items that are picked, and the refusals as blocks run out.
 ghost use Rattle.std.specs.Prelude.{◌≤◌};
 
 use crate::heap::Heap;
@@ -7,12 +7,12 @@ use std::test::Fail;
 use vac_model::limits::MOST_BLOCKS;
 use vac_model::{Command, Joined, Kind, Pick, Reply, Task, TripReply, Why};
 
-/// The reply to a trip: what became of its customer, and its picks.
+/// Returns the reply to a trip, from the outcome for its customer and its picks.
 fn trip(joined: Joined, picks: [Option<Pick>; 3]) -> Option<Reply> {
     Some(Reply::Trip(TripReply { joined, picks }))
 }
 
-/// A pick, and why it was refused, if it was.
+/// Returns a pick, with the reason of its refusal, if it was refused.
 fn pick(id: u32, price: u64, refused: Option<Why>) -> Option<Pick> {
     Some(Pick { id, price, refused })
 }
@@ -49,8 +49,8 @@ fn four_blocks_for_two_customers(rt: HostRuntime) -> Result<(), Fail> {
     Ok(())
 }
 
-/// Three items, one of each kind, and a trip of customer 9 to all three, in a heap of `blocks`
-/// blocks. The asks are in another order than the kinds.
+/// Returns the reply to a trip of customer 9 to three items, one of each kind, in a heap of
+/// `blocks` blocks. The asks are in another order than the kinds.
 fn one_of_each(alloc: Global, blocks: u32) -> Result<Option<Reply>, AllocError>
     requires some { 1 ≤ blocks }
     requires most { blocks ≤ MOST_BLOCKS }
@@ -67,7 +67,7 @@ fn one_of_each(alloc: Global, blocks: u32) -> Result<Option<Reply>, AllocError>
     Ok(heap.answer(&asked))
 }
 
-/// The picks of that trip, and why each was refused, if it was.
+/// Returns the picks of that trip, with the reasons of their refusals, if they were refused.
 fn picks(car: Option<Why>, flight: Option<Why>, room: Option<Why>) -> [Option<Pick>; 3] {
     [pick(1, 10, car), pick(2, 20, flight), pick(3, 30, room)]
 }

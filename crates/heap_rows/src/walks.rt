@@ -1,11 +1,11 @@
-//! Words that were worked out by hand, and what the audit returns for them.
+//! Words that were worked out by hand, and the audit's results for them.
 
 use std::alloc::Global;
 use std::test::Fail;
 use vac_audit::{AuditFault, Flaw, audit_words};
 use vac_model::Report;
 
-/// This many words, all 0 but those that are listed with their addresses.
+/// Returns this many words, all 0 except the listed ones.
 fn words_with(alloc: Global, length: usize, listed: &[(usize, u64)]) -> Result<Vec<u64>, Fail> {
     let mut words = Vec::from_elem(alloc, 0u64, length)?;
     for (at, word) in listed {
@@ -21,10 +21,10 @@ fn put(words: &mut Vec<u64>, at: usize, word: u64) {
     }
 }
 
-/// One block: car 7 with 100 units, all free, at a price of 50.
+/// The words of one block: car 7 with 100 units, all free, at a price of 50.
 const ONE_CAR: [(usize, u64); 5] = [(1, 16), (16, 7), (21, 100), (22, 100), (23, 50)];
 
-/// What the audit returns for one car's words with these changed.
+/// Returns the audit's result for the words of one car with these words changed.
 fn damaged(alloc: Global, changed: &[(usize, u64)]) -> Result<Result<Report, AuditFault>, Fail> {
     let mut words = words_with(alloc, 24, &ONE_CAR)?;
     for (at, word) in changed {
@@ -37,7 +37,7 @@ fn flaw(flaw: Flaw) -> Result<Report, AuditFault> {
     Err(AuditFault::Flaw(flaw))
 }
 
-/// The report of cars alone, all of whose units are free.
+/// Returns the report of cars only, all of whose units are free.
 pub(crate) fn cars(cars: u64, units: u64) -> Report {
     Report {
         cars,
@@ -125,7 +125,7 @@ fn two_blocks(rt: HostRuntime) -> Result<(), Fail> {
     Ok(())
 }
 
-/// Car 1, customer 2, and a booking of 3 units for 21 in all.
+/// The words of car 1, customer 2, and a booking of 3 units for 21 in all.
 const BOOKED: [(usize, u64); 13] = [
     (1, 16),
     (4, 24),
@@ -142,7 +142,7 @@ const BOOKED: [(usize, u64); 13] = [
     (36, 3),
 ];
 
-/// What the audit returns for the booking's words with these changed.
+/// Returns the audit's result for the words of the booking with these words changed.
 fn booked(alloc: Global, changed: &[(usize, u64)]) -> Result<Result<Report, AuditFault>, Fail> {
     let mut words = words_with(alloc, 48, &BOOKED)?;
     for (at, word) in changed {
@@ -208,7 +208,7 @@ fn lengths_that_no_heap_has(rt: HostRuntime) -> Result<(), Fail> {
     Ok(())
 }
 
-/// Cars chained by their left words, from the greatest key down.
+/// The cars are chained by their left words, from the greatest key down.
 #[test]
 fn a_long_chain_on_the_left(rt: HostRuntime) -> Result<(), Fail> {
     let alloc = rt.alloc();

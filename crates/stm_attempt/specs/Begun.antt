@@ -1,4 +1,4 @@
--- What an attempt that has begun is, in terms of its client's value.
+-- The state of an attempt that has begun, in terms of its client's value.
 use Rattle.std.specs.Prelude.{◌≡◌, ◌==◌, ℕ, ◌+◌, ◌*◌, ◌^◌, ◌<◌, ◌≤◌, Bool, List, [], ◌∷◌, ◌++◌, length, map, true, false, Option, None, Some}
 use Rattle.std.specs.FinMap.{get}
 use Rattle.tx_memory.specs.Image.{In}
@@ -11,7 +11,7 @@ use Rattle.stm_core.specs.Guards.{stripe_of}
 use Rattle.stm_attempt.specs.Conflicts.{HasMet, reads_refused}
 use Rattle.stm_attempt.specs.declared.conflict.Conflict.{Conflict}
 
--- the client's value without what a read changes
+-- the client's value without the fields that a read changes
 abbrev pub still : Client → Client
 still v = record v {
   attempt = record (forgetting v.attempt) { phase = running; reads = []; steps = 0 };
@@ -27,16 +27,16 @@ pub record IsBegun (v : Client) (rv : ℕ) : Type 0 where
   pub unticked : v.attempt.ticks ≡ 0
   pub from : v.attempt.next_from ≡ rv
 
--- a word may be read: the attempt has begun and reads on, and this is the word of a free lock at
--- its read version
+-- a word may be read: the attempt has begun and reads on, and `newest` is the word of a free lock
+-- at the read version
 pub record CanRead (v : Client) (newest : ℕ) : Type 0 where
   pub begun : IsBegun v v.attempt.rv
   pub runs : v.attempt.phase ≡ running
   pub compared : newest ≡ free_word v.attempt.rv
   pub small : newest < 2 ^ 63
 
--- a step that shows no conflict: the begin of an attempt, or the second look at a lock, where both
--- looks found one word
+-- true if the step shows no conflict: the begin of an attempt, or the check of a read that found
+-- the word of the probe
 abbrev pub is_quiet : Step → Bool
 is_quiet nothing = false
 is_quiet (began version) = true
@@ -48,26 +48,26 @@ is_quiet (ticked version now) = false
 is_quiet (validated lock word) = false
 is_quiet (ended version) = false
 
--- so is the client's last step
+-- the client's last step shows no conflict
 abbrev pub IsQuiet : Client → Type 0
 IsQuiet v = is_quiet v.attempt.last ≡ true
 
--- the value is as before, but that x was read at the address, in three steps
+-- the value of the client is as before, except that x was read at the address, in three steps
 pub record HasReadWord (v v' : Client) (address x : ℕ) : Type 0 where
   pub reads : v'.attempt.reads ≡ v.attempt.reads ++ (address, x) ∷ []
   pub runs : v'.attempt.phase ≡ running
   pub quiet : IsQuiet v'
   pub steps : v'.attempt.steps ≡ v.attempt.steps + 3
 
--- an attempt that is lone was not stopped
+-- a solo attempt has met no conflict
 abbrev pub IsUnstopped : {A : Type 0} → Client → Option A → Type 0
 IsUnstopped v stopped = v.attempt.lone ≡ true → stopped ≡ None
 
--- every address of the reads is one of the region
+-- every address of the reads is inside the region
 abbrev pub AreInside : ℕ → List (ℕ × ℕ) → Type 0
 AreInside size reads = (address x : ℕ) → In (address, x) reads → address < size
 
--- the address at which a value was read
+-- the address of a read
 abbrev pub address_of : ℕ × ℕ → ℕ
 address_of p = p.0
 
@@ -75,7 +75,7 @@ address_of p = p.0
 abbrev pub addresses : List (ℕ × ℕ) → List ℕ
 addresses reads = map address_of reads
 
--- each logged write has an address of the region, and the number of its lock
+-- each logged write has an address of the region, and the number of the address's lock
 pub record IsPlaced (region : RegionShown) (writes : LogValue) : Type 0 where
   pub lock : (address number : ℕ) → get writes.locks address ≡ Some number →
       number ≡ stripe_of region.stripes address
@@ -84,7 +84,7 @@ pub record IsPlaced (region : RegionShown) (writes : LogValue) : Type 0 where
   pub range : (address number : ℕ) → get writes.locks address ≡ Some number →
       number < region.stripes
 
--- the attempt was not finished as a reader
+-- true unless the attempt was finished as a reader
 abbrev pub is_unfinished : Phase → Bool
 is_unfinished idle = true
 is_unfinished running = true
@@ -92,7 +92,8 @@ is_unfinished ending = true
 is_unfinished committed = true
 is_unfinished finished = false
 
--- it reads on unless a read met a conflict, which is then shown; and its steps are counted
+-- the attempt reads on unless a read met a conflict, which is then shown by the last step. The
+-- steps are bounded by the number of reads
 pub record IsRunning (region : RegionShown) (v : Client) (rv : ℕ)
     (stopped : Option Conflict) : Type 0 where
   pub begun : IsBegun v rv

@@ -1,4 +1,4 @@
--- What the parts of a commit ask for, and what they make of a client's value.
+-- The conditions and the effects of the parts of a commit, in terms of the client's value.
 use Rattle.std.specs.Prelude.{◌≡◌, ◌≢◌, ◌⊎◌, ℕ, ◌+◌, ◌*◌, ◌<◌, ◌≤◌, Bool, true, false, ◌||◌, cond, eqb, List, [], ◌∷◌, ◌++◌, length, take, Option, None}
 use Rattle.std.specs.FinMap.{len}
 use Rattle.tx_memory.specs.Image.{In}
@@ -12,8 +12,9 @@ use Rattle.stm_attempt.specs.Committing.{IsSameAttempt, settling, ticked_record,
 use Rattle.stm_attempt.specs.declared.conflict.Conflict.{Conflict}
 use Rattle.stm_attempt.specs.declared.conflict.Stop.{Stop}
 
--- the attempt may end: it has begun at rv and read inside the region; and unless a read met a
--- conflict, its logs have the addresses of its reads, and what they are to write is lawful
+-- the attempt may end: it has begun at rv and read inside the region. Unless a read met a
+-- conflict, the read log has the addresses of the reads, and the record with the log's writes is
+-- lawful
 pub record CanEnd (lawful : RecordLaw) (region : RegionShown) (tag : List ℕ) (v : Client) (rv : ℕ)
     (stopped : Option Conflict) (logged : List ℕ) (log : LogValue) : Type 0 where
   pub running : IsRunning region v rv stopped
@@ -23,7 +24,7 @@ pub record CanEnd (lawful : RecordLaw) (region : RegionShown) (tag : List ℕ) (
   pub placed : IsPlaced region log
   pub allowed : stopped ≡ None → lawful tag v.attempt.reads (log_pairs log)
 
--- the attempt may commit what it wrote: it has begun at rv and only read, inside the region
+-- a writer may commit: the attempt has begun at rv and only read, inside the region
 pub record IsReady (region : RegionShown) (v : Client) (rv : ℕ) : Type 0 where
   pub out : v.is_gathered ≡ false
   pub reading : (v.attempt.phase ≡ running) × (v.attempt.wv ≡ 0)
@@ -34,14 +35,15 @@ pub record IsReady (region : RegionShown) (v : Client) (rv : ℕ) : Type 0 where
   pub range : rv ≤ region.last
   pub inside : AreInside region.size v.attempt.reads
 
--- the logs have the addresses of the reads, and something to write with the locks that it needs
+-- the logs have the addresses of the reads, and some writes with the locks that they need
 pub record IsLogged (region : RegionShown) (v : Client) (logged : List ℕ)
     (log : LogValue) : Type 0 where
   pub reads : logged ≡ addresses v.attempt.reads
   pub placed : IsPlaced region log
   pub written : len log.words ≢ 0
 
--- it may validate its reads: all its locks are held, the clock is ticked, and nothing is decided
+-- the attempt may validate its reads: there are some, the clock is ticked, and no read is
+-- validated yet
 pub record CanValidate (region : RegionShown) (v : Client) (rv : ℕ) : Type 0 where
   pub out : v.is_gathered ≡ false
   pub phase : v.attempt.phase ≡ running
@@ -52,7 +54,7 @@ pub record CanValidate (region : RegionShown) (v : Client) (rv : ℕ) : Type 0 w
   pub some : v.attempt.reads ≢ []
   pub inside : AreInside region.size v.attempt.reads
 
--- the attempt is decided, and has nothing stored yet
+-- the attempt is decided and holds its locks, and no value is stored yet
 pub record CanSettle (v : Client) (log : LogValue) : Type 0 where
   pub out : v.is_gathered ≡ false
   pub phase : v.attempt.phase ≡ committed
@@ -60,19 +62,19 @@ pub record CanSettle (v : Client) (log : LogValue) : Type 0 where
   pub writes : v.attempt.writes ≡ log_pairs log
   pub held : addresses v.attempt.held ≡ log_locks log
 
--- how many steps the client has made at most when a commit ends that wrote
+-- an upper bound of the client's steps at the end of a writer's commit
 abbrev pub commit_bound : Client → LogValue → ℕ
 commit_bound v log = v.attempt.steps + length v.attempt.reads + 4 * len log.words + MOST_TICKS
 
--- it may take locks
+-- the client may take locks
 abbrev pub CanLock : Client → Type 0
 CanLock v = (v.is_gathered ≡ false) × ((v.attempt.phase ≡ running) × (v.attempt.wv ≡ 0))
 
--- it holds no lock from this one on
+-- the client holds no lock from this number on
 abbrev pub IsAbove : Client → ℕ → Type 0
 IsAbove v lock = (j u : ℕ) → In (j, u) v.attempt.held → j < lock
 
--- one lock more is held
+-- the client holds one lock more than before
 pub record HasTaken (v v' : Client) (lock : ℕ) : Type 0 where
   pub same : settling v' ≡ settling v
   pub stored : v'.attempt.stored ≡ v.attempt.stored
@@ -80,7 +82,7 @@ pub record HasTaken (v v' : Client) (lock : ℕ) : Type 0 where
   pub won : HasWonLock v'
   pub steps : v'.attempt.steps ≡ v.attempt.steps + 2
 
--- all locks of the log are held, and taken is their number
+-- the client holds all locks of the log, and `taken` is their number
 pub record HasTakenAll (v v' : Client) (log : LogValue) (taken : ℕ) : Type 0 where
   pub same : settling v' ≡ settling v
   pub stored : v'.attempt.stored ≡ v.attempt.stored
@@ -88,11 +90,11 @@ pub record HasTakenAll (v v' : Client) (log : LogValue) (taken : ℕ) : Type 0 w
   pub won : 0 < taken → HasWonLock v'
   pub steps : v'.attempt.steps ≡ v.attempt.steps + 2 * taken
 
--- it may give back what it holds
+-- the client may give back its locks
 abbrev pub MayGiveBack : Client → Type 0
 MayGiveBack v = (v.is_gathered ≡ false) × ((v.attempt.phase ≡ running) ⊎ (v.attempt.phase ≡ ending))
 
--- a step of a commit failed: the locks are held as before
+-- a step of a commit failed: the locks are held as before, and may be given back
 pub record HasFailed (v v' : Client) : Type 0 where
   pub same : IsSameAttempt v v'
   pub records : v'.records ≡ v.records
@@ -101,7 +103,7 @@ pub record HasFailed (v v' : Client) : Type 0 where
   pub able : MayGiveBack v'
   pub unversioned : v'.attempt.wv ≡ 0
 
--- a lock could not be taken, after this many that are held
+-- a lock could not be taken after `taken` locks were; the client may give back its locks
 pub record HasFailedLocking (v v' : Client) (taken : ℕ) : Type 0 where
   pub same : IsSameAttempt v v'
   pub records : v'.records ≡ v.records
@@ -110,7 +112,7 @@ pub record HasFailedLocking (v v' : Client) (taken : ℕ) : Type 0 where
   pub unversioned : v'.attempt.wv ≡ 0
   pub steps : v'.attempt.steps ≤ v.attempt.steps + 2 * taken + 2
 
--- this many locks were taken, in the order of all, and the rest is left
+-- `taken` locks were taken, in the order of all, and the rest is left to take
 pub record IsClimbing (v v' : Client) (taken : ℕ) (rest all : List ℕ) : Type 0 where
   pub same : settling v' ≡ settling v
   pub stored : v'.attempt.stored ≡ v.attempt.stored
@@ -119,7 +121,7 @@ pub record IsClimbing (v v' : Client) (taken : ℕ) (rest all : List ℕ) : Type
   pub won : 0 < taken → HasWonLock v'
   pub steps : v'.attempt.steps ≡ v.attempt.steps + 2 * taken
 
--- the client's value without what giving back changes
+-- the client's value without the fields that giving back locks changes
 abbrev pub returned : Client → Client
 returned v = record v {
   attempt = record v.attempt {
@@ -134,7 +136,7 @@ returned v = record v {
   };
 }
 
--- the held locks are the first `left` of the rest, and are still to be given back
+-- the held locks are the first `left` ones of the rest, and are still to be given back
 pub record IsReturning (v v' : Client) (count left : ℕ) (rest all : List ℕ) : Type 0 where
   pub gone : List ℕ
   pub order : gone ++ rest ≡ all
@@ -145,13 +147,13 @@ pub record IsReturning (v v' : Client) (count left : ℕ) (rest all : List ℕ) 
   pub gave_back : left < count → v'.attempt.gave_back ≡ true
   pub steps : v'.attempt.steps + left ≡ v.attempt.steps + count
 
--- a won tick decides at once where nothing was read, or where the write version is the next after
--- the read version
+-- true if a won tick decides the attempt at once: nothing was read, or the write version is the
+-- next after the read version
 abbrev pub is_at_once : Client → ℕ → Bool
 is_at_once v version = is_empty v.attempt.reads || eqb version (v.attempt.rv + 1)
 
 -- the clock was ticked to a write version above the read version, for a record of this tag and
--- these writes; where the client is alone that decided the attempt
+-- these writes. If the attempt is solo, the tick decided it
 pub record HasTicked (region : RegionShown) (tag : List ℕ) (writes : List (ℕ × ℕ))
     (v v' : Client) (version : ℕ) : Type 0 where
   pub same : IsSameAttempt v v'
@@ -169,14 +171,14 @@ pub record HasTicked (region : RegionShown) (tag : List ℕ) (writes : List (ℕ
   pub later : v.attempt.rv < version
   pub lone : v.attempt.lone ≡ true → decided v' ≡ true
 
--- no tick was won: the locks are held as before, and it is shown why
+-- no tick was won: the locks are held as before, and the last step shows why
 pub record HasFailedTicking (region : RegionShown) (log : LogValue) (stop : Stop)
     (v v' : Client) : Type 0 where
   pub failed : HasFailed v v'
   pub shown : IsCommitStop region log stop v'
   pub counted : IsCounted stop v.attempt.steps v'
 
--- the locks of all reads were validated, and the last one decided the attempt
+-- the locks of all reads were validated, and the last validation decided the attempt
 pub record HasValidated (region : RegionShown) (v v' : Client) : Type 0 where
   pub same : IsSameAttempt v v'
   pub held : v'.attempt.held ≡ v.attempt.held
@@ -191,7 +193,7 @@ pub record HasValidated (region : RegionShown) (v v' : Client) : Type 0 where
       ≡ inserted (ticked_record region v.attempt.tag v v.attempt.writes v.attempt.wv) v.records
   pub steps : v'.attempt.steps ≡ v.attempt.steps + length v.attempt.reads
 
--- a validation failed: the attempt aborts, and can only give back what it holds
+-- a validation failed: the locks are held as before, and may be given back
 pub record HasFailedValidating (v v' : Client) : Type 0 where
   pub same : IsSameAttempt v v'
   pub records : v'.records ≡ v.records
@@ -219,7 +221,7 @@ pub record HasReleased (v v' : Client) : Type 0 where
   pub free : v'.attempt.held ≡ []
   pub steps : v'.attempt.steps ≡ v.attempt.steps + length v.attempt.held
 
--- the attempt is decided, with its record
+-- the attempt is decided, and its record is among the client's records
 pub record IsDecided (region : RegionShown) (tag : List ℕ) (writes : List (ℕ × ℕ))
     (v v' : Client) (version : ℕ) : Type 0 where
   pub same : IsSameAttempt v v'
@@ -232,7 +234,8 @@ pub record IsDecided (region : RegionShown) (tag : List ℕ) (writes : List (ℕ
   pub later : v.attempt.rv < version
   pub steps : v'.attempt.steps ≤ v.attempt.steps + length v.attempt.reads + MOST_TICKS
 
--- the attempt could not be decided: it can only give back what it holds
+-- the attempt could not be decided: the locks are held as before and may be given back, and the
+-- last step shows why
 pub record HasFailedDeciding (region : RegionShown) (log : LogValue) (stop : Stop)
     (v v' : Client) : Type 0 where
   pub same : IsSameAttempt v v'
@@ -244,7 +247,7 @@ pub record HasFailedDeciding (region : RegionShown) (log : LogValue) (stop : Sto
   pub counted : IsCounted stop v.attempt.steps v'
   pub steps : v'.attempt.steps ≤ v.attempt.steps + length v.attempt.reads + MOST_TICKS
 
--- all written values were stored and all locks released
+-- all written values were stored and all locks were released
 pub record HasSettled (v v' : Client) : Type 0 where
   pub same : settling v' ≡ settling v
   pub free : v'.attempt.held ≡ []

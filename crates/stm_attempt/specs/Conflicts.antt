@@ -1,5 +1,5 @@
--- When a conflict is shown: the word that it carries is what the client's last step found, a give
--- back apart.
+-- Conditions under which a conflict is shown: the conflict carries the word that the client's last
+-- step, give-backs apart, found.
 use Rattle.std.specs.Prelude.{◌≡◌, ◌≢◌, ℕ, ◌+◌, ◌*◌, ◌<◌, ◌≤◌, ◌⊎◌, List, true, false, ◌||◌, Option, Some, None}
 use Rattle.std.specs.FinMap.{get}
 use Rattle.tx_memory.specs.Image.{In}
@@ -10,14 +10,14 @@ use Rattle.stm_logs.specs.Log.{LogValue}
 use Rattle.stm_attempt.specs.declared.conflict.Conflict.{Conflict}
 use Rattle.stm_attempt.specs.declared.conflict.Conflict.TheVariants.{Held, Newer, Moved, LostLock, LostTick}
 
--- a lock word that says held
+-- the lock word says that the lock is held
 abbrev pub SaysHeld : ℕ → Type 0
 SaysHeld word = word ≡ held_word (version_of word)
 
--- a conflict of a read at an address: the probe of its lock found it held, and not by the client
--- itself, or free with a version above the read version; or the check found another word
--- Not said: that a test meets Moved: no gate stands between the steps of a read, and it is proved
--- alone.
+-- a conflict of a read at an address. The probe found the lock held by another client, or free
+-- with a version above the read version; or the check found another word than the probe
+-- Not said: that a test meets Moved. No gate stands between the steps of a read, so Moved is
+-- proved alone.
 abbrev pub IsReadConflict : (ℕ → ℕ) → ℕ → Conflict → Client → Type 0
 IsReadConflict lk address (Held lock word) v =
     (lock ≡ lk address) × (v.attempt.last ≡ probed lock word) × SaysHeld word
@@ -30,15 +30,15 @@ IsReadConflict lk address (Moved lock first second) v =
 IsReadConflict lk address (LostLock lock found) v = ⊥
 IsReadConflict lk address (LostTick found) v = ⊥
 
--- a read at an address showed this conflict, and read nothing
+-- a read at an address met this conflict, and read nothing
 pub record HasMetConflict (lk : ℕ → ℕ) (address : ℕ) (conflict : Conflict)
     (v v' : Client) : Type 0 where
   pub shown : IsReadConflict lk address conflict v'
   pub reads : v'.attempt.reads ≡ v.attempt.reads
   pub steps : v'.attempt.steps ≤ v.attempt.steps + 3
 
--- a conflict over a lock that is to be taken: the load before its exchange found it held, and not
--- by the client itself, or the exchange lost
+-- a conflict over a lock that is to be taken. The load before the exchange found the lock held by
+-- another client, or the exchange lost
 abbrev pub IsLockConflict : ℕ → Conflict → Client → Type 0
 IsLockConflict wanted (Held lock word) v =
     (lock ≡ wanted) × (v.attempt.last ≡ probed lock word) × SaysHeld word × (v.attempt.mine ≡ false)
@@ -48,8 +48,8 @@ IsLockConflict wanted (LostLock lock found) v =
     (lock ≡ wanted) × ((word : ℕ) × (v.attempt.last ≡ locked lock word found) × (word ≢ found))
 IsLockConflict wanted (LostTick found) v = ⊥
 
--- a conflict of the validation of a read word's lock: it was held by another, or it was free, or
--- the client's own, with a version above the read version
+-- a conflict in the validation of a read word's lock. The lock was held by another client; or the
+-- lock was free or the client's own, with a version above the read version
 abbrev pub IsValidateConflict : ℕ → Conflict → Client → Type 0
 IsValidateConflict wanted (Held lock word) v =
     (lock ≡ wanted) × (v.attempt.last ≡ validated lock word) × SaysHeld word
@@ -62,7 +62,7 @@ IsValidateConflict wanted (Moved lock first second) v = ⊥
 IsValidateConflict wanted (LostLock lock found) v = ⊥
 IsValidateConflict wanted (LostTick found) v = ⊥
 
--- a conflict over the clock: the sixteenth tick lost
+-- a conflict over the clock: the last allowed tick lost
 abbrev pub IsTickConflict : Conflict → Client → Type 0
 IsTickConflict (Held lock word) v = ⊥
 IsTickConflict (Newer lock version rv) v = ⊥
@@ -72,15 +72,15 @@ IsTickConflict (LostTick found) v =
     (from : ℕ) × (v.attempt.last ≡ ticked from found) × (from ≢ found)
     × (v.attempt.ticks ≡ MOST_TICKS)
 
--- it is the lock of an address that is written
+-- the lock belongs to an address that is written
 abbrev pub IsWriteLock : LogValue → ℕ → Type 0
 IsWriteLock log lock = (address : ℕ) × (get log.locks address ≡ Some lock)
 
--- it is the lock of an address that was read
+-- the lock belongs to an address that was read
 abbrev pub IsReadLock : (ℕ → ℕ) → List (ℕ × ℕ) → ℕ → Type 0
 IsReadLock lk reads lock = (address x : ℕ) × In (address, x) reads × (lock ≡ lk address)
 
--- a conflict of a commit: over the lock of an address that it writes, of one that it has read, or
+-- a conflict of a commit: over the lock of a written address, over the lock of a read address, or
 -- over the clock
 -- Not said: that a commit wins; that a test meets LostLock or LostTick, which are proved alone.
 abbrev pub IsCommitConflict : (ℕ → ℕ) → LogValue → Conflict → Client → Type 0
@@ -89,18 +89,18 @@ IsCommitConflict lk log conflict v =
     (((lock : ℕ) × IsReadLock lk v.attempt.reads lock × IsValidateConflict lock conflict v) ⊎
     IsTickConflict conflict v)
 
--- a read of the attempt met the conflict, and it is shown
+-- a conflict that the attempt keeps was met by one of its reads, and the last step shows it
 abbrev pub HasMet : (ℕ → ℕ) → Option Conflict → Client → Type 0
 HasMet lk stopped v = (conflict : Conflict) → stopped ≡ Some conflict →
     ∥ ((address : ℕ) × IsReadConflict lk address conflict v) ∥₁
 
--- how many reads a conflict ended: one, where there is one
+-- the number of reads that a conflict ended: one if there is a conflict, else zero
 abbrev pub reads_refused : Option Conflict → ℕ
 reads_refused None = 0
 reads_refused (Some conflict) = 1
 
--- how many steps an attempt takes at most, by the number of reads that its write log did not serve,
--- and the number of words to write
--- Not said: time, and how often an attempt is tried.
+-- an upper bound of the steps of an attempt, by the number of reads that its write log did not
+-- serve and the number of words to write
+-- Not said: anything of time, or of the number of attempts of a transaction.
 abbrev pub most_steps : ℕ → ℕ → ℕ
 most_steps reads words = 4 * reads + 4 * words + 17

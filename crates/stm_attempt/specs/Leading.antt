@@ -1,5 +1,5 @@
--- What a record's writes make of every image that agrees with its reads: a record leads from what
--- its transaction found to what it left.
+-- The effect of a record's writes on every image that agrees with the record's reads: a property
+-- that a transaction establishes holds after its record's writes are applied.
 use Rattle.std.proofs.Common.{◌≡◌, ℕ, ◌<◌, Bool, true, false, List, [], ◌∷◌, Option, unwrap_or, slice_index, length, refl, sym, ap, subst, ◌∙◌, arith}
 use Rattle.std.specs.FinMap.{empty, get-empty, len-empty, len-entries}
 use Rattle.std.specs.Ordering.{nat_cmp}
@@ -11,7 +11,7 @@ use Rattle.stm_logs.specs.Log.{LogValue, empty_log, log_pairs}
 use Rattle.stm_region.specs.Shown.{RegionShown, ClientShown}
 use Rattle.stm_attempt.specs.Meaning.{memory_of, Origin, origin_of}
 
--- what may hold of the first n words of a memory
+-- a property of the first n words of a memory
 abbrev pub Property : Type 1
 Property = (ℕ → ℕ) → ℕ → Type 0
 
@@ -19,25 +19,24 @@ Property = (ℕ → ℕ) → ℕ → Type 0
 abbrev pub image_as_memory : List ℕ → ℕ → ℕ
 image_as_memory image address = slice_index image address
 
--- whether it holds rests on these words alone
+-- the property depends only on the first n words
 abbrev pub IsLocal : Property → Type 0
 IsLocal P = (m m' : ℕ → ℕ) (n : ℕ) → ((a : ℕ) → a < n → m' a ≡ m a) → P m n → P m' n
 
--- on every image on which the memory may stand afterwards, P before leads to Q after
+-- for every image that is possible afterwards, P before implies Q after
 abbrev pub Carries : (P Q : Property) → View → View → Type 0
 Carries P Q s s' = (image : List ℕ) → Sees s' image →
     P (memory image s.writes) (length image) → Q (memory image s'.writes) (length image)
 
--- every fitting image with P that agrees with the reads is one with Q where the writes are laid
--- over it
+-- for every fitting image with P that agrees with the reads, Q holds of the image with the writes
+-- applied
 abbrev pub LeadsFitting : (fits : List ℕ → Type 0) (P Q : Property) (reads writes : List (ℕ × ℕ))
     → Type 0
 LeadsFitting fits P Q reads writes = (image : List ℕ) → fits image → Agrees image reads →
     P (image_as_memory image) (length image) →
     Q (image_as_memory (laid image writes)) (length (laid image writes))
 
--- a transaction that began with nothing written, and carries P to Q, makes a record that leads
--- from P to Q
+-- if a transaction begins with an empty write log and carries P to Q, its record leads from P to Q
 abbrev pub RecordsLead : (fits : List ℕ → Type 0) (P Q : Property) → Type 0
 RecordsLead fits P Q =
     (in_use in_use' : Bool) (region region' : RegionShown) (name name' logs logs' : ℕ)
@@ -47,7 +46,7 @@ RecordsLead fits P Q =
     (memory_of in_use' region' fits c'.value w') →
     LeadsFitting fits P Q c'.value.attempt.reads (log_pairs w')
 
--- a transaction that only reads, and carries P to Q, makes a record that leads from P to Q
+-- if a transaction that only reads carries P to Q, its record leads from P to Q
 abbrev pub ReadingsLead : (fits : List ℕ → Type 0) (P Q : Property) → Type 0
 ReadingsLead fits P Q =
     (running running' : Bool) (region region' : RegionShown) (name name' : ℕ)
@@ -57,19 +56,19 @@ ReadingsLead fits P Q =
     (memory_of running' region' fits c'.value empty_log) →
     LeadsFitting fits P Q c'.value.attempt.reads []
 
--- they are the words of a fitting image
+-- the first n words of the memory are the words of a fitting image
 pub record AreFittingWords (fits : List ℕ → Type 0) (m : ℕ → ℕ) (n : ℕ) : Type 0 where
   pub image : List ℕ
   pub fitting : fits image
   pub length_is : length image ≡ n
   pub same : (a : ℕ) → a < n → slice_index image a ≡ m a
 
--- every fitting image that agrees with the reads is one where the writes are laid over it
+-- every fitting image that agrees with the reads still fits after the writes are applied
 abbrev pub KeepsFitting : (fits : List ℕ → Type 0) (reads writes : List (ℕ × ℕ)) → Type 0
 KeepsFitting fits reads writes =
     (image : List ℕ) → fits image → Agrees image reads → fits (laid image writes)
 
--- where nothing is laid over the image
+-- the memory of an image without writes has the words of the image
 unwritten : (image : List ℕ) (a : ℕ) →
     memory image (empty {K = ℕ} {X = ℕ} {R = nat_cmp}) a ≡ slice_index image a
 unwritten image a =
@@ -79,7 +78,7 @@ no_length : {A : Type 0} (xs : List A) → length xs ≡ 0 → xs ≡ []
 no_length [] e = refl
 no_length (x ∷ xs) e = absurd (omega (arith, e))
 
--- nothing is to be written where nothing is logged
+-- an empty log has no writes
 pub nothing_logged : log_pairs empty_log ≡ []
 nothing_logged =
     no_length (log_pairs empty_log) (sym (len-entries empty_log.words) ∙ len-empty nat_cmp ℕ)
@@ -99,7 +98,7 @@ module _ (fits : List ℕ → Type 0) (P Q : Property) (local_p : IsLocal P) (lo
       rw long (local_q (memory image w'.words) (image_as_memory (laid image (log_pairs w')))
       (length image) (λ a less. laid-entries w'.words image a less) after)
 
-  -- every record leads from P to Q where its transaction carries P to Q
+  -- every record leads from P to Q if its transaction carries P to Q
   pub records_lead : RecordsLead fits P Q
   records_lead true true region region' name name' logs logs' c c' w w' runs e origin carries =
       leads_on region region' c.value c'.value w w' e carries
@@ -108,7 +107,7 @@ module _ (fits : List ℕ → Type 0) (P Q : Property) (local_p : IsLocal P) (lo
   records_lead false in_use' region region' name name' logs logs' c c' w w' runs e origin carries =
       absurd (let n = runs in cc)
 
-  -- every reader's record leads from P to Q where its transaction carries P to Q
+  -- every reader's record leads from P to Q if its transaction carries P to Q
   pub readings_lead : ReadingsLead fits P Q
   readings_lead running running' region region' name name' c c' runs origin carries =
       subst (λ (ps : List (ℕ × ℕ)). LeadsFitting fits P Q c'.value.attempt.reads ps) nothing_logged

@@ -1,4 +1,4 @@
--- What a running attempt means as a memory.
+-- The memory that a running attempt represents.
 use Rattle.std.specs.Prelude.{◌≡◌, ℕ, Bool, true, false, List, [], Some}
 use Rattle.std.specs.FinMap.{get, empty, get-empty}
 use Rattle.std.specs.Ordering.{nat_cmp}
@@ -14,8 +14,8 @@ use Rattle.std.proofs.Common.{refl, subst, ◌∙◌}
 use Rattle.std.proofs.Math.Logic.{∥∥₁_map}
 use Rattle.tx_memory.specs.Paired.{agrees-map_of}
 
--- the memory of a client in a region, with what it has read, and what it is to write; none once
--- its attempt is over
+-- the memory of a client in a region, with its reads and its writes; the empty memory if the
+-- attempt is over
 abbrev pub memory_of : Bool → RegionShown → (List ℕ → Type 0) → Client → LogValue → View
 memory_of true region fits v writes =
     let reads = map_of v.attempt.reads in
@@ -23,8 +23,8 @@ memory_of true region fits v writes =
 memory_of false region fits v writes =
     record { size = 0; fits = λ _. Unit {0}; reads = empty; writes = empty }
 
--- what no read and no write changes: the region, which client and logs the attempt has, and the
--- client's value but for its reads
+-- the part of an attempt that no read and no write changes: the region, the identities of the
+-- client and of the logs, and the client's value without its reads
 pub record Origin : Type 0 where
   pub region : RegionShown
   pub client_name : ℕ
@@ -45,12 +45,12 @@ origin_of in_use region client_name logs_name client = record {
 none_agrees : (a x : ℕ) → get {R = nat_cmp} (empty {X = ℕ}) a ≡ Some x → Has [] a x
 none_agrees a x e = absurd (let n = get-empty {X = ℕ} nat_cmp a in cc)
 
--- some image of the region's size agrees with the reads, while the attempt runs
+-- while the attempt runs, the size is that of the region and the reads are those of the attempt
 abbrev pub IsStanding : Bool → RegionShown → Client → ℕ → List (ℕ × ℕ) → Type 0
 IsStanding in_use region v size reads =
     in_use ≡ true → (size ≡ region.size) × (reads ≡ v.attempt.reads)
 
--- the memory may stand on an image that agrees with the reads
+-- some image that agrees with the reads is possible for the memory and has its size
 pub attempt_seen :
     (in_use : Bool) (region : RegionShown) (fits : List ℕ → Type 0) (v : Client)
     (writes : LogValue) (size : ℕ) (reads : List (ℕ × ℕ)) → IsStanding in_use region v size reads →

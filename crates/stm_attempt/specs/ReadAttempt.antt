@@ -1,4 +1,4 @@
--- What an attempt that only reads means to its contracts.
+-- The value of an attempt that only reads, in contracts.
 use Rattle.std.specs.Prelude.{◌≡◌, ℕ, ◌+◌, Bool, length, Result}
 use Rattle.tx_memory.specs.View.{View}
 use Rattle.stm_words.specs.declared.law.Law as Law
@@ -13,35 +13,35 @@ use Rattle.stm_attempt.specs.declared.conflict.Stopped.{Stopped}
 use Rattle.stm_attempt.specs.declared.read_attempt.ReadAttempt.{ReadAttempt}
 
 module _ {L R : Type 0} {l : Law.Ghosts L} where
-  -- it has not finished
+  -- true if the attempt has not finished
   abbrev pub runs : ReadAttempt L R l → Bool
   runs s = is_unfinished s.client.now.value.attempt.phase
 
-  -- its client's value
+  -- the value of the attempt's client
   abbrev pub client_of : ReadAttempt L R l → Client
   client_of s = s.client.now.value
 
-  -- the lock of an address of its region
+  -- the lock of an address of the attempt's region
   abbrev pub lock_of : ReadAttempt L R l → ℕ → ℕ
   lock_of s = stripe_of s.region.now.stripes
 
-  -- what it means as a memory
+  -- the memory that the attempt represents
   abbrev pub view : ReadAttempt L R l → View
   view s = memory_of (runs s) s.region.now l.fits (client_of s) empty_log
 
-  -- what none of its reads changes
+  -- the part of an attempt that no read changes
   abbrev pub origin : ReadAttempt L R l → Origin
   origin s = origin_of (runs s) s.region.now s.client.ghost_name 0 s.client.now
 
-  -- its client is as before, and so is the conflict that it met, if any
+  -- the client is as before, and so is the conflict that the attempt met, if any
   abbrev pub IsAsBefore : ReadAttempt L R l → ReadAttempt L R l → Type 0
   IsAsBefore s s' = (s'.client.now ≡ s.client.now) × (s'.stopped ≡ s.stopped)
 
-  -- a read at an address returned this
+  -- a read at an address had this result
   abbrev pub Reads : ReadAttempt L R l → ReadAttempt L R l → ℕ → Result ℕ Stopped → Type 0
   Reads s s' address result =
       HasReadOnly (lock_of s) address (client_of s) (client_of s') s'.stopped result
 
-  -- how many steps it takes at most
+  -- an upper bound of the steps of the attempt
   abbrev pub step_bound : ReadAttempt L R l → ℕ
   step_bound s = most_steps (length (client_of s).attempt.reads + reads_refused s.stopped) 0

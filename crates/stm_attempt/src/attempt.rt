@@ -21,7 +21,7 @@ use tx_memory::{Addr, TxMem, TxRead};
 
 /// A running transaction of a client, with its read log and its write log.
 ///
-/// It must be ended by `commit` or `abort`.
+/// The attempt must be ended by `commit` or `abort`.
 pub struct Attempt<'a, L: Law, R: Allocator = Global, A: Allocator + Copy = Global> {
     pub(crate) region: &'a Region<L, R>,
     pub(crate) client: &'a mut Client<L>,
@@ -29,7 +29,7 @@ pub struct Attempt<'a, L: Law, R: Allocator = Global, A: Allocator + Copy = Glob
     pub(crate) rv: Version,
     /// The word of a free lock at the read version, which no lock word that is read may exceed.
     pub(crate) newest: u64,
-    /// The conflict that a read met.
+    /// The conflict that a read met, if any.
     pub(crate) stopped: Option<Conflict>,
     pub(crate) standing: Standing<L>,
     ghost own: { client.now.table ≡ region.now.table },
@@ -49,10 +49,11 @@ pub struct Attempt<'a, L: Law, R: Allocator = Global, A: Allocator + Copy = Glob
 impl<'a, L: Law, R: Allocator, A: Allocator + Copy> Attempt<'a, L, R, A> {
     ghost use Rattle.stm_attempt.specs.Attempt.{runs, client_of, lock_of, IsFresh, step_bound, client_left};
 
-    /// Begins an attempt, with one load of the clock. It starts with the logs emptied.
+    /// Begins an attempt, with one load of the clock. The logs are emptied first.
     ///
-    /// Not said: that the read version is the newest one where other clients are out; that a client
-    /// which is alone has all grants: it has them where it gathered all others.
+    /// Not said: that the read version is the newest version if other clients are out; that a
+    /// client which is alone has all grants. Such a client has all grants if it has gathered all
+    /// others.
     pub fn begin(
         region: &'a Region<L, R>,
         client: &'a mut Client<L>,
@@ -87,7 +88,7 @@ impl<'a, L: Law, R: Allocator, A: Allocator + Copy> Attempt<'a, L, R, A> {
         }
     }
 
-    /// The read version: what the clock said when the attempt began.
+    /// Returns the read version: the clock's value when the attempt began.
     pub fn read_version(&self) -> Version
         requires { runs self.now ≡ true }
         ensures { result ≡ (client_of self.now).attempt.rv }
@@ -96,7 +97,8 @@ impl<'a, L: Law, R: Allocator, A: Allocator + Copy> Attempt<'a, L, R, A> {
         *rv
     }
 
-    /// The conflict that a read of this attempt met, after which it can only abort.
+    /// Returns the conflict that a read of this attempt met, if any. After a conflict the attempt
+    /// can only abort.
     pub fn stopped(&self) -> Option<Conflict>
         requires { runs self.now ≡ true }
         ensures value { result ≡ self.now.stopped }
@@ -108,9 +110,9 @@ impl<'a, L: Law, R: Allocator, A: Allocator + Copy> Attempt<'a, L, R, A> {
         *stopped
     }
 
-    /// Aborts the attempt: it ends with no record.
+    /// Aborts the attempt, which leaves no record.
     ///
-    /// Not said: what the logs hold until the next begin.
+    /// Not said: the contents of the logs until the next begin.
     pub fn abort(self)
         requires { runs self ≡ true }
         ensures client { client_left self.exit ≡ self.entry.client.now }
@@ -147,12 +149,12 @@ impl<'a, L: Law, R: Allocator, A: Allocator + Copy> TxRead for Attempt<'a, L, R,
 
     ghost stopped_for = { λ s stop. stop ≡ Stopped → s.stopped ≢ None };
 
-    /// The attempt's own write of this address, or a value that a probe and a check of its lock
-    /// enclose, with equal words, and which enters the reads. The probe shows `Held` before
-    /// `Newer`, the check `Moved` where its word differs.
+    /// Returns the attempt's own write of this address, or a value of the region, which enters the
+    /// reads. A value of the region is read between a probe and a check of its lock with equal
+    /// words. The probe shows `Held` before `Newer`; the check shows `Moved` if its word differs.
     ///
-    /// Not said: that a read is answered while others write; of which version the image is that
-    /// agrees with the reads, which the region's law `reads_are_of_one_version` says.
+    /// Not said: that a read returns a value while other clients write; the version of the image
+    /// that agrees with the reads, which the region's law `reads_are_of_one_version` gives.
     #[inline(always)]
     fn read(&mut self, addr: Addr) -> Result<u64, Refusal>
         requires { addr.0 < (view self.old).size }

@@ -1,5 +1,5 @@
-//! The commit of an attempt: its locks in ascending order, one tick of the clock, the validation of
-//! each read word's lock, the write back, and the releases.
+//! The commit of an attempt: taking its locks in ascending order, one won tick of the clock, the
+//! validation of each read word's lock, the write-back, and the releases.
 ghost use Rattle.std.specs.Prelude.{◌≡◌, ◌+◌, ◌<◌, ◌≤◌, ◌||◌, eqb, true, false, [], Ok, Err, Some, None, IfOk, IfErr};
 ghost use Rattle.std.specs.FinMap.{len};
 ghost use Rattle.stm_core.specs.Core.{IsFreeHanded};
@@ -26,7 +26,7 @@ use stm_logs::WriteLog;
 use stm_region::{Client, Region};
 use stm_words::{Law, Tag, Version};
 
-/// Whether the tick to a write version decides the attempt, so that no validation follows.
+/// Returns whether the tick to a write version decides the attempt, so that no validation follows.
 #[inline]
 fn decides_at_once(reads: usize, rv: Version, version: Version) -> bool
     ensures { result ≡ (eqb reads 0 || eqb version (rv + 1)) }
@@ -34,7 +34,8 @@ fn decides_at_once(reads: usize, rv: Version, version: Version) -> bool
     reads == 0 || version.get() == rv.get() + 1
 }
 
-/// With all locks held: ticks the clock, and validates the reads where the tick does not decide.
+/// Ticks the clock with all locks held, and validates the reads unless the tick decides the
+/// attempt.
 fn decide<L: Law, R: Allocator, A: Allocator + Copy, T: Tag, G: Gate>(
     region: &Region<L, R>,
     client: &mut Client<L>,
@@ -73,7 +74,7 @@ fn decide<L: Law, R: Allocator, A: Allocator + Copy, T: Tag, G: Gate>(
     Ok(version)
 }
 
-/// With the attempt decided: writes its values back, and releases its locks.
+/// Writes back the values of a decided attempt, and releases its locks.
 fn settle<L: Law, R: Allocator, A: Allocator + Copy, G: Gate>(
     region: &Region<L, R>,
     client: &mut Client<L>,
@@ -91,7 +92,8 @@ fn settle<L: Law, R: Allocator, A: Allocator + Copy, G: Gate>(
     release_all(region, client, writes);
 }
 
-/// Commits an attempt that has written: with all its locks, or none.
+/// Commits an attempt that has written: takes all its locks, or gives back those that it has
+/// taken.
 fn commit_writes<L: Law, R: Allocator, A: Allocator + Copy, T: Tag, G: Gate>(
     region: &Region<L, R>,
     client: &mut Client<L>,
@@ -132,23 +134,31 @@ fn commit_writes<L: Law, R: Allocator, A: Allocator + Copy, T: Tag, G: Gate>(
     answer
 }
 
-/// Commits what was read and written, unless a read met a conflict. The logs are no longer in use.
+/// The end of an attempt's reads: the read version, and the conflict that the last read met, if
+/// any.
+#[derive(Clone, Copy)]
+struct ReadsEnd {
+    rv: Version,
+    stopped: Option<Conflict>,
+}
+
+/// Commits the reads and writes of an attempt, unless a read met a conflict. The logs are then no
+/// longer in use.
 fn commit_or_stop<L: Law, R: Allocator, A: Allocator + Copy, T: Tag, G: Gate>(
     region: &Region<L, R>,
     logs: &mut Logs<A>,
     client: &mut Client<L>,
-    rv: Version,
-    stopped: Option<Conflict>,
+    end: ReadsEnd,
     tag: &T,
     gate: &mut G,
 ) -> Result<Version, Stop>
     requires own { client.old.table ≡ region.now.table }
-    requires ready { CanEnd L.lawful region.now (T.numbers tag.now) client.old.value rv stopped
-        logs.old.reads logs.old.writes }
+    requires ready { CanEnd L.lawful region.now (T.numbers tag.now) client.old.value end.rv
+        end.stopped logs.old.reads logs.old.writes }
     ensures own { client.new.table ≡ client.old.table }
     ensures free_handed { IsFreeHanded client.new.value }
     ensures over { logs.new.in_use ≡ false }
-    ensures again { (conflict : Conflict) → stopped ≡ Some conflict →
+    ensures again { (conflict : Conflict) → end.stopped ≡ Some conflict →
         (result ≡ Err (conflicting conflict)) × (client.new ≡ client.old) }
     ensures ok { IfOk result (λ version. HasCommitted region.now (T.numbers tag.now)
         (log_pairs logs.old.writes) client.old.value client.new.value version) }
@@ -156,22 +166,22 @@ fn commit_or_stop<L: Law, R: Allocator, A: Allocator + Copy, T: Tag, G: Gate>(
     ensures decides { IfOk result (λ version. WasDecided L.fits L.lawful region.now
         (commit_record region.now (T.numbers tag.now) client.old.value
         (log_pairs logs.old.writes) version) client.new.value) }
-    ensures refused { stopped ≡ None → IfErr result (λ stop.
+    ensures refused { end.stopped ≡ None → IfErr result (λ stop.
         HasStopped region.now logs.old.writes stop client.old.value client.new.value) }
     ensures logs { IfErr result (λ _. AreEmpty logs.new) }
     ensures steps { client.new.value.attempt.steps
         ≤ commit_bound client.old.value logs.old.writes }
 {
     logs.in_use = false;
-    let answer = match stopped {
+    let answer = match end.stopped {
         Some(conflict) => Err(Stop::Conflict(conflict)),
         None => {
             gate.at(Point::ReadsDone);
             if logs.writes.len() == 0 {
                 region.finish(client, tag);
-                Ok(rv)
+                Ok(end.rv)
             } else {
-                commit_writes(region, client, logs, rv, tag, gate)
+                commit_writes(region, client, logs, end.rv, tag, gate)
             }
         }
     };
@@ -184,12 +194,12 @@ fn commit_or_stop<L: Law, R: Allocator, A: Allocator + Copy, T: Tag, G: Gate>(
 impl<'a, L: Law, R: Allocator, A: Allocator + Copy> Attempt<'a, L, R, A> {
     ghost use Rattle.stm_attempt.specs.Attempt.{runs, client_of, log_of, lock_of, Commits, Stops, record_made, step_bound, client_left, value_left, logs_left};
 
-    /// Commits the attempt. Its record has this tag, and the version returned is its write version,
-    /// or the read version where nothing was written. A refused commit leaves no record, no lock
-    /// held and the logs empty.
+    /// Commits the attempt. The record of the attempt has this tag. Returns the write version, or
+    /// the read version if nothing was written. A refused commit leaves no record, no held lock
+    /// and empty logs.
     ///
-    /// Not said: that calls whose result has no case for want of memory take none, which is read in
-    /// the code.
+    /// Not said: that calls whose result has no case for refused memory take none, which is read
+    /// in the code.
     pub fn commit<T: Tag, G: Gate>(self, tag: &T, gate: &mut G) -> Result<Version, Stop>
         requires running { runs self ≡ true }
         requires lawful { self.stopped ≡ None →
@@ -220,6 +230,7 @@ impl<'a, L: Law, R: Allocator, A: Allocator + Copy> Attempt<'a, L, R, A> {
             stopped,
             standing: _,
         } = self;
-        commit_or_stop(region, logs, client, rv, stopped, tag, gate)
+        let end = ReadsEnd { rv, stopped };
+        commit_or_stop(region, logs, client, end, tag, gate)
     }
 }

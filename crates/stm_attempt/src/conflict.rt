@@ -1,4 +1,4 @@
-//! Why a transaction stopped.
+//! Reasons why a transaction stopped.
 ghost use Rattle.std.specs.Prelude.{◌≡◌};
 ghost use Rattle.stm_attempt.specs.declared.conflict.Refusal.TheVariants.{Memory};
 
@@ -25,21 +25,22 @@ pub enum Conflict {
         first: u64,
         second: u64,
     },
-    /// The exchange that takes the lock lost.
+    /// The exchange that should take the lock lost.
     LostLock {
         lock: u32,
         found: u64,
     },
-    /// The last tick that is tried lost.
+    /// The last allowed tick lost.
     LostTick {
         found: u64,
     },
 }
 
-/// Why a read or a write was refused. It has one byte, so that an answer travels in registers.
+/// The reason why a read or a write was refused. A refusal has one byte, so that a result travels
+/// in registers.
 #[derive(Clone, Copy, Debug, PartialEq, Eq)]
 pub enum Refusal {
-    /// A log could not grow. The attempt is as it was, and may go on.
+    /// A log could not grow. The attempt is unchanged and may go on.
     Memory,
     /// The attempt has met a conflict, which `stopped` returns, and can only abort.
     Stopped,
@@ -53,13 +54,13 @@ impl From<AllocError> for Refusal {
     }
 }
 
-/// Why a read of an attempt that only reads was refused: it has met a conflict, which `stopped`
-/// returns, and can only abort.
+/// The reason why a read of an attempt that only reads was refused: the attempt has met a
+/// conflict, which `stopped` returns, and can only abort.
 #[derive(Clone, Copy, Debug, PartialEq, Eq)]
 pub struct Stopped;
 
-/// Why an attempt of a task stopped. A commit takes no memory, so that it never returns `Memory`:
-/// that is for whoever runs a task's body in an attempt.
+/// The reason why an attempt of a task stopped. A commit takes no memory and never returns
+/// `Memory`; that case is for callers who run a task's body in an attempt.
 #[derive(Clone, Copy, Debug, PartialEq, Eq)]
 pub enum Stop {
     /// A log could not grow.

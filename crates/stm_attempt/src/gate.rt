@@ -1,9 +1,9 @@
-//! Places at which a commit tells how far it is.
+//! Instrumentation points, at which a commit reports its progress.
 
-/// How far a commit is.
+/// A point that a commit or its caller reports.
 #[derive(Clone, Copy, Debug, PartialEq, Eq)]
 pub enum Point {
-    /// All reads and writes were made. Told before the first lock is taken.
+    /// All reads and writes were made. Reported before the first lock is taken.
     ReadsDone,
     /// All locks are held.
     Locked,
@@ -11,35 +11,35 @@ pub enum Point {
     Ticked,
     /// Nothing can stop the commit any more.
     Decided,
-    /// All values are stored. Told before the first lock is released.
+    /// All values are stored. Reported before the first lock is released.
     Written,
-    /// The answer was given. A commit never tells it: it is for callers.
+    /// The result was returned. Reported by callers, never by a commit.
     Answered,
 }
 
-/// Is told how far a client is, by each commit and by callers who make many calls. A gate may use
-/// other clients of the region.
+/// A receiver of the points that commits and callers report. A gate may use other clients of the
+/// region.
 pub trait Gate {
-    /// Called once at each point that the commit comes to.
+    /// Called once at each point that the commit reaches.
     ///
-    /// Not said: when it is called: tests see each point told once and in its order, and that
-    /// Decided comes after the last validation is read in the code.
+    /// Not said: when the function is called. Tests see each point reported once and in its order.
+    /// Not in a contract: Decided comes after the last validation. The code shows this order.
     fn at(&mut self, point: Point);
 
-    /// Called right before the first of a client's calls in a round of a load. A commit never calls
-    /// it: it is for callers.
+    /// Called right before the first of a client's calls in a round of a load. Reported by
+    /// callers, never by a commit.
     ///
-    /// Not said: that it is called, which is read in the code.
+    /// Not said: that the function is called, which is read in the code.
     fn ready(&mut self) {}
 
-    /// Called right after the last of a client's calls in a round of a load. A commit never calls
-    /// it: it is for callers.
+    /// Called right after the last of a client's calls in a round of a load. Reported by callers,
+    /// never by a commit.
     ///
-    /// Not said: that it is called, which is read in the code.
+    /// Not said: that the function is called, which is read in the code.
     fn done(&mut self) {}
 }
 
-/// The gate that does nothing.
+/// A gate that does nothing.
 #[derive(Clone, Copy)]
 pub struct NoGate;
 

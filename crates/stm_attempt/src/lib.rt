@@ -1,8 +1,9 @@
-//! A running transaction over a region, as Transactional Locking II has it (Dice, Shalev, Shavit,
-//! DISC 2006).
+//! Running transactions over a region, by Transactional Locking II (Dice, Shalev, Shavit, DISC
+//! 2006).
 //!
-//! An `Attempt` is a memory of `tx_memory`: it reads words of the region that are all of one
-//! version, and keeps its writes to itself. A `ReadAttempt` only reads, and keeps no log.
+//! An `Attempt` is a memory of `tx_memory`: all words that it reads from the region belong to the
+//! snapshot at its read version, and its writes stay private until the commit. A `ReadAttempt`
+//! only reads, and keeps no log.
 #![tactic(auto)]
 
 mod attempt;

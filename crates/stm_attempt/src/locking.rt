@@ -13,7 +13,7 @@ use stm_logs::WriteLog;
 use stm_region::{Client, Region};
 use stm_words::Law;
 
-/// Takes a lock above all that the client holds, by one load and one exchange.
+/// Takes a lock above all locks that the client holds, by one load and one exchange.
 #[inline]
 fn lock_one<L: Law, R: Allocator>(
     region: &Region<L, R>,
@@ -42,7 +42,8 @@ fn lock_one<L: Law, R: Allocator>(
     }
 }
 
-/// Takes the locks of all written words in ascending order. `taken` counts those that are held.
+/// Takes the locks of all written words in ascending order. `taken` counts the locks that are
+/// held.
 pub(crate) fn lock_all<L: Law, R: Allocator, A: Allocator + Copy>(
     region: &Region<L, R>,
     client: &mut Client<L>,

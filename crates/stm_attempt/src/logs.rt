@@ -1,21 +1,21 @@
-//! What an attempt keeps to itself.
+//! The private logs of an attempt.
 ghost use Rattle.std.specs.Prelude.{◌≡◌, [], false};
 ghost use Rattle.stm_logs.specs.Log.{empty_log};
 
 use std::alloc::{Allocator, Global};
 use stm_logs::{ReadLog, WriteLog};
 
-/// A read log and a write log, which one attempt after the other uses.
+/// A read log and a write log, used by one attempt after the other.
 #[derive(Drop)]
 pub struct Logs<A: Allocator + Copy = Global> {
     pub(crate) reads: ReadLog<A>,
     pub(crate) writes: WriteLog<A>,
-    /// Whether an attempt runs that has not come to its commit.
+    /// True while an attempt runs that has not come to its commit.
     pub(crate) in_use: bool,
 }
 
 impl<A: Allocator + Copy> Logs<A> {
-    /// Empty logs. They take memory as an attempt reads and writes, and keep it.
+    /// Creates empty logs. The logs take memory as an attempt reads and writes, and keep it.
     pub fn new(alloc: A) -> Logs<A>
         ensures { (result.reads ≡ []) × (result.writes ≡ empty_log) × (result.in_use ≡ false) }
     {

@@ -19,16 +19,16 @@ use stm_region::{Client, Region};
 use stm_words::{Law, LockWord, Tag, Version};
 use tx_memory::{Addr, TxRead};
 
-/// A running transaction that only reads. It keeps no log and takes no memory.
+/// A running transaction that only reads. The attempt keeps no log and takes no memory.
 ///
-/// It must be ended by `finish` or `abort`.
+/// The attempt must be ended by `finish` or `abort`.
 pub struct ReadAttempt<'a, L: Law, R: Allocator = Global> {
     pub(crate) region: &'a Region<L, R>,
     pub(crate) client: &'a mut Client<L>,
     pub(crate) rv: Version,
     /// The word of a free lock at the read version, which no lock word that is read may exceed.
     pub(crate) newest: u64,
-    /// The conflict that a read met.
+    /// The conflict that a read met, if any.
     pub(crate) stopped: Option<Conflict>,
     pub(crate) standing: Standing<L>,
     ghost own: { client.now.table ≡ region.now.table },
@@ -71,7 +71,7 @@ impl<'a, L: Law, R: Allocator> ReadAttempt<'a, L, R> {
         }
     }
 
-    /// The read version: what the clock said when the attempt began.
+    /// Returns the read version: the clock's value when the attempt began.
     #[inline]
     pub fn read_version(&self) -> Version
         ensures { result ≡ self.now.rv }
@@ -80,7 +80,8 @@ impl<'a, L: Law, R: Allocator> ReadAttempt<'a, L, R> {
         *rv
     }
 
-    /// The conflict that a read of this attempt met, after which it can only be aborted.
+    /// Returns the conflict that a read of this attempt met, if any. After a conflict the attempt
+    /// can only be aborted.
     pub fn stopped(&self) -> Option<Conflict>
         requires { runs self.now ≡ true }
         ensures value { result ≡ self.now.stopped }
@@ -91,8 +92,8 @@ impl<'a, L: Law, R: Allocator> ReadAttempt<'a, L, R> {
         *stopped
     }
 
-    /// Ends the attempt with its record, with one more load of the clock. Its version is the read
-    /// version.
+    /// Ends the attempt with its record, by one more load of the clock. The version of the record
+    /// is the read version.
     pub fn finish<T: Tag>(self, tag: &T) -> Version
         requires running { runs self ≡ true }
         requires unrefused { self.stopped ≡ None }
@@ -120,7 +121,7 @@ impl<'a, L: Law, R: Allocator> ReadAttempt<'a, L, R> {
         rv
     }
 
-    /// Aborts the attempt: it ends with no record.
+    /// Aborts the attempt, which leaves no record.
     pub fn abort(self)
         requires { runs self ≡ true }
         ensures client { client_left self.exit ≡ self.entry.client.now }
@@ -156,8 +157,9 @@ impl<'a, L: Law, R: Allocator> TxRead for ReadAttempt<'a, L, R> {
 
     ghost stopped_for = { λ s _. s.stopped ≢ None };
 
-    /// A value that a probe and a check of its lock enclose, with equal words, and which enters the
-    /// reads. The probe shows `Held` before `Newer`, the check `Moved` where its word differs.
+    /// Returns a value of the region, which enters the reads. The value is read between a probe
+    /// and a check of its lock with equal words. The probe shows `Held` before `Newer`; the check
+    /// shows `Moved` if its word differs.
     #[inline]
     fn read(&mut self, addr: Addr) -> Result<u64, Stopped>
         requires { addr.0 < (view self.old).size }

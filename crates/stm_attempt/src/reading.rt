@@ -13,7 +13,7 @@ use stm_region::{Client, Region};
 use stm_words::{Law, LockWord, Version};
 use tx_memory::Addr;
 
-/// The version of a free lock's word, or `None` for a held lock.
+/// Returns the version of a free lock's word, or `None` for a held lock.
 #[inline]
 pub(crate) fn free_version(word: u64) -> Option<Version>
     requires { word < 2 ^ 63 }
@@ -24,8 +24,8 @@ pub(crate) fn free_version(word: u64) -> Option<Version>
     if held { None } else { Some(version) }
 }
 
-/// The conflict with a free lock of a version above the read version, whose free lock word is
-/// given.
+/// Returns the conflict with a free lock whose version is above the read version. `newest` is the
+/// word of a free lock at the read version.
 #[cold]
 fn newer(lock: u32, version: Version, newest: u64) -> Conflict
     requires small { newest < 2 ^ 63 }
@@ -36,8 +36,8 @@ fn newer(lock: u32, version: Version, newest: u64) -> Conflict
 }
 
 /// Reads a word between a probe and a check of its lock, which must find the same free lock word.
-/// It must be at most `newest`, the word of a free lock at the read version, so that its version
-/// is at most the read version.
+/// That word must be at most `newest`, the word of a free lock at the read version, so that its
+/// version is at most the read version.
 #[inline]
 pub(crate) fn read_word<L: Law, R: Allocator>(
     region: &Region<L, R>,

@@ -1,4 +1,4 @@
-//! What the proof keeps of an attempt's reads.
+//! Proof data on an attempt's reads.
 ghost use Rattle.std.specs.Prelude.{◌≡◌};
 ghost use Rattle.stm_region.specs.Findings.{StandsOn};
 
@@ -7,8 +7,9 @@ use std::snapshot::Snapshot;
 use stm_region::{Client, Region};
 use stm_words::Law;
 
-/// Some fitting image of this size agrees with what the client had read. It has no bytes: a ghost
-/// field of the attempt itself cannot speak of the law, since the attempt refers to a region.
+/// The statement that some fitting image of this size agrees with the client's reads. The type has
+/// no bytes. It exists because a ghost field of the attempt itself cannot speak of the law, since
+/// the attempt refers to a region.
 #[derive(Drop)]
 pub(crate) struct Standing<L: Law> {
     pub(crate) size: Snapshot<usize>,

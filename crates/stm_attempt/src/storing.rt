@@ -1,4 +1,4 @@
-//! The end of a decided commit: its values are written back, and its locks released.
+//! The end of a decided commit: writing back its values, and releasing its locks.
 ghost use Rattle.std.specs.Prelude.{◌≡◌, false};
 ghost use Rattle.stm_core.specs.Client.{committed};
 ghost use Rattle.stm_logs.specs.Log.{log_locks};

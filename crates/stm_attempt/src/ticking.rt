@@ -15,7 +15,8 @@ use stm_logs::WriteLog;
 use stm_region::{Client, Region};
 use stm_words::{Law, Tag, Version};
 
-/// Ticks the clock from the read version, and after each loss from the version found.
+/// Ticks the clock from the read version on; after each lost tick, from the version that the tick
+/// found. At most `MOST_TICKS` ticks are tried.
 pub(crate) fn tick<L: Law, R: Allocator, A: Allocator + Copy, T: Tag>(
     region: &Region<L, R>,
     client: &mut Client<L>,

@@ -1,4 +1,4 @@
-//! The validation of a commit: the locks of the words that it read.
+//! The validation of a commit: checking the locks of the words that it read.
 ghost use Rattle.std.specs.Prelude.{◌≡◌, ℕ, ◌<◌, true, false, IfOk, IfErr};
 ghost use Rattle.stm_core.specs.Client.{decided};
 ghost use Rattle.stm_core.specs.Event.{validate as validates};
@@ -19,8 +19,8 @@ use stm_region::{Client, Region};
 use stm_words::{Law, LockWord, Version};
 use tx_memory::Addr;
 
-/// Validates the lock of a word that was read: it must be free or the client's own, with a version
-/// of at most the read version.
+/// Validates the lock of a word that was read: the lock must be free or the client's own, with a
+/// version of at most the read version.
 fn validate_lock<L: Law, R: Allocator, A: Allocator + Copy>(
     region: &Region<L, R>,
     client: &mut Client<L>,
@@ -55,7 +55,7 @@ fn validate_lock<L: Law, R: Allocator, A: Allocator + Copy>(
     Ok(())
 }
 
-/// Validates the lock of each read word. The last one decides the attempt.
+/// Validates the lock of each read word. The last validation decides the attempt.
 pub(crate) fn validate_reads<L: Law, R: Allocator, A: Allocator + Copy>(
     region: &Region<L, R>,
     client: &mut Client<L>,

@@ -1,4 +1,4 @@
--- A decided writer's record beside the story, and a reader's.
+-- The record of a decided writer, and of a reader, beside the story.
 use Rattle.std.proofs.Common.{◌≡◌, ◌≢◌, ℕ, suc, ◌-◌, ◌<◌, inl, inr, ⊎_elim, true, false, List, [], length-set, set, sym}
 use Rattle.std.proofs.Common.{ap, ◌∙◌, subst, arith, refl}
 use mathlib.Core.Option.{some}

@@ -1,4 +1,5 @@
--- What the guards of the events mean: each condition as a statement, and that its test decides it.
+-- The meaning of the guards: each condition as a statement, and that its test decides the
+-- statement.
 use Rattle.std.proofs.Common.{◌≡◌, ◌≢◌, ℕ, zero, suc, ◌-◌, ◌<◌, ◌≤◌, ◌⊎◌, inl, inr, ⊎_elim, Bool, true, false, not}
 use Rattle.std.proofs.Common.{nat_lt, nat_le, ◌==◌, ◌&&◌, ◌||◌, List, [], ◌∷◌, length, get_or, refl, sym, ap, subst}
 use Rattle.std.proofs.Common.{arith}
@@ -22,35 +23,36 @@ use Rattle.stm_core.proofs.Lists.{clash, nothing_in, by_bool, in_range}
 use Rattle.stm_core.proofs.Orders.{in_cons}
 use Rattle.stm_core.proofs.Held.{old_in, held_has}
 
--- an attempt runs that has no write version
+-- the attempt runs and has no write version
 abbrev pub IsReading : Attempt → Type 0
 IsReading t = (t.phase ≡ running) × (t.wv ≡ 0)
 
--- the last step was a probe of this lock that found it free, with a version of at most rv
+-- the last step was a probe of lock k that found the lock free, with a version of at most rv
 abbrev pub HasProbed : ℕ → ℕ → Step → Type 0
 HasProbed k rv l = (n : ℕ) × (l ≡ probed k n) × IsFree n × (version_of n ≤ rv)
 
--- the last step was a probe of this lock that found it free
+-- the last step was a probe of lock k that found the lock free
 abbrev pub HasFoundFree : ℕ → Step → Type 0
 HasFoundFree k l = (n : ℕ) × (l ≡ probed k n) × IsFree n
 
--- the last step was a fetch of this address, after a probe that found its lock free with a version of at most rv
+-- the last step was a fetch of address a, after a probe that found its lock free with a version of
+-- at most rv
 abbrev pub HasFetched : ℕ → ℕ → Step → Type 0
 HasFetched a rv l = (n : ℕ) × (x : ℕ) × (l ≡ fetched a n x) × IsFree n × (version_of n ≤ rv)
 
--- the locks of the written words are exactly those held
+-- the locks of the written words are exactly the held ones
 pub record LocksMatch (lk : ℕ → ℕ) (held writes : List (ℕ × ℕ)) : Type 0 where
   pub every : (a : ℕ) → writes_to writes a ≡ true → Holds held (lk a)
   pub only : (k u : ℕ) → In (k, u) held → (a : ℕ) × (writes_to writes a ≡ true) × (lk a ≡ k)
 
--- what a tick asks of its writes
+-- the conditions of a tick on its writes
 pub record MayWrite (lk : ℕ → ℕ) (size : ℕ) (held writes : List (ℕ × ℕ)) : Type 0 where
   pub some : writes ≢ []
   pub once : is_map writes ≡ true
   pub inside : (a : ℕ) → writes_to writes a ≡ true → a < size
   pub locks : LocksMatch lk held writes
 
--- the validation of lock k stands next
+-- the next validation is of lock k
 abbrev pub IsNext : (ℕ → ℕ) → ℕ → List (ℕ × ℕ) → ℕ → Type 0
 IsNext lk k reads n = (a x : ℕ) × (get_elem? reads n ≡ some (a, x)) × (lk a ≡ k)
 
@@ -63,7 +65,7 @@ abbrev pub IsOut : Core → ℕ → Type 0
 IsOut c k = (0 < k) × (get_elem? c.clients (k - 1) ≡ some (client_of c k)) × ((client_of c k).is_gathered ≡ false)
 
 module _ (lawful : RecordLaw) (lk : ℕ → ℕ) where
-  -- what it means that an attempt may make a step
+  -- the condition under which an attempt may make a step
   abbrev pub CanAct : Bounds → Action → Attempt → Type 0
   CanAct b begin t = t.held ≡ []
   CanAct b (probe k) t = IsReading t × (k < b.stripes)
@@ -81,7 +83,7 @@ module _ (lawful : RecordLaw) (lk : ℕ → ℕ) where
   CanAct b (give_back k) t = ((t.phase ≡ running) ⊎ (t.phase ≡ ending)) × Holds t.held k
   CanAct b (finish tag) t = IsReading t × (t.held ≡ []) × lawful tag t.reads []
 
-  -- what it means that an event is allowed
+  -- the condition under which an event is allowed
   abbrev pub CanPlay : Event → Core → Type 0
   CanPlay (acts k e) c = IsOut c k × CanAct (bounds_of c) e (client_of c k).attempt
   CanPlay (splits k) c =
@@ -92,7 +94,7 @@ module _ (lawful : RecordLaw) (lk : ℕ → ℕ) where
       IsOut c k × ((client_of c k).attempt.held ≡ []) × IsAlone c (k - 1) × (1 ≤ last) × (last < VERSION_LIMIT)
       × (c.renewal < MOST_RENEWALS)
 
--- the test is true just where the statement holds
+-- the test is true exactly if the statement holds
 pub record Decides (b : Bool) (P : Type 0) : Type 0 where
   pub sound : b ≡ true → P
   pub complete : P → b ≡ true
@@ -290,7 +292,7 @@ module _ (lk : ℕ → ℕ) where
         complete = λ f. by_bool b (λ t. rw (t, e.complete (f (d.sound t))) refl) (λ n. rw n refl);
       }
 
-  -- whether an attempt may make a step
+  -- the test of a step decides its condition
   act_test : (b : Bounds) (t : Attempt) (e : Action) → Decides (may_act lk b e t) (CanAct free_law lk b e t)
   act_test b t begin = empty_test t.held
   act_test b t (probe k) = and2 (reading_test t) (lt_test k b.stripes)

@@ -19,7 +19,8 @@ use Rattle.stm_core.proofs.Orders.{merged_right}
 use Rattle.stm_core.proofs.Histories.{Ranked, rank_writer, rank_reader}
 use Rattle.stm_core.proofs.Conditions.{IsReading}
 
--- the place of a begin that may still become a reader's point step, or of a won tick that may still become a writer's
+-- the position of a begin that may still become a reader's point step, or of a won tick that may
+-- still become a writer's
 abbrev pub Mark : Client → ℕ → Type 0
 Mark v p = (IsReading v.attempt × (p ≡ v.attempt.began_at)) ⊎ (IsOpen v × (p ≡ v.attempt.ticked_at))
 
@@ -28,7 +29,7 @@ abbrev IsOver : Record → ℕ → Client → Type 0
 IsOver r y c = c.is_gathered ≡ false → r.client ≡ suc y → (r.attempt ≤ c.attempt.number) ×
     (r.attempt ≡ c.attempt.number → is_settled c.attempt.phase ≡ true)
 
--- a record beside the values of the clock before each event
+-- a record beside the clock's value before each event
 pub record IsStamped (time : ℕ → ℕ) (events : ℕ) (r : Record) : Type 0 where
   pub past : r.point < events
   pub writer : r.writer ≡ true → (time r.point + 1 ≡ r.version) × (time (suc r.point) ≡ r.version)
@@ -54,7 +55,7 @@ pub record Dated (old : List Record) (clock events : ℕ) (cs : List Client) (h 
   pub known : (r : Record) → In r h → r.client ≤ length cs
   pub numbered : (i : ℕ) (v : Client) (r : Record) → At cs i v → v.is_gathered ≡ false → In r h → r.client ≡ suc i →
       (r.attempt ≤ v.attempt.number) × (r.attempt ≡ v.attempt.number → is_settled v.attempt.phase ≡ true)
-  -- the records of earlier renewals stand before all that
+  -- the records of earlier renewals come before all of these
   pub old_past : (r : Record) → In r old → r.point < events
   pub old_before : (r x : Record) → In r old → In x h → r.point < x.point
   pub old_marked : (i : ℕ) (v : Client) (p : ℕ) (r : Record) → At cs i v → Mark v p → In r old → r.point < p
@@ -63,7 +64,7 @@ pub record Dated (old : List Record) (clock events : ℕ) (cs : List Client) (h 
       r.client ≡ suc i → (r.attempt ≤ v.attempt.number) × (r.attempt ≡ v.attempt.number →
       is_settled v.attempt.phase ≡ true)
 
--- the values of the clock with one more, after so many events
+-- the values of the clock with one more, after this many events
 pub later_on : (ℕ → ℕ) → ℕ → ℕ → ℕ → ℕ
 later_on time events clock p = cond (leb p events) (time p) clock
 
@@ -75,7 +76,7 @@ past_time : (time : ℕ → ℕ) (events clock p : ℕ) → events < p → later
 unfolding later_on
 past_time time events clock p l = let e : leb p events ≡ false = grind (arith, nat_tests) in rw e refl
 
--- the record at its place by point steps
+-- the record put in at its position by point steps
 abbrev pub placed : Record → List Record → List Record
 placed r [] = r ∷ []
 placed r (x ∷ xs) = cond (ltb r.point x.point) (r ∷ x ∷ xs) (x ∷ placed r xs)
@@ -124,7 +125,8 @@ placed_by r (x ∷ l) o f = go (ltb r.point x.point) refl (placed_by r l o.1 (λ
       k,
     )
 
--- records by point steps stand by versions, the one writer of a version before its readers
+-- records by point steps are in the order of versions, the one writer of a version before its
+-- readers
 pub ranked_by : (old : List Record) (clock events : ℕ) (cs : List Client) (h : List Record) →
     Dated old clock events cs h → (l : List Record) → ByPoint l → ((r : Record) → In r l → In r h) → Ranked l
 ranked_by old clock events cs h d [] o f = tt
@@ -153,7 +155,7 @@ ranked_by old clock events cs h d (x ∷ l) o f = (
 
 module _ (old : List Record) (clock events : ℕ) (cs : List Client) (h : List Record) (d : Dated old clock events cs h)
     (i : ℕ) (v w : Client) (at : At cs i v) where
-  -- one event more, which decides nothing
+  -- one more event, which decides nothing
   module _ (clock' : ℕ) (up : clock ≤ clock') (records : w.records ≡ v.records)
       (is_gathered : w.is_gathered ≡ v.is_gathered)
       (reading : IsReading w.attempt → (IsReading v.attempt × (w.attempt.began_at ≡ v.attempt.began_at) ×
@@ -281,7 +283,7 @@ module _ (old : List Record) (clock events : ℕ) (cs : List Client) (h : List R
           (λ y c f n s' k'. d.old_numbered y c r f s' m k') j o e s k;
     }
 
-  -- a decision: the point step was before
+  -- a decision, whose point step came before
   module _ (r : Record) (mark : Mark v r.point) (records : w.records ≡ inserted r v.records)
       (is_gathered : w.is_gathered ≡ v.is_gathered) (none : (p : ℕ) → Mark w p →
       ⊥) (stamp : IsStamped d.time events r) (who_is : r.client ≡ suc i) (attempt : r.attempt ≡ v.attempt.number)
@@ -355,7 +357,7 @@ module _ (old : List Record) (clock events : ℕ) (cs : List Client) (h : List R
     ticking = λ q. absurd (none w.attempt.ticked_at (inr (q, refl)));
   }
 
-  -- a client more, which has nothing
+  -- one more client, which has nothing
   pub date_longer : (w : Client) → ((p : ℕ) → Mark w p → ⊥) → w.records ≡ [] → Dated old clock events (cs ++ w ∷ []) h
   date_longer w none records = record {
     time = d.time;
@@ -394,7 +396,7 @@ module _ (old : List Record) (clock events : ℕ) (cs : List Client) (h : List R
           (i : ℕ) (o : Client) → At (cs ++ w ∷ []) i o → P i o
       who P new old i o e = ⊎_elim (λ p. old i o p) (λ p. subst (λ c. P i c) p.1 (new i p.0)) (last_at cs i o e)
 
-  -- a client takes another's records
+  -- a client gathers the records of another
   pub date_join : (i j : ℕ) (v w : Client) → At cs i v → At cs j w → i ≢ j → v.is_gathered ≡ false →
       Dated old clock events (set (set cs i (taking v w)) j gone) h
   date_join i j v w at to ne live = record {

@@ -1,4 +1,4 @@
--- A writer is decided: its writes enter the story at its version, in the midst of the others.
+-- A writer is decided: its writes enter the story at its version, among the others.
 use Rattle.std.proofs.Common.{◌≡◌, ◌≢◌, ℕ, ◌+◌, ◌-◌, ◌*◌, ◌/◌, ◌≤◌, ◌<◌, inl, inr, ⊎_elim, Bool, true, false, List, []}
 use Rattle.std.proofs.Common.{set, sym, ap, ◌∙◌, subst, arith, lt_of_not-le}
 use mathlib.Core.Option.{some}
@@ -41,7 +41,7 @@ module _ (lk : ℕ → ℕ) (s : World) (cs : List Client) (id : ℕ) (v w : Cli
   abbrev told' : World
   told' = record s { val = val; wrote = wrote }
 
-  -- a claim that was kept is kept
+  -- a claim that held before still holds
   claim_stays : (i : ℕ) (o : Client) (b a x : ℕ) → At cs i o → Claims o b a x → val b a ≡ x
   claim_stays i o b a x e p =
       let was = ((h.version.sound i o e).agrees b a x p).0 in
@@ -52,7 +52,7 @@ module _ (lk : ℕ → ℕ) (s : World) (cs : List Client) (id : ℕ) (v w : Cli
   number_else : (i : ℕ) (o : Client) → At cs i o → i ≢ id → 0 < o.attempt.wv → o.attempt.wv ≢ v.attempt.wv
   number_else i o e n z eq = n (h.version.own i id o v e at z eq)
 
-  -- the lock of a word that is written
+  -- the client holds the lock of every written word
   its_lock : (a : ℕ) → writes_to v.attempt.writes a ≡ true →
       (u : ℕ) × In (lk a, u) v.attempt.held × (s.lock (lk a) ≡ 2 * u + 1) × (u < v.attempt.wv)
   its_lock a t = let g = me.locked open' a t in (g.0, g.1, mine.listed (lk a) g.0 g.1, me.above (lk a) g.0 g.1 open'.0)
@@ -132,7 +132,8 @@ module _ (lk : ℕ → ℕ) (s : World) (cs : List Client) (id : ℕ) (v w : Cli
         newest = λ a m l b c. wrote_still m a (f a l) (was.newest a m l b c);
       }
 
-  -- no writer above the old version wrote the word, so just before the new one it still is as it was
+  -- no writer above the old version wrote the word, so just before the new version the word is as
+  -- it was
   just_before : (k u a : ℕ) → In (k, u) v.attempt.held → lk a ≡ k → s.cell a ≡ val (v.attempt.wv - 1) a
   just_before k u a g l =
       let was = h.version.kept id v k u at g in

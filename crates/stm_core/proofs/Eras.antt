@@ -68,11 +68,11 @@ of_is n (r ∷ l) x i = go (eqb r.renewal n) refl i (λ k. of_is n l x k)
         ((suc q.0.0, q.0.1), q.1)) (in_cons r x (of_renewal n l) k)
     go false e k f = let q = f k in ((suc q.0.0, q.0.1), q.1)
 
--- what the present renewal's part of such a list is
+-- the part of such a list that belongs to the present renewal
 pub of_padded : (n : ℕ) (pre l : List Record) → AllBefore n pre → AllOf n l → of_renewal n (pre ++ l) ≡ l
 of_padded n pre l f g = of_append n pre l ∙ (ap (λ k. k ++ of_renewal n l) (of_none n pre f) ∙ of_all n l g)
 
--- a record of an earlier renewal stands before one of the present one
+-- a record of an earlier renewal comes before one of the present renewal
 pub not_before : (r x : Record) → x.renewal < r.renewal → before r x ≡ false
 not_before r x l =
     let a : ltb r.renewal x.renewal ≡ false = grind (arith, nat_tests) in
@@ -87,7 +87,7 @@ inserted_padded r [] l f = refl
 inserted_padded r (x ∷ pre) l f = rw (not_before r x (f x (0, refl)))
     (ap (λ k. x ∷ k) (inserted_padded r pre l (λ y i. f y (suc i.0, i.1))))
 
--- the earlier records stay in front, whichever of two joined lists had them
+-- the earlier records stay in front, whichever of the two merged lists had them
 pub merged_padded : (n : ℕ) (pre l m : List Record) → AllBefore n pre → AllOf n m →
     merged (pre ++ l) m ≡ pre ++ merged l m
 merged_padded n pre l [] f g = refl
@@ -95,7 +95,7 @@ merged_padded n pre l (y ∷ m) f g =
     ap (λ k. merged k m) (inserted_padded y pre l (λ x i. (let a = f x i in let b = g y (0, refl) in omega arith)))
     ∙ merged_padded n pre (inserted y l) m f (λ x i. g x (suc i.0, i.1))
 
--- a record behind all earlier ones, and before all of the present renewal
+-- a record after all earlier ones, and before all records of the present renewal
 put_between : (n : ℕ) (y : Record) (pre l : List Record) → y.renewal < n → AllOf n l →
     ((x : Record) → In x pre → before y x ≡ false) → inserted y (pre ++ l) ≡ (pre ++ y ∷ []) ++ l
 put_between n y [] [] h f g = refl

@@ -1,4 +1,4 @@
--- What the version invariant says of the records, the images and the words.
+-- The consequences of the version invariant for the records, the images and the words.
 use Rattle.std.proofs.Common.{◌≡◌, ◌≢◌, ℕ, suc, ◌+◌, ◌*◌, ◌≤◌, ◌<◌, true, false, List, [], ◌∷◌, length, slice_index}
 use Rattle.std.proofs.Common.{refl, sym, ap, ◌∙◌, subst, arith, zero-le}
 use mathlib.Core.Logic.{dite}
@@ -37,7 +37,7 @@ module _ (lawful : RecordLaw) (lk : ℕ → ℕ) (c : Core) (h : Inv lawful lk c
         reader = it.reader;
       }
 
-  -- what a list of all records in order needs to be serial
+  -- the condition under which an ordered list of all records is serial
   pub ahead_by : (rs : List Record) → Ranked rs → ((r : Record) → In r rs →
       (i : ℕ) × (v : Client) × At c.clients i v × In r v.records) →
       ((i : ℕ) (v : Client) (r : Record) → At c.clients i v → In r v.records → In r rs) →
@@ -63,16 +63,16 @@ module _ (lawful : RecordLaw) (lk : ℕ → ℕ) (c : Core) (h : Inv lawful lk c
   pub all_lawful : (r : Record) → In r (all_records c.clients) → lawful r.tag r.reads r.writes
   all_lawful r i = let q = in_all c.clients r i in ((h.filed.filed q.0 q.1 q.2).told r q.3).abides
 
-  -- and each client's own are among them, each once and in their order
+  -- each client's own records are among them, each once and in their order
   pub all_shared : (i : ℕ) (v : Client) → At c.clients i v → IsShared lawful c.opening v.records (all_records c.clients)
   all_shared i v e = record { serial = all_serial; abides = all_lawful; among = all_sub c.clients apart_of i v e }
 
-  -- the image of a version by the records in order is the story's
+  -- the image of a version by the ordered records is the image that the story gives
   pub image_by : (rs : List Record) → Ahead c.opening h.story rs c.opening 0 → (v a : ℕ) → a < length c.opening →
       slice_index (image_at c.opening v rs) a ≡ value_of c.opening h.story v a
   image_by rs g v a l = image_is c.opening h.story rs c.opening 0 v a g zero-le l
 
-  -- what an attempt has read is in the image of its read version
+  -- all words that an attempt has read are in the image of its read version
   pub agrees_by : (rs : List Record) → Ahead c.opening h.story rs c.opening 0 → (i : ℕ) (v : Client) →
       At c.clients i v → Agrees (image_at c.opening v.attempt.rv rs) v.attempt.reads
   agrees_by rs g i v e a x m =
@@ -96,7 +96,7 @@ module _ (lawful : RecordLaw) (lk : ℕ → ℕ) (c : Core) (h : Inv lawful lk c
     one_version i v e,
   )
 
-  -- where nobody holds a lock, the data words are the newest image
+  -- if no client holds a lock, the data words are the newest image
   pub cells_by : (rs : List Record) → Ahead c.opening h.story rs c.opening 0 →
       ((r : Record) → In r rs → (i : ℕ) × (v : Client) × At c.clients i v × In r v.records) →
       ((i : ℕ) (v : Client) → At c.clients i v → v.attempt.held ≡ []) → c.cells ≡ image_after c.opening rs
@@ -126,7 +126,8 @@ module _ (lawful : RecordLaw) (lk : ℕ → ℕ) (c : Core) (h : Inv lawful lk c
   others_gathered i v e un all j w f n = by_bool w.is_gathered (λ t. t) (λ t. absurd (let a =
       grants_of_two i j v w (λ z. n (sym z)) e f un t in omega arith))
 
-  -- and then its records are those of all, and the data words are what laying their writes over the opening image gives
+  -- if no other client is out, a client's records are all records, and the data words are the
+  -- opening image with their writes applied
   pub alone : (i : ℕ) (v : Client) → At c.clients i v → IsFreeHanded v →
       ((j : ℕ) (w : Client) → At c.clients j w → j ≢ i → w.is_gathered ≡ true) →
       (all_records c.clients ≡ v.records) × (c.cells ≡ image_after c.opening v.records)

@@ -12,7 +12,7 @@ use Rattle.stm_core.specs.Records.{IsTold, IsFiled, Filed, HasWriter}
 use Rattle.stm_core.proofs.Lists.{set_here, set_else, same_at, at_longer, at_snoc, in_range, who_set}
 
 module _ (lawful : RecordLaw) (size renewal : ℕ) where
-  -- one record where the story has changed at other versions
+  -- one record beside a story that has changed at other versions only
   pub told_on : (story story' : List (List (ℕ × ℕ))) (r : Record) → IsTold lawful size renewal story r →
       (r.writer ≡ true → 0 < r.version → get_elem? story (r.version - 1) ≡ some r.writes →
       get_elem? story' (r.version - 1) ≡ some r.writes) → IsTold lawful size renewal story' r
@@ -91,7 +91,7 @@ module _ (lawful : RecordLaw) (size renewal : ℕ) where
 
   module _ (story : List (List (ℕ × ℕ))) (clock : ℕ) (cs : List Client) (id : ℕ) (v : Client)
       (h : Filed lawful size renewal story clock cs) (at : At cs id v) where
-    -- who has a writer's record, beside this client
+    -- the client that has a writer's record is this one or another
     pub split_writer : (u : ℕ) → HasWriter cs u → ((r : Record) × In r v.records × (r.writer ≡ true) ×
         (r.version ≡ u)) ⊎ ((i : ℕ) × (o : Client) × (r : Record) × At cs i o × (i ≢ id) × In r o.records ×
         (r.writer ≡ true) × (r.version ≡ u))

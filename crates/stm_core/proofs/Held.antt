@@ -1,4 +1,4 @@
--- Lists of held locks, and what the last step of a client was.
+-- Lists of held locks, and the last step of a client.
 use Rattle.std.proofs.Common.{◌≡◌, ◌≢◌, ℕ, suc, ◌⊎◌, ⊎_elim, Bool, true, false, cond, eqb, ◌||◌, List, [], ◌∷◌, refl}
 use Rattle.std.proofs.Common.{sym, ap, ◌∙◌, subst, arith, eq-eqb}
 use mathlib.Core.Option.{some}
@@ -9,7 +9,7 @@ use Rattle.stm_core.proofs.Lists.{clash, nothing_in}
 use Rattle.stm_core.proofs.Orders.{in_cons}
 use Rattle.stm_core.proofs.Releasing.{Drops}
 
--- the pair of a lock that is held
+-- the pair of a held lock is in the list
 pub old_in : (held : List (ℕ × ℕ)) (k : ℕ) → writes_to held k ≡ true → In (k, old_version held k) held
 old_in [] k e = clash e refl
 old_in (p ∷ ps) k e = go (eqb p.0 k) refl (λ h. old_in ps k h)

@@ -1,4 +1,5 @@
--- Records that are true to the story, in order, are serial; and the images are those of the story.
+-- Records that agree with the story and are in order are serial, and the images are those of the
+-- story.
 use Rattle.std.proofs.Common.{◌≡◌, ◌≢◌, ℕ, suc, ◌+◌, ◌-◌, ◌*◌, ◌≤◌, ◌<◌, ⊎_elim, Bool, true, false, cond, eqb, leb}
 use Rattle.std.proofs.Common.{List, [], ◌∷◌, length, set, slice_index, slice_set, length-set, get_or-set_same}
 use Rattle.std.proofs.Common.{get_or-set_other, refl, sym, ap, ◌∙◌, subst, arith}
@@ -34,13 +35,13 @@ pub record IsInStory (image : List ℕ) (story : List (List (ℕ × ℕ))) (r : 
   pub writer : r.writer ≡ true → (0 < r.version) × (get_elem? story (r.version - 1) ≡ some r.writes)
   pub reader : r.writer ≡ false → r.writes ≡ []
 
--- by version, the one writer of a version before its readers
+-- the records are ranked by version, the one writer of a version before its readers
 abbrev pub Ranked : List Record → Type 0
 Ranked [] = Unit {0}
 Ranked (x ∷ xs) = ((r : Record) → In r xs → (rank x ≤ rank r) × (x.writer ≡ true → r.writer ≡ true →
     x.version ≢ r.version)) × Ranked xs
 
--- what is still to come, where the image is that of version n
+-- the records still to come, if the image is that of version n
 pub record Ahead (image : List ℕ) (story : List (List (ℕ × ℕ))) (rs : List Record) (m : List ℕ) (n : ℕ) : Type 0 where
   pub size : length m ≡ length image
   pub now : (a : ℕ) → a < length image → slice_index m a ≡ value_of image story n a
@@ -57,7 +58,7 @@ pub rank_reader : (r : Record) → r.writer ≡ false → rank r ≡ 2 * r.versi
 rank_reader r e = rw e refl
 
 module _ (image : List ℕ) (story : List (List (ℕ × ℕ))) where
-  -- from version n up to one below every writer to come the value stays
+  -- from version n up to one below every writer to come, the value does not change
   gap : (rs : List Record) (m : List ℕ) (n d a : ℕ) → Ahead image story rs m n → n ≤ d →
       ((r : Record) → In r rs → r.writer ≡ true → d < r.version) → value_of image story n a ≡ value_of image story d a
   gap rs m n d a h l f = steady story (slice_index image a) a n d l (λ u p q. not_true (wrote_in story u a) (λ t.
@@ -75,7 +76,7 @@ module _ (image : List ℕ) (story : List (List (ℕ × ℕ))) where
     rest : Ranked rs
     rest = h.ranked.1
 
-    -- the image just before the record is that of its base
+    -- the image just before the record is that of the version with which the record's reads agree
     just_before : (a : ℕ) → a < length image → slice_index m a ≡ value_of image story (base r) a
     just_before a l = h.now a l ∙ by_bool r.writer
         (λ t. rw t (gap (r ∷ rs) m n (r.version - 1) a h (let p = (h.above r (0, refl)).1 t in
@@ -91,7 +92,7 @@ module _ (image : List ℕ) (story : List (List (ℕ × ℕ))) where
     pub agreeing : Agrees m r.reads
     agreeing a x i = let q = me.reads a x i in (rw h.size q.0, just_before a q.0 ∙ q.1)
 
-    -- and just after it that of its version
+    -- the image just after the record is that of the record's version
     just_after : (a : ℕ) → a < length image → slice_index (laid m r.writes) a ≡ value_of image story r.version a
     just_after a l = by_bool r.writer
         (λ t. let w = me.writer t in
@@ -165,7 +166,7 @@ module _ (image : List ℕ) (story : List (List (ℕ × ℕ))) where
       go true f = f (laid m r.writes) ∙ laid_length m r.writes
       go false f = f m
 
-  -- up to a version that no record is above it is the image after all
+  -- the image of a version that no record is above is the image after all records
   pub image_last : (rs : List Record) (m : List ℕ) (v : ℕ) → ((r : Record) → In r rs → r.version ≤ v) →
       image_at m v rs ≡ image_after m rs
   image_last [] m v f = refl

@@ -1,4 +1,5 @@
--- A client is split off, two are joined, and the opening: they keep the version invariant.
+-- A client is split off, two clients are joined, and a core is opened: each of these keeps the
+-- version invariant.
 use Rattle.std.proofs.Common.{◌≡◌, ◌≢◌, ℕ, zero, suc, ◌+◌, ◌-◌, ◌≤◌, ◌<◌, ◌⊎◌, inl, inr, ⊎_elim, true, false, List, []}
 use Rattle.std.proofs.Common.{◌∷◌, ◌++◌, length, replicate, set, slice_index, refl, sym, ◌∙◌, subst, arith, le_refl}
 use Rattle.std.proofs.Common.{zero-le}
@@ -40,7 +41,7 @@ module _ (lk : ℕ → ℕ) (s : World) (cs : List Client) (w : Client) (h : Hea
       (i : ℕ) (o : Client) → At (cs ++ w ∷ []) i o → P i o
   who P new old i o e = ⊎_elim (λ p. old i o p) (λ p. subst (λ c. P i c) p (new i)) (at_snoc cs w o i e)
 
-  -- a client more, which has nothing
+  -- one more client, which has nothing
   pub longer_keeps : Heart lk s (cs ++ w ∷ [])
   longer_keeps = record {
     version = record {
@@ -138,7 +139,7 @@ module _ (lawful : RecordLaw) (size renewal : ℕ) (story : List (List (ℕ × �
       closed : IsOpen w → ⊥
       closed o = (let z = o.0 in omega (arith, wv))
 
-  -- two clients' records come together
+  -- the records of two clients are merged
   module _ (clock : ℕ) (cs : List Client) (i j : ℕ) (v w new none : Client)
       (h : Filed lawful size renewal story clock cs) (at : At cs i v) (to : At cs j w) (ne : i ≢ j)
       (records : new.records ≡ merged v.records w.records)
@@ -153,7 +154,7 @@ module _ (lawful : RecordLaw) (size renewal : ℕ) (story : List (List (ℕ × �
     its : IsFiled lawful size renewal story w
     its = h.filed j w to
 
-    -- a record of the joined list is one of either's
+    -- a record of the merged list is a record of one of the two clients
     either : (r : Record) → In r new.records → In r v.records ⊎ In r w.records
     either r m = in_merged v.records w.records r (subst (In r) records m)
 
@@ -175,7 +176,7 @@ module _ (lawful : RecordLaw) (size renewal : ℕ) (story : List (List (ℕ × �
     closed : IsOpen none → ⊥
     closed o = (let z = o.0 in omega (arith, none_wv))
 
-    -- who is at a place now
+    -- the clients after the gathering
     stands : (P : ℕ → Client → Type 0) → P i new → P j none →
         ((n : ℕ) (o : Client) → At cs n o → n ≢ i → n ≢ j → P n o) → (n : ℕ) (o : Client) →
         At (set (set cs i new) j none) n o → P n o
@@ -314,7 +315,7 @@ module _ (lawful : RecordLaw) (lk : ℕ → ℕ) (c : Core) (i : ℕ) (v : Clien
     nobody b a x (passes e y l m) = absurd (omega arith)
     nobody b a x (noted r m e n) = absurd (nothing_in r m)
 
-    -- a client that holds no lock takes another that holds none
+    -- a client that holds no lock gathers another that holds none
     pub gather_keeps : Inv lawful lk (gathered i v j w c)
     gather_keeps =
         let to' : At (set c.clients i (taking v w)) j w = set_else c.clients i j (taking v w) w (λ e. ne (sym e)) to in

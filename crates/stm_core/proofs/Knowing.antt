@@ -1,4 +1,4 @@
--- Some client that is out knows the clock: each event keeps this.
+-- Some client that is out knows the clock, and each event keeps this.
 use Rattle.std.proofs.Common.{◌≡◌, ◌≢◌, ℕ, ◌+◌, ◌≤◌, max, false, cond, eqb, length, set, slice_index, slice_set, refl}
 use Rattle.std.proofs.Common.{ap, ◌∙◌, subst, arith}
 use mathlib.Core.Logic.{dite}
@@ -16,7 +16,7 @@ use Rattle.stm_core.proofs.Lists.{set_here, set_else, same_at, at_longer}
 use Rattle.stm_core.proofs.Steps.{by_case}
 
 module _ (c : Core) (i : ℕ) (v : Client) (at : At c.clients i v) where
-  -- the client in its place knows what the clock says now
+  -- the client after its step knows the clock
   pub turn_known : (clock' : ℕ) (w : Client) → w.is_gathered ≡ false → w.floor ≡ clock' →
       IsKnown clock' (set c.clients i w)
   turn_known clock' w out floor = record {
@@ -29,12 +29,12 @@ module _ (c : Core) (i : ℕ) (v : Client) (at : At c.clients i v) where
 
 module _ (lk : ℕ → ℕ) (c : Core) (k : IsKnown c.clock c.clients) (i : ℕ) (v : Client) (at : At c.clients i v)
     (live : v.is_gathered ≡ false) where
-  -- its floor, where it is the one that knows
+  -- if this client is the one that knows the clock, its floor is the clock
   pub its_floor : k.place ≡ i → v.floor ≡ c.clock
   its_floor e = ap (λ (x : Client). x.floor) (same_at c.clients i v k.knower at
       (subst (λ n. At c.clients n k.knower) e k.member)) ∙ k.floor
 
-  -- the client in its place has its floor
+  -- the client after its step has the same floor
   stays : (w : Client) → w.is_gathered ≡ v.is_gathered → w.floor ≡ v.floor → IsKnown c.clock (set c.clients i w)
   stays w out floor = dite (ℕ_discrete k.place i) (λ e. turn_known c i v at c.clock w (out ∙ live)
       (floor ∙ its_floor e))

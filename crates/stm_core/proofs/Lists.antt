@@ -42,7 +42,8 @@ module _ {A : Type 0} where
   pub in_snoc : (l : List A) (a b : A) → In b (l ++ a ∷ []) → In b l ⊎ (a ≡ b)
   in_snoc l a b h = ⊎_elim (λ p. inl (h.0, p)) (λ p. inr p) (at_snoc l a b h.0 h.1)
 
-  -- what holds of who is set at a place, and of all at other places, holds of whoever stands there then
+  -- a property of the element that is set at an index, and of all elements at other indices, holds
+  -- of every element then
   pub who_set : (l : List A) (id : ℕ) (w : A) (P : ℕ → A → Type 0) → P id w →
       ((i : ℕ) (o : A) → get_elem? l i ≡ some o → i ≢ id → P i o) → (i : ℕ) (o : A) →
       get_elem? (set l id w) i ≡ some o → P i o
@@ -53,7 +54,7 @@ module _ {A : Type 0} where
   only_one x zero v e = some-injective x v e
   only_one x (suc i) v e = absurd (some-ne-none v (sym e))
 
-  -- what stood at a place before and what stands there after a write of `new` over `v`
+  -- the element at an index before and after `new` is written over `v`
   abbrev pub Turned : A → A → A → A → Type 0
   Turned v new o w = ((o ≡ v) × (w ≡ new)) ⊎ (o ≡ w)
 

@@ -1,4 +1,5 @@
--- The steps that change no word and leave locks, versions and writes: they load a word, or fail.
+-- The steps that change no word and leave locks, versions and writes as they are: they load a
+-- word, or fail.
 use Rattle.std.proofs.Common.{◌≡◌, ℕ, suc, ◌+◌, ◌*◌, ◌-◌, ◌≤◌, ◌<◌, ◌⊎◌, inl, inr, ⊎_elim, true, false, List, [], ◌∷◌}
 use Rattle.std.proofs.Common.{◌++◌, set, refl, sym, ap, ◌∙◌, subst, arith}
 use mathlib.Core.Option.{some, some-injective}
@@ -27,7 +28,7 @@ module _ (lk : ℕ → ℕ) (s : World) (cs : List Client) (id : ℕ) (v : Clien
   mine : IsBooked lk s v
   mine = h.books.booked id v at
 
-  -- locks, versions and writes stay, and what the client claims is told
+  -- locks, versions and writes stay, and the claims of the client are given
   told_keeps : (w : Client) → w.attempt.held ≡ v.attempt.held → w.attempt.wv ≡ v.attempt.wv →
       w.attempt.writes ≡ v.attempt.writes → w.attempt.stored ≡ v.attempt.stored → decided w ≡ decided v →
       w.attempt.rv ≡ v.attempt.rv → w.floor ≤ s.clock → Saw lk s w.attempt.rv w.attempt.last
@@ -66,7 +67,8 @@ module _ (lk : ℕ → ℕ) (s : World) (cs : List Client) (id : ℕ) (v : Clien
       (λ b a x p. me.agrees b a x (c b a x p)) (λ i o b a x e p q l. h.version.apart id i v o b a x at e
       (c b a x p) q l)
 
-  -- what a fetch sees: the newest image's value, or a writer above the probe's version
+  -- the finding of a fetch: the value of the newest image, unless a writer above the probe's
+  -- version wrote the word
   pub shown : (a n : ℕ) → version_of n ≤ version_of (s.lock (lk a)) →
       (s.cell a ≡ s.val s.clock a) ⊎ ((u : ℕ) × (version_of n < u) × (s.wrote u a ≡ true))
   shown a n l =
@@ -84,7 +86,7 @@ module _ (lk : ℕ → ℕ) (s : World) (cs : List Client) (id : ℕ) (v : Clien
       )) (λ f. inl (it.same a refl (inr (inl f)))))
       (λ d. inl (it.same a refl (inl d))))
 
-  -- what a check finds out where the word is still the probe's
+  -- the finding of a check if the word is still the probe's
   unchanged : (a n x : ℕ) → Saw lk s v.attempt.rv (fetched a n x) → s.lock (lk a) ≡ n → s.val v.attempt.rv a ≡ x
   unchanged a n x saw e =
       let even : IsFree (s.lock (lk a)) = rw e saw.1 in
@@ -183,7 +185,7 @@ module _ (lk : ℕ → ℕ) (s : World) (cs : List Client) (id : ℕ) (v : Clien
         (λ j o b c y f p op l. ⊎_elim (λ old. h.version.apart id j v o b c y at f old op l)
         (λ new. rw new.1 (none_below j o f op (let k = new.0 in omega arith))) (claims_passed b c y p))
 
-  -- a reader's record more
+  -- one more record of a reader
   module _ (w : Client) (r : Record) (reads : w.attempt.reads ≡ v.attempt.reads) (rv : w.attempt.rv ≡ v.attempt.rv)
       (wv : w.attempt.wv ≡ v.attempt.wv) (passed : w.attempt.passed ≡ v.attempt.passed)
       (records : w.records ≡ inserted r v.records) (same : r.reads ≡ v.attempt.reads) (there : base r ≡ v.attempt.rv)

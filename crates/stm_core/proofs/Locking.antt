@@ -15,14 +15,15 @@ pub record Writes (lock lock' : ℕ → ℕ) (k n : ℕ) : Type 0 where
   pub here : lock' k ≡ n
   pub else : (j : ℕ) → j ≢ k → lock' j ≡ lock j
 
--- a lock word's version never falls: what a client saw still holds
+-- a lock word's version never falls, so the finding of a client's last step still holds
 pub saw_stays : (lk : ℕ → ℕ) (s : World) (lock : ℕ → ℕ) (rv : ℕ) (l : Step) →
     ((j : ℕ) → version_of (s.lock j) ≤ version_of (lock j)) → Saw lk s rv l → Saw lk (record s { lock = lock }) rv l
 saw_stays lk s lock rv (probed k n) up p = (let q = up k in omega arith)
 saw_stays lk s lock rv (fetched a n x) up p = (p.0, p.1, (let q = up (lk a) in omega (arith, p.2)), p.3)
 saw_stays lk s lock rv _ up p = tt
 
--- where lock words and data words alone change, a client knows what it knew but for what its last step saw
+-- if only lock words and data words change, the clauses on a client still hold, except the one on
+-- its last step
 pub sound_stays : (lk : ℕ → ℕ) (s : World) (lock cell : ℕ → ℕ) (o : Client) → IsSound lk s o →
     Saw lk (record s { lock = lock; cell = cell }) o.attempt.rv o.attempt.last →
     IsSound lk (record s { lock = lock; cell = cell }) o
@@ -55,7 +56,7 @@ module _ (lk : ℕ → ℕ) (s : World) (cs : List Client) (id : ℕ) (v w : Cli
   even : IsFree (s.lock k)
   even = omega arith
 
-  -- no client holds it
+  -- no client holds lock k
   not_held : (i : ℕ) (o : Client) (j t : ℕ) → At cs i o → In (j, t) o.attempt.held → j ≢ k
   not_held i o j t e g z = (let p : s.lock k ≡ 2 * t + 1 = subst (λ y. s.lock y ≡ 2 * t + 1) z
       ((h.books.booked i o e).listed j t g) in omega arith)

@@ -1,4 +1,4 @@
--- A lone attempt: what is kept of it, and that nothing fails it.
+-- A solo attempt: its guarantees are kept, and nothing makes it fail.
 use Rattle.std.proofs.Common.{◌≡◌, ◌≢◌, ℕ, zero, suc, ◌+◌, ◌*◌, ◌⊎◌, inl, inr, ⊎_elim, Bool, true, false, cond, eqb}
 use Rattle.std.proofs.Common.{◌||◌, List, [], ◌∷◌, length, map, set, slice_set, slice_index, refl, sym, ap, ◌∙◌, subst}
 use Rattle.std.proofs.Common.{arith}
@@ -40,7 +40,7 @@ not_ended v e f = (let z : running ≡ ending = sym e ∙ f in cc)
 
 module _ (lawful : RecordLaw) (lk : ℕ → ℕ) (c : Core) (h : Inv lawful lk (now c))
     (l : Lone lk c.clock c.locks c.clients) where
-  -- beside the client of a lone attempt nobody is out
+  -- beside the client of a solo attempt, no client is out
   pub only_one : (i j : ℕ) (v o : Client) → At c.clients i v → At c.clients j o → v.is_gathered ≡ false →
       o.attempt.lone ≡ true → j ≢ i → ⊥
   only_one i j v o at to live lone ne =
@@ -195,7 +195,7 @@ module _ (lawful : RecordLaw) (lk : ℕ → ℕ) (c : Core) (h : Inv lawful lk (
         (λ p. turn_lone c.clock c.locks (taking v w) (λ z. absurd (only_one j i w v to at live' z ne)) n o p.1 y)
         (at_set (set c.clients i (taking v w)) j n gone o e)
 
-  -- a lone attempt that is not decided
+  -- a solo attempt that is not decided
   module _ (i : ℕ) (v : Client) (at : At c.clients i v) (y : v.attempt.lone ≡ true)
       (undecided : decided v ≡ false) where
     this : IsLone lk c.clock c.locks v

@@ -1,4 +1,4 @@
--- Lists of records joined to one: each keeps its order in it.
+-- Merged lists of records: each list keeps its order.
 use Rattle.std.proofs.Common.{◌≡◌, ◌≢◌, ℕ, zero, suc, ⊎_elim, Bool, true, false, cond, List, [], ◌∷◌, ◌++◌}
 use Rattle.std.proofs.Common.{append_assoc, append-nil, refl, sym, ap, ◌∙◌, subst, arith}
 use mathlib.Core.Option.{some-injective}
@@ -24,7 +24,7 @@ sorted_of : (l : List Record) → Ordered l → Sorted l
 sorted_of [] o = tt
 sorted_of (x ∷ l) o = (λ r i. (o.0 r i).0, sorted_of l o.1)
 
--- what comes last among some records comes after them where it is put in
+-- a record that is not before any record of a sublist is inserted after that sublist
 pub sub_last : {p l : List Record} (y : Record) → Sub p l → Sorted l → ((x : Record) → In x p → before y x ≡ false) →
     Sub (p ++ y ∷ []) (inserted y l)
 sub_last {l = l} y done o f = one_in y l
@@ -68,7 +68,7 @@ merged_behind p (y ∷ l) o f = ap (λ k. merged k l) (inserted_last p y (λ x i
     (λ e. subst (λ k. before z k ≡ false) e (o.0 z j).0) (Rattle.stm_core.proofs.Lists.in_snoc p y x i)) ∙
     append_assoc p (y ∷ []) l)
 
--- a list joined to none is itself
+-- a list merged into the empty list is itself
 pub merged_none : (l : List Record) → Ordered l → merged [] l ≡ l
 merged_none l o = merged_behind [] l o (λ x y i. absurd (nothing_in x i))
 
@@ -107,7 +107,7 @@ all_ordered [] h = tt
 all_ordered (v ∷ vs) h = merged_ordered v.records (all_records vs) (h.each 0 v refl) (all_ordered vs (fewer v vs h))
     (cross v vs h)
 
--- each client's records stand in the list of all, in their order
+-- each client's records are in the list of all records, in their order
 pub all_sub : (cs : List Client) → Apart cs → (i : ℕ) (v : Client) → At cs i v → Sub v.records (all_records cs)
 all_sub [] h i v e = absurd (nothing_in v (i, e))
 all_sub (w ∷ ws) h zero v e = subst (λ (c : Client). Sub c.records (merged w.records (all_records ws)))
@@ -119,7 +119,7 @@ none_all : (cs : List Client) → ((i : ℕ) (v : Client) → At cs i v → v.re
 none_all [] f = refl
 none_all (v ∷ vs) f = rw (f 0 v refl, none_all vs (λ i w e. f (suc i) w e)) refl
 
--- where one client alone has records, its list is that of all
+-- if only one client has records, its list is that of all clients
 pub alone_all : (cs : List Client) (i : ℕ) (v : Client) → At cs i v → Ordered v.records →
     ((j : ℕ) (w : Client) → At cs j w → j ≢ i → w.records ≡ []) → all_records cs ≡ v.records
 alone_all [] i v e o f = absurd (nothing_in v (i, e))

@@ -1,4 +1,4 @@
--- Lists of records in order: what stands in them, and that they stay in order.
+-- Ordered lists of records: their members, and that they stay ordered.
 use Rattle.std.proofs.Common.{◌≡◌, ◌≢◌, ℕ, suc, ◌<◌, ◌≤◌, ◌⊎◌, inl, inr, ⊎_elim, Bool, true, false, cond, eqb, ltb}
 use Rattle.std.proofs.Common.{◌||◌, ◌&&◌, List, [], ◌∷◌, refl, sym, subst, arith}
 use Rattle.std.proofs.lemmas.Bool.Decides.{nat_tests}
@@ -53,11 +53,11 @@ before_trans r x y h k = of_place r y (go r.renewal (rank r) r.point x.renewal (
               (λ u. ⊎_elim (λ w. inl (omega arith)) (λ w. inr (omega arith, omega arith)) m.1) l.1,
         )) q) p
 
--- what is not before what stands before x is not before x
+-- if r is before x and y is not before x, then y is not before r
 pub behind : (r x y : Record) → before r x ≡ true → before y x ≡ false → before y r ≡ false
 behind r x y h k = not_true (before y r) (λ m. clash (before_trans y r x m h) k)
 
--- not before, in one renewal: not of a smaller rank
+-- a record that is not before another of its renewal has no smaller rank
 pub rank_after : (r x : Record) → before r x ≡ false → r.renewal ≡ x.renewal → rank x ≤ rank r
 rank_after r x h e = by_bool (ltb (rank r) (rank x)) (λ t. clash (of_place_rank r x e t) h)
     (λ f. grind (arith, nat_tests))
@@ -66,7 +66,7 @@ rank_after r x h e = by_bool (ltb (rank r) (rank x)) (λ t. clash (of_place_rank
     of_place_rank r x e t = is_before r.renewal (rank r) r.point x.renewal (rank x) x.point
         (inr (e, inl (grind (arith, nat_tests))))
 
--- a record of no writer's version in the list comes into its place
+-- a record whose version no writer of the list has is inserted in order
 pub inserted_ordered : (r : Record) (l : List Record) → Ordered l →
     ((x : Record) → In x l → x.writer ≡ true → r.writer ≡ true → x.version ≢ r.version) → Ordered (inserted r l)
 inserted_ordered r [] o f = (λ y i. absurd (nothing_in y i), tt)
@@ -95,7 +95,7 @@ merged_ordered l (y ∷ m) o p f = merged_ordered (inserted y l) m (inserted_ord
     (λ x z i j. ⊎_elim (λ e. subst (λ (q : Record). q.writer ≡ true → z.writer ≡ true →
     q.version ≢ z.version) e (p.0 z j).1) (λ k. f x z k (suc j.0, j.1)) (in_inserted y l x i))
 
--- r before x, and x not behind y: r before y
+-- if r is before x and y is not before x, then r is before y
 pub before_le : (r x y : Record) → before r x ≡ true → before y x ≡ false → before r y ≡ true
 unfolding Place
 before_le r x y h k = by_bool (before x y) (λ t. before_trans r x y h t)

@@ -1,4 +1,4 @@
--- A list of allowed events, from the opening on: what holds of the core that it leads to.
+-- A list of allowed events from the opening on, and the properties of the core that it leads to.
 use Rattle.std.proofs.Common.{◌≡◌, ◌≢◌, ℕ, zero, suc, ◌+◌, ◌-◌, ◌<◌, ◌≤◌, ◌⊎◌, inl, inr, ⊎_elim, Bool, true, false}
 use Rattle.std.proofs.Common.{cond, eqb, List, [], ◌∷◌, ◌++◌, append-nil, append_assoc, ltb, length, length-append}
 use Rattle.std.proofs.Common.{length-set, set, set-set, slice_index, slice_set, refl, sym, ap, ◌∙◌, subst, arith}
@@ -54,7 +54,7 @@ set_same [] i v e = refl
 set_same (x ∷ l) zero v e = λ j. sym (some-injective x v e) j ∷ l
 set_same (x ∷ l) (suc i) v e = λ j. x ∷ set_same l i v e j
 
--- the history with what a step decides at its place by point steps
+-- the history with the decision of a step put in by point steps
 abbrev pub filed : List Record → List Record → List Record
 filed [] h = h
 filed (r ∷ rs) h = placed r h
@@ -67,7 +67,7 @@ filed_old : (rs h : List Record) (x : Record) → In x h → In x (filed rs h)
 filed_old [] h x i = i
 filed_old (r ∷ rs) h x i = placed_old r h x i
 
--- one or none
+-- a list of at most one record
 abbrev AtMostOne : List Record → Type 0
 AtMostOne rs = (rs ≡ []) ⊎ ((r : Record) × (rs ≡ r ∷ []))
 
@@ -93,7 +93,7 @@ history_after lk (splits k) c h = h
 history_after lk (gathers k j) c h = h
 history_after lk (renews k last) c h = []
 
--- and the history of the earlier renewals
+-- the history of the earlier renewals after an event
 abbrev pub earlier_after : Event → List Record → List Record → List Record
 earlier_after (renews k last) old h = old ++ h
 earlier_after _ old h = old
@@ -111,7 +111,7 @@ module _ (lawful : RecordLaw) (lk : ℕ → ℕ) (old : List Record) (c : Core) 
   abbrev Next : Action → Type 0
   Next e = IsDatedBy old (filed (decision stamp e (found lk c e) v) h) (stepped stamp lk e i v c)
 
-  -- a step that leaves read version, write version and their places
+  -- a step that leaves the read version, the write version and their positions as they are
   quiet : (w : Client) → w.records ≡ v.records → w.is_gathered ≡ v.is_gathered →
       (IsReading w.attempt → IsReading v.attempt × (w.attempt.began_at ≡ v.attempt.began_at) ×
       (w.attempt.rv ≡ v.attempt.rv)) → (IsOpen w → IsOpen v × (w.attempt.ticked_at ≡ v.attempt.ticked_at) ×
@@ -278,7 +278,7 @@ by_append (x ∷ l) k s t f = (
   by_append l k s.1 t (λ y z i j. f y z (suc i.0, i.1) j),
 )
 
--- what a core keeps through a renewal
+-- the fields of a core that a renewal keeps
 pub record Frame : Type 0 where
   pub first : List ℕ
   pub opening : List ℕ
@@ -427,7 +427,7 @@ module _ (lawful : RecordLaw) (lk : ℕ → ℕ) where
       earlier = renew_earlier;
     }
 
-  -- an allowed event keeps the whole rule
+  -- an allowed event keeps the whole invariant
   pub event_keeps : (c : Core) (e : Event) → Rule lawful lk c → CanPlay lawful lk e c → Rule lawful lk (played lk e c)
   event_keeps c (acts k e) h may =
       step_rules lawful lk c h (k - 1) (client_of c k) may.0.1 may.0.2
@@ -449,7 +449,7 @@ module _ (lawful : RecordLaw) (lk : ℕ → ℕ) where
   decision_now t m begin n v = refl
   decision_now t m _ n v = refl
 
-  -- and leads to a core beside the histories with its decision
+  -- an allowed event leads to a core beside the histories with its decision
   pub event_beside : (c : Core) (e : Event) (old h : List Record) → Beside old h c → CanPlay lawful lk e c →
       Beside (earlier_after e old h) (history_after lk e c h) (played lk e c)
   event_beside c (acts k e) old h b may =
@@ -534,7 +534,7 @@ module _ (lawful : RecordLaw) (lk : ℕ → ℕ) where
     earlier = record { serial = tt; leads = refl; ascending = tt; all = λ r m. m; only = λ r m. m };
   }
 
-  -- and the list of events with it decides what the histories have
+  -- the list of events with one more event decides exactly the records of the histories
   pub event_traced : (start : Core) (es : List Event) (c : Core) (a : Event) (old h : List Record) →
       Trace lk start es c (old ++ h) → CanPlay lawful lk a c →
       Trace lk start (es ++ a ∷ []) (played lk a c) (earlier_after a old h ++ history_after lk a c h)
@@ -557,7 +557,7 @@ module _ (lawful : RecordLaw) (lk : ℕ → ℕ) where
       let e = append-nil (old ++ h) in renew_trace lawful lk start es c (old ++ h) t k last may ((old ++ h) ++ [])
       (λ r m. subst (In r) e m) (λ r m. subst (In r) (sym e) m) (ap length e)
 
-  -- what a list of events leads to, beside its histories
+  -- the core that a list of events leads to, beside its histories
   pub record Led (start : Core) (es : List Event) (c : Core) : Type 0 where
     pub old : List Record
     pub new : List Record
@@ -570,7 +570,7 @@ module _ (lawful : RecordLaw) (lk : ℕ → ℕ) where
       (frame_stays (record { client = k; place = c.events; renewal = c.renewal }) lk e (k - 1) (client_of c k) c))
   first_stays _ c = refl
 
-  -- one allowed event more
+  -- one more allowed event
   pub led_on : (start : Core) (es : List Event) (c : Core) (a : Event) → Led start es c → Allowed lawful lk a c →
       Led start (es ++ a ∷ []) (played lk a c)
   led_on start es c a l h = let may = can_play lawful lk a c h in record {
@@ -631,7 +631,7 @@ is_history lawful lk c old h b = record {
         (q.0, s.0, s.1, (of_is c.renewal s.0.records r (subst (λ (y : Client). In r y.records) (sym s.2) q.3)).0))
         (in_append old h r m)
 
--- a record may stand behind the others by versions
+-- records that are ranked have ascending versions
 ascends : (l : List Record) → Ranked l → Ascending l
 ascends [] r = tt
 ascends (x ∷ l) r = (λ y i. pair y (r.0 y i), ascends l r.1)
@@ -646,7 +646,7 @@ ascends (x ∷ l) r = (λ y i. pair y (r.0 y i), ascends l r.1)
         (λ u. let b = rank_writer y u in (omega (arith, a, b, p.0), λ _. omega (arith, a, b, p.0)))
         (λ u. let b = rank_reader y u in (omega (arith, a, b, p.0), λ z. clash z u)))
 
--- what holds of a core follows from the rule and its histories
+-- the properties of a core follow from the invariant and the histories
 pub stands : (lawful : RecordLaw) (lk : ℕ → ℕ) (start : Core) (es : List Event) (c : Core) → Led lawful lk start es c →
     IsSerializable lawful lk start es c
 stands lawful lk start es c l =

@@ -1,4 +1,5 @@
--- A client lets a lock go: a decided writer with its own version, an undecided one with the old version.
+-- A client lets a lock go: a decided writer with its write version, an undecided client with the
+-- old version.
 use Rattle.std.proofs.Common.{◌≡◌, ◌≢◌, ℕ, suc, ◌+◌, ◌*◌, ◌/◌, ◌≤◌, ◌<◌, ◌⊎◌, inl, inr, ⊎_elim, true, false, List, set}
 use Rattle.std.proofs.Common.{sym, ap, ◌∙◌, subst, arith, le_refl}
 use mathlib.Core.Logic.{dite}
@@ -152,7 +153,7 @@ module _ (lk : ℕ → ℕ) (s : World) (cs : List Client) (id : ℕ) (v w : Cli
         apart_self = λ b a x c op. clash was_decided op.1;
       }
 
-  -- an undecided client, which gives its own version up
+  -- an undecided client, which gives up its write version
   pub give_back_keeps : n ≡ u → decided v ≡ false → w.attempt.wv ≡ 0 → w.attempt.passed ≡ 0 → decided w ≡ false →
       w.attempt.rv ≡ v.attempt.rv → w.floor ≡ v.floor → w.attempt.reads ≡ v.attempt.reads → w.records ≡ v.records →
       Saw lk s w.attempt.rv w.attempt.last → Heart lk after (set cs id w)

@@ -1,4 +1,5 @@
--- The whole rule, event by event: what is kept within one renewal holds beside the records of earlier ones.
+-- The whole invariant, event by event: each step within one renewal keeps it, beside the records
+-- of earlier renewals.
 use Rattle.std.proofs.Common.{◌≡◌, ◌≢◌, ℕ, suc, ◌+◌, ◌<◌, ⊎_elim, Bool, true, false, cond, eqb, List, [], ◌∷◌, ◌++◌}
 use Rattle.std.proofs.Common.{length, length-set, map, set, refl, sym, ap, ◌∙◌, subst, arith}
 use Rattle.std.proofs.lemmas.Bool.Decides.{nat_tests}
@@ -78,7 +79,7 @@ pub eqb_yes : (m n : ℕ) → m ≡ n → eqb m n ≡ true
 eqb_yes m n e = grind (arith, nat_tests)
 
 module _ (lawful : RecordLaw) (lk : ℕ → ℕ) (c : Core) (h : Rule lawful lk c) where
-  -- the earlier records that stand with the client at a place
+  -- the earlier records that belong to the client at an index
   abbrev pub pre : ℕ → List Record
   pre i = cond (eqb i h.past.keeper) c.past []
 
@@ -98,7 +99,7 @@ module _ (lawful : RecordLaw) (lk : ℕ → ℕ) (c : Core) (h : Rule lawful lk 
     at_now : At (now c).clients i u
     at_now = at_map (shed c.renewal) c.clients i v at
 
-    -- another client in its place, with the same earlier records
+    -- another client at the index, with the same earlier records
     set_now : (w : Client) → AllOf c.renewal w.records → map (shed c.renewal) (set c.clients i (pad (pre i) w)) ≡ set
         (map (shed c.renewal) c.clients) i w
     set_now w f = map-set (shed c.renewal) c.clients i (pad (pre i) w) ∙
@@ -175,7 +176,7 @@ module _ (lawful : RecordLaw) (lk : ℕ → ℕ) (c : Core) (h : Rule lawful lk 
   past_stepped begin may = step_past begin may refl
   past_stepped e may = step_past e may refl
 
-  -- a step of a client keeps the whole rule
+  -- a step of a client keeps the whole invariant
   pub step_rules : (e : Action) → CanAct lawful lk (bounds_of c) e v.attempt → Rule lawful lk (stepped t lk e i v c)
   step_rules e may = record {
     inv = subst (Inv lawful lk) (sym (now_stepped e may)) (now_keeps lawful lk c h i v at live t era e may);

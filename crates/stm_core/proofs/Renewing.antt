@@ -1,4 +1,5 @@
--- A client is split off, two are joined, the clock is renewed, and the opening: they keep the whole rule.
+-- A client is split off, two clients are joined, the clock is renewed, and a core is opened: each
+-- of these keeps the whole invariant.
 use Rattle.std.proofs.Common.{◌≡◌, ◌≢◌, ℕ, zero, suc, ◌+◌, ◌<◌, ◌⊎◌, inl, inr, ⊎_elim, Bool, true, false, cond, eqb}
 use Rattle.std.proofs.Common.{List, [], ◌∷◌, ◌++◌, length, length-set, length-append, map, set, append_assoc}
 use Rattle.std.proofs.Common.{append-nil, sum_by, refl, sym, ap, ◌∙◌, subst, arith, zero-le}
@@ -210,7 +211,7 @@ module _ (lawful : RecordLaw) (lk : ℕ → ℕ) (c : Core) (h : Rule lawful lk 
     is_gone : (j : ℕ) (o : Client) → At c.clients j o → j ≢ i → o ≡ gone
     is_gone j o e n = h.past.are_gone j o e (others j o e n)
 
-    -- its records are all there are
+    -- the client's records are all records
     pub whole : v.records ≡ c.past ++ v'.records
     whole = go (eqb i h.past.keeper) refl (h.past.kept i v at)
       where
@@ -357,7 +358,7 @@ module _ (lawful : RecordLaw) (lk : ℕ → ℕ) (c : Core) (h : Rule lawful lk 
           };
         }
 
--- a core just opened meets the whole rule
+-- a core just opened meets the whole invariant
 pub opening_rules : (lawful : RecordLaw) (lk : ℕ → ℕ) (image : List ℕ) (last stripes : ℕ) →
     Rule lawful lk (opened image last stripes)
 opening_rules lawful lk image last stripes = record {

@@ -128,7 +128,7 @@ module _ (lawful : RecordLaw) (lk : ℕ → ℕ) where
       size = h.size;
     }
 
-    -- a decision: what was read is in the image just before the writer's version
+    -- a decision: all reads are in the image just before the writer's version
     pub decide_inv : (t : Stamp) → t.renewal ≡ c.renewal → IsOpen v →
         ((a x : ℕ) → In (a, x) v.attempt.reads → Claims v (v.attempt.wv - 1) a x) →
         Inv lawful lk (record c { clients = slice_set c.clients i (committed_by t v) })

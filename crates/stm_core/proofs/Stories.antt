@@ -1,4 +1,4 @@
--- The laws of the story, the list of the writes of each version's decided writer.
+-- The laws of the story, which lists the writes of each version's decided writer.
 use Rattle.std.proofs.Common.{◌≡◌, ◌≢◌, ℕ, zero, suc, ◌≤◌, ◌<◌, Bool, true, false, not, cond, eqb, ◌||◌, ◌&&◌, List, []}
 use Rattle.std.proofs.Common.{◌∷◌, ◌++◌, length, set, slice_index, refl, sym, ap, ◌∙◌, subst, arith, zero-le}
 use mathlib.Core.Option.{some, some-injective, some-ne-none}
@@ -10,7 +10,7 @@ use Rattle.stm_core.proofs.Lists.{clash}
 use Rattle.stm_core.proofs.Deciding.{Decides}
 use Rattle.stm_core.specs.Guards.{is_map}
 
--- writes that do not name an address leave it
+-- writes that do not name an address leave its value as it is
 pub over_else : (w : List (ℕ × ℕ)) (d a : ℕ) → writes_to w a ≡ false → value_over d w a ≡ d
 over_else [] d a e = refl
 over_else (p ∷ ps) d a e = go (eqb p.0 a) refl (λ h. over_else ps d a h)
@@ -88,7 +88,7 @@ once p ps h = go (writes_to ps p.0) (is_map ps) h
     go false b h = (refl, h)
     go true b h = clash h refl
 
--- the value of a pair, where no address stands twice
+-- the value of a pair, if no address occurs twice
 pub over_pair : (w : List (ℕ × ℕ)) (d a x j : ℕ) → is_map w ≡ true → get_elem? w j ≡ some (a, x) → value_over d w a ≡ x
 over_pair [] d a x j m e = absurd (some-ne-none (a, x) (sym e))
 over_pair (p ∷ ps) d a x zero m e =
@@ -99,7 +99,7 @@ over_pair (p ∷ ps) d a x zero m e =
     (ap (λ b. cond b p.1 d) hit ∙ value)
 over_pair (p ∷ ps) d a x (suc j) m e = over_pair ps (cond (eqb p.0 a) p.1 d) a x j (once p ps m).1 e
 
--- the image of a version is that of the version before with its writes
+-- the image of a version is the image of the version before with the writes of the version applied
 pub value_next : (ws : List (List (ℕ × ℕ))) (n : ℕ) (w : List (ℕ × ℕ)) (d a : ℕ) → get_elem? ws n ≡ some w →
     value_in ws d (suc n) a ≡ value_over (value_in ws d n a) w a
 value_next [] n w d a e = absurd (some-ne-none w (sym e))
@@ -112,7 +112,7 @@ wrote_at [] n w a e = absurd (some-ne-none w (sym e))
 wrote_at (x ∷ xs) zero w a e = ap (λ y. writes_to y a) (some-injective x w e)
 wrote_at (x ∷ xs) (suc n) w a e = wrote_at xs n w a e
 
--- what was written was written by somebody
+-- a written address was written by the writer of some version
 pub wrote_by : (ws : List (List (ℕ × ℕ))) (u a : ℕ) → wrote_in ws u a ≡ true →
     (n : ℕ) × (w : List (ℕ × ℕ)) × (u ≡ suc n) × (get_elem? ws n ≡ some w) × (writes_to w a ≡ true)
 wrote_by ws zero a e = clash e refl
@@ -120,7 +120,7 @@ wrote_by [] (suc u) a e = clash e refl
 wrote_by (w ∷ ws) (suc zero) a e = (0, w, refl, refl, e)
 wrote_by (w ∷ ws) (suc (suc u)) a e = let q = wrote_by ws (suc u) a e in (suc q.0, q.1, ap suc q.2, q.3, q.4)
 
--- where the place of version n + 1 is empty, writes that are put there are a decision
+-- if the story has no writes yet for version n + 1, adding writes there is a decision
 pub decides : (clock : ℕ) (lock cell : ℕ → ℕ) (image : List ℕ) (story : List (List (ℕ × ℕ))) (n : ℕ) (w : List (ℕ × ℕ))
     → is_map w ≡ true → get_elem? story n ≡ some []
     → Decides (record { clock = clock; lock = lock; cell = cell; val = value_of image story; wrote = wrote_in story })

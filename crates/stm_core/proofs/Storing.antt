@@ -33,7 +33,7 @@ module _ (lk : ℕ → ℕ) (s : World) (cs : List Client) (id : ℕ) (v w : Cli
   mine : IsBooked lk s v
   mine = h.books.booked id v at
 
-  -- the value is that of the newest image
+  -- the stored value is that of the newest image
   is_newest : x ≡ s.val s.clock a
   is_newest =
       let z = (mine.told is_decided).0 in

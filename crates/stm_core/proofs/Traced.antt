@@ -1,4 +1,4 @@
--- What a step is to its client, and a list of events beside the records that it decides.
+-- The effects of a step on its client, and a list of events beside the records that it decides.
 use Rattle.std.proofs.Common.{◌≡◌, ℕ, zero, suc, ◌+◌, ◌-◌, ◌<◌, ◌≤◌, ◌⊎◌, inl, inr, ⊎_elim, Bool, true, false}
 use Rattle.std.proofs.Common.{cond, eqb, eq-eqb, List, [], ◌∷◌, ◌++◌, length, length-append, append_assoc}
 use Rattle.std.proofs.Common.{append-nil, refl, sym, ap, ◌∙◌, subst, arith}
@@ -21,7 +21,7 @@ use Rattle.stm_core.proofs.Lists.{clash, in_range, at_longer}
 use Rattle.stm_core.proofs.Eras.{in_append, append_left, append_right}
 use Rattle.stm_core.proofs.Steps.{by_case, undecided_at}
 
--- who stands at a place of a list with one more
+-- the element at an index of a list with one more element
 pub last_at : {A : Type 0} (l : List A) (a b : A) (j : ℕ) → get_elem? (l ++ a ∷ []) j ≡ some b →
     (get_elem? l j ≡ some b) ⊎ ((j ≡ length l) × (a ≡ b))
 last_at [] a b zero e = inr (refl, some-injective a b e)
@@ -50,7 +50,7 @@ begins_more k [] (suc n) m l = omega arith
 begins_more k (x ∷ es) (suc n) zero l = absurd (omega arith)
 begins_more k (x ∷ es) (suc n) (suc m) l = (let h = begins_more k es n m (omega arith) in omega (arith, h))
 
--- the begin of an attempt stands before all its other steps
+-- the begin of an attempt comes before all its other steps
 begin_counts : (k : ℕ) (es : List Event) (n : ℕ) → get_elem? es n ≡ some (acts k begin) →
     begins k es (suc n) ≡ suc (begins k es n)
 begin_counts k [] n e = absurd (some-ne-none (acts k begin) (sym e))
@@ -91,7 +91,7 @@ module _ (lk : ℕ → ℕ) where
   core_after lawful [] c d h = h
   core_after lawful (e ∷ es) c d h = core_after lawful es (played lk e c) d h.1
 
--- a step stays where it is when an event more comes
+-- a step keeps its position when one more event is added
 pub step_stays : (es : List Event) (x : Event) (k a n : ℕ) (e : Action) → IsStepOf es k a n e →
     IsStepOf (es ++ x ∷ []) k a n e
 step_stays es x k a n e s = (
@@ -99,7 +99,7 @@ step_stays es x k a n e s = (
   begins_before k es x (suc n) (in_range es n (acts k e) s.0) ∙ s.1,
 )
 
--- the client is as it was, as far as a list of events shows it
+-- the two values of a client agree in all that a list of events determines
 pub record Rests (v w : Client) : Type 0 where
   pub number : w.attempt.number ≡ v.attempt.number
   pub runs : w.attempt.phase ≡ running → (v.attempt.phase ≡ running) × (w.attempt.began_at ≡ v.attempt.began_at) ×
@@ -109,7 +109,7 @@ pub record Rests (v w : Client) : Type 0 where
       (w.attempt.writes ≡ v.attempt.writes)
   pub commits : decided w ≡ true → (decided v ≡ true) × (w.attempt.writes ≡ v.attempt.writes)
 
--- where a record that is decided has its point step
+-- the origin of a decided record: its point step is this step or an earlier one of the attempt
 pub record Origin (t : Stamp) (e : Action) (n : ℕ) (v : Client) (r : Record) : Type 0 where
   pub client : r.client ≡ t.client
   pub attempt : r.attempt ≡ v.attempt.number
@@ -119,7 +119,8 @@ pub record Origin (t : Stamp) (e : Action) (n : ℕ) (v : Client) (r : Record) :
       (r.writes ≡ v.attempt.writes))
       ⊎ ((e ≡ tick n r.tag r.writes) × (r.point ≡ t.place) × (r.version ≡ n + 1))
 
--- what a step is to its client: it begins an attempt, or leaves it, or wins the tick, or decides
+-- the ways in which a step changes its client: it begins an attempt, leaves the attempt as it is,
+-- wins the tick, or decides
 pub data Turn (t : Stamp) (e : Action) (n : ℕ) (v w : Client) (rs : List Record) : Type 0 where
   opens : e ≡ begin → rs ≡ [] → w.attempt.phase ≡ running → w.attempt.number ≡ v.attempt.number + 1 →
       w.attempt.began_at ≡ t.place → w.attempt.rv ≡ n → w.attempt.wv ≡ 0 → Turn t e n v w rs
@@ -229,12 +230,12 @@ module _ (t : Stamp) (lk : ℕ → ℕ) (n : ℕ) (v : Client) where
   turn_give_back a = rests (λ k j. refl) refl (fails v _ refl refl)
 
 module _ (lk : ℕ → ℕ) (start : Core) where
-  -- a running attempt began where it says
+  -- a running attempt began at the position that it records
   abbrev pub Runs : List Event → ℕ → Client → Type 0
   Runs es k v = v.attempt.phase ≡ running → IsStepOf es k v.attempt.number v.attempt.began_at begin ×
       ((core_at lk start es v.attempt.began_at).clock ≡ v.attempt.rv)
 
-  -- and with a write version it won its tick where it says
+  -- an attempt with a write version won its tick at the position that it records
   abbrev pub Ticked : List Event → ℕ → Client → Type 0
   Ticked es k v = v.attempt.phase ≡ running → 0 < v.attempt.wv
       → (from : ℕ) × IsStepOf es k v.attempt.number v.attempt.ticked_at (tick from v.attempt.tag v.attempt.writes) ×
@@ -245,13 +246,13 @@ module _ (lk : ℕ → ℕ) (start : Core) where
   Commits h k v = decided v ≡ true → (r : Record) × In r h × (r.client ≡ k) × (r.attempt ≡ v.attempt.number) ×
       (r.writer ≡ true) × (r.writes ≡ v.attempt.writes)
 
-  -- what a put at a place stores is a write of a record that was decided before
+  -- the value that a put stores is a write of a record that was decided before
   abbrev pub IsStored : List Event → List Record → (k attempt n a x : ℕ) → Type 0
   IsStored es h k attempt n a x =
       (r : Record) × In r h × (r.client ≡ k) × (r.attempt ≡ attempt) × (r.writer ≡ true) × In (a, x) r.writes ×
       ((m : ℕ) × (m < n) × IsDecision lk start es k attempt m r)
 
-  -- a list of events beside the core that it leads to and the records
+  -- a list of events beside its records and the core that it leads to
   pub record Trace (es : List Event) (c : Core) (h : List Record) : Type 0 where
     pub here : core_at lk start es (length es) ≡ c
     pub count : c.events ≡ length es
@@ -267,7 +268,7 @@ module _ (lk : ℕ → ℕ) (start : Core) where
     pub as_many : length h ≡ length (decisions lk start es)
     pub stored : (k attempt n a x : ℕ) → IsStepOf es k attempt n (put a x) → IsStored es h k attempt n a x
 
-  -- one event more
+  -- one more event
   module _ (es : List Event) (c : Core) (h : List Record) (d : Trace es c h) (x : Event) where
     abbrev es' : List Event
     es' = es ++ x ∷ []
@@ -325,13 +326,13 @@ module _ (lk : ℕ → ℕ) (start : Core) where
       q.3,
     )
 
-    -- who does not begin has begun as many attempts as before
+    -- a client that does not begin has begun as many attempts as before
     pub unbegun : (k : ℕ) → is_begin_of k x ≡ false → begins k (es ++ x ∷ []) (length (es ++ x ∷ [])) ≡ begins k es
         (length es)
     unbegun k e = ap (begins k (es ++ x ∷ [])) longer ∙ (begins_end k es x ∙
         rw e (let z : begins k es (length es) + 0 ≡ begins k es (length es) = omega arith in z))
 
-    -- the event itself, a step of a client that has begun so many attempts
+    -- the event itself, a step of a client that has begun this many attempts
     pub itself : (k a : ℕ) (e : Action) → x ≡ acts k e → begins k (es ++ x ∷ []) (length (es ++ x ∷ [])) ≡ a →
         IsStepOf (es ++ x ∷ []) k a (length es) e
     itself k a e is b = (at_end es x ∙ ap some is, ap (begins k (es ++ x ∷ [])) (sym longer) ∙ b)
@@ -343,7 +344,7 @@ module _ (lk : ℕ → ℕ) (start : Core) where
     pub its_core : core_at lk start (es ++ x ∷ []) (length es) ≡ c
     its_core = core_before lk start es x (length es) (Rattle.std.proofs.Common.le_refl _) ∙ d.here
 
-    -- with what the event does to the clients and to the records
+    -- the effects of the event on the clients and on the records are given
     module _ (h' : List Record) (from : (r : Record) → In r h' → In r h ⊎ In r (made lk x c)) (old : (r : Record) →
         In r h → In r h') (new : (r : Record) → In r (made lk x c) →
         In r h') (many : length h' ≡ length h + length (made lk x c))

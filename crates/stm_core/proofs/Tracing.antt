@@ -1,4 +1,4 @@
--- Each event keeps what a list of events says of the records that it decides.
+-- Each event keeps the relation between a list of events and the records that it decides.
 use Rattle.std.proofs.Common.{◌≡◌, ◌≢◌, ℕ, zero, suc, ◌+◌, ◌-◌, ◌<◌, ◌≤◌, ◌⊎◌, inl, inr, ⊎_elim, Bool, true, false}
 use Rattle.std.proofs.Common.{cond, eq-eqb, List, [], ◌∷◌, ◌++◌, length, length-append, length-set}
 use Rattle.std.proofs.Common.{ltb, set, refl, sym, ap, ◌∙◌, subst, arith}
@@ -57,7 +57,7 @@ module _ (lk : ℕ → ℕ) (start : Core) (es : List Event) (c : Core) (h : Lis
   num : suc (k - 1) ≡ k
   num = omega arith
 
-  -- what holds of the stepping client by its number
+  -- the stepping client, by its number
   abbrev v : Client
   v = client_of c k
 
@@ -305,7 +305,7 @@ module _ (lawful : RecordLaw) (lk : ℕ → ℕ) (start : Core) (es : List Event
         (after (stamp_of c k) lk e (found lk c e) (client_of c k)) (made lk (acts k e) c)
     turn_it = turn_of e may.1
 
-    -- it decides at most one record
+    -- the step decides at most one record
     pub at_most_one : (made lk (acts k e) c ≡ []) ⊎ ((r : Record) × (made lk (acts k e) c ≡ r ∷ []))
     at_most_one = go turn_it
       where
@@ -317,7 +317,8 @@ module _ (lawful : RecordLaw) (lk : ℕ → ℕ) (start : Core) (es : List Event
         go (wins f none run number began rv is at' wv undecided) = inl none
         go (decides r f one run number ends says o) = inr (r, one)
 
-    -- what the client was to write before the step, where it is to write it after the step, or in a record
+    -- a writer's tick and writes after the step are those from before the step, or the step itself
+    -- is the tick
     abbrev pub Since : ℕ → List (ℕ × ℕ) → Type 0
     Since ticked_at writes = ((it.attempt.phase ≡ running) × (0 < it.attempt.wv) × (it.attempt.ticked_at ≡ ticked_at) ×
         (it.attempt.writes ≡ writes)) ⊎ (ticked_at ≡ c.events)
@@ -397,7 +398,8 @@ module _ (lawful : RecordLaw) (lk : ℕ → ℕ) (start : Core) (es : List Event
       ((length c.clients ≤ j) × (o.attempt.number ≡ 0) × (o.attempt.phase ≡ idle)) ⊎
       ((o.is_gathered ≡ true) × (o.attempt.phase ≡ idle)))
       (grows : length c.clients ≤ length (played lk x c).clients) where
-    -- what a client was before: the same, or not there, or it is gathered now
+    -- the origin of a client's value after the event: an equal value before it, a new client, or a
+    -- client that is gathered now
     abbrev Was : ℕ → Client → Type 0
     Was j o = ((v : Client) × At c.clients j v × (o.is_gathered ≡ false → v.is_gathered ≡ false) × Rests v o) ⊎
         ((length c.clients ≤ j) × (o.attempt.number ≡ 0) × (o.attempt.phase ≡ idle)) ⊎
@@ -509,7 +511,8 @@ module _ (lawful : RecordLaw) (lk : ℕ → ℕ) (start : Core) (es : List Event
       ) (λ j o b n. (o, b, (λ s. s), same o o refl refl refl refl refl refl refl refl)) j o a))
       (let a = length-set c.clients (k - 1) (renewing v) in omega (arith, a)) h' from old many
 
-  -- who is to write after an event was to write the same before it, or won its tick by it
+  -- a client that is to write after an event was to write the same before it, or won its tick by
+  -- the event
   abbrev pub WroteBefore : Client → ℕ → Client → Type 0
   WroteBefore o j v = At c.clients j v × (v.attempt.phase ≡ running) × (0 < v.attempt.wv) ×
       (v.attempt.ticked_at ≡ o.attempt.ticked_at) × (v.attempt.writes ≡ o.attempt.writes)
@@ -556,7 +559,7 @@ opening_trace lk image last stripes = record {
   stored = λ k a n b y s. absurd (some-ne-none (acts k (put b y)) (sym s.0));
 }
 
--- of records by point steps the earlier one stands before
+-- of two records in the order of point steps, the earlier one has the earlier point
 later_point : (l : List Record) (i j : ℕ) (x y : Record) → ByPoint l → i < j → get_elem? l i ≡ some x →
     get_elem? l j ≡ some y → x.point < y.point
 later_point [] i j x y b l e f = absurd (some-ne-none x (sym e))
@@ -577,7 +580,7 @@ by_place l i j x y b e f p = go (ltb i j) refl (ltb j i) refl
         same_at l j x y (subst (λ m. get_elem? l m ≡ some x) q e) f in let u = ap (λ (r : Record). r.point) z in
         omega (arith, p, u))
 
--- what a list of events says of the records
+-- the relation of a list of events to the records that it decides
 pub of_list : (lk : ℕ → ℕ) (start : Core) (es : List Event) (c : Core) (h : List Record) → Trace lk start es c h →
     ByPoint h → IsOfList lk start es h
 of_list lk start es c h d b = record {

@@ -1,4 +1,5 @@
--- One client's step, told clause by clause: what it owes for itself, for the others, and for the words.
+-- One client's step, clause by clause: the obligations on the client itself, on the other clients,
+-- and on the words.
 use Rattle.std.proofs.Common.{◌≡◌, ◌≢◌, ℕ, ◌+◌, ◌*◌, ◌≤◌, ◌<◌, ◌⊎◌, inl, inr, ⊎_elim, true, false, List, set, refl, sym}
 use Rattle.std.proofs.Common.{◌∙◌, subst}
 use mathlib.Core.Logic.{dite}

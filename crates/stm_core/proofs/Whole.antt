@@ -1,4 +1,4 @@
--- What the whole rule says of the records of all renewals.
+-- The consequences of the whole invariant for the records of all renewals.
 use Rattle.std.proofs.Common.{◌+◌, append_assoc, append-nil, ◌≡◌, ℕ, zero, suc, ◌<◌, ⊎_elim, Bool, true, false, cond}
 use Rattle.std.proofs.Common.{eqb, List, [], ◌∷◌, ◌++◌, length, map, refl, sym, ap, ◌∙◌, subst, arith}
 use mathlib.Core.Logic.{dite}
@@ -25,7 +25,8 @@ use Rattle.stm_core.proofs.Renewals.{pre, pre_before, own_of, eqb_no, eqb_yes}
 use Rattle.stm_core.proofs.Renewing.{serial_append, past_serial, past_leads, past_lawful, sorted_of, sorted_append}
 use Rattle.stm_core.proofs.Conditions.{IsAlone}
 
--- an inserted record keeps a sorted list sorted, and of two sorted lists joined to one each keeps its order
+-- inserting a record keeps a sorted list sorted, and each of two merged sorted lists keeps its
+-- order
 pub inserted_sorted : (r : Record) (l : List Record) → Sorted l → Sorted (inserted r l)
 inserted_sorted r [] o = (λ y i. absurd (nothing_in y i), tt)
 inserted_sorted r (x ∷ xs) o = go (before r x) refl (inserted_sorted r xs o.1)
@@ -51,7 +52,7 @@ put_all p l (y ∷ m) s o q g =
     (λ x z i j. ⊎_elim (λ k. g x z k (suc j.0, j.1)) (λ e. subst (λ k. before z k ≡ false) e (q.0 z j))
     (in_snoc p y x i)))
 
--- the second of two joined lists keeps its order where both are sorted; the first always does
+-- the second of two merged lists keeps its order if both are sorted; the first always does
 pub sorted_right : (l m : List Record) → Sorted l → Sorted m → Sub m (merged l m)
 sorted_right l m o q = put_all [] l m done o q (λ x y i. absurd (nothing_in x i))
 
@@ -111,7 +112,8 @@ module _ (lawful : RecordLaw) (lk : ℕ → ℕ) (c : Core) (h : Rule lawful lk 
   whole_lawful r m = ⊎_elim (λ p. h.past.abides r p) (λ p. all_lawful lawful lk (now c) h.inv r p)
       (in_append c.past (all_records (now c).clients) r (subst (In r) all_are m))
 
-  -- they are serial from the first opening image, lawful, and each client's own stand among them in their order
+  -- all records are serial from the first opening image and lawful, and each client's own are
+  -- among them in their order
   pub whole_shared : (i : ℕ) (v : Client) → At c.clients i v → IsShared lawful c.first v.records (all_records c.clients)
   whole_shared i v at = record {
     serial = whole_serial;
@@ -140,7 +142,7 @@ module _ (lawful : RecordLaw) (lk : ℕ → ℕ) (c : Core) (h : Rule lawful lk 
       go true = h.past.sorted
       go false = tt
 
-  -- where one image fits the first opening, one fits the present opening
+  -- if the image of the first opening fits, so does the image of the present opening
   pub opening_fits : (fits : List ℕ → Type 0) → ((tag m : List ℕ) (reads writes : List (ℕ × ℕ)) → fits m →
       Agrees m reads → lawful tag reads writes → fits (laid m writes)) → fits c.first → fits c.opening
   opening_fits fits law f = subst fits h.past.leads (go c.first c.past h.past.serial h.past.abides f)
@@ -151,8 +153,8 @@ module _ (lawful : RecordLaw) (lk : ℕ → ℕ) (c : Core) (h : Rule lawful lk 
       go m (r ∷ l) s a k = go (laid m r.writes) l s.1 (λ x i. a x (suc i.0, i.1))
           (law r.tag m r.reads r.writes k s.0 (a r (0, refl)))
 
-  --  what a region that is closed has: the one client that is out has all records, serial from the first opening image
-  -- to the data words
+  -- a region that is closed: the one client that is out has all records, serial from the first
+  -- opening image to the data words
   pub closes : (i : ℕ) (v : Client) → At c.clients i v → IsFreeHanded v → IsAlone c i →
       Serial c.first v.records × (image_after c.first v.records ≡ c.cells) × ((r : Record) → In r v.records →
       lawful r.tag r.reads r.writes)
@@ -168,7 +170,7 @@ module _ (lawful : RecordLaw) (lk : ℕ → ℕ) (c : Core) (h : Rule lawful lk 
       (at_map (shed c.renewal) c.clients i v at) live all j (shed c.renewal w)
       (at_map (shed c.renewal) c.clients j w to) ne
 
-  -- so the clock is its floor
+  -- so the clock is the floor of that client
   pub knows : (i : ℕ) (v : Client) → At c.clients i v → v.grants ≡ 63 → c.clock ≡ v.floor
   knows i v at all =
       let k = h.known in
@@ -177,7 +179,7 @@ module _ (lawful : RecordLaw) (lk : ℕ → ℕ) (c : Core) (h : Rule lawful lk 
       dite (ℕ_discrete k.place i) (λ e. sym (its_floor lk c k i v at live e))
       (λ n. clash (all_grants i v at live all k.place k.knower k.member n) k.out)
 
--- a client's records stay sorted through its steps, and where two clients' come together
+-- a client's records stay sorted through its steps and when two clients are joined
 pub after_sorted : (t : Stamp) (lk : ℕ → ℕ) (e : Action) (n : ℕ) (v : Client) → Sorted v.records →
     Sorted (after t lk e n v).records
 after_sorted t lk (check a) n v s = by_case (λ b. Sorted (stepping (checked a (word_before v.attempt.last) n)
@@ -198,7 +200,7 @@ after_sorted t lk (validate k) n v s =
 after_sorted t lk (finish g) n v s = inserted_sorted _ v.records s
 after_sorted t lk _ n v s = s
 
--- joining keeps both lists, each in its order
+-- merging keeps both lists, each in its order
 pub joined_both : (v w : Client) → Sorted v.records → Sorted w.records →
     Sub v.records (taking v w).records × Sub w.records (taking v w).records × Sorted (taking v w).records
 joined_both v w s t = (

@@ -1,10 +1,10 @@
--- What one client is, as plain data: its grants, the records of its committed calls, and its
+-- The value of one client, as plain data: its grants, the records of its committed calls, and its
 -- attempt.
 use Rattle.std.specs.Prelude.{◌≡◌, ℕ, ◌+◌, ◌*◌, ◌-◌, ◌/◌, Bool, true, false, cond, eqb, ltb, ◌||◌, ◌&&◌, List, [], ◌∷◌, Option, Some, None}
 use Rattle.stm_words.specs.LockWord.{free_word}
 
--- one committed call: what it read and wrote, and its place in the history. A writer's version is
--- its write version, a reader's its read version
+-- one committed call: its reads and writes, and its commit position. The version of a writer is
+-- its write version, the version of a reader its read version
 pub record Record : Type 0 where
   pub tag : List ℕ
   pub reads : List (ℕ × ℕ)
@@ -12,149 +12,151 @@ pub record Record : Type 0 where
   pub writer : Bool
   pub version : ℕ
   pub attempt : ℕ
-  -- how many renewals of the clock came before
+  -- the number of renewals of the clock before the record
   pub renewal : ℕ
-  -- the place of the point step in the list of events: a writer's won tick, a reader's begin. A
-  -- region keeps no places: there it is 0, as is the client
+  -- the position of the point step in the list of events: of a writer the won tick, of a reader
+  -- the begin. A region keeps no positions: in its records the point and the client are 0
   pub point : ℕ
-  -- the client that decided it
+  -- the client that decided the record
   pub client : ℕ
 
--- how far a client's attempt is
+-- the phase of a client's attempt
 pub data Phase : Type 0 where
   -- no attempt was begun
   idle : Phase
   running : Phase
-  -- it can only abort: a check, a lock or a validation failed, or a lock was given back
+  -- the attempt can only abort: a check, a lock or a validation failed, or a lock was given back
   ending : Phase
   -- a decided writer, which may have values to store and locks to release
   committed : Phase
-  -- finished as a reader
+  -- the attempt has finished as a reader
   finished : Phase
 
 -- the last step of a client, with the words that it found
 pub data Step : Type 0 where
-  -- none yet, or one that finds no word
+  -- no step yet, or a step that finds no word
   nothing : Step
   began : (version : ℕ) → Step
   probed : (lock word : ℕ) → Step
-  -- the word of the probe before it, and the value found
+  -- a fetch: the word that the probe before it found, and the value found
   fetched : (address word value : ℕ) → Step
-  -- the word of the probe, and the word found now
+  -- a check: the word that the probe found, and the word found now
   checked : (address word now : ℕ) → Step
   locked : (lock word now : ℕ) → Step
   ticked : (from now : ℕ) → Step
   validated : (lock word : ℕ) → Step
   ended : (version : ℕ) → Step
 
--- the running attempt of a client, or its last one
+-- the running attempt of a client, or its last attempt
 pub record Attempt : Type 0 where
-  -- 0 before the first
+  -- the attempt's number, 0 before the first attempt
   pub number : ℕ
   pub phase : Phase
   -- the read version
   pub rv : ℕ
-  -- what was read and checked: a pair of address and value for each check that succeeded
+  -- the reads that were checked: a pair of address and value for each check that succeeded
   pub reads : List (ℕ × ℕ)
-  -- the last step; a give back leaves the step before it here
+  -- the last step; a give back leaves the step before it here and sets `gave_back`
   pub last : Step
   pub gave_back : Bool
-  -- whether the lock of the last step, a probe or a validation, was then its own
+  -- true if the last step was a probe or a validation of a lock that the client held then
   pub mine : Bool
-  -- the locks that it holds, each with its old version
+  -- the locks that the attempt holds, each with its old version
   pub held : List (ℕ × ℕ)
-  -- the write version, 0 for none
+  -- the write version, or 0 if the attempt has none
   pub wv : ℕ
   -- tag and writes of the won tick
   pub tag : List ℕ
   pub writes : List (ℕ × ℕ)
-  -- how many of the reads passed their validation
+  -- the number of reads that have passed their validation
   pub passed : ℕ
-  -- the addresses that are stored
+  -- the addresses whose values are stored
   pub stored : List ℕ
   pub ticks : ℕ
-  -- where the next tick starts: the read version, then the value that the last tick found
+  -- the clock value from which the next tick starts: the read version, then the value that the
+  -- last tick found
   pub next_from : ℕ
-  -- the client had all grants at its begin and has not split since
+  -- the attempt is solo: the client had all grants at the begin and has not split since
   pub lone : Bool
-  -- how many steps it has made
+  -- the number of steps that the attempt has made
   pub steps : ℕ
-  -- the places of its begin and of its won tick in the list of events
+  -- the positions of the begin and of the won tick in the list of events
   pub began_at : ℕ
   pub ticked_at : ℕ
 
--- what a client is from one attempt to the next, and its attempt
+-- the value of a client: the state that it keeps from one attempt to the next, and its attempt
 pub record Client : Type 0 where
-  -- how many more clients it may split off
+  -- the number of clients that the client may still split off
   pub grants : ℕ
-  -- it was gathered, and is no client any more
+  -- the client was gathered, and is no client any more
   pub is_gathered : Bool
-  -- a version that the clock has reached: what the last begin found or the last won tick made, or
-  -- what was handed on. The next begin finds at least this
+  -- a version that the clock has reached: what the last begin found, what the last won tick made,
+  -- or the floor of another client. That is the client that split this client off, or one that
+  -- this client gathered. The next begin finds at least this version
   pub floor : ℕ
   pub records : List Record
   pub attempt : Attempt
 
--- a law of records: which tag goes with which reads and which writes
+-- a law of records says which tag goes with which reads and which writes
 abbrev pub RecordLaw : Type 1
 RecordLaw = List ℕ → List (ℕ × ℕ) → List (ℕ × ℕ) → Type 0
 
--- who makes a step, and when: the client's number, the step's place in the list of events, and the
--- renewals before it
+-- the client that makes a step and the time of the step: the client's number, the step's position
+-- in the list of events, and the number of renewals before the step
 pub record Stamp : Type 0 where
   pub client : ℕ
   pub place : ℕ
   pub renewal : ℕ
 
--- whether this is the phase of a decided writer
+-- true if the phase is that of a decided writer
 abbrev pub is_committed : Phase → Bool
 is_committed committed = true
 is_committed _ = false
 
--- the client is a decided writer. A reader that finished is settled (`is_settled`), and not decided
--- in this sense
+-- true if the client is a decided writer. A reader that finished is settled (`is_settled`), and
+-- not decided in this sense
 abbrev pub decided : Client → Bool
 decided v = is_committed v.attempt.phase
 
--- the version in a lock word: of one that is held, the old version
+-- the version in a lock word; in the word of a held lock, the old version
 abbrev pub version_of : ℕ → ℕ
 version_of word = word / 2
 
--- the lock word says free
+-- the lock word is free
 abbrev pub IsFree : ℕ → Type 0
 IsFree word = word ≡ free_word (version_of word)
 
--- whether the lock word says free, as a test
+-- true if the lock word is free
 abbrev pub is_free : ℕ → Bool
 is_free word = eqb word (free_word (version_of word))
 
--- the pairs name the address
+-- true if some pair of the list names the address
 abbrev pub writes_to : List (ℕ × ℕ) → ℕ → Bool
 writes_to [] a = false
 writes_to (p ∷ ps) a = eqb p.0 a || writes_to ps a
 
--- the pairs without those of one lock
+-- the list without the pairs of one lock
 abbrev pub without : List (ℕ × ℕ) → ℕ → List (ℕ × ℕ)
 without [] k = []
 without (p ∷ ps) k = cond (eqb p.0 k) (without ps k) (p ∷ without ps k)
 
--- the old version of a held lock
+-- the old version of a held lock, or 0 if the list does not name the lock
 abbrev pub old_version : List (ℕ × ℕ) → ℕ → ℕ
 old_version [] k = 0
 old_version (p ∷ ps) k = cond (eqb p.0 k) p.1 (old_version ps k)
 
--- the word that the last probe found, where the last step is that probe or its fetch; else 0
+-- the word that the last probe found if the last step is that probe or its fetch, else 0
 abbrev pub word_before : Step → ℕ
 word_before (probed k n) = n
 word_before (fetched a n x) = n
 word_before _ = 0
 
--- the value that this step found, where it is a fetch; else 0
+-- the value that the step found if it is a fetch, else 0
 abbrev pub value_fetched : Step → ℕ
 value_fetched (fetched a n x) = x
 value_fetched _ = 0
 
--- the word that this step found, if it found one
+-- the word that the step found, if the step found one
 abbrev pub word_found : Step → Option ℕ
 word_found nothing = None
 word_found (began n) = Some n
@@ -166,29 +168,29 @@ word_found (ticked f m) = Some m
 word_found (validated k n) = Some n
 word_found (ended n) = Some n
 
--- the word that the client's last step found
+-- the word that the client's last step found, if the step found one
 abbrev pub found_by : Client → Option ℕ
 found_by v = cond v.attempt.gave_back None (word_found v.attempt.last)
 
--- how a record is ordered among those of its renewal: by version, the writer of a version before
--- its readers
+-- the rank of a record among the records of its renewal: by version, the writer of a version
+-- before its readers
 abbrev pub rank : Record → ℕ
 rank r = 2 * r.version + cond r.writer 0 1
 
--- r comes before x: by renewal, version, the writer of a version before its readers, and then the
--- point step
+-- true if r comes before x: by renewal, version, the writer of a version before its readers, and
+-- then the point step
 abbrev pub before : Record → Record → Bool
 before r x =
     ltb r.renewal x.renewal
     || (eqb r.renewal x.renewal
     && (ltb (rank r) (rank x) || (eqb (rank r) (rank x) && ltb r.point x.point)))
 
--- the list with the record put into its order, after its equals
+-- the ordered list with one more record, put in after its equals
 abbrev pub inserted : Record → List Record → List Record
 inserted r [] = r ∷ []
 inserted r (x ∷ xs) = cond (before r x) (r ∷ x ∷ xs) (x ∷ inserted r xs)
 
--- two lists in order as one, among equals the first list first
+-- two ordered lists as one; among equals, those of the first list come first
 abbrev pub merged : List Record → List Record → List Record
 merged xs [] = xs
 merged xs (y ∷ ys) = merged (inserted y xs) ys
@@ -198,10 +200,10 @@ abbrev pub of_renewal : ℕ → List Record → List Record
 of_renewal n [] = []
 of_renewal n (r ∷ rs) = cond (eqb r.renewal n) (r ∷ of_renewal n rs) (of_renewal n rs)
 
--- a client without its records of other renewals
+-- the client without its records of other renewals
 abbrev pub shed : ℕ → Client → Client
 shed n v = record v { records = of_renewal n v.records }
 
--- what a record's reads agree with: the image of this version
+-- the version whose image a record's reads agree with
 abbrev pub base : Record → ℕ
 base r = cond r.writer (r.version - 1) r.version

@@ -1,4 +1,4 @@
--- The steps of one client on a word, and what each does to the client's value.
+-- The steps of one client on a word, and the client's value after each step.
 use Rattle.std.specs.Prelude.{ℕ, ◌+◌, ◌-◌, max, Bool, true, false, cond, eqb, leb, ◌||◌, ◌&&◌, List, [], ◌∷◌, ◌++◌, length}
 use Rattle.stm_core.specs.Client.{Attempt, Client, Record, idle, running, ending, committed, finished, Step, nothing, began, probed, fetched, checked, locked, ticked, validated, ended, Stamp, version_of, is_free, writes_to, without, word_before, value_fetched, inserted, merged}
 use Rattle.stm_core.specs.declared.limits.TheConstants.{MOST_GRANTS}
@@ -17,14 +17,14 @@ pub data Action : Type 0 where
   give_back : (lock : ℕ) → Action
   finish : (tag : List ℕ) → Action
 
--- the numbers of a region that bound its events: the last version, how many locks it has and how
--- many words. The lock of an address (`lk`) and the law of records are parameters beside them
+-- the bounds of a region's events: the last version, the number of locks and the number of words.
+-- The lock of an address (`lk`) and the law of records are parameters of their own
 pub record Bounds : Type 0 where
   pub last : ℕ
   pub stripes : ℕ
   pub size : ℕ
 
--- the record that an attempt makes as a writer: its point is the tick that it won
+-- the record of an attempt that commits as a writer; its point is the tick that the attempt won
 abbrev pub writer_record : Stamp → Attempt → Record
 writer_record s t = record {
   tag = t.tag;
@@ -38,7 +38,8 @@ writer_record s t = record {
   client = s.client;
 }
 
--- the record that an attempt makes as a reader with this tag: its point is its begin
+-- the record of an attempt that finishes as a reader with this tag; its point is the attempt's
+-- begin
 abbrev pub reader_record : Stamp → List ℕ → Attempt → Record
 reader_record s tag t = record {
   tag = tag;
@@ -52,7 +53,7 @@ reader_record s tag t = record {
   client = s.client;
 }
 
--- no attempt yet
+-- the attempt of a client that has begun none
 abbrev pub idle_attempt : Attempt
 idle_attempt = record {
   number = 0;
@@ -76,22 +77,22 @@ idle_attempt = record {
   ticked_at = 0;
 }
 
--- the client with its attempt changed
+-- the client with its attempt changed by a function
 abbrev pub on_attempt : (Attempt → Attempt) → Client → Client
 on_attempt f v = record v { attempt = f v.attempt }
 
--- the attempt, its last step forgotten
+-- the attempt with its last step forgotten
 abbrev pub forgetting : Attempt → Attempt
 forgetting t = record t { last = nothing; gave_back = false; mine = false }
 
--- a decided writer, with its record
+-- the client as a decided writer, with its record added
 abbrev pub committed_by : Stamp → Client → Client
 committed_by s v = record v {
   records = inserted (writer_record s v.attempt) v.records;
   attempt = record v.attempt { phase = committed; stored = [] };
 }
 
--- a new attempt, with the clock's value as its read version
+-- the client with a new attempt, whose read version is the clock's value n
 abbrev pub begun : Stamp → ℕ → Client → Client
 begun s n v = record v {
   floor = n;
@@ -108,35 +109,35 @@ begun s n v = record v {
   };
 }
 
--- one step more, which found or left this
+-- the client after one more step
 abbrev pub stepping : Step → Client → Client
 stepping l = on_attempt (λ t. record (forgetting t) { last = l; steps = t.steps + 1 })
 
--- the lock of the last step is, or is not, the client's own
+-- the client with a mark that says whether the lock of its last step was its own
 abbrev pub marking : Bool → Client → Client
 marking mine = on_attempt (λ t. record t { mine = mine })
 
--- the attempt can only abort
+-- the client with an attempt that can only abort
 abbrev pub failing : Client → Client
 failing = on_attempt (λ t. record t { phase = ending })
 
--- x was read at a as well, and checked
+-- the client with value x at address a added to its checked reads
 abbrev pub read_too : ℕ → ℕ → Client → Client
 read_too a x = on_attempt (λ t. record t { reads = t.reads ++ (a, x) ∷ [] })
 
--- lock k is held as well, which had the old version u
+-- the client that also holds lock k, with the old version u
 abbrev pub holding : ℕ → ℕ → Client → Client
 holding k u = on_attempt (λ t. record t { held = t.held ++ (k, u) ∷ [] })
 
--- one validation more has passed
+-- the client with one more validation passed
 abbrev pub counting : Client → Client
 counting = on_attempt (λ t. record t { passed = t.passed + 1 })
 
--- this many ticks were tried, and the next one starts here
+-- the client with this number of ticks tried, and the clock value from which its next tick starts
 abbrev pub with_ticks : ℕ → ℕ → Client → Client
 with_ticks ticks from = on_attempt (λ t. record t { ticks = ticks; next_from = from })
 
--- a won tick, before it is decided
+-- the client that has won the tick to version n, before the decision
 abbrev pub versioned : Stamp → ℕ → List ℕ → List (ℕ × ℕ) → Client → Client
 versioned s n tag writes v = record v {
   floor = n;
@@ -150,32 +151,35 @@ versioned s n tag writes v = record v {
   };
 }
 
--- whether there are no such pairs
+-- true if the list has no pairs
 abbrev pub is_empty : List (ℕ × ℕ) → Bool
 is_empty [] = true
 is_empty (p ∷ ps) = false
 
--- a won tick decides where nothing was read, or where the version is the next after the read
--- version
+-- true if the won tick decides at once: the attempt has read nothing, or the write version follows
+-- the read version
 abbrev pub decides_at_once : Client → Bool
 decides_at_once v = is_empty v.attempt.reads || eqb v.attempt.wv (v.attempt.rv + 1)
 
--- the client has won the tick to version n, and is decided where that decides at once
+-- the client that has won the tick to version n; it is a decided writer if the tick decides at
+-- once
 abbrev pub won : Stamp → ℕ → List ℕ → List (ℕ × ℕ) → Client → Client
 won s n tag writes v =
     let w = versioned s n tag writes v in cond (decides_at_once w) (committed_by s w) w
 
--- a validation passes where the lock is free or its own, with a version of at most rv
+-- true if a validation of lock k that finds the word n passes: the lock is free or the client's
+-- own, with a version of at most the read version
 abbrev pub passes : ℕ → ℕ → Client → Bool
 passes k n v = (is_free n || writes_to v.attempt.held k) && leb (version_of n) v.attempt.rv
 
--- one validation more has passed, and the client is decided where it was the last one
+-- the client with one more validation passed; it is a decided writer if that was the last
+-- validation
 abbrev pub passing : Stamp → Client → Client
 passing s v =
     let w = counting v in
     cond (eqb w.attempt.passed (length v.attempt.reads)) (committed_by s w) w
 
--- the record that a step decides
+-- the record that a step decides, as a list of one or none
 abbrev pub decision : Stamp → Action → ℕ → Client → List Record
 decision s (tick from tag writes) n v =
     let w = versioned s (from + 1) tag writes v in
@@ -187,7 +191,7 @@ decision s (validate k) n v =
 decision s (finish tag) n v = reader_record s tag v.attempt ∷ []
 decision s _ n v = []
 
--- what the client is after a step that found this word
+-- the client's value after a step that found the word n
 abbrev pub after : Stamp → (ℕ → ℕ) → Action → ℕ → Client → Client
 after s lk begin n v = begun s n v
 after s lk (probe k) n v = marking (writes_to v.attempt.held k) (stepping (probed k n) v)
@@ -228,14 +232,14 @@ after s lk (finish tag) n v =
       attempt = record w.attempt { phase = finished };
     }
 
--- a grant goes to a new client
+-- the client with one grant fewer, which went to a new client. It is not solo any more
 abbrev pub giving : Client → Client
 giving v = record v {
   grants = v.grants - 1;
   attempt = record (forgetting v.attempt) { lone = false };
 }
 
--- the client of a region just opened
+-- the first client of a region just opened
 abbrev pub opener : Client
 opener = record {
   grants = MOST_GRANTS;
@@ -245,11 +249,11 @@ opener = record {
   attempt = idle_attempt;
 }
 
--- the new client: no records, no grants, and what the giver knows
+-- a new client: no records, no grants, and the floor of the client that split it off
 abbrev pub fresh : Client → Client
 fresh v = record opener { grants = 0; floor = v.floor }
 
--- the other's records and grants, and one grant more
+-- the client with the other client's records and grants, and the grant of that client itself
 abbrev pub taking : Client → Client → Client
 taking v w = record v {
   grants = v.grants + w.grants + 1;
@@ -258,8 +262,8 @@ taking v w = record v {
   attempt = forgetting v.attempt;
 }
 
--- a client after a renewal of the clock: it has no attempt, and keeps its grants, its attempt's
--- number and its records
+-- a client after a renewal of the clock: no attempt, and its grants, its attempt's number and its
+-- records as before
 abbrev pub renewing : Client → Client
 renewing v = record opener {
   grants = v.grants;
@@ -267,6 +271,6 @@ renewing v = record opener {
   attempt = record idle_attempt { number = v.attempt.number };
 }
 
--- a client that was gathered
+-- the value of a gathered client
 abbrev pub gone : Client
 gone = record opener { grants = 0; is_gathered = true }

@@ -1,4 +1,5 @@
--- Worked lists of events, with the records that they decide, worked out by hand.
+-- Worked examples of the core: lists of events with the records that they decide, worked out by
+-- hand.
 use Rattle.std.specs.Prelude.{◌≡◌, ℕ, true, false, List, [], ◌∷◌, replicate}
 use Rattle.stm_core.specs.Client.{Record}
 use Rattle.stm_core.specs.Event.{begin, probe, fetch, check, lock, tick, validate, put, release, finish}
@@ -11,16 +12,16 @@ use Rattle.stm_core.specs.Listed.{decisions, begins}
 abbrev pub zero_words : List ℕ
 zero_words = replicate 32 0
 
--- the list is allowed from that image on, with 32 lock words and the last version 100
+-- the list is allowed on that image, with 32 lock words and the last version 100
 abbrev pub IsAllowedList : List Event → Type 0
 IsAllowedList events = (c : Core) × Reaches free_law zero_words 100 32 events c
 
--- the records that the events of a list decide from there on
+-- the records that the events of a list decide on that image
 abbrev pub decided_by : List Event → List Record
 decided_by = decisions (stripe_of 32) (opened zero_words 100 32)
 
--- client 1 reads word 8, loses a tick to client 2 and wins the next; client 2 commits once more
--- before client 1 has validated what it read
+-- client 1 reads word 8, loses a tick to client 2 and wins the next tick. Client 2 commits once
+-- more before client 1 has validated its read
 abbrev pub overtaken : List Event
 overtaken =
     splits 1
@@ -33,8 +34,8 @@ overtaken =
     ∷ acts 2 (tick 2 (12 ∷ []) ((10, 7) ∷ []))
     ∷ acts 1 (validate 8) ∷ []
 
--- in the order in which they are decided. Client 1's comes before the last one in the history,
--- since its tick does
+-- the records of `overtaken` in the order of their decisions. In the history client 1's record
+-- comes before the last one, since its tick does
 abbrev pub overtaken_records : List Record
 overtaken_records =
     record {
@@ -72,13 +73,13 @@ overtaken_records =
     }
     ∷ []
 
--- an attempt reads word 9 and is abandoned; the next one reads nothing and finishes
+-- an attempt reads word 9 and is abandoned; the next attempt reads nothing and finishes
 abbrev pub abandoned : List Event
 abandoned =
     acts 1 begin ∷ acts 1 (probe 9) ∷ acts 1 (fetch 9) ∷ acts 1 (check 9)
     ∷ acts 1 begin ∷ acts 1 (finish (7 ∷ [])) ∷ []
 
--- the second attempt alone has a record
+-- the records of `abandoned`: only the second attempt has one
 abbrev pub abandoned_records : List Record
 abandoned_records =
     record {
@@ -94,12 +95,12 @@ abandoned_records =
     }
     ∷ []
 
--- both lists are allowed and decide just these records
+-- both lists are allowed and decide exactly these records
 pub record WorkedLists : Type 0 where
   pub overtaken_is_allowed : IsAllowedList overtaken
   pub overtaken_decides : decided_by overtaken ≡ overtaken_records
   pub abandoned_is_allowed : IsAllowedList abandoned
   pub abandoned_decides : decided_by abandoned ≡ abandoned_records
-  -- client 1 has begun once with the first four events, and twice with the first five
+  -- client 1 has begun once after the first four events, and twice after the first five
   pub first_attempt : begins 1 abandoned 4 ≡ 1
   pub second_attempt : begins 1 abandoned 5 ≡ 2

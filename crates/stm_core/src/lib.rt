@@ -1,9 +1,10 @@
 //! The transaction core of a word-based software transactional memory after TL2 (Dice, Shalev,
 //! Shavit, DISC 2006).
 //!
-//! `specs/` has each event of a region as a definition, the version invariant, what a serial
-//! history is, and what a list of events says of its records. Clauses here and in the crates above
-//! cite them. The core as running code, which plays such a list, is the crate `stm_replay`.
+//! `specs/` defines each event of a region, the version invariant, serial histories, and the
+//! relation between a list of events and its records. Contracts here and in the crates above cite
+//! these definitions. The core as running code, which plays such a list, is the crate
+//! `stm_replay`.
 #![tactic(auto)]
 
 mod limits;

@@ -1,16 +1,16 @@
-//! The numbers that bound a region and an attempt.
+//! The bounds of a region and of an attempt.
 
-/// How many more clients the client of a region just opened may split off.
+/// Number of clients that the first client of a region may split off.
 pub const MOST_GRANTS: u32 = 63;
 
-/// The most data words of a region.
+/// Largest number of data words of a region.
 pub const MOST_WORDS: usize = 4_194_304;
 
-/// The most lock words of a region.
+/// Largest number of lock words of a region.
 pub const MOST_STRIPES: u32 = 1_048_576;
 
-/// How many renewals of its clock a region has at most.
+/// Largest number of renewals of a region's clock.
 pub const MOST_RENEWALS: u32 = 65_535;
 
-/// How many ticks an attempt makes at most.
+/// Largest number of ticks of an attempt.
 pub const MOST_TICKS: u32 = 16;

@@ -1,4 +1,4 @@
--- What an attempt of a client that is alone leaves of the version that it knows.
+-- The version that a solo client knows after an attempt.
 use Rattle.std.proofs.Common.{◌≡◌, ℕ, ◌+◌, ◌≤◌, true, eqb, List, sym, ap, ◌∙◌, arith}
 use Rattle.stm_core.specs.Client.{Client}
 use Rattle.stm_core.specs.Event.{begin, finish}

@@ -1,5 +1,4 @@
--- What is known of the records of all clients, in terms of an object's entries, and of a call's
--- tries.
+-- The records of all clients in terms of an object's entries, and the attempts of a call.
 use Rattle.std.specs.Prelude.{◌≡◌, ◌≢◌, ◌⊎◌, ℕ, zero, suc, ◌+◌, ◌*◌, ◌<◌, ◌≤◌, Bool, true, false}
 use Rattle.std.specs.Prelude.{List, [], ◌∷◌, ◌++◌, Result, Ok, Err, IfOk, IfErr, MatchResult}
 use Rattle.tx_memory.specs.Image.{In}
@@ -21,8 +20,8 @@ use Rattle.stm_object.specs.declared.place.Place.{Place}
 use Rattle.stm_object.specs.Object.{Specification, Shows, IsFitting, Does, IsLawfulEntry}
 use Rattle.stm_object.specs.Places.{place_of}
 
--- one after the other, the records tell these entries, which there may be, each finds what it says,
--- and the last value is this one
+-- the records, one after the other, are those of these entries: each entry is one of the object's
+-- and finds what it says in the value before it, and the final value is `last`
 abbrev pub IsHistory : {E : Type 0} (o : Specification E) → o.Value → List Record → List E
     → o.Value → Type 0
 IsHistory o x [] [] last = x ≡ last
@@ -39,23 +38,24 @@ pub record LeadTo {E : Type 0} (o : Specification E) (x : o.Value) (rs : List Re
   pub history : IsHistory o x rs entries last
   pub shown : Shows o image last
 
--- so they are from every value that this image holds
+-- from every value that this image holds, the records are a history to a value that the image
+-- after them holds
 abbrev pub Lead : {E : Type 0} (o : Specification E) → List ℕ → List Record → Type 0
 Lead o first rs = (x : o.Value) → Shows o first x → LeadTo o x rs (image_after first rs)
 
--- a region of such a size that was first opened on a fitting image
+-- the region has a size that the object allows, and was first opened on a fitting image
 pub record IsOpenedOnFitting {E : Type 0} (o : Specification E) (region : RegionShown)
     : Type 0 where
   pub size : o.IsSize region.size
   pub first : IsFitting o region.first
 
--- the client's records keep no place in a list of events
+-- no record of the client has a position in a list of events
 pub record IsUnplaced (v : Client) : Type 0 where
   pub each : (r : Record) → In r v.records → r.point ≡ 0
 
--- exactly one record was added, as the last one, with this tag, by the client's last attempt: of
+-- exactly one record was added, as the last one: with this tag, by the client's last attempt, in
 -- this renewal, of a version that the client knows now and no version below the one that it knew
--- before, and after the writer of that version
+-- before, and after the writer of that earlier version
 pub record AddsRecord (region : RegionShown) (tag : List ℕ) (v v' : Client) : Type 0 where
   pub made : Record
   pub tag_is : made.tag ≡ tag
@@ -67,14 +67,14 @@ pub record AddsRecord (region : RegionShown) (tag : List ℕ) (v v' : Client) : 
   pub known : made.version ≤ v'.floor
   pub records : v'.records ≡ v.records ++ (made ∷ [])
 
--- and this is its place
+-- exactly one record was added as in `AddsRecord`, and this is its commit position
 pub record AddsAt (region : RegionShown) (tag : List ℕ) (place : Place) (v v' : Client) : Type 0
   where
     pub adds : AddsRecord region tag v v'
     pub place_is : place ≡ place_of adds.made
 
--- the client is of the region, which was opened on a fitting image, holds no lock, and its records
--- keep no place
+-- the client may begin an attempt: it belongs to the region, which was opened on a fitting image;
+-- it holds no lock, and none of its records has a position in a list of events
 pub record MayAttempt {E : Type 0} (o : Specification E) (region : RegionShown)
     (client : ClientShown) : Type 0 where
   pub own : client.table ≡ region.table
@@ -82,31 +82,31 @@ pub record MayAttempt {E : Type 0} (o : Specification E) (region : RegionShown)
   pub opened : IsOpenedOnFitting o region
   pub unplaced : IsUnplaced client.value
 
--- exactly one record was added, as the last one, which writes nothing
+-- exactly one record was added, as the last one; it is the record of a reader and writes nothing
 pub record AddsWithoutWrites (v v' : Client) : Type 0 where
   pub made : Record
   pub reader : made.writer ≡ false
   pub writes : made.writes ≡ []
   pub records : v'.records ≡ v.records ++ (made ∷ [])
 
--- a transaction that only reads, and an answer that changes nothing, left a record that writes
--- nothing
+-- if the call returns an answer, and the transaction only reads or its answer changes nothing,
+-- then the added record writes nothing
 abbrev pub SparesWrites : {A X : Type 0} → Bool → (A → Bool) → Result (A × Place) X → Client
     → Client → Type 0
 SparesWrites reads changes result v v' = IfOk result (λ a.
     (reads ≡ true) ⊎ (changes a.0 ≡ false) → AddsWithoutWrites v v')
 
--- at an answer the record of its entry was added, at the place that is given beside it, at a
--- refusal none
+-- if the call returns an answer, the record of the answer's entry was added, with the commit
+-- position that the call returns; after a refusal, no record was added
 abbrev pub RecordsEntry : {A X E : Type 0} → (o : Specification E) → RegionShown → (A → E)
     → Result (A × Place) X → Client → Client → Type 0
 RecordsEntry o region entry (Ok a) v v' = AddsAt region (o.code (entry a.0)) a.1 v v'
 RecordsEntry o region entry (Err e) v v' = v'.records ≡ v.records
 
--- the client's last attempt added the record of the entry, whose reads and writes do what the entry
--- says; and in the core state of the region right after the step that decided it, the records of
--- all clients were a history from the opening, and the client's own, this very record among them,
--- were in it, each once and in their order
+-- the client's last attempt added the record of the entry, whose reads and writes do what the
+-- entry says; and in the core state of the region right after the deciding step, the records of
+-- all clients were a history from the opening, which has this record and all records of the
+-- client, each once and in their order
 pub record WasInOrder {E : Type 0} (o : Specification E) (region : RegionShown) (entry : E)
     (v v' : Client) : Type 0 where
   pub adds : AddsRecord region (o.code entry) v v'
@@ -120,42 +120,42 @@ pub record WasInOrder {E : Type 0} (o : Specification E) (region : RegionShown) 
 abbrev pub IsAlone : Client → Type 0
 IsAlone v = v.grants ≡ MOST_GRANTS
 
--- the words to which the client's records lead, one after the other, from those of the first
--- opening: where the client is alone, all words as they are
+-- the words that the client's records reach, one after the other, from the words of the first
+-- opening; if the client is solo, these are all words as they are
 abbrev pub words_after : RegionShown → Client → List ℕ
 words_after region v = image_after region.first v.records
 
--- the words to which the client's records led before fit; and whatever value they held, the entry
--- found what it says in it, and now the records lead to words of the value after it
+-- the words that the client's records reached before fit; for whatever value they held, the entry
+-- finds what it says in the value, and the records now reach words of the value after the entry
 pub record LeadsOn {E : Type 0} (o : Specification E) (region : RegionShown) (entry : E)
     (v v' : Client) : Type 0 where
   pub fitting : IsFitting o (words_after region v)
   pub on : (x : o.Value) → Shows o (words_after region v) x →
       o.Finds entry x × Shows o (words_after region v') (o.after entry x)
 
--- the words and the version are the last ones of the region, and the closing client's records are a
--- history that leads from the opening to the words
+-- the words and the version are those at the closing of the region, and the closing client's
+-- records are a history from the opening to the words
 pub record Closes {E : Type 0} (o : Specification E) (region : RegionShown) (v : Client)
     (words : List ℕ) (version : ℕ) : Type 0 where
   pub fitting : IsFitting o region.first
   pub ends : Ends (IsLawfulEntry o) region v words version
   pub lead : (x : o.Value) → Shows o region.first x → LeadTo o x v.records words
 
--- it was no conflict
+-- the attempt did not stop for a conflict
 abbrev pub IsNoConflict : Stop → Type 0
 IsNoConflict Memory = Unit {0}
 IsNoConflict (Conflict conflict) = ⊥
 IsNoConflict (Spent version) = Unit {0}
 
--- what a stop leaves of the version that its client knows, where that client is alone: refused
--- memory leaves it as it was, and a spent clock was spent before
+-- the effect of a stop on the version that a solo client knows: refused memory leaves the version,
+-- a conflict is impossible, and a spent clock means that the client knew the last version before
 abbrev pub IsNearStop : ℕ → ℕ → ℕ → Stop → Type 0
 IsNearStop last before now Memory = now ≡ before
 IsNearStop last before now (Conflict conflict) = ⊥
 IsNearStop last before now (Spent version) = before ≡ last
 
--- what an attempt leaves of it: a record raises it by at most one, and not at all where the attempt
--- only read
+-- the effect of a solo client's attempt on the version that it knows: a record raises the version
+-- by at most one, and not at all if the attempt only reads
 abbrev pub IsNear : {A : Type 0} → Bool → ℕ → ℕ → ℕ → Result A Stop → Type 0
 IsNear reads last before now result =
     MatchResult result (λ _. now ≤ before + 1) (λ stop. IsNearStop last before now stop)
@@ -166,9 +166,9 @@ abbrev pub WasRead : RegionShown → ConflictMet → Client → Type 0
 WasRead region conflict v =
     ∥ ((address : ℕ) × IsReadConflict (stripe_of region.stripes) address conflict v) ∥₁
 
--- the client's attempt was to write what this log has, which is not nothing: the record of the
--- entry of an answer that changes something, with what the attempt has read and these writes, would
--- have been lawful
+-- the client's attempt was about to write the contents of this log, which is not empty: for some
+-- answer that changes something, the record of the answer's entry, with the attempt's reads and
+-- these writes, would have been lawful
 pub record WouldWriteEntry {A E : Type 0} (o : Specification E) (region : RegionShown)
     (entry : A → E) (changes : A → Bool) (log : LogValue) (v : Client) : Type 0 where
   pub answer : A
@@ -177,16 +177,16 @@ pub record WouldWriteEntry {A E : Type 0} (o : Specification E) (region : Region
   pub placed : IsPlaced region log
   pub does : Does o (entry answer) v.attempt.reads (log_pairs log)
 
--- the client's last step, but for giving back its locks, showed the conflict: in a read, or, where
--- the transaction may write, in a commit, over the lock of an address that it has read or was to
--- write, or over the clock
+-- the client's last step, apart from giving back locks, showed the conflict: in a read, or, if the
+-- transaction may write, in a commit, over the lock of an address that was read or was to be
+-- written, or over the clock
 abbrev pub ConflictWasShown : {A E : Type 0} → (o : Specification E) → RegionShown → (A → E)
     → (A → Bool) → Bool → ConflictMet → Client → Type 0
 ConflictWasShown o region entry changes reads conflict v = WasRead region conflict v
     ⊎ ((log : LogValue) × (reads ≡ false) × WouldWriteEntry o region entry changes log v
     × IsCommitConflict (stripe_of region.stripes) log conflict v)
 
--- one attempt was made, which left no record, and showed a conflict
+-- one attempt was made, which left no record and showed a conflict
 pub record Missed (Shows : ConflictMet → Client → Type 0) (v v' : Client) : Type 0 where
   pub next : v'.attempt.number ≡ v.attempt.number + 1
   pub records : v'.records ≡ v.records
@@ -194,19 +194,19 @@ pub record Missed (Shows : ConflictMet → Client → Type 0) (v v' : Client) : 
   pub conflict : ConflictMet
   pub shown : Shows conflict v'
 
--- this many attempts, one after the other, each of which showed a conflict
+-- n attempts were made, one after the other, each of which showed a conflict
 abbrev pub Misses : (ConflictMet → Client → Type 0) → ℕ → Client → Client → Type 0
 Misses Shows zero v v' = v' ≡ v
 Misses Shows (suc n) v v' = (w : Client) × (Misses Shows n v w × Missed Shows w v')
 
--- their conflicts, the newest first
+-- the conflicts of these attempts, the newest first
 abbrev pub met_in : (Shows : ConflictMet → Client → Type 0) (n : ℕ) (v v' : Client) →
     Misses Shows n v v' → List ConflictMet
 met_in Shows zero v v' h = []
 met_in Shows (suc n) v v' h = h.1.1.conflict ∷ met_in Shows n v h.0 h.1.0
 
--- at most `tries` attempts were made, one after the other, each of which but the last showed a
--- conflict: `left` were not made
+-- at most `tries` attempts were made, one after the other, and each but the last showed a
+-- conflict; `left` of the allowed attempts were not made
 pub record AreTries (Shows : ConflictMet → Client → Type 0) (tries : ℕ) (v v' : Client)
     : Type 0 where
   pub missed : ℕ
@@ -217,13 +217,13 @@ pub record AreTries (Shows : ConflictMet → Client → Type 0) (tries : ℕ) (v
   pub next : v'.attempt.number ≡ before.attempt.number + 1
   pub number : v'.attempt.number ≡ v.attempt.number + missed + 1
 
--- all tries were made
+-- all allowed attempts were made
 abbrev pub AreAllTries : ℕ → Client → Client → Type 0
 AreAllTries tries v v' = v'.attempt.number ≡ v.attempt.number + tries
 
--- the clock was found at its last version, and there was something to write. The locks had been
--- taken, and were given back: the last step but that won one, or is the tick that lost to that
--- version
+-- the clock was found at its last version while the attempt had something to write; the locks had
+-- been taken and were given back, and the last step before the locks were given back won a lock,
+-- or is the tick that lost to this version
 pub record ClockIsSpent {A E : Type 0} (o : Specification E) (region : RegionShown)
     (entry : A → E) (changes : A → Bool) (version : ℕ) (v : Client) : Type 0 where
   pub version_is : version ≡ region.last
@@ -233,10 +233,11 @@ pub record ClockIsSpent {A E : Type 0} (o : Specification E) (region : RegionSho
   pub log : LogValue
   pub written : WouldWriteEntry o region entry changes log v
 
--- why a transaction of such an entry stopped: all tries were made, and the last one showed the
--- conflict; or, where it may write, a log could not grow, and the last step shows no conflict, or
--- the clock was found at the last version, with something to write
--- Not said: which growth of a log was refused
+-- the reason for which a transaction with this entry stopped: all allowed attempts were made, and
+-- the last one showed the conflict; or, only if the transaction may write, a log could not grow
+-- and the last step shows no conflict, or the clock was found at its last version with something
+-- to write
+-- Not said: which growth of a log was refused.
 abbrev pub IsStopOfEntry : {A E : Type 0} → (o : Specification E) → RegionShown → (A → E)
     → (A → Bool) → Bool → ℕ → Stop → Client → Client → Type 0
 IsStopOfEntry o region entry changes reads tries Memory v v' = (reads ≡ false) × IsQuiet v'
@@ -245,8 +246,8 @@ IsStopOfEntry o region entry changes reads tries (Conflict conflict) v v' =
 IsStopOfEntry o region entry changes reads tries (Spent version) v v' =
     (reads ≡ false) × ClockIsSpent o region entry changes version v'
 
--- one attempt was made: at an answer it added the record of its entry, which was then in order, and
--- at a refusal none; it left no lock held
+-- one attempt was made: if it returned an answer, it added the record of the answer's entry, which
+-- was then in order, and otherwise it added no record; it left no lock held
 pub record AttemptedOnce {A E : Type 0} (o : Specification E) (region : RegionShown)
     (entry : A → E) (changes : A → Bool) (reads : Bool) (result : Result (A × Place) Stop)
     (v v' : Client) : Type 0 where
@@ -262,10 +263,11 @@ pub record AttemptedOnce {A E : Type 0} (o : Specification E) (region : RegionSh
   pub near : IsAlone v → IsNear reads region.last v.floor v'.floor result
   pub stopped : IfErr result (λ stop. IsStopOfEntry o region entry changes reads 1 stop v v')
 
--- what a call of a transaction does, by at most `tries` attempts: what it records and where, how
--- many attempts it makes, and why it stops; and of a client that is alone, that it makes one
--- attempt and finds the words to which its own calls led
--- Not said: that it is answered in the end, however many tries it has; how long a try takes
+-- the effect of a call of a transaction with at most `tries` attempts: the record that it adds and
+-- its commit position, the number of attempts, and the reason of a stop; for a solo client, that
+-- the call makes one attempt and finds the words that the client's own calls reached
+-- Not said: that the call returns an answer in the end, however many attempts it may make; the
+-- duration of an attempt.
 pub record HasCalledAt {A E : Type 0} (o : Specification E) (region : RegionShown) (entry : A → E)
     (changes : A → Bool) (reads : Bool) (tries : ℕ) (result : Result (A × Place) Stop)
     (v v' : Client) : Type 0 where
@@ -284,12 +286,12 @@ pub record HasCalledAt {A E : Type 0} (o : Specification E) (region : RegionShow
       tries v v'
   pub stopped : IfErr result (λ stop. IsStopOfEntry o region entry changes reads tries stop v v')
 
--- an answer without the place of its record
+-- the answer without the commit position of its record
 abbrev pub answer_in : {A X : Type 0} → Result (A × Place) X → Result A X
 answer_in (Ok a) = Ok a.0
 answer_in (Err e) = Err e
 
--- what a call does that does not give the place of its record
+-- the effect of a call that does not return the commit position of its record
 pub record HasCalled {A E : Type 0} (o : Specification E) (region : RegionShown) (entry : A → E)
     (changes : A → Bool) (reads : Bool) (tries : ℕ) (result : Result A Stop) (v v' : Client)
     : Type 0 where

@@ -1,5 +1,5 @@
--- Invariants: if every entry keeps one, a history keeps it; for promises of all histories. And
--- the record of an answer has a place.
+-- Invariants of an object's histories, and the commit position of an answer's record. If every
+-- entry preserves an invariant, then a history preserves the invariant.
 use Rattle.std.proofs.Common.{◌≡◌, ℕ, zero, suc, Bool, List, [], ◌∷◌, Result, Ok, Err}
 use Rattle.std.proofs.Common.{sym, ap, ◌∙◌, subst}
 use mathlib.Core.Option.{some-injective, some-ne-none}
@@ -11,7 +11,8 @@ use Rattle.stm_object.specs.declared.place.Place.{Place}
 use Rattle.stm_object.specs.Object.{Specification}
 use Rattle.stm_object.specs.History.{IsHistory, HasCalled, HasCalledAt, answer_in}
 
--- where a history has this record, the record's entry found what it says in a value with P
+-- the tag is the code of an entry of the object, and the entry finds what it says in some value
+-- with the property P
 pub record WasFound {E : Type 0} (o : Specification E) (P : o.Value → Type 0) (tag : List ℕ)
     : Type 0 where
   pub entry : E
@@ -23,7 +24,7 @@ pub record WasFound {E : Type 0} (o : Specification E) (P : o.Value → Type 0) 
 
 module _ {E : Type 0} (o : Specification E) (P : o.Value → Type 0)
     (keeps : (e : E) (x : o.Value) → o.IsEntry e → o.Finds e x → P x → P (o.after e x)) where
-  -- the last value has what the first one had
+  -- the final value has the property if the first value has it
   pub kept : (x : o.Value) (rs : List Record) (es : List E) (last : o.Value) →
       IsHistory o x rs es last → P x → P last
   kept x [] [] last h p = subst P h p
@@ -32,7 +33,7 @@ module _ {E : Type 0} (o : Specification E) (P : o.Value → Type 0)
   kept x (r ∷ rs) (e ∷ es) last h p =
       kept (o.after e x) rs es last h.3 (keeps e x h.1 h.2 p)
 
-  -- and so has that which each record's entry found
+  -- the value that each record's entry found has the property
   pub found : (x : o.Value) (rs : List Record) (es : List E) (last : o.Value) (r : Record) →
       IsHistory o x rs es last → P x → In r rs → WasFound o P r.tag
   found x [] [] last r h p i = absurd (some-ne-none r (sym i.1))
@@ -49,15 +50,15 @@ module _ {E : Type 0} (o : Specification E) (P : o.Value → Type 0)
   found x (y ∷ rs) (e ∷ es) last r h p (suc j, is) =
       found (o.after e x) rs es last r h.3 (keeps e x h.1 h.2 p) (j, is)
 
--- one after the other, these operations with their answers lead from a value of the object to
--- another one
+-- these operations with their answers, one after the other, lead from the first value to the last
 abbrev pub RunsOperations : {E M : Type 0} → (E → M → Type 0) → (E → M → M) → M → List E
     → M → Type 0
 RunsOperations answers next m [] last = m ≡ last
 RunsOperations answers next m (e ∷ es) last =
     answers e m × RunsOperations answers next (next e m) es last
 
--- where a value means another one, and each entry is an operation on it, so is each history
+-- if each value stands for a value of another type, and each entry is an operation on that other
+-- value, then so is each history
 module _ {E : Type 0} (o : Specification E) {M : Type 0} (P : o.Value → Type 0)
     (keeps : (e : E) (x : o.Value) → o.IsEntry e → o.Finds e x → P x → P (o.after e x))
     (answers : E → M → Type 0) (next : E → M → M) (of : o.Value → M)
@@ -88,7 +89,7 @@ module _ {A E : Type 0} {o : Specification E} {region : RegionShown} {entry : A 
       )
   of_placed (Err s) e h = absurd (let n : Ok a ≡ Err s = e in cc)
 
-  -- the record of an answer has a place
+  -- the record of an answer has a commit position
   pub placed_answer : HasCalled o region entry changes reads tries (Ok a) v v' →
       (place : Place) × HasCalledAt o region entry changes reads tries (Ok (a, place)) v v'
   placed_answer h = of_placed h.placed h.result_is h.call

@@ -1,7 +1,7 @@
--- Places of records.
+-- Commit positions of records.
 use Rattle.stm_core.specs.Client.{Record}
 use Rattle.stm_object.specs.declared.place.Place.{Place}
 
--- the place of a record
+-- the commit position of a record
 abbrev pub place_of : Record → Place
 place_of r = record { renewal = r.renewal; version = r.version; wrote = r.writer }

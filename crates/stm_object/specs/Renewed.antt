@@ -8,13 +8,13 @@ use Rattle.stm_object.specs.History.{Closes}
 use Rattle.stm_object.specs.declared.renew.RenewFault.{RenewFault}
 use Rattle.stm_object.specs.declared.renew.RenewFault.TheVariants.{Kept, Closed}
 
--- the memory ended with these words, at some version
+-- the memory was closed with these words, at some version
 abbrev pub ClosesSomewhere : {E : Type 0} → Specification E → RegionShown → Client → List ℕ
     → Type 0
 ClosesSomewhere o region v words = (version : ℕ) × Closes o region v words version
 
--- when a memory is not renewed: it and its user are as they were, with the reason; or it ended with
--- these words at this version
+-- a memory was not renewed: either the memory and its user are as they were, with the reason, or
+-- the memory was closed with these words at this version
 abbrev pub StaysUnrenewed : {E S : Type 0} → Specification E → RegionShown → ClientShown → ℕ
     → RenewFault S E → Type 0
 StaysUnrenewed o region user last (Kept r u fault) = (r ≡ region) × (u ≡ user)

@@ -1,5 +1,5 @@
--- Maps in slots: a slot has a word for its key, which is one more than the key, or 0 where the slot
--- is free, and a word for its value. Where these words lie, two functions say.
+-- Maps in slots. A slot has a word for its key and a word for its value. The first is one more
+-- than the key, or 0 if the slot is free. Two functions give the addresses of these words.
 use Rattle.std.proofs.Common.{◌≡◌, ◌≢◌, ◌⊎◌, inl, inr, ℕ, zero, suc, ◌+◌, ◌<◌, ◌≤◌, true, false, List, length, slice_index, slice_set, get_or-set_same, get_or-set_other, Option, Some, None, refl, sym, ap, ◌∙◌, subst, cond, is_some, arith}
 use Rattle.std.specs.FinMap.{get, insert, remove, empty, len, get-empty, get-remove, len-empty, len-insert, same_map, nat_cmp-IsAntisymmetric}
 use Rattle.std.specs.Ordering.{nat_cmp, eq_by_cmp}
@@ -9,7 +9,7 @@ use Rattle.tx_memory.specs.View.{Words}
 use Rattle.tx_memory.specs.Seen.{same_or, get_here, get_other}
 use Rattle.stm_object.specs.Search.{IsFirstWithWord, IsSlot}
 
--- a map, and what a slot has beside it
+-- the map with the entry of one more slot, if the slot is not free
 abbrev with_slot : ℕ → ℕ → Words → Words
 with_slot zero value m = m
 with_slot (suc key) value m = insert m key value
@@ -19,28 +19,28 @@ pub map_in : (ℕ → ℕ) → (ℕ → ℕ) → ℕ → Words
 map_in key value zero = empty
 map_in key value (suc n) = with_slot (key n) (value n) (map_in key value n)
 
--- none of the first n slots has this word
+-- none of the first n slots has this word as its key word
 abbrev pub HasNoSlot : (ℕ → ℕ) → ℕ → ℕ → Type 0
 HasNoSlot key n word = (j : ℕ) → j < n → key j ≢ word
 
--- no other one of the first n slots has this word
+-- no other slot among the first n has this word as its key word
 abbrev pub NoOther : (ℕ → ℕ) → ℕ → ℕ → ℕ → Type 0
 NoOther key n i word = (j : ℕ) → j < n → j ≢ i → key j ≢ word
 
--- two of the first n slots that have one word are free
+-- two different slots among the first n with the same key word are both free
 abbrev pub KeysAreApart : (ℕ → ℕ) → ℕ → Type 0
 KeysAreApart key n = (i j : ℕ) → i < n → j < n → i ≢ j → key i ≡ key j → key i ≡ 0
 
--- this slot is for the word: it has it, or it is free, and none has it
+-- the slot is the place for the word: it has the word, or it is free and no slot has the word
 abbrev pub IsPlace : (ℕ → ℕ) → ℕ → ℕ → ℕ → Type 0
 IsPlace key n word i = (i < n) × ((key i ≡ word) ⊎ ((key i ≡ 0) × HasNoSlot key n word))
 
--- of the first n, this one is set, and the others are as they were
+-- of the first n words, only the one at i changed, to w
 pub record IsSet (n : ℕ) (f f' : ℕ → ℕ) (i w : ℕ) : Type 0 where
   pub here : f' i ≡ w
   pub others : (j : ℕ) → j < n → j ≢ i → f' j ≡ f j
 
--- look-ups
+-- look-ups after a removal
 get_gone : (m : Words) (k : ℕ) → get (remove m k) k ≡ None
 get_gone m k =
     let t : eq_by_cmp nat_cmp k k ≡ true = grind (arith, nat_tests) in
@@ -54,7 +54,7 @@ get_left m k q ne =
 same : (m n : Words) → ((q : ℕ) → get m q ≡ get n q) → m ≡ n
 same m n e = same_map nat_cmp_total nat_cmp-IsAntisymmetric m n e
 
--- an insertion over another at the key, and beside one at another key
+-- an insertion over another at the same key, and insertions at two different keys
 twice : (m : Words) (k v w : ℕ) → insert (insert m k v) k w ≡ insert m k w
 twice m k v w = same _ _ (λ q. elim (same_or q k) [
   | inl here ↦ rw here (get_here (insert m k v) k w ∙ sym (get_here m k w))
@@ -74,7 +74,7 @@ swapped m a x b y ne = same _ _ (λ q. elim (same_or q b) [
   ]
 ])
 
--- a removal after an insertion at the key, and at another key
+-- a removal after an insertion, at the same key and at another one
 undone : (m : Words) (k v : ℕ) → get m k ≡ None → remove (insert m k v) k ≡ m
 undone m k v none = same _ _ (λ q. elim (same_or q k) [
   | inl here ↦ rw here (get_gone (insert m k v) k ∙ sym none)
@@ -94,7 +94,7 @@ removed_first m k j w ne = same _ _ (λ q. elim (same_or q k) [
   ]
 ])
 
--- the last slot
+-- one more slot at the end
 slot_none : (w x : ℕ) (m : Words) (k : ℕ) → w ≢ suc k → get (with_slot w x m) k ≡ get m k
 slot_none zero x m k ne = refl
 slot_none (suc j) x m k ne = get_other m j x k (omega (arith, ne))
@@ -192,7 +192,7 @@ free_slot key key' value value' (suc n) i k less ks vs alone is = elim (same_or 
       (alone n (omega arith) (omega (arith, before)))))
 ]
 
--- a key stands in one slot
+-- a key is in at most one slot
 alone_at : (key : ℕ → ℕ) (n i k : ℕ) → KeysAreApart key n → i < n → key i ≡ suc k →
     NoOther key n i (suc k)
 alone_at key n i k apart less is = λ j l ne e.
@@ -211,7 +211,7 @@ taken_or_free key n i word (less, inr free) = inr free.0
 next_number : (k : ℕ) → k + 1 ≡ suc k
 next_number k = omega arith
 
--- a key and its value in their slot are an insertion
+-- writing a key and its value into the slot for the key is an insertion
 pub put_in : (key key' value value' : ℕ → ℕ) (n i k v : ℕ) → KeysAreApart key n →
     IsPlace key n (k + 1) i → IsSet n key key' i (k + 1) → IsSet n value value' i v →
     map_in key' value' n ≡ insert (map_in key value n) k v
@@ -221,7 +221,7 @@ put_in key key' value value' n i k v apart place ks vs =
     set_slot key key' value value' n i k v spot.0 set vs (alone_in key n i k apart spot)
     (taken_or_free key n i (suc k) spot)
 
--- a slot that is freed is a removal
+-- freeing a slot is a removal
 pub freed_in : (key key' value value' : ℕ → ℕ) (n i k : ℕ) → KeysAreApart key n → i < n →
     key i ≡ k + 1 → IsSet n key key' i 0 → ((j : ℕ) → j < n → value' j ≡ value j) →
     map_in key' value' n ≡ remove (map_in key value n) k
@@ -244,7 +244,7 @@ pub none_in : (key value : ℕ → ℕ) (n k : ℕ) → HasNoSlot key n (k + 1) 
     get (map_in key value n) k ≡ None
 none_in key value n k none = no_slot key value n k (λ j l e. none j l (e ∙ sym (next_number k)))
 
--- with no slot free the map is full
+-- if no slot is free, the map has as many entries as there are slots
 pub full_in : (key value : ℕ → ℕ) (n : ℕ) → KeysAreApart key n → HasNoSlot key n 0 →
     len (map_in key value n) ≡ n
 unfolding map_in
@@ -265,7 +265,7 @@ slot_more : (w x : ℕ) (m : Words) → len (with_slot w x m) ≤ len m + 1
 slot_more zero x m = omega arith
 slot_more (suc k) x m = counted (get m k) (len m) _ (len-insert nat_cmp_total m k x)
 
--- it has no more entries than there are slots
+-- the map has at most as many entries as there are slots
 pub len_in : (key value : ℕ → ℕ) (n : ℕ) → len (map_in key value n) ≤ n
 unfolding map_in
 len_in key value zero = let none = len-empty nat_cmp ℕ in omega (arith, none)
@@ -274,7 +274,7 @@ len_in key value (suc n) =
     let more = slot_more (key n) (value n) (map_in key value n) in
     omega (arith, rest, more)
 
--- and fewer where a slot is free
+-- the map has fewer entries than there are slots if a slot is free
 pub room_in : (key value : ℕ → ℕ) (n i : ℕ) → i < n → key i ≡ 0 → len (map_in key value n) < n
 unfolding map_in
 room_in key value zero i less free = absurd (omega (arith, less))
@@ -289,7 +289,7 @@ room_in key value (suc n) i less free = elim (same_or i n) [
       omega (arith, rest, more))
 ]
 
--- with all slots free it is empty
+-- the map is empty if all slots are free
 pub empty_in : (key value : ℕ → ℕ) (n : ℕ) → ((j : ℕ) → j < n → key j ≡ 0) →
     map_in key value n ≡ empty
 unfolding map_in
@@ -322,7 +322,7 @@ apart_set key key' n i w apart set (inr alone) = λ a b l m ne e. elim (same_or 
   ]
 ]
 
--- the slots stay apart where one gets a key, or is freed
+-- different slots keep different keys after a slot gets a key, and after a slot is freed
 pub put_apart : (key key' : ℕ → ℕ) (n i k : ℕ) → KeysAreApart key n → IsPlace key n (k + 1) i →
     IsSet n key key' i (k + 1) → KeysAreApart key' n
 put_apart key key' n i k apart place set =
@@ -334,16 +334,17 @@ pub freed_apart : (key key' : ℕ → ℕ) (n i : ℕ) → KeysAreApart key n �
     KeysAreApart key' n
 freed_apart key key' n i apart set = apart_set key key' n i 0 apart set (inl refl)
 
--- a search for a slot, where the keys are the first words, finds a place
+-- a search for a slot, if the key words are the first words of the memory, finds the place for the
+-- word
 pub place_in : (key : ℕ → ℕ) (n word i : ℕ) → IsSlot key 0 n word (Some i) → IsPlace key n word i
 place_in key n word i (inl h) = (h.1, inl h.2)
 place_in key n word i (inr h) = (h.1.1, inr (h.1.2, λ j less. h.0 j (omega arith) less))
 
--- one that finds none of a word
+-- a search for a word that finds nothing shows that no slot has the word
 pub none_at : (key : ℕ → ℕ) (n word : ℕ) → IsFirstWithWord key 0 n word None → HasNoSlot key n word
 none_at key n word h = λ j less. h j (omega arith) less
 
--- what the map has of a key, for which this is the place
+-- the value that the map has for a key, by the slot that is the place for the key
 pub had_in : (key value : ℕ → ℕ) (n i k : ℕ) → KeysAreApart key n → IsPlace key n (k + 1) i →
     (key i ≡ k + 1 → get (map_in key value n) k ≡ Some (value i))
     × (key i ≢ k + 1 → get (map_in key value n) k ≡ None)

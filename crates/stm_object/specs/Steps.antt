@@ -1,5 +1,5 @@
--- What loads and stores are to the words of a memory, one step after the other: what a body did,
--- from what its loads and stores did.
+-- The effects of loads and stores on the words of a memory, step by step: the effect of a body
+-- follows from those of its loads and stores.
 use Rattle.std.proofs.Common.{◌≡◌, ℕ, suc, ◌<◌, ◌≤◌, inl, inr, List, [], ◌∷◌, length, slice_index, slice_set, refl, sym, subst, ◌∙◌, arith, length-set, get_or-set_same, get_or-set_other}
 use Rattle.tx_memory.specs.View.{View, Sees, RestsOn, IsWrite, Kept, Loaded, Stored, mem}
 use Rattle.tx_memory.specs.Seen.{same_or, some_le}
@@ -11,8 +11,8 @@ pub record Are (xs : List ℕ) (m : ℕ → ℕ) (n : ℕ) : Type 0 where
   pub count : length xs ≡ n
   pub each : (a : ℕ) → a < n → slice_index xs a ≡ m a
 
--- an object of so many words whose value is its words: which of them fit, which entries there are,
--- what an entry says of the words before it, the words after it, and the entry as numbers
+-- an object whose value is its words, by the number of words, the fitting words, the entries, the
+-- statement of an entry about the words before it, the words after it, and the entry as numbers
 abbrev pub words_object : (size : ℕ) (E : Type 0) (fits : List ℕ → Type 0) (is : E → Type 0)
     (finds : E → List ℕ → Type 0) (after : E → List ℕ → List ℕ) (code : E → List ℕ) →
     Specification E
@@ -26,7 +26,7 @@ words_object size E fits is finds after code = record {
   code = code;
 }
 
--- whether it holds its words rests on these words alone
+-- the statement that the memory holds fitting words depends only on these words
 pub words_local : (fits : List ℕ → Type 0) (m m' : ℕ → ℕ) (n : ℕ) (xs : List ℕ) →
     ((a : ℕ) → a < n → m' a ≡ m a) → fits xs × Are xs m n → fits xs × Are xs m' n
 words_local fits m m' n xs same h = (
@@ -34,7 +34,7 @@ words_local fits m m' n xs same h = (
   record { count = h.1.count; each = λ a less. h.1.each a less ∙ sym (same a less) },
 )
 
--- from s to s' nothing was written
+-- nothing was written from view s to view s'
 pub record WroteNothing (s s' : View) : Type 0 where
   pub kept : Kept s s'
   pub writes : s'.writes ≡ s.writes
@@ -45,7 +45,7 @@ kept_then s s' s'' k l = record {
   seen = λ image i. k.seen image (l.seen image i);
 }
 
--- nor was it in two parts of which each only read
+-- two parts of a body that only read make a part that only reads
 pub then_read : (s s' s'' : View) → WroteNothing s s' → WroteNothing s' s'' → WroteNothing s s''
 then_read s s' s'' o p = record {
   kept = kept_then s s' s'' o.kept p.kept;
@@ -56,14 +56,14 @@ then_read s s' s'' o p = record {
 pub read_by : {s s' : View} {a v : ℕ} → Loaded s s' a v → WroteNothing s s'
 read_by l = record { kept = l.kept; writes = l.writes }
 
--- from s to s': of the n words that there were this holds, and this makes those that there are now
+-- a step from s to s': `holds` is true of the n words before, and `makes` gives the words after
 pub record WordStep (n : ℕ) (s s' : View) (holds : List ℕ → Type 0) (makes : List ℕ → List ℕ)
     : Type 0 where
   pub kept : Kept s s'
   pub does : (image : List ℕ) → Sees s' image → (xs : List ℕ) → Are xs (mem s image) n →
       holds xs × Are (makes xs) (mem s' image) n
 
--- what only reads leaves the words as they were
+-- a step that only reads leaves the words as they were
 pub read_step : {n : ℕ} {s s' : View} {holds : List ℕ → Type 0} → WroteNothing s s' →
     ((image : List ℕ) → Sees s' image → (xs : List ℕ) → Are xs (mem s image) n → holds xs) →
     WordStep n s s' holds (λ xs. xs)
@@ -72,7 +72,7 @@ read_step {s = s} {s' = s'} o told = record {
   does = λ image i xs h. (told image i xs h, rw o.writes h);
 }
 
--- a load answers the word
+-- a load returns the word at its address
 pub load_step : {n a v : ℕ} {s s' : View} → Loaded s s' a v → a < n →
     WordStep n s s' (λ xs. slice_index xs a ≡ v) (λ xs. xs)
 load_step l less = read_step (read_by l) (λ image i xs h. h.each _ less ∙ l.answer image i)
@@ -89,7 +89,7 @@ wrote xs m m' n i v h w = record {
   ];
 }
 
--- a store sets the word
+-- a store sets the word at its address
 pub store_step : {n a v : ℕ} {s s' : View} → Stored s s' a v →
     WordStep n s s' (λ xs. Unit {0}) (λ xs. slice_set xs a v)
 store_step {n = n} {a = a} {v = v} {s = s} {s' = s'} st = record {
@@ -97,7 +97,7 @@ store_step {n = n} {a = a} {v = v} {s = s} {s' = s'} st = record {
   does = λ image i xs h. (tt, wrote xs (mem s image) (mem s' image) n a v h (st.written image));
 }
 
--- one step after another
+-- two steps, one after the other, are one step
 pub two_steps : {n : ℕ} {s s' s'' : View} {holds holds' : List ℕ → Type 0}
     {makes makes' : List ℕ → List ℕ} → WordStep n s s' holds makes
     → WordStep n s' s'' holds' makes' →
@@ -110,7 +110,7 @@ two_steps {s = s} {s' = s'} {s'' = s''} {makes = makes} p q = record {
       ((first.0, second.0), second.1);
 }
 
--- what follows from what holds
+-- a step with a consequence of its statement
 pub so_step : {n : ℕ} {s s' : View} {holds : List ℕ → Type 0} {makes : List ℕ → List ℕ}
     (so : List ℕ → Type 0) → WordStep n s s' holds makes →
     ((xs : List ℕ) → length xs ≡ n → holds xs → so xs) → WordStep n s s' so makes
@@ -119,8 +119,8 @@ so_step so p follows = record {
   does = λ image i xs h. let d = p.does image i xs h in (follows xs h.count d.0, d.1);
 }
 
--- a body did what its entry says, where on fitting words the entry finds what it says, leaves words
--- that fit, and the words that the steps make are those
+-- the effect of a body is that of its entry if, on fitting words, the entry finds what it says,
+-- the words after the entry fit, and the steps of the body make these words
 pub has_done : {E : Type 0} (n : ℕ) (fits : List ℕ → Type 0) (is : E → Type 0)
     (finds : E → List ℕ → Type 0) (after : E → List ℕ → List ℕ) (code : E → List ℕ)
     (keeps : (e : E) (xs : List ℕ) → fits xs → finds e xs → fits (after e xs)) (e : E)
@@ -145,7 +145,8 @@ has_done n fits is finds after code keeps e {s} {s'} {holds} {makes} may size p 
       ),
 )
 
--- an order that follows on all fitting words from what holds, follows: some image there is
+-- an inequality that holds on all fitting words for which the step's statement is true holds,
+-- because the memory may stand on some image
 pub known_le : {E : Type 0} {n : ℕ} {fits : List ℕ → Type 0} {is : E → Type 0}
     {finds : E → List ℕ → Type 0} {after : E → List ℕ → List ℕ} {code : E → List ℕ} {s s' : View}
     {holds : List ℕ → Type 0} {makes : List ℕ → List ℕ} (a b : ℕ) →
@@ -181,12 +182,12 @@ module _ {E : Type 0} (n : ℕ) (fits : List ℕ → Type 0) (is : E → Type 0)
       Shows (words_object n E fits is finds after code) image xs → fits image
   fits_its_words image xs h = subst fits (shows_its_words image xs h) h.0
 
-  -- which it holds where they fit
+  -- an image of fitting words holds them
   pub shows_words : (image : List ℕ) → fits image →
       Shows (words_object n E fits is finds after code) image image
   shows_words image f = (f, record { count = refl; each = λ a less. refl })
 
-  -- so it fits
+  -- an image of fitting words fits
   pub fits_words : (image : List ℕ) → fits image →
       IsFitting (words_object n E fits is finds after code) image
   fits_words image f = record { value = image; shown = shows_words image f }

@@ -13,39 +13,39 @@ use Rattle.stm_object.specs.declared.place.Place.{Place}
 use Rattle.stm_object.specs.Places.{place_of}
 use Rattle.stm_object.specs.History.{met_in, AreTries}
 
--- an attempt that has ended: whether it committed, where its record stands or, where it was given
--- up, behind which it would, and what it read and wrote, in this order
+-- an attempt that has ended: whether it committed; the commit position of its record, or of a
+-- reader at its read version if it aborted; and its reads and writes, in this order
 pub record Trace : Type 0 where
   pub commits : Bool
   pub place : Place
   pub accesses : List Access
 
--- nothing was read or written yet, if that is known
+-- nothing was read or written yet, if the accesses are known
 abbrev pub HasNoAccess : Option (List Access) → Type 0
 HasNoAccess accesses = (all : List Access) → accesses ≡ Some all → all ≡ []
 
--- one attempt more is traced, of which this holds, behind the others; nothing is said where none
--- are traced, or where there was no room for all
+-- one more attempt is traced after the others, for which `is` holds; nothing is said if no
+-- attempts are traced, or if there was no room for all of them
 abbrev pub OneMore : (Trace → Type 0) → Option (List Trace) → Option (List Trace) → Type 0
 OneMore is before after = (all : List Trace) → after ≡ Some all →
     (earlier : List Trace) × (last : Trace) × (before ≡ Some earlier)
     × (all ≡ earlier ++ (last ∷ [])) × is last
 
--- an attempt that has read and written this has committed, and its record stands at this place
+-- an attempt with these accesses has committed, and its record has this commit position
 abbrev pub HasTracedCommit : Place → Option (List Access) → Option (List Trace)
     → Option (List Trace) → Type 0
 HasTracedCommit place accesses before after = OneMore (λ t. (t.commits ≡ true)
     × (t.place ≡ place) × (accesses ≡ Some t.accesses)) before after
 
--- one that has read and written this was given up
--- Not said: at which place it is put.
+-- an attempt with these accesses has aborted
+-- Not said: the position at which the attempt is traced.
 abbrev pub HasGivenUp : Option (List Access) → Option (List Trace) → Option (List Trace) → Type 0
 HasGivenUp accesses before after =
     OneMore (λ t. (t.commits ≡ false) × (accesses ≡ Some t.accesses)) before after
 
--- the attempt made this record: it committed, it stands at the record's place, what it read of
--- words before it wrote them are the record's reads, and what it wrote last are the record's
--- writes; and each of its reads gives what it wrote or read there before
+-- the attempt made this record: it committed, it has the record's commit position, its reads of
+-- words before it wrote them are the record's reads, and its last writes are the record's writes;
+-- and each of its reads gives what the attempt wrote or read at the address before
 pub record IsTraceOf (t : Trace) (r : Record) : Type 0 where
   pub commits : t.commits ≡ true
   pub place : t.place ≡ place_of r
@@ -59,31 +59,34 @@ pub record IsOfAdded (v v' : Client) (t : Trace) : Type 0 where
   pub records : v'.records ≡ v.records ++ (added ∷ [])
   pub is : IsTraceOf t added
 
--- one attempt, which ended so: at an answer it committed, else it was given up
+-- one attempt with this result is traced: with an answer it committed and made the added record,
+-- otherwise it aborted
 abbrev pub IsOfEnd : {A X : Type 0} → Result A X → Client → Client → Trace → Type 0
 IsOfEnd (Ok a) v v' t = IsOfAdded v v' t
 IsOfEnd (Err e) v v' t = t.commits ≡ false
 
--- one attempt, which ended so, is traced behind the others
+-- one attempt with this result is traced after the others
 pub record HasTracedOne {A X : Type 0} (result : Result A X) (v v' : Client)
     (before after : Option (List Trace)) : Type 0 where
   pub one : OneMore (IsOfEnd result v v') before after
 
--- these were all given up
+-- all of these attempts aborted
 abbrev pub AreGivenUp : List Trace → Type 0
 AreGivenUp [] = Unit {0}
 AreGivenUp (t ∷ traces) = (t.commits ≡ false) × AreGivenUp traces
 
--- the attempts of a call that ended so: all given up but, at an answer, the last one
+-- the attempts of a call with this result: all aborted, except that with an answer the last one
+-- made the added record
 abbrev pub AreOfEnd : {A X : Type 0} → Result A X → Client → Client → List Trace → Type 0
 AreOfEnd (Ok a) v v' traces = (before : List Trace) × (last : Trace)
     × (traces ≡ before ++ (last ∷ [])) × AreGivenUp before × IsOfAdded v v' last
 AreOfEnd (Err e) v v' traces = AreGivenUp traces
 
--- the attempts of a call that ended so are traced behind the others: each that it made, once
--- Not said: where nothing is traced, or there was no room for all, anything. Of an attempt that was
--- given up: what it read and wrote, which no call tells again. Of each: that the renewal and the
--- read version which the tracer is told are its own, so where it is put.
+-- the attempts of a call with this result are traced after the others: each attempt of the call,
+-- once
+-- Not said: anything if nothing is traced, or if there was no room for all attempts. For an
+-- aborted attempt: its reads and writes, which no call reports. For each attempt: that the renewal
+-- and the read version reported to the tracer, and so the position, are those of the attempt.
 pub record HasTraced {A X : Type 0} (result : Result A X) (v v' : Client)
     (before after : Option (List Trace)) : Type 0 where
   pub each : (all : List Trace) → after ≡ Some all →
@@ -91,7 +94,7 @@ pub record HasTraced {A X : Type 0} (result : Result A X) (v v' : Client)
       × (all ≡ earlier ++ more) × AreOfEnd result v v' more
       × (v.attempt.number + length more ≡ v'.attempt.number)
 
--- the conflict with which an attempt ended, if it ended with one
+-- the conflict that an attempt stopped for, if it stopped for one
 abbrev pub conflict_of : Stop → Option ConflictMet
 conflict_of Memory = None
 conflict_of (Conflict conflict) = Some conflict
@@ -101,13 +104,13 @@ abbrev pub conflict_in : {A : Type 0} → Result A Stop → Option ConflictMet
 conflict_in (Ok a) = None
 conflict_in (Err stop) = conflict_of stop
 
--- a tally with these conflicts more, the newest first
+-- the counts with these conflicts added; the list has the newest conflict first
 abbrev pub tally_with : {T : Type 0} → (Option ConflictMet → T → T) → T → List ConflictMet → T
 tally_with more tally [] = tally
 tally_with more tally (conflict ∷ earlier) = more (Some conflict) (tally_with more tally earlier)
 
--- each attempt of a call was tallied, in its turn, by the conflict with which it ended, if it ended
--- with one
+-- each attempt of a call was counted, in turn, with the conflict that it stopped for, if there is
+-- one
 pub record HasTallied {A T : Type 0} (Shows : ConflictMet → Client → Type 0)
     (more : Option ConflictMet → T → T) (tries : ℕ) (result : Result A Stop) (v v' : Client)
     (before after : T) : Type 0 where

@@ -12,7 +12,8 @@ use std::marker::PhantomData;
 use stm_attempt::{Attempt, Gate, Logs, Point, ReadAttempt, Stop};
 use stm_region::{Client, Region};
 
-/// One attempt of a transaction that only reads. It keeps no log, and aborts only on a conflict.
+/// Makes one attempt of a transaction that only reads. The attempt keeps no log, and aborts only
+/// on a conflict.
 fn try_reading<S: Object, B: Body<S>, G: Gate, T: Tracer>(
     region: &Region<ObjectLaw<S>>,
     client: &mut Client<ObjectLaw<S>>,
@@ -61,7 +62,7 @@ fn try_reading<S: Object, B: Body<S>, G: Gate, T: Tracer>(
     Ok((found, place))
 }
 
-/// One attempt of a transaction that may write.
+/// Makes one attempt of a transaction that may write.
 fn try_writing<S: Object, B: Body<S>, G: Gate, T: Tracer>(
     region: &Region<ObjectLaw<S>>,
     client: &mut Client<ObjectLaw<S>>,
@@ -119,7 +120,7 @@ fn try_writing<S: Object, B: Body<S>, G: Gate, T: Tracer>(
     }
 }
 
-/// One attempt of a transaction.
+/// Makes one attempt of a transaction.
 #[inline]
 pub(crate) fn try_once<S: Object, B: Body<S>, G: Gate, T: Tracer>(
     region: &Region<ObjectLaw<S>>,

@@ -9,18 +9,18 @@ use stm_words::Tag;
 use tx_memory::{TxMem, TxRead};
 
 /// A transaction that may write, over any memory. `entry_of` is the entry of an answer, and
-/// `changes` says of which answers it may have written.
+/// `changes` tells for which answers the transaction may have written.
 ///
 /// Not said: that an answer for which `changes` is true wrote something.
 pub trait Update<S: Object> {
-    /// The answer that it returns.
+    /// The answer of the transaction.
     type Answer: Drop;
 
     ghost entry_of: { Self → Self.Answer → S.Entry };
 
     ghost changes: { Self → Self.Answer → Bool };
 
-    /// Reads and writes the memory.
+    /// Runs the transaction on the memory.
     fn run<M: TxMem>(&self, memory: &mut M) -> Result<Self::Answer, M::Stop>
         requires value { HasValue S.is (M.view memory.old) }
         ensures origin { M.origin memory.new ≡ M.origin memory.old }
@@ -32,12 +32,12 @@ pub trait Update<S: Object> {
 
 /// A transaction that only reads, over any memory. `entry_of` is the entry of an answer.
 pub trait Query<S: Object> {
-    /// The answer that it returns.
+    /// The answer of the transaction.
     type Answer: Drop;
 
     ghost entry_of: { Self → Self.Answer → S.Entry };
 
-    /// Reads the memory.
+    /// Runs the transaction on the memory, which is only read.
     fn read<M: TxRead>(&self, memory: &mut M) -> Result<Self::Answer, M::Stop>
         requires value { HasValue S.is (M.view memory.old) }
         ensures origin { M.origin memory.new ≡ M.origin memory.old }
@@ -46,13 +46,13 @@ pub trait Query<S: Object> {
         ensures stopped { IfErr result (λ stop. M.stopped_for memory.new stop) };
 }
 
-/// The body of a transaction, over any memory, if only its run shows whether it may write.
-/// `entry_of` is the entry of an answer, and `changes` says of which answers the body may have
-/// written.
+/// The body of a transaction, over any memory, for callers that learn only at run time whether the
+/// body may write. `entry_of` is the entry of an answer, and `changes` tells for which answers the
+/// body may have written.
 ///
 /// Not said: that an answer for which `changes` is true wrote something.
 pub trait Body<S: Object> {
-    /// The answer that it returns.
+    /// The answer of the body.
     type Answer: Drop;
 
     ghost reads: { Self → Bool };
@@ -65,7 +65,8 @@ pub trait Body<S: Object> {
     fn only_reads(&self) -> bool
         ensures { result ≡ reads self.now };
 
-    /// Reads the memory, if the body only reads. Otherwise returns none and does nothing.
+    /// Runs the body on the memory if the body only reads. Otherwise returns None and does
+    /// nothing.
     fn read<M: TxRead>(&self, memory: &mut M) -> Option<Result<Self::Answer, M::Stop>>
         requires value { HasValue S.is (M.view memory.old) }
         ensures some { is_some result ≡ reads self.now }
@@ -74,7 +75,7 @@ pub trait Body<S: Object> {
             Did S.is (M.view memory.old) (M.view memory.new) (entry_of self.now a))) }
         ensures stopped { IfSome result (λ r. IfErr r (λ stop. M.stopped_for memory.new stop)) };
 
-    /// Reads and writes the memory, if the body may write. Otherwise returns none and does nothing.
+    /// Runs the body on the memory if the body may write. Otherwise returns None and does nothing.
     fn run<M: TxMem>(&self, memory: &mut M) -> Option<Result<Self::Answer, M::Stop>>
         requires value { HasValue S.is (M.view memory.old) }
         ensures some { is_some result ≡ not (reads self.now) }
@@ -151,8 +152,8 @@ impl<'a, S: Object, Q: Query<S>> Body<S> for Asking<'a, Q> {
     }
 }
 
-/// The tag of the record of a body and its answer. It stands for the code of their entry and copies
-/// neither.
+/// The tag of the record of a body and its answer. The tag stands for the code of their entry and
+/// copies neither.
 #[derive(Drop)]
 pub(crate) struct Told<'a, S: Object, B: Body<S>> {
     pub(crate) body: &'a B,

@@ -1,4 +1,4 @@
-//! Objects: laws that are given by entries, and transactions over them.
+//! Objects: laws of records that are given by entries, and transactions over such objects.
 #![tactic(auto)]
 
 mod attempts;

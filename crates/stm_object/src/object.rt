@@ -1,15 +1,17 @@
-//! Shared objects: what their operations find and leave, one after the other.
+//! Shared objects, by their sequential specifications.
 
 ghost use Rattle.stm_object.specs.Object.{Specification, IsLocal, IsDetermined};
 
 use std::marker::PhantomData;
 use stm_words::Law;
 
-/// A shared object by its sequential specification: which values it has, which words hold them, and
-/// what each operation with its answer finds and leaves. Its two laws: whether words hold a value
-/// rests on these words alone, and a record, which has the code of an entry, tells of no other one.
+/// A shared object by its sequential specification: its values, the words that hold them, and for
+/// each operation with its answer the statement about the value before and the value after. An
+/// object has two laws. Whether words hold a value depends only on these words. The code of an
+/// entry, which a record carries, is the code of no other entry.
 pub trait Object {
-    /// An operation with its answer, which a record tells. No code makes one.
+    /// An operation with its answer, which a record carries as its tag. No code makes a value of
+    /// this type.
     type Entry;
 
     ghost is: { Specification Self.Entry };
@@ -19,8 +21,8 @@ pub trait Object {
     ghost determined: { IsDetermined is };
 }
 
-/// The law of an object: an image fits where it holds a value, and a record is lawful where it does
-/// what its entry says on every image that agrees with its reads.
+/// The law of an object. An image fits if it holds a value. A record is lawful if it does what its
+/// entry says on every image that agrees with its reads.
 pub struct ObjectLaw<S> {
     of: PhantomData<S>,
 }

@@ -1,14 +1,14 @@
-//! The place of a record.
+//! The commit position of a record.
 
 use stm_words::Version;
 
-/// The place of a record among those of its region: records are ordered by renewal, then by
-/// version, the writer of a version before its readers.
+/// The commit position of a record in its region. Records are ordered by renewal, then by version;
+/// the writer of a version comes before its readers.
 #[derive(Clone, Copy, Debug, PartialEq, Eq)]
 pub struct Place {
-    /// How often the region had been renewed.
+    /// Number of renewals of the region before the record.
     pub renewal: u32,
-    /// The write version of the call, or, where it wrote nothing, its read version.
+    /// The write version of the transaction, or its read version if it wrote nothing.
     pub version: Version,
     /// True if the transaction wrote.
     pub wrote: bool,

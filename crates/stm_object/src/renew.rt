@@ -10,19 +10,19 @@ use crate::shared::{Shared, User};
 use stm_region::{RegionFault, RenewFault as RegionRenewFault};
 use stm_words::Version;
 
-/// Why a memory was not renewed.
+/// The reason why a memory was not renewed.
 #[derive(Drop)]
 pub enum RenewFault<S: Object> {
-    /// The memory and its user are as they were.
+    /// The renewal was refused for this reason; the memory and its user are as they were.
     Kept(Shared<S>, User<S>, RegionFault),
-    /// Memory for the new words was refused after the old ones had been taken out: the memory is
+    /// Memory for the new words was refused after the old words had been taken out. The memory is
     /// closed, and these are its words and its clock.
     Closed(Vec<u64>, Version),
 }
 
 impl<S: Object> Shared<S> {
-    /// Goes on with the value on a new version clock, which may reach this last version, once every
-    /// other user was gathered. The user keeps its records and its grants.
+    /// Renews the memory once every other user was gathered: keeps its value and starts a new
+    /// version clock, which ends at `last`. The user keeps its records and its grants.
     pub fn renew(self, user: User<S>, last: u64) -> Result<(Shared<S>, User<S>), RenewFault<S>>
         requires { user.table ≡ self.table }
         ensures region { IfOk result (λ r. r.0 ≡ record self {

@@ -5,9 +5,9 @@ ghost use Rattle.stm_object.specs.Search.{Searched, SoughtSlot};
 
 use tx_memory::{Addr, TxRead, load};
 
-/// The first address from `from` on and below `end` whose word is this one.
+/// Returns the first address from `from` on and below `end` that has this word.
 ///
-/// Not said: what a refused search leaves; that no word behind the one that is found enters the
+/// Not said: the effect of a search that stops; that no word behind the found one enters the
 /// reads.
 pub fn find<M: TxRead>(
     memory: &mut M,
@@ -30,10 +30,10 @@ pub fn find<M: TxRead>(
     Ok(None)
 }
 
-/// The address for a word, from `from` on and below `end`: the first whose word is this one, or
-/// where there is none the first whose word is 0.
+/// Returns the slot for a word from `from` on and below `end`: the first address that has the
+/// word, or, if none has it, the first address that has 0.
 ///
-/// Not said: what `find` does not say.
+/// Not said: everything that is not said of `find`.
 pub fn seek<M: TxRead>(
     memory: &mut M,
     from: u32,

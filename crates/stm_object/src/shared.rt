@@ -1,4 +1,4 @@
-//! A memory that many use at once, with transactions over an object.
+//! A memory for many users at once, with transactions over an object.
 
 ghost use Rattle.std.specs.Prelude.{◌≡◌, ◌≤◌, ◌⊎◌, IfOk, IfErr, length, true, false};
 ghost use Rattle.tx_memory.specs.Image.{In};
@@ -25,7 +25,7 @@ use stm_attempt::{Gate, Logs, NoGate, Stop};
 use stm_region::{Client, Region, RegionFault};
 use stm_words::Version;
 
-/// A memory of an object, which many users use at once. Contracts see its region.
+/// A memory of an object, used by many users at once. Contracts see its region.
 #[derive(Drop)]
 pub struct Shared<S: Object> {
     pub(crate) alloc: Global,
@@ -43,7 +43,8 @@ impl<S: Object> Model for Shared<S> {
     ghost invariant = { λ b. IsOpenedOnFitting S.is b.region };
 }
 
-/// A user: the right to use the memory, from one thread at a time. Between calls it holds no lock.
+/// A user: the right to use the memory, from one thread at a time. Between calls a user holds no
+/// lock.
 #[derive(Drop)]
 pub struct User<S: Object> {
     pub(crate) client: Client<ObjectLaw<S>>,
@@ -63,7 +64,7 @@ impl<S: Object> Model for User<S> {
     ghost invariant = { λ t. IsFreeHanded t.client.value × IsUnplaced t.client.value };
 }
 
-/// The answer of a call, without the place of its record.
+/// Returns the answer of a call without the commit position of its record.
 fn answer_of<A: Drop>(placed: Result<(A, Place), Stop>) -> Result<A, Stop>
     ensures { result ≡ answer_in placed }
 {
@@ -74,7 +75,8 @@ fn answer_of<A: Drop>(placed: Result<(A, Place), Stop>) -> Result<A, Stop>
 }
 
 impl<S: Object> Shared<S> {
-    /// Opens a memory on these words, and its first user. The version clock ends at `last`.
+    /// Opens a memory on these words, and returns the memory and its first user. The version clock
+    /// ends at `last`.
     pub fn new(
         alloc: Global,
         words: &[u64],
@@ -99,9 +101,10 @@ impl<S: Object> Shared<S> {
         Ok((Shared { alloc, region }, user))
     }
 
-    /// Runs an update as a transaction, by at most `tries` attempts. A stopped one changes nothing.
+    /// Runs an update as a transaction, in at most `tries` attempts. An update that stops with an
+    /// error changes nothing.
     ///
-    /// Not said: that a call comes to its end.
+    /// Not said: that a call terminates.
     pub fn run<U: Update<S>>(
         &self,
         user: &mut User<S>,
@@ -118,9 +121,10 @@ impl<S: Object> Shared<S> {
         answer_of(self.call(user, &body, tries, &mut NoGate, &mut Untraced))
     }
 
-    /// Asks a query as a transaction, by at most `tries` attempts. Only a conflict stops it.
+    /// Runs a query as a transaction, in at most `tries` attempts. Only a conflict stops the
+    /// query.
     ///
-    /// Not said: that a call comes to its end.
+    /// Not said: that a call terminates.
     pub fn ask<Q: Query<S>>(
         &self,
         user: &mut User<S>,
@@ -137,11 +141,12 @@ impl<S: Object> Shared<S> {
         answer_of(self.call(user, &body, tries, &mut NoGate, &mut Untraced))
     }
 
-    /// Runs a transaction, by at most `tries` attempts, and returns its answer and the place of its
-    /// record. A stopped one changes nothing. Each attempt tells the gate how far its commit is,
-    /// one that only reads when its reads are done, and the tracer traces them.
+    /// Runs a transaction, in at most `tries` attempts, and returns its answer and the commit
+    /// position of its record. A transaction that stops with an error changes nothing. Each
+    /// attempt reports to the gate how far its commit is; an attempt that only reads reports when
+    /// its reads are done. The tracer traces the attempts.
     ///
-    /// Not said: of a gate that it does not wait; that a call comes to its end.
+    /// Not said: that a gate never waits; that a call terminates.
     pub fn call<B: Body<S>, G: Gate, T: Tracer>(
         &self,
         user: &mut User<S>,
@@ -175,7 +180,7 @@ impl<S: Object> Shared<S> {
         }
     }
 
-    /// Splits off a new user, which costs a grant: 63 times in all.
+    /// Splits off a new user for one grant; a memory has 63 grants.
     pub fn split(&self, user: &mut User<S>) -> Result<User<S>, RegionFault>
         requires { user.old.table ≡ self.now.table }
         ensures ok { IfOk result (λ other. HasSplit user.old user.new other) }
@@ -190,7 +195,7 @@ impl<S: Object> Shared<S> {
         })
     }
 
-    /// Gathers another user: this one gets its records, its grants and one grant more.
+    /// Gathers another user: takes over its records and its grants, and gets one more grant.
     pub fn gather(&self, user: &mut User<S>, other: User<S>)
         requires { (user.old.table ≡ self.now.table) × (other.table ≡ self.now.table) }
         ensures user { user.new
@@ -208,7 +213,7 @@ impl<S: Object> Shared<S> {
         self.region.gather(&mut user.client, client);
     }
 
-    /// Closes the memory, where every other user was gathered, and returns its words and its clock.
+    /// Closes the memory once every other user was gathered, and returns its words and its clock.
     pub fn close(
         self,
         user: User<S>,

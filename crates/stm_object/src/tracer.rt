@@ -14,10 +14,10 @@ use stm_attempt::Stop;
 use stm_words::Version;
 use tx_memory::{TxMem, TxRead};
 
-/// A tracer of the attempts of a call, or none. A tracer runs the bodies, so that it can look on at
-/// their reads and writes.
+/// A tracer of the attempts of a call, which may also trace nothing. A tracer runs the bodies, so
+/// that it can observe their reads and writes.
 pub trait Tracer {
-    /// The part of the tracer that none of its calls changes.
+    /// The part of the tracer that no method changes.
     ghost Frame: { Type 0 };
 
     ghost frame: { Self → Frame };
@@ -27,33 +27,34 @@ pub trait Tracer {
 
     ghost tally: { Self → Tally };
 
-    /// A tally with one attempt more, which ended with this conflict, if with any.
+    /// The counts with one more attempt, which ended with this conflict if there is one.
     ghost more: { Option ConflictMet → Tally → Tally };
 
-    /// The attempts that have ended, in their order; none where none are traced, or where there was
-    /// no room for all.
+    /// The attempts that have ended, in their order; None if no attempts are traced, or if there
+    /// was no room for all of them.
     ghost ended: { Self → Option (List Trace) };
 
-    /// The reads and writes of the attempt that runs, in their order; none as above.
+    /// The reads and writes of the running attempt, in their order; None as for `ended`.
     ghost accesses: { Self → Option (List Access) };
 
-    /// An attempt is about to begin.
+    /// Prepares for an attempt that is about to begin.
     fn prepare(&mut self)
         ensures frame { frame self.new ≡ frame self.old }
         ensures ended { ended self.new ≡ ended self.old }
         ensures tally { tally self.new ≡ tally self.old }
         ensures fresh { HasNoAccess (accesses self.new) };
 
-    /// The attempt has begun, in this renewal and with this read version.
+    /// Receives the renewal and the read version of the attempt, which has just begun.
     ///
-    /// Not said: what is made of them. One that is given up is put at their place.
+    /// Not said: what the tracer does with the renewal and the version. An aborted attempt is
+    /// traced at their position.
     fn begun(&mut self, renewal: u32, version: Version)
         ensures frame { frame self.new ≡ frame self.old }
         ensures ended { ended self.new ≡ ended self.old }
         ensures tally { tally self.new ≡ tally self.old }
         ensures accesses { accesses self.new ≡ accesses self.old };
 
-    /// Runs its body.
+    /// Runs the body of the attempt.
     fn run<S: Object, B: Body<S>, M: TxMem>(
         &mut self,
         memory: &mut M,
@@ -74,7 +75,7 @@ pub trait Tracer {
         ensures tracked { IsTracked (accesses self.new)
             (M.view memory.new).reads (M.view memory.new).writes };
 
-    /// Runs its body, which only reads.
+    /// Runs the body of the attempt, which only reads.
     fn read<S: Object, B: Body<S>, M: TxRead>(
         &mut self,
         memory: &mut M,
@@ -94,21 +95,23 @@ pub trait Tracer {
         ensures tracked { IsTracked (accesses self.new)
             (M.view memory.new).reads (M.view memory.new).writes };
 
-    /// The attempt has committed, or finished, and its record stands at this place.
+    /// Receives the commit position of the attempt's record, after the attempt has committed or
+    /// finished as a reader.
     fn commit(&mut self, place: &Place)
         ensures frame { frame self.new ≡ frame self.old }
         ensures ended { HasTracedCommit place.now (accesses self.old)
             (ended self.old) (ended self.new) }
         ensures tally { tally self.new ≡ more None (tally self.old) };
 
-    /// The attempt was given up for this reason, and has left no record.
+    /// Receives the reason for which the attempt has aborted. An aborted attempt has left no
+    /// record.
     fn give_up(&mut self, stop: &Stop)
         ensures frame { frame self.new ≡ frame self.old }
         ensures ended { HasGivenUp (accesses self.old) (ended self.old) (ended self.new) }
         ensures tally { tally self.new ≡ more (conflict_of stop.now) (tally self.old) };
 }
 
-/// Traces nothing.
+/// A tracer that traces nothing.
 #[derive(Clone, Copy, Drop)]
 pub struct Untraced;
 

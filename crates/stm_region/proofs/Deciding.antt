@@ -7,7 +7,7 @@ use Rattle.stm_core.specs.Event.{counting}
 use Rattle.stm_core.proofs.Lists.{clash}
 use Rattle.stm_core.proofs.Steps.{by_case, undecided_at}
 
--- these records are a single one, of the client's attempt, and it was put among those that the client had
+-- these records are a single one, of the client's attempt, which was added to the client's records
 pub record Makes (s : Stamp) (rs : List Record) (v w : Client) : Type 0 where
   pub made : Record
   pub single : rs ≡ made ∷ []

@@ -1,4 +1,4 @@
--- The opening meets the rule, and what is known at the end.
+-- The opening meets the invariant, and the properties of a region at its end.
 use Rattle.std.proofs.Common.{◌≡◌, ℕ, zero, suc, ◌+◌, ◌-◌, ◌^◌, ◌<◌, List, [], ◌∷◌, ◌++◌, length}
 use Rattle.std.proofs.Common.{drop, replicate, slice_index, refl, sym, ap, ◌∙◌, subst, arith}
 use Rattle.std.proofs.lemmas.List.{length-replicate}
@@ -31,7 +31,7 @@ drop_all [] ys (suc n) e = absurd (omega arith)
 drop_all (x ∷ xs) ys zero e = absurd (omega arith)
 drop_all (x ∷ xs) ys (suc n) e = drop_all xs ys n (omega arith)
 
--- what lies behind the zeros is the image
+-- the words after the zeros are the image
 image_behind : (image : List ℕ) (stripes : ℕ) → drop (first_cell stripes)
     (replicate (first_cell stripes) 0 ++ image) ≡ image
 image_behind image stripes = drop_all (replicate (first_cell stripes) 0) image (first_cell stripes)
@@ -75,7 +75,7 @@ module _ (fits : List ℕ → Type 0) (lawful : RecordLaw) where
     some = one;
   }
 
-  -- a table of these words meets the rule at its opening
+  -- a table of these words meets the invariant at its opening
   pub opens_on : {S : Type 0} (image words : List ℕ) (last stripes : ℕ) → fits image → last < 2 ^ 62 → 0 < stripes →
       words ≡ replicate (first_cell stripes) 0 ++ image
       → IsCoreState {S = S} fits lawful record {
@@ -108,7 +108,7 @@ module _ (fits : List ℕ → Type 0) (lawful : RecordLaw) where
       } (opening (replicate (first_cell stripes) 0 ++ image) [] opener)) (sym (image_behind image stripes))
       (opens image last stripes f top one))
 
--- the data words, from their place on
+-- the data words, from their index on
 cells_behind : (gap pad : List ℕ) (c : Core) (s : ℕ) → length gap ≡ FIRST_LOCK - 1 → length c.locks ≡ s →
     length pad ≡ padding s → drop (first_cell s) (listed gap pad c) ≡ c.cells
 cells_behind gap pad c s g l p =
@@ -121,7 +121,7 @@ cells_behind gap pad c s g l p =
     behind (x ∷ xs) ys n = rw (Rattle.std.proofs.Common.suc-add (length xs) n) (behind xs ys n)
 
 module _ (fits : List ℕ → Type 0) (lawful : RecordLaw) (r : RegionShown) where
-  -- a state that meets the rule, in which the client is the only one out
+  -- a state that meets the invariant, in which the client is the only one out
   ends : {S : Type 0} (id : ℕ) (v : Client) → IsFreeHanded v → v.grants ≡ 63 → (s : State S Client) →
       IsCoreState fits lawful (opened_with r) s → get_elem? s.views id ≡ some v →
       Ends lawful r v (drop (first_cell r.stripes) s.words) (slice_index s.words 0)
@@ -170,7 +170,7 @@ module _ (fits : List ℕ → Type 0) (lawful : RecordLaw) (r : RegionShown) whe
       fits r.first
   fits_with key e id u ws xs f = subst (λ (k : Opened). fits k.first) e f.1.0.fitting
 
--- what a region ended with, opened anew, meets the rule of the next renewal
+-- the words with which a region ended, opened anew, meet the invariant of the next renewal
 pub reopens : {S : Type 0} (fits : List ℕ → Type 0) (lawful : RecordLaw) (r : RegionShown) (v : Client) (words : List ℕ)
     (version last : ℕ) → Ends lawful r v words version → IsFreeHanded v → MayRenew r.renewal last v.grants →
     fits r.first → 0 < r.stripes
@@ -216,7 +216,7 @@ reopens {S} fits lawful r v words version last h free may f one = record {
   some = one;
 }
 
--- and so does a table of these words
+-- a table of these words meets the invariant of the next renewal
 pub renews_on : {S : Type 0} (fits : List ℕ → Type 0) (lawful : RecordLaw) (r : RegionShown) (v : Client)
     (words laid : List ℕ) (version last : ℕ) → Ends lawful r v words version → IsFreeHanded v →
     MayRenew r.renewal last v.grants → fits r.first → 0 < r.stripes

@@ -1,4 +1,4 @@
--- What the rule says of the records, of the reads and of the grants.
+-- The consequences of the invariant for the records, the reads and the grants.
 use Rattle.std.proofs.Common.{◌≡◌, ◌≢◌, ℕ, false, List, length, map, sym, ap, ◌∙◌, subst}
 use mathlib.Core.Option.{some}
 use lib.ListN.{get_elem?}

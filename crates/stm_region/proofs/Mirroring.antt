@@ -1,5 +1,5 @@
---  What an event makes of a client in a region and of the same client in the list's core is the same, but for what a
--- region does not keep.
+-- An event has the same effect on a client in a region and on the same client in the list's core,
+-- apart from the fields that a region does not keep.
 use Rattle.std.proofs.Common.{◌≡◌, ◌≢◌, ℕ, zero, suc, ◌+◌, ◌-◌, ◌≤◌, ◌<◌, Bool, true, false, cond, eqb, ltb, ◌&&◌, inl}
 use Rattle.std.proofs.Common.{inr, ⊎_elim, List, [], ◌∷◌, ◌++◌, append-nil, length, length-set, length-append, map, set}
 use Rattle.std.proofs.Common.{get_or, refl, sym, ap, ◌∙◌, subst, arith}
@@ -63,7 +63,7 @@ merged_shuffles l [] = subst (Shuffled l) (sym (append-nil l)) (as_is l)
 merged_shuffles l (y ∷ m) = over (merged_shuffles (inserted y l) m)
     (over (shuffled_left m (inserted_shuffles y l)) (to_middle y l m))
 
--- a record more, and two lists as one
+-- one more record, and two lists merged
 inserted_mirrors : (r : Record) (l m : List Record) → Shuffled l (map unplaced_record m) →
     Shuffled (inserted (unplaced_record r) l) (map unplaced_record (inserted r m))
 inserted_mirrors r l m s = over (inserted_shuffles (unplaced_record r) l)
@@ -76,7 +76,7 @@ merged_mirrors l l' m m' s t =
     (subst (λ k. Shuffled k (map unplaced_record (merged l' m'))) (map_append unplaced_record l' m')
     (shuffled_map (back (merged_shuffles l' m'))))))
 
--- a step does the same to what a region keeps of a client
+-- a step has the same effect on the fields of a client that a region keeps
 module _ (t : Stamp) (lk : ℕ → ℕ) (n : ℕ) (rs : List Record) (w : Client)
     (s : Shuffled rs (map unplaced_record w.records)) where
   abbrev u : Stamp
@@ -149,7 +149,7 @@ shadow_taking v w v' w' s s' = (
   merged_mirrors v.records w.records v'.records w'.records s.1 s'.1,
 )
 
--- and no step spends a client
+-- no step gathers a client
 pub after_gathered : (t : Stamp) (lk : ℕ → ℕ) (e : Action) (n : ℕ) (v : Client) →
     (after t lk e n v).is_gathered ≡ v.is_gathered
 after_gathered t lk (check a) n v = by_case (λ b. (stepping (checked a (word_before v.attempt.last) n)
@@ -301,7 +301,7 @@ mirrors_renewed ws j v w at s alone = record {
       (at_set ws j k (renewing w) x e);
 }
 
--- a step looks at nothing that a region does not keep
+-- a step depends on no field that a region does not keep
 pub may_shadow : (lk : ℕ → ℕ) (b : Bounds) (e : Action) (t : Attempt) →
     may_act lk b e (unplaced_attempt t) ≡ may_act lk b e t
 may_shadow lk b begin t = refl
@@ -312,7 +312,7 @@ pub lawful_shadow : (lawful : RecordLaw) (e : Action) (t : Attempt) → IsLawful
 lawful_shadow lawful begin t l = l
 lawful_shadow lawful _ t l = l
 
--- and does the same to the words
+-- a step has the same effect on the words
 pub found_same : (lk : ℕ → ℕ) (d : Core) (cs : List Client) (n : ℕ) (p : List Record) (e : Action) →
     found lk (record d { clients = cs; events = n; past = p }) e ≡ found lk d e
 found_same lk d cs n p begin = refl

@@ -1,4 +1,4 @@
--- Each step keeps the rule, and tells what it says.
+-- Each step keeps the invariant, and reports its facts.
 use Rattle.std.proofs.Common.{◌≡◌, ◌≢◌, inl, inr, ℕ, zero, suc, ◌+◌, ◌-◌, ◌*◌, ◌/◌, ◌%◌, ◌^◌, ◌≤◌, ◌<◌, min, cond}
 use Rattle.std.proofs.Common.{eq-eqb, ne_eqb, Bool, true, false, List, [], ◌∷◌, length, set, slice_index, refl, sym, ap}
 use Rattle.std.proofs.Common.{◌∙◌, subst, arith}
@@ -43,7 +43,7 @@ not_in x m = some-ne-none x (sym m.1)
 pair_eq : (p : ℕ × ℕ) (k : ℕ) → p.0 ≡ k → p ≡ (k, p.1)
 pair_eq p k e i = (e i, p.1)
 
--- the old version that is looked up for a lock is listed with it
+-- the old version that is looked up for a held lock is the listed one
 old_there : (held : List (ℕ × ℕ)) (k u : ℕ) → In (k, u) held → In (k, old_version held k) held
 old_there [] k u m = absurd (not_in (k, u) m)
 old_there (p ∷ ps) k u (zero, e) = let q : p.0 ≡ k = ap (λ (x : ℕ × ℕ). x.0) (some-injective p (k, u) e) in
@@ -55,7 +55,7 @@ abbrev Keeping : (List ℕ → Type 0) → RecordLaw → Type 0
 Keeping fits lawful = (tag image : List ℕ) (reads writes : List (ℕ × ℕ)) → fits image → Agrees image reads →
     lawful tag reads writes → fits (laid image writes)
 
--- a running region as contracts see it: its table was told what it was opened with
+-- a running region as contracts see it: its table has the opening of the region
 pub record Runs (words : ℕ) (key : Opened) (r : RegionShown) : Type 0 where
   pub key_is : key ≡ opened_with r
   pub size : length r.opening ≡ r.size
@@ -94,7 +94,7 @@ pub either_is : (b : Bool) (x y : ℕ) → either b x y ≡ cond b x y
 either_is true x y = refl
 either_is false x y = refl
 
--- a core beside what its region was opened with
+-- a core that agrees with the opening of its region
 pub record Matches (o : Opened) (c : Core) : Type 0 where
   pub last : c.last ≡ o.last
   pub opening : c.opening ≡ o.image
@@ -102,7 +102,7 @@ pub record Matches (o : Opened) (c : Core) : Type 0 where
   pub renewal : c.renewal ≡ o.renewal
   pub locks : length c.locks ≡ o.stripes
 
--- the bound on the grants takes none away
+-- the bound on the number of grants takes no grant away
 pub gathered_takes : (lawful : RecordLaw) (l : ℕ → ℕ) (c : Core) → Rule lawful l c → (i j : ℕ) (v w : Client) → i ≢ j →
     get_elem? c.clients i ≡ some v → get_elem? c.clients j ≡ some w → v.is_gathered ≡ false → w.is_gathered ≡ false →
     with_gathered v w ≡ taking v w
@@ -189,7 +189,7 @@ module _ (fits : List ℕ → Type 0) (lawful : RecordLaw) (law : Keeping fits l
       (stands_on c.opening v.attempt.reads (some_fits lawful lk (now c) h.inv fits law k i (shed c.renewal v)
       (at_map (shed c.renewal) c.clients i v at)))
 
-  -- the image of the read version fits, and agrees with what was read
+  -- the image of the read version fits, and agrees with the reads
   version_of_reads : (c : Core) → Matches o c → length r.opening ≡ r.size → fits r.first → Rule lawful lk c →
       (i : ℕ) (v : Client) → get_elem? c.clients i ≡ some v → (e : Action) (n : ℕ) (u : Client) →
       IsRightAfter lawful r e n u i c → IsOfOneVersionAt fits lawful r e n u v
@@ -246,7 +246,7 @@ module _ (fits : List ℕ → Type 0) (lawful : RecordLaw) (law : Keeping fits l
       v.attempt.rv < v.attempt.wv
   later c h i v at = (h.inv.books.booked i (shed c.renewal v) (at_map (shed c.renewal) c.clients i v at)).later
 
-  -- what a step tells, of the core before it and of the one after it
+  -- the facts that a step reports, from the core before it and the core after it
   told_of : (c d : Core) → Matches o c → Matches o d → length r.opening ≡ r.size → r.last < 2 ^ 62 → fits r.first →
       Rule lawful lk c → Rule lawful lk d → (i : ℕ) (v : Client) (e : Action) → get_elem? c.clients i ≡ some v
       → get_elem? d.clients i ≡ some (after (unplaced r.renewal) lk e (found lk c e) v) →
@@ -344,7 +344,7 @@ module _ (fits : List ℕ → Type 0) (lawful : RecordLaw) (law : Keeping fits l
     pub matches : (s : State S Client) (h : Kept s) → Matches o h.core
     matches s h = record { last = h.last; opening = h.opening; first = h.first; renewal = h.renewal; locks = h.locks }
 
-    -- a step at its place, whose word becomes f of what it was
+    -- a step on its word, which becomes f of the word before
     acts_allowed : (slots id : ℕ) (me : Me S Client) (e : Action) (word : ℕ) (f : ℕ → ℕ) (told : ℕ → Me S Client →
         Type 0)
         → length r.opening ≡ r.size → word ≡ place r.stripes e → InRange r.stripes r.size e →
@@ -427,7 +427,7 @@ module _ (fits : List ℕ → Type 0) (lawful : RecordLaw) (law : Keeping fits l
               (after (unplaced r.renewal) lk e (found lk c e) v) here e (found lk c e) v right)),
         )
 
-    -- the same at a table that was told what the region was opened with
+    -- as `acts_allowed`, for a table that has the opening of the region
     acts_in : (words : ℕ) (key : Opened) → Runs words key r →
         (slots id : ℕ) (me : Me S Client) (e : Action) (word : ℕ) (f : ℕ → ℕ) (told : ℕ → Me S Client → Type 0)
         → word ≡ place r.stripes e → InRange r.stripes r.size e → May lawful lk (bounds r) e me.0
@@ -529,7 +529,7 @@ module _ (fits : List ℕ → Type 0) (lawful : RecordLaw) (law : Keeping fits l
           (split_allowed id v free gr),
     )
 
-    -- a client takes in another
+    -- a client gathers another
     join_allowed : (id : ℕ) (v : Client) (other : ℕ) (w : Client) → IsFreeHanded v → IsFreeHanded w →
         Joins Kept id v other w (with_gathered v w) gone
     join_allowed id v other w free free' s h at ne to =

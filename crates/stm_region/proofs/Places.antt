@@ -1,4 +1,4 @@
--- The words of a core where they stand in the table.
+-- The words of a core at their positions in the table.
 use Rattle.std.proofs.Common.{◌≡◌, ℕ, zero, suc, ◌+◌, ◌-◌, ◌≤◌, ◌<◌, List, [], ◌∷◌, ◌++◌}
 use Rattle.std.proofs.Common.{length, set, get_or, slice_set, slice_index, length-set, refl, ap, ◌∙◌, subst, arith}
 use Rattle.stm_core.specs.Client.{Client}
@@ -68,7 +68,7 @@ module _ (gap pad : List ℕ) (c : Core) (s : ℕ) (g : length gap ≡ FIRST_LOC
       ∙ ap (λ zs. gap ++ zs) (set_right c.locks (pad ++ c.cells) (length pad + a) n ∙ ap (λ zs. c.locks ++ zs)
       (set_right pad c.cells a n))))
 
-  -- the word at a step's place is the one that it finds
+  -- the word at a step's index is the one that the step finds
   pub found_there : (e : Action) → 0 < s → (size : ℕ) → InRange s size e →
       slice_index (listed gap pad c) (place s e) ≡ found (stripe_of s) c e
   found_there begin z n r = refl
@@ -89,7 +89,7 @@ module _ (gap pad : List ℕ) (c : Core) (s : ℕ) (g : length gap ≡ FIRST_LOC
   same_there e z n r = subst (λ m. slice_set (listed gap pad c) (place s e) m ≡ listed gap pad c) (found_there e z n r)
       (set_again (listed gap pad c) (place s e))
 
-  -- the word that a step leaves at its place is that of the core after it
+  -- the word that a step leaves at its index is that of the core after it
   pub left_there : (e : Action) → 0 < s → (size : ℕ) → InRange s size e → (v : Client)
       → slice_set (listed gap pad c) (place s e) (left e (found (stripe_of s) c e) v) ≡ listed gap pad
       (written e (left e (found (stripe_of s) c e) v) c)
@@ -102,7 +102,7 @@ module _ (gap pad : List ℕ) (c : Core) (s : ℕ) (g : length gap ≡ FIRST_LOC
   left_there (finish tag) z n r v = refl
   left_there e z n r v = same_there e z n r
 
--- what no step changes
+-- the fields that no step changes
 pub record Stays (c d : Core) : Type 0 where
   pub last : d.last ≡ c.last
   pub opening : d.opening ≡ c.opening
@@ -145,7 +145,7 @@ lock_in s size words k w h = let p : s ≤ first_cell s = omega arith in omega a
 cell_in : (s size words a : ℕ) → words ≡ first_cell s + size → a < size → first_cell s + a < words
 cell_in s size words a w h = omega arith
 
--- the place of a step is one of the table's words
+-- the index of a step is one of the table's words
 pub in_table : (s size words : ℕ) (e : Action) → words ≡ first_cell s + size → 0 < s → InRange s size e →
     place s e < words
 in_table s size words begin w z r = omega arith

@@ -1,4 +1,5 @@
--- Each step of a region, a split, a gather and a renewal is one event more of the list that leads to its core state.
+-- Each step of a region, each split, gathering and renewal is one more event of the list that
+-- leads to its core state.
 use Rattle.std.proofs.Common.{◌≡◌, ◌≢◌, ℕ, suc, ◌+◌, ◌-◌, ◌≤◌, ◌<◌, true, false, List, [], ◌∷◌, ◌++◌, ⊎_elim, length}
 use Rattle.std.proofs.Common.{set, get_or, replicate, refl, sym, ap, ◌∙◌, subst, arith}
 use mathlib.Core.Option.{some}
@@ -29,7 +30,7 @@ pub leads_more : (lawful : RecordLaw) (lk : ℕ → ℕ) (es : List Event) (e : 
 leads_more lawful lk [] e c d same may = subst (λ x. Leads lawful lk x (e ∷ []) (played lk e d)) (sym same) (may, refl)
 leads_more lawful lk (a ∷ es) e c d leads may = (leads.0, leads_more lawful lk es e (played lk a c) d leads.1 may)
 
--- the opening, where nothing has happened
+-- the opening, before any event
 pub opening_traced : (lawful : RecordLaw) (image : List ℕ) (last stripes : ℕ) →
     IsTraced lawful record { image = image; last = last; stripes = stripes; first = image; renewal = 0; start = opener }
     (opened image last stripes)
@@ -49,7 +50,7 @@ module _ (lawful : RecordLaw) (o : Opened) (c : Core) (t : IsTraced lawful o c) 
   same_bounds : bounds_of c ≡ bounds_of t.core
   same_bounds = ap bounds_of t.same
 
-  -- the client at a place of the region, in the list's core
+  -- the client at an index of the region, in the list's core
   module _ (id : ℕ) (v : Client) (at : get_elem? c.clients id ≡ some v) where
     there : get_elem? t.core.clients (t.clients.number id) ≡ some (t.clients.each id v at).0
     there = (t.clients.each id v at).1

@@ -1,4 +1,4 @@
--- What is known of the words and the records once a region was closed.
+-- The words and the records of a region that was closed.
 use Rattle.std.specs.Prelude.{◌≡◌, ℕ, ◌+◌, ◌<◌, List, length}
 use mathlib.Core.Option.{some}
 use lib.ListN.{get_elem?}
@@ -11,14 +11,14 @@ use Rattle.stm_region.specs.Shown.{RegionShown, opened_with}
 use Rattle.stm_core.specs.Guards.{stripe_of}
 use Rattle.stm_region.specs.Traced.{IsTraced}
 
--- the words and the version are those of a last core state, in which the closing client had this
--- value, and its records are all there are: lawful, and serial from the first opening image to the
--- words
+-- the region ended in a core state with these words and this version, and the records of the
+-- closing client, whose value was v, are lawful and serial from the first opening image to the
+-- words. There are no other records
 pub record Ends (lawful : RecordLaw) (region : RegionShown)
     (v : Client) (words : List ℕ) (version : ℕ) : Type 0 where
   pub core : Core
   pub rule : Rule lawful (stripe_of region.stripes) core
-  -- to which a list of allowed events leads from the first opening on
+  -- a list of allowed events leads from the first opening to that core state
   pub traced : IsTraced lawful (opened_with region) core
   pub first : core.first ≡ region.first
   pub renewal : core.renewal ≡ region.renewal
@@ -28,12 +28,12 @@ pub record Ends (lawful : RecordLaw) (region : RegionShown)
   pub number : ℕ
   pub member : get_elem? core.clients number ≡ some v
   pub clock : core.clock ≡ version
-  -- the closing client knew the clock
+  -- the closing client knew the clock: its floor is the clock's value
   pub floor : version ≡ v.floor
   pub cells : core.cells ≡ words
   pub abides : (r : Record) → In r v.records → lawful r.tag r.reads r.writes
   pub serial : Serial region.first v.records
   pub newest : words ≡ image_after region.first v.records
-  -- and they are in order, each of this renewal or an earlier one
+  -- the records are in order, each of this renewal or an earlier one
   pub sorted : Sorted v.records
   pub eras : (r : Record) → In r v.records → r.renewal < region.renewal + 1

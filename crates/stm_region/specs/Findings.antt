@@ -1,4 +1,4 @@
--- What a step tells its client of the region's state, beside the word that it found.
+-- The facts on a region's state that a step reports to its client, besides the word that it found.
 use Rattle.std.specs.Prelude.{◌≡◌, ℕ, suc, ◌*◌, ◌/◌, ◌<◌, ◌≤◌, ◌⊎◌, true, false, List, [], ◌∷◌, ◌++◌, length}
 use Rattle.atomic_table.specs.Seated.{TableId}
 use Rattle.atomic_table.specs.Table.{Me, Step}
@@ -16,44 +16,49 @@ use Rattle.stm_region.specs.Traced.{IsTraced}
 use Rattle.stm_region.specs.declared.limits.TheConstants.{MOST_GRANTS}
 use Rattle.stm_words.specs.declared.version.TheConstants.{VERSION_LIMIT}
 
--- a version of the clock is at most the last one
+-- the version is at most the last version, and below the limit of versions
 pub record IsVersion (last version : ℕ) : Type 0 where
   pub known : version ≤ last
   pub small : version < VERSION_LIMIT
 
--- a lock word has a version of at most the last one
+-- the version in the lock word is at most the last version, and the word is below the limit of
+-- lock words
 pub record IsLockWord (last word : ℕ) : Type 0 where
   pub version : word / 2 ≤ last
   pub small : word < 2 * VERSION_LIMIT
 
--- a record is of an earlier renewal, or of this one with a version that the clock has reached
+-- the record is of an earlier renewal, or of this renewal with a version that the clock has
+-- reached
 pub record IsEarlier (renewal clock : ℕ) (r : Record) : Type 0 where
   pub present : r.renewal ≤ renewal
   pub version : r.renewal ≡ renewal → r.version ≤ clock
 
--- each of these records is of an earlier renewal, or of a version that the clock has reached
+-- each record of the list is of an earlier renewal, or of this renewal with a version that the
+-- clock has reached
 abbrev pub AreEarlier : ℕ → ℕ → List Record → Type 0
 AreEarlier renewal clock records = (r : Record) → In r records → IsEarlier renewal clock r
 
--- some fitting image of the size agrees with the reads
+-- some fitting image of this size agrees with the reads
 pub record StandsOn (fits : List ℕ → Type 0) (size : ℕ) (reads : List (ℕ × ℕ)) : Type 0 where
   pub image : List ℕ
   pub length_is : length image ≡ size
   pub fitting : fits image
   pub agrees : Agrees image reads
 
--- a core state of a region is the one right after this step of the client at this place, which had
--- this value and found this word
+-- the core state is the state right after this step of the client at this index; before the step
+-- the client had the value `was`, and the step found this word
 pub record IsRightAfter (lawful : RecordLaw) (region : RegionShown) (step : Action) (word : ℕ)
     (was : Client) (number : ℕ) (core : Core) : Type 0 where
-  -- the core state right before: the client had this value in it, and this is the word there
+  -- the core state right before the step: the client has the value `was` there, and the step finds
+  -- this word
   pub before : Core
   pub member : get_elem? before.clients number ≡ some was
   pub finds : found (stripe_of region.stripes) before step ≡ word
   pub now : core
       ≡ stepped (unplaced region.renewal) (stripe_of region.stripes) step number was before
-  -- the list of events that leads to this state is the one that leads to the state before, with
-  -- the step after it: both begin with one opening, and each client has one number in both
+  -- the list of events that leads to this core state is the list that leads to the state before,
+  -- followed by the step. Both lists begin with one opening, and each client has one number in
+  -- both
   pub traced : IsTraced lawful (opened_with region) before
   pub listed : IsTraced lawful (opened_with region) core
   pub opened : listed.last ≡ traced.last
@@ -61,15 +66,15 @@ pub record IsRightAfter (lawful : RecordLaw) (region : RegionShown) (step : Acti
   pub last_event : listed.events
       ≡ traced.events ++ acts (suc (traced.clients.number number)) step ∷ []
 
--- the step was one event of this region: right after it a core state of the region, which meets the
--- rule, has this value of the client
--- Not said: that a step wins; that a step call makes no further load that changes nothing, which is
--- read in `accesses.rt`.
+-- the step was one event of this region: right after it, a core state of the region that meets the
+-- invariant has this value of the client
+-- Not said: that a step succeeds; that a step call makes no further load that changes nothing,
+-- which is read in `accesses.rt`.
 -- Not said: of the states that two calls name, that the list of the later one goes on from that of
 -- the earlier one.
 pub record IsOneEvent (lawful : RecordLaw) (region : RegionShown) (step : Action) (word : ℕ)
     (was v : Client) : Type 0 where
-  -- the core state is this region's
+  -- the core state belongs to this region
   pub core : Core
   pub rule : Rule lawful (stripe_of region.stripes) core
   pub first : core.first ≡ region.first
@@ -78,19 +83,19 @@ pub record IsOneEvent (lawful : RecordLaw) (region : RegionShown) (step : Action
   pub last : core.last ≡ region.last
   pub locks : length core.locks ≡ region.stripes
   pub cells : length core.cells ≡ region.size
-  -- this client has this value in it
+  -- the client has the value v in this core state
   pub number : ℕ
   pub member : get_elem? core.clients number ≡ some v
-  -- the step led to it, and found this word
+  -- the core state is the one right after the step, which found this word
   pub after : IsRightAfter lawful region step word was number core
 
--- what the client has read is of one version: the image of its read version, in the region's core
--- state right after a step of its own, fits and agrees with its reads
+-- all words that the client has read belong to one version: in the region's core state right after
+-- a step of the client, the image of its read version fits and agrees with its reads
 -- Not said: anything of the image between two checks but what the law `reads_are_of_one_version`
 -- says.
 pub record IsOfOneVersion (fits : List ℕ → Type 0) (lawful : RecordLaw) (region : RegionShown)
     (v : Client) : Type 0 where
-  -- the core state is this region's
+  -- the core state belongs to this region
   pub core : Core
   pub rule : Rule lawful (stripe_of region.stripes) core
   pub first : core.first ≡ region.first
@@ -99,10 +104,10 @@ pub record IsOfOneVersion (fits : List ℕ → Type 0) (lawful : RecordLaw) (reg
   pub last : core.last ≡ region.last
   pub locks : length core.locks ≡ region.stripes
   pub cells : length core.cells ≡ region.size
-  -- this client has this value in it
+  -- the client has the value v in this core state
   pub number : ℕ
   pub member : get_elem? core.clients number ≡ some v
-  -- the step, the word that it found, and the client's value before it
+  -- the step, the word that it found, and the client's value before the step
   pub step : Action
   pub word : ℕ
   pub was : Client
@@ -111,38 +116,39 @@ pub record IsOfOneVersion (fits : List ℕ → Type 0) (lawful : RecordLaw) (reg
   pub agrees : Agrees (image_at core.opening v.attempt.rv (all_records (now core).clients))
       v.attempt.reads
 
--- a step of this region decided the client's attempt, and right after it the records of all
--- clients, this one's with its newest among them, each of its own once and in its order, are lawful
--- and serial from the first opening image
+-- a step of this region decided the client's attempt, and right after the step the records of all
+-- clients are lawful and serial from the first opening image. The client's own records, the newest
+-- included, are among them, each once and in their order
 -- Not said: which other clients there are.
 pub record Decides (fits : List ℕ → Type 0) (lawful : RecordLaw) (region : RegionShown) (v : Client)
     : Type 0 where
   -- the region's core state right after the deciding step
   pub core : Core
   pub rule : Rule lawful (stripe_of region.stripes) core
-  -- it is this region's: opened on the same images, with as many words and the same last version
+  -- the core state belongs to this region: opened on the same images, with the same number of
+  -- words and the same last version
   pub first : core.first ≡ region.first
   pub renewal : core.renewal ≡ region.renewal
   pub opening : core.opening ≡ region.opening
   pub last : core.last ≡ region.last
   pub locks : length core.locks ≡ region.stripes
   pub cells : length core.cells ≡ region.size
-  -- this client has this value in it
+  -- the client has the value v in this core state
   pub number : ℕ
   pub member : get_elem? core.clients number ≡ some v
-  -- the step, the word that it found, and the client's value before it
+  -- the step, the word that it found, and the client's value before the step
   pub step : Action
   pub word : ℕ
   pub was : Client
   pub after : IsRightAfter lawful region step word was number core
-  -- the step decided it: while the attempt ran it made one record, this one, which is the attempt's
-  -- and was put among those that the client had
+  -- the step decided the attempt: the attempt ran before the step, which made exactly one record.
+  -- The record is the attempt's and was added to the client's records
   pub undecided : was.attempt.phase ≡ running
   pub made : Record
   pub decided_by : decision (unplaced region.renewal) step word was ≡ made ∷ []
   pub added : v.records ≡ inserted made was.records
   pub attempt : made.attempt ≡ v.attempt.number
-  -- a writer's is the record of the attempt as it is right after the step
+  -- a writer's record is the record of the attempt as it is right after the step
   pub writer : decided v ≡ true → made ≡ writer_record (unplaced region.renewal) v.attempt
   pub fitting : fits region.first
   pub abides : (r : Record) → In r (all_records core.clients) → lawful r.tag r.reads r.writes
@@ -151,23 +157,26 @@ pub record Decides (fits : List ℕ → Type 0) (lawful : RecordLaw) (region : R
 
 module _ (fits : List ℕ → Type 0) (lawful : RecordLaw) (region : RegionShown)
     (e : Action) (n : ℕ) (v w : Client) where
-  -- it is so right after this step, which found this word and made the second value of the first
+  -- all words read belong to one version right after this step, which found this word and took the
+  -- client from the value v to the value w
   abbrev pub IsOfOneVersionAt : Type 0
   IsOfOneVersionAt =
       (d : IsOfOneVersion fits lawful region w) × (d.step ≡ e) × (d.word ≡ n) × (d.was ≡ v)
 
-  -- it is so at a decision: this is the step, the word that it found, and the value before it
+  -- the attempt was decided by this step, which found this word and took the client from the value
+  -- v to the value w
   abbrev pub DecidesAt : Type 0
   DecidesAt = (d : Decides fits lawful region w) × (d.step ≡ e) × (d.word ≡ n) × (d.was ≡ v)
 
--- the attempt was lone, and not decided
--- Not said: that no other client is out: an attempt is lone whose client has all 63 grants and made
--- no split.
+-- the attempt is solo and undecided
+-- Not said: that no other client is out: an attempt is solo if its client has all 63 grants and
+-- has not split since the begin.
 abbrev pub IsLoneOpen : Client → Type 0
 IsLoneOpen v = (v.attempt.lone ≡ true) × (decided v ≡ false)
 
--- what a lone attempt finds: a lock word that is free or its own, and not newer; the word of its
--- probe; the clock that it ticks from, and its tick decides
+-- the findings of a solo attempt never make it fail. A probed lock is free or the client's own,
+-- and not newer than the read version. A check and a lock find the word of the probe. A tick finds
+-- the clock value from which it starts, and decides
 abbrev pub LoneTells : Action → ℕ → Client → Client → Type 0
 LoneTells begin n v w = Unit {0}
 LoneTells (probe k) n v w = (IsFree n ⊎ Holds v.attempt.held k) × (version_of n ≤ v.attempt.rv)
@@ -182,7 +191,7 @@ LoneTells (give_back k) n v w = Unit {0}
 LoneTells (finish tag) n v w = Unit {0}
 
 module _ (fits : List ℕ → Type 0) (lawful : RecordLaw) (r : RegionShown) where
-  -- what a step tells of the word found, and of the client's values before and after it
+  -- the facts that a step reports on the word found and on the client's values before and after it
   abbrev pub Tells : Action → ℕ → Client → Client → Type 0
   Tells begin n v w =
       IsVersion r.last n × (v.floor ≤ n) × StandsOn fits r.size []
@@ -205,20 +214,20 @@ module _ (fits : List ℕ → Type 0) (lawful : RecordLaw) (r : RegionShown) whe
   Tells (give_back k) n v w = Unit {0}
   Tells (finish tag) n v w = DecidesAt fits lawful r (finish tag) n v w
 
-  -- the step was one event; a store does not tell the word that it found
+  -- the step was one event; a store and a release do not report the word that they found
   abbrev pub Happens : Action → ℕ → Client → Client → Type 0
   Happens (put a x) n v w = (found : ℕ) × IsOneEvent lawful r (put a x) found v w
   Happens (release k) n v w = (found : ℕ) × IsOneEvent lawful r (release k) found v w
   Happens e n v w = IsOneEvent lawful r e n v w
 
-  -- a step has its effect on the client's value, tells what it can, and is one event
+  -- a step has its effect on the client's value, reports its facts, and is one event
   abbrev pub acting : {S : Type 0} → Action → Step S → Me S Client → ℕ → Me S Client → Type 0
   acting e s m n w =
       (w ≡ (value_after r e n m.0, m.1)) × Tells e n m.0 (value_after r e n m.0)
       × Happens e n m.0 (value_after r e n m.0)
 
--- a step that found this word changed its seat's client as its event does, told what it can, and
--- was one event
+-- a step that found this word changed the value of the seat's client as its event does, reported
+-- its facts, and was one event
 pub record HasActed {S : Type 0} (fits : List ℕ → Type 0) (lawful : RecordLaw) (r : RegionShown)
     (e : Action) (n : ℕ) (t : TableId) (m : Me S Client) (t' : TableId) (w : Me S Client)
     : Type 0 where

@@ -1,5 +1,5 @@
--- Where a region's words are in its table: the clock alone on its cache lines, the lock words, and
--- the data words.
+-- The positions of a region's words in its table: the clock alone on its cache lines, the lock
+-- words, and the data words.
 use Rattle.std.specs.Prelude.{◌≡◌, ℕ, ◌+◌, ◌-◌, ◌%◌, ◌<◌, ◌≤◌, length, cond, eqb}
 use Rattle.stm_core.specs.Client.{Client, RecordLaw}
 use Rattle.stm_core.specs.Core.{left}
@@ -10,15 +10,16 @@ use Rattle.stm_region.specs.declared.layout.TheConstants.{CLOCK, FIRST_LOCK, LIN
 use Rattle.stm_words.specs.declared.version.TheConstants.{VERSION_LIMIT}
 use Rattle.stm_core.specs.declared.limits.TheConstants.{MOST_WORDS, MOST_STRIPES}
 
--- how many words are between the lock words and the data words: the rest of a line
+-- the number of words between the lock words and the data words, which fill the last cache line of
+-- the lock words
 abbrev pub padding : ℕ → ℕ
 padding stripes = (LINE_WORDS - 1) - (stripes + (LINE_WORDS - 1)) % LINE_WORDS
 
--- the first data word
+-- the index of the first data word
 abbrev pub first_cell : ℕ → ℕ
 first_cell stripes = FIRST_LOCK + stripes + padding stripes
 
--- the place of the word of a step
+-- the index of the word on which a step acts
 abbrev pub place : ℕ → Action → ℕ
 place stripes begin = CLOCK
 place stripes (probe k) = FIRST_LOCK + k
@@ -32,7 +33,7 @@ place stripes (release k) = FIRST_LOCK + k
 place stripes (give_back k) = FIRST_LOCK + k
 place stripes (finish tag) = CLOCK
 
--- the lock or the address of a step is one of the region
+-- the lock or the address of a step is in the region
 abbrev pub InRange : ℕ → ℕ → Action → Type 0
 InRange stripes size begin = Unit {0}
 InRange stripes size (probe k) = k < stripes
@@ -46,15 +47,14 @@ InRange stripes size (release k) = k < stripes
 InRange stripes size (give_back k) = k < stripes
 InRange stripes size (finish tag) = Unit {0}
 
--- this client's value allows the step on this word, which is that of its lock, its address or the
--- clock, in the region
+-- the client's value allows the step, and the index is that of the step's word in the region
 pub record MayStepAt (lawful : RecordLaw) (r : RegionShown) (step : Action) (word : ℕ)
     (v : Client) : Type 0 where
   pub range : InRange r.stripes r.size step
   pub word_is : word ≡ place r.stripes step
   pub allowed : MayStep lawful r step v
 
--- the numbers of a running region fit its table and what it was opened with
+-- the fields of a running region agree with its table and with its opening
 pub record IsLaid (words slots : ℕ) (o : Opened)
     (length_of_image last_version stripes cells renewals : ℕ) : Type 0 where
   pub total : words ≡ cells + length_of_image
@@ -69,7 +69,7 @@ pub record IsLaid (words slots : ℕ) (o : Opened)
   pub few : stripes ≤ MOST_STRIPES
   pub counted : o.renewal ≡ renewals
 
--- the step exchanges its word from this one to the next, whatever it finds
+-- the step compares and exchanges its word from this word to the next one, whatever word it finds
 abbrev pub Exchanges : Action → ℕ → Client → Type 0
 Exchanges e from v = (n : ℕ) → left e n v ≡ cond (eqb n from) (from + 1) n
 

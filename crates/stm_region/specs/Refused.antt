@@ -1,4 +1,4 @@
--- When a region refuses what it was asked.
+-- The conditions under which a region refuses a call.
 use Rattle.std.specs.Prelude.{◌≡◌, ℕ, ◌-◌, ◌<◌, ◌≤◌}
 use Rattle.stm_region.specs.declared.fault.RegionFault.{RegionFault}
 use Rattle.stm_region.specs.declared.fault.RegionFault.TheVariants.{Size, Last, Memory, Clients, StillOut, Stripes, Renewals}
@@ -10,15 +10,16 @@ use Rattle.stm_region.specs.declared.limits.TheConstants.{MOST_GRANTS}
 abbrev pub IsSize : ℕ → Type 0
 IsSize n = (1 ≤ n) × (n ≤ MOST_WORDS)
 
--- its clock may end here
+-- the clock of a region may end at this version
 abbrev pub IsLast : ℕ → Type 0
 IsLast n = (1 ≤ n) × (n < VERSION_LIMIT)
 
--- it may have this many lock words
+-- a region may have this many lock words
 abbrev pub IsStripes : ℕ → Type 0
 IsStripes n = (1 ≤ n) × (n ≤ MOST_STRIPES)
 
--- when an opening is refused: the first of its arguments that is out of range, or no memory
+-- the conditions of each refusal of an opening: the first argument that is out of range, or no
+-- memory
 abbrev pub OpensNot : ℕ → ℕ → ℕ → RegionFault → Type 0
 OpensNot size last stripes Size = ¬ IsSize size
 OpensNot size last stripes Last = IsSize size × ¬ IsLast last
@@ -28,8 +29,9 @@ OpensNot size last stripes (StillOut out) = ⊥
 OpensNot size last stripes Stripes = IsSize size × IsLast last × ¬ IsStripes stripes
 OpensNot size last stripes Renewals = ⊥
 
--- when an ending is refused: others are out, as many as the client's grants say, or no memory
--- Not said: how many other clients are out, as these may have taken in others: the number is 63
+-- the conditions of each refusal of a close: other clients are out, as the client's grants show,
+-- or no memory
+-- Not said: how many other clients are out, as these may have gathered others: the number is 63
 -- less the grants of the closing client.
 abbrev pub ClosesNot : ℕ → RegionFault → Type 0
 ClosesNot grants Size = ⊥
@@ -40,13 +42,14 @@ ClosesNot grants (StillOut out) = (grants < MOST_GRANTS) × (out ≡ MOST_GRANTS
 ClosesNot grants Stripes = ⊥
 ClosesNot grants Renewals = ⊥
 
--- a region may be renewed: the new last version is in range, there is a renewal left, and no other
+-- a region may be renewed: the new last version is in range, a renewal is left, and no other
 -- client is out
 abbrev pub MayRenew : ℕ → ℕ → ℕ → Type 0
 MayRenew renewals last grants =
     IsLast last × (renewals < MOST_RENEWALS) × (grants ≡ MOST_GRANTS)
 
--- when a renewal is refused before any word was moved: for the first of its reasons, or no memory
+-- the conditions of each refusal of a renewal before any word was moved: the first of its reasons,
+-- or no memory
 abbrev pub RenewsNot : ℕ → ℕ → ℕ → RegionFault → Type 0
 RenewsNot renewals last grants Size = ⊥
 RenewsNot renewals last grants Last = ¬ IsLast last

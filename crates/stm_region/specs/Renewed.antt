@@ -1,4 +1,4 @@
--- What a renewal leaves.
+-- The outcomes of a renewal.
 use Rattle.std.specs.Prelude.{◌≡◌, ℕ, List}
 use Rattle.stm_core.specs.Client.{Client, RecordLaw}
 use Rattle.stm_region.specs.Shown.{RegionShown, ClientShown}
@@ -12,8 +12,8 @@ use Rattle.stm_region.specs.declared.renew.RenewFault.TheVariants.{Kept, Closed}
 abbrev pub EndsSomewhere : RecordLaw → RegionShown → Client → List ℕ → Type 0
 EndsSomewhere lawful region v words = (version : ℕ) × Ends lawful region v words version
 
--- when a region is not renewed: it and its client are as they were, with the reason; or it ended
--- with these words at this version
+-- a region was not renewed: the region and its client are as before, with the reason, or the
+-- region ended with these words at this version
 abbrev pub NotRenewed : {L A : Type 0} → RecordLaw →
     RegionShown → ClientShown → ℕ → RenewFault L A → Type 0
 NotRenewed lawful region client last (Kept r c fault) =

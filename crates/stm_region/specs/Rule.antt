@@ -1,4 +1,4 @@
--- What holds of a region's table between any two steps of any threads.
+-- The invariant of a region's table between any two steps of any threads.
 use mathlib.Core.Option.{some}
 use lib.ListN.{get_elem?}
 use Rattle.std.specs.Prelude.{◌≡◌, ◌≢◌, ℕ, ◌<◌, List, ◌∷◌, ◌++◌, ◌-◌, length}
@@ -13,12 +13,13 @@ use Rattle.stm_region.specs.Traced.{IsTraced}
 use Rattle.stm_region.specs.declared.layout.TheConstants.{FIRST_LOCK}
 use Rattle.stm_words.specs.declared.version.TheConstants.{VERSION_LIMIT}
 
--- the words of a core as those of a table: the clock, a gap, the lock words, a padding and the data
--- words
+-- the words of a core in the order of a table: the clock, a gap, the lock words, a padding and the
+-- data words
 abbrev pub listed : List ℕ → List ℕ → Core → List ℕ
 listed gap pad c = c.clock ∷ (gap ++ (c.locks ++ (pad ++ c.cells)))
 
--- the table's words and all clients' values are a core state that meets the version invariant
+-- the table's words and all clients' values are those of a core state that meets the version
+-- invariant
 pub record IsCoreState {S : Type 0} (fits : List ℕ → Type 0) (lawful : RecordLaw) (o : Opened)
     (s : State S Client) : Type 0 where
   pub core : Core
@@ -34,24 +35,24 @@ pub record IsCoreState {S : Type 0} (fits : List ℕ → Type 0) (lawful : Recor
   pub first : core.first ≡ o.first
   pub renewal : core.renewal ≡ o.renewal
   pub rule : Rule lawful (stripe_of o.stripes) core
-  -- and a list of allowed events leads to it, but for what a region does not keep
+  -- a list of allowed events leads to this core state, apart from the fields that a region does
+  -- not keep
   pub traced : IsTraced lawful o core
   pub fitting : fits o.first
   pub bounded : o.last < VERSION_LIMIT
   pub some : 0 < o.stripes
 
--- P holds of what a region was opened with and its table's state, between any two steps of any
--- threads
+-- P holds of a region's opening and of its table's state, between any two steps of any threads
 abbrev pub Always : (List ℕ → Type 0) → RecordLaw →
     (Opened → State (Unit {0}) Client → Type 0) → Type 0
 Always fits lawful P = (o : Opened) (s : State (Unit {0}) Client) → IsCoreState fits lawful o s
     → P o s
 
--- P holds of each client's value
+-- P holds of the value of each client
 abbrev pub OfEach : State (Unit {0}) Client → (Client → Type 0) → Type 0
 OfEach s P = (i : ℕ) (v : Client) → get_elem? s.views i ≡ some v → P v
 
--- P holds of the values of each two clients
+-- P holds of the values of every two clients
 abbrev pub OfEachTwo : State (Unit {0}) Client → (Client → Client → Type 0) → Type 0
 OfEachTwo s P = (i j : ℕ) (v w : Client) → i ≢ j → get_elem? s.views i ≡ some v
     → get_elem? s.views j ≡ some w → P v w

@@ -1,4 +1,4 @@
--- What contracts see of a region and of its clients.
+-- A region and its clients as contracts see them.
 use Rattle.std.specs.Prelude.{◌≡◌, ◌≢◌, ℕ, ◌+◌, ◌<◌, min, length, List, [], Option, None, Some, Result, MatchResult}
 use Rattle.atomic_table.specs.Seated.{TableId}
 use Rattle.stm_core.specs.Client.{Client, Stamp, Step, nothing, began, probed, fetched, checked, locked, ticked, validated, ended, RecordLaw}
@@ -6,9 +6,9 @@ use Rattle.stm_core.specs.Guards.{May, stripe_of}
 use Rattle.stm_core.specs.Event.{Action, Bounds, after, giving, fresh, taking, renewing, opener}
 use Rattle.stm_region.specs.declared.limits.TheConstants.{MOST_GRANTS}
 
--- what a region was opened with: the data words, the last version, how many lock words; and since
--- renewals: the data words of the first opening, how many renewals there were, and the value of
--- the client that opened, which has all records of earlier renewals
+-- the opening of a region: the data words, the last version and the number of lock words. After
+-- renewals also: the data words of the first opening, the number of renewals, and the value of the
+-- opening client, which has all records of earlier renewals
 pub record Opened : Type 0 where
   pub image : List ℕ
   pub last : ℕ
@@ -17,7 +17,7 @@ pub record Opened : Type 0 where
   pub renewal : ℕ
   pub start : Client
 
--- a region: which table it is, how many data words it has, and what it was opened with
+-- a region: its table, its number of data words, and its opening
 pub record RegionShown : Type 0 where
   pub table : TableId
   pub size : ℕ
@@ -28,12 +28,12 @@ pub record RegionShown : Type 0 where
   pub renewal : ℕ
   pub start : Client
 
--- a client: of which table it is, and its value
+-- a client: its table and its value
 pub record ClientShown : Type 0 where
   pub table : TableId
   pub value : Client
 
--- a table that is none
+-- a table that belongs to no region
 abbrev pub no_table : TableId
 no_table = record {
   words = 0;
@@ -45,7 +45,7 @@ no_table = record {
   slot_names = [];
 }
 
--- a region that is none
+-- the value that stands for no region
 abbrev pub nowhere : RegionShown
 nowhere = record {
   table = no_table;
@@ -58,7 +58,7 @@ nowhere = record {
   start = opener;
 }
 
--- what the rule of the region's table was given at the opening
+-- the opening of a region, as the invariant of its table was given it
 abbrev pub opened_with : RegionShown → Opened
 opened_with r = record {
   image = r.opening;
@@ -69,7 +69,7 @@ opened_with r = record {
   start = r.start;
 }
 
--- the region as its table shows it, with its own numbers
+-- the region that a table shows, with the region's own numbers
 abbrev pub region_of : TableId → ℕ → ℕ → ℕ → Opened → RegionShown
 region_of table size last stripes o = record {
   table = table;
@@ -82,7 +82,7 @@ region_of table size last stripes o = record {
   start = o.start;
 }
 
--- a region that was opened on an image for the first time
+-- a region that was opened on an image, before any renewal
 abbrev pub opened_on : TableId → List ℕ → ℕ → ℕ → RegionShown
 opened_on table image last stripes = record {
   table = table;
@@ -95,15 +95,16 @@ opened_on table image last stripes = record {
   start = opener;
 }
 
--- what bounds the events of a region: its last version, its lock words and its data words
+-- the bounds of a region's events: its last version, its numbers of lock words and of data words
 abbrev pub bounds : RegionShown → Bounds
 bounds r = record { last = r.last; stripes = r.stripes; size = r.size }
 
--- a step of a region keeps no place in a list of events
+-- the stamp of a region's step: the region keeps no position in a list of events and no client
+-- number
 abbrev pub unplaced : ℕ → Stamp
 unplaced n = record { client = 0; place = 0; renewal = n }
 
--- this client's value allows the step in the region
+-- the client's value allows the step in the region
 abbrev pub MayStep : RecordLaw → RegionShown → Action → Client → Type 0
 MayStep lawful r step v = May lawful (stripe_of r.stripes) (bounds r) step v
 
@@ -121,25 +122,26 @@ acted r step word c = record c {
   value = after (unplaced r.renewal) (stripe_of r.stripes) step word c.value;
 }
 
--- the client after an exchange of this word: it was won, or it found another word
+-- the client after a compare-and-exchange of this word, which succeeded or found another word
 abbrev pub Exchanged : {A : Type 0} → RegionShown → Action → ℕ → Result A ℕ → ClientShown →
     ClientShown → Type 0
 Exchanged r step word result before now =
     MatchResult result (λ _. now ≡ acted r step word before)
     (λ found. (found ≢ word) × (now ≡ acted r step found before))
 
--- a client split another off, which cost it a grant
+-- the client split another client off, which cost one grant
 abbrev pub HasSplit : ClientShown → ClientShown → ClientShown → Type 0
 HasSplit before now other =
     (0 < before.value.grants) × (now ≡ record before { value = giving before.value })
     × (other ≡ record before { value = fresh before.value })
 
--- a client with the records and grants of another and one grant more: never more than all grants,
--- as those of all clients that are out and these clients themselves make one more
+-- a client with the records and grants of another client, and one grant more. The number of grants
+-- never exceeds the most: the grants of all clients that are out, with one for each of these
+-- clients, make 64
 abbrev pub with_gathered : Client → Client → Client
 with_gathered v w = record (taking v w) { grants = min (v.grants + w.grants + 1) MOST_GRANTS }
 
--- the client's own number is the word of its last step, where that was a probe
+-- if the client's last step was a probe, the field `probed` is the word that the probe found
 abbrev pub KeepsProbe : ℕ → Step → Type 0
 KeepsProbe word nothing = Unit {0}
 KeepsProbe word (began n) = Unit {0}
@@ -151,13 +153,13 @@ KeepsProbe word (ticked f m) = Unit {0}
 KeepsProbe word (validated k n) = Unit {0}
 KeepsProbe word (ended n) = Unit {0}
 
--- the words of the first opening: those of the opening before any renewal, or this one's
+-- the words of the first opening: those kept by a renewed region, else those of this opening
 abbrev pub first_words : List ℕ → Option (List ℕ) → List ℕ
 first_words image None = image
 first_words image (Some words) = words
 
--- the client that a region begins with: the one that closed the region before, without its
--- attempt, or the first of all
+-- the value of a region's first client: that of the client that closed the region before, without
+-- its attempt, or that of a new client
 abbrev pub started : Option Client → Client
 started None = opener
 started (Some v) = renewing v

@@ -1,5 +1,6 @@
-//! The kinds of atomic step on the table (load, exchange, store, and the subtraction that gives
-//! a lock back), whose event the proof picks.
+//! The kinds of atomic access to the table: load, exchange, store, and the subtraction that gives
+//! a lock back. The proof picks the event that an access stands for. Parameters that a body does
+//! not use are for the proof, which needs them to name the event.
 ghost use Rattle.std.specs.Prelude.{◌≡◌, ℕ, ◌+◌, ◌-◌, ◌<◌, ◌^◌};
 ghost use Rattle.stm_core.specs.Core.{left};
 ghost use Rattle.stm_core.specs.Event.{tick as ticks, give_back as gives_back, finish as finishes};
@@ -16,7 +17,7 @@ use std::alloc::Allocator;
 use stm_words::{Law, Tag, Version, Writes};
 
 impl<L: Law, A: Allocator> Region<L, A> {
-    /// A load. The number, a lock or an address, is for the proof alone.
+    /// Loads a word.
     #[inline]
     pub(crate) fn load_as<T: Acting>(
         &self,
@@ -35,7 +36,7 @@ impl<L: Law, A: Allocator> Region<L, A> {
         self.table.shared.load::<Acts<L, T>>(seat, word)
     }
 
-    /// A compare-and-exchange from a word to the next.
+    /// Compares a word with `from` and exchanges it for the next word. Returns the word found.
     #[inline]
     pub(crate) fn exchange_as<T: Acting>(
         &self,
@@ -58,7 +59,7 @@ impl<L: Law, A: Allocator> Region<L, A> {
             .compare_exchange::<Acts<L, T>>(seat, word, from, from + 1)
     }
 
-    /// A store.
+    /// Stores a word.
     #[inline]
     pub(crate) fn store_as<T: Acting>(
         &self,
@@ -78,7 +79,8 @@ impl<L: Law, A: Allocator> Region<L, A> {
         self.table.shared.store::<Acts<L, T>>(seat, word, new)
     }
 
-    /// A held lock word less 1 is the free word of its version.
+    /// Gives a lock back by subtracting 1: a held lock word less 1 is the free word of its old
+    /// version.
     #[inline]
     pub(crate) fn give_back_as<T: Acting>(
         &self,
@@ -102,7 +104,7 @@ impl<L: Law, A: Allocator> Region<L, A> {
         self.table.shared.fetch_sub::<Acts<L, T>>(seat, word, 1);
     }
 
-    /// The tick of a record with this tag and these writes.
+    /// Ticks the clock for a record with this tag and these writes. Returns the version found.
     #[inline]
     pub(crate) fn tick_as<S: Acting, T: Tag, W: Writes>(
         &self,
@@ -123,7 +125,7 @@ impl<L: Law, A: Allocator> Region<L, A> {
         self.exchange_as::<S>(seat, CLOCK, from.get(), 0)
     }
 
-    /// The load that ends an attempt with this tag.
+    /// Loads the clock, which ends an attempt with this tag.
     #[inline]
     pub(crate) fn finish_as<S: Acting, T: Tag>(&self, seat: &mut Seat<(), View>, tag: &T) -> u64
         requires told { S.region ≡ self.now }

@@ -11,17 +11,17 @@ use atomic_table::Seat;
 use std::marker::{Model, PhantomData};
 use stm_words::{Law, Version};
 
-/// A client of a region: the right to make its steps. Contracts see which table it belongs to and
-/// its value: its running attempt, the locks that it holds and the records of its commits.
+/// A client of a region: the right to make its steps. Contracts see the client's table and its
+/// value: its running attempt, the locks that it holds and the records of its commits.
 ///
-/// A client that is dropped and not gathered is out for good: its region can then be neither closed
-/// nor renewed, and a lock that it held stays held.
+/// A client that is dropped without being gathered stays out for good: its region can then be
+/// neither closed nor renewed, and a lock that it held stays held.
 pub struct Client<L: Law> {
     pub(crate) seat: Seat<(), View>,
     pub(crate) grants: u64,
-    /// The word that its last probe found.
+    /// The word that the client's last probe found.
     pub(crate) probed: u64,
-    /// Its write version, 0 for none.
+    /// The write version, 0 for none.
     pub(crate) version: Version,
     pub(crate) law: PhantomData<L>,
 }
@@ -44,7 +44,7 @@ impl<L: Law> Model for Client<L> {
 }
 
 impl<L: Law> Client<L> {
-    /// A client that has made no step, with this many grants.
+    /// Returns a client that has made no step, with this many grants.
     pub(crate) fn of_seat(seat: Seat<(), View>, grants: u64) -> Client<L>
         requires none { (seat.me.1 ≡ []) × (seat.me.0.attempt.wv ≡ 0)
             × (seat.me.0.attempt.last ≡ nothing) }
@@ -61,7 +61,7 @@ impl<L: Law> Client<L> {
         }
     }
 
-    /// The seat, and the number of grants.
+    /// Returns the seat and the number of grants.
     pub(crate) fn into_parts(self) -> (Seat<(), View>, u64)
         ensures seat { (result.0.table_id ≡ self.table) × (result.0.me ≡ (self.value, [])) }
         ensures grants { (result.1 ≡ self.value.grants) × (result.1 ≤ MOST_GRANTS) }

@@ -1,4 +1,4 @@
-//! The end of a region.
+//! Closing a region.
 ghost use Rattle.std.specs.Prelude.{◌≡◌, ◌+◌, ◌≤◌, ◌<◌, ◌++◌, ◌∷◌, [], drop, length, slice_index, vec_len, vec_capacity, IfOk, IfErr};
 ghost use Rattle.std.specs.Slots.{slots_items, slots_len, IsFull};
 ghost use Rattle.stm_core.specs.Core.{IsFreeHanded};
@@ -14,7 +14,7 @@ use atomic_table::Closed;
 use std::alloc::Allocator;
 use stm_words::{Law, Version};
 
-/// There is room.
+/// Appends a word without allocating: the caller has reserved the room.
 fn push<A: Allocator>(words: &mut Vec<u64, A>, word: u64)
     requires { vec_len words.old < vec_capacity words.old }
     ensures items { words.new.items ≡ words.old.items ++ word ∷ [] }
@@ -25,7 +25,7 @@ fn push<A: Allocator>(words: &mut Vec<u64, A>, word: u64)
     }
 }
 
-/// The clock, and the words from a place on.
+/// Appends the words from the index `from` on, and returns the clock.
 fn unload<A: Allocator, B: Allocator>(
     closed: &Closed<(), A>,
     from: usize,
@@ -49,9 +49,9 @@ fn unload<A: Allocator, B: Allocator>(
 type Kept<L, A> = (Region<L, A>, Client<L>, RegionFault);
 
 impl<L: Law, A: Allocator> Region<L, A> {
-    /// Ends the region, where every other client was gathered, and returns its data words and its
-    /// clock. The clock is the client's floor. A refusal gives the region and the client back as
-    /// they were.
+    /// Closes the region if every other client was gathered, and returns its data words and its
+    /// clock. The clock is the client's floor. A refusal returns the region and the client as they
+    /// were.
     pub fn close<B: Allocator>(
         self,
         alloc: B,
@@ -75,7 +75,8 @@ impl<L: Law, A: Allocator> Region<L, A> {
         Ok((words, version))
     }
 
-    /// The words go into a vector that has room for them.
+    /// Moves the data words into a vector with room for them, and returns the clock. The room is
+    /// reserved before, so that no memory can be refused here.
     pub(crate) fn take_out<B: Allocator>(
         self,
         client: Client<L>,

@@ -1,4 +1,4 @@
-//! Where the words of a region are in its table: the clock, a gap, the lock words, a padding and
+//! The positions of a region's words in its table: the clock, a gap, the lock words, a padding and
 //! the data words. Lock words and data words begin with a cache line.
 ghost use Rattle.std.specs.Prelude.{◌≡◌, ◌+◌, ◌%◌, ◌++◌, ◌≤◌, length, replicate, IfOk};
 ghost use Rattle.stm_region.specs.Layout.{first_cell, padding};
@@ -6,23 +6,23 @@ ghost use Rattle.stm_region.specs.Layout.{first_cell, padding};
 use crate::limits::{MOST_STRIPES, MOST_WORDS};
 use std::alloc::{AllocError, Allocator};
 
-/// The place of the clock.
+/// Index of the clock.
 pub(crate) const CLOCK: usize = 0;
 
-/// How many words a cache line has.
+/// Number of words in a cache line.
 const LINE_WORDS: usize = 8;
 
-/// How many places after a multiple of a line a line of the table begins: the usual allocator puts
-/// a table 16 bytes after the start of a line.
+/// Index in the table, modulo the words of a line, at which a cache line begins. The usual
+/// allocator puts a table 16 bytes after the start of a line.
 const LINE_START: usize = 6;
 
-/// The place of the first lock word, where a line begins. One line is left empty before it, so that
+/// Index of the first lock word, at which a line begins. One line is left empty before it, so that
 /// the clock shares neither its own line nor the next with a lock word.
 pub(crate) const FIRST_LOCK: usize = LINE_WORDS + LINE_START;
 
 const _: () = prove!(FIRST_LOCK % LINE_WORDS == LINE_START);
 
-/// The words of a region at its opening: the clock and the lock words at 0, and the image.
+/// Returns the words of a region at its opening: the clock and the lock words at 0, and the image.
 pub(crate) fn lay_out<A: Allocator>(
     alloc: A,
     image: &[u64],
@@ -41,7 +41,7 @@ pub(crate) fn lay_out<A: Allocator>(
     Ok(words)
 }
 
-/// The place of the first data word, where a line begins.
+/// Returns the index of the first data word, at which a line begins.
 pub(crate) fn first_cell(stripes: u32) -> usize
     requires { stripes ≤ MOST_STRIPES }
     ensures place { result ≡ first_cell stripes }
@@ -50,7 +50,8 @@ pub(crate) fn first_cell(stripes: u32) -> usize
     FIRST_LOCK + stripes as usize + padding(stripes)
 }
 
-/// How many words are between the lock words and the data words: the rest of a line.
+/// Returns the number of words between the lock words and the data words, which fill the last line
+/// of the lock words.
 fn padding(stripes: u32) -> usize
     requires { stripes ≤ MOST_STRIPES }
     ensures { result ≡ padding stripes }

@@ -1,5 +1,5 @@
 //! The shared words of a transactional memory: a version clock, versioned lock words and data
-//! words, which many clients step on one atomic step at a time.
+//! words, which many clients access by atomic steps.
 //!
 //! The steps are those of Transactional Locking II (Dice, Shalev, Shavit, DISC 2006). Between any
 //! two steps of any threads the words and the clients' values meet the version invariant of

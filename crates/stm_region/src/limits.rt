@@ -1,8 +1,8 @@
-//! The numbers that bound a region.
+//! The bound of a region's clients.
 
 pub use stm_core::{MOST_RENEWALS, MOST_STRIPES, MOST_WORDS};
 pub use stm_words::VERSION_LIMIT;
 
-/// How many other clients the first client may split off; a client with this many grants is the
+/// Number of clients that the first client may split off. A client with this many grants is the
 /// only one out.
 pub const MOST_GRANTS: u64 = stm_core::MOST_GRANTS as u64;

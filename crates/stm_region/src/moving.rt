@@ -1,5 +1,5 @@
-//! What each move of a region's table does to the clients that make it, and what the steps on the
-//! table tell. These types are for the proofs alone.
+//! The effect of each move of a region's table on the clients that make it, and the facts that
+//! steps on the table report. These types are for the proofs alone.
 
 ghost use Rattle.stm_core.specs.Event.{Action, begin, giving, fresh, gone};
 ghost use Rattle.stm_region.specs.Shown.{RegionShown, with_gathered, nowhere};
@@ -10,7 +10,7 @@ use atomic_table::{Join, Play, Split};
 use std::marker::{Brand, PhantomData};
 use stm_words::Law;
 
-/// Which step it is, and of which region.
+/// The step of a region that an access stands for.
 pub trait Acting {
     ghost action: { Action };
 
@@ -23,7 +23,7 @@ impl Acting for Brand {
     ghost region = { nowhere };
 }
 
-/// The step has the event's effect on the client's value.
+/// A step: it has the event's effect on the client's value.
 pub struct Acts<L, T> {
     of: PhantomData<(L, T)>,
 }
@@ -32,7 +32,7 @@ impl<L: Law, T: Acting> Play<(), View> for Acts<L, T> {
     ghost then = { λ s m n w. acting L.fits L.lawful T.region T.action s m n w };
 }
 
-/// A grant goes to a new client.
+/// A split: one grant goes to a new client.
 pub struct Gives;
 
 impl Split<View> for Gives {
@@ -41,7 +41,7 @@ impl Split<View> for Gives {
     ghost right = { fresh };
 }
 
-/// The second client's records and grants go to the first.
+/// A gathering: the second client's records and grants go to the first client.
 pub struct Takes;
 
 impl Join<View> for Takes {

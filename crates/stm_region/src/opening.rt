@@ -1,4 +1,4 @@
-//! What a region's table is opened with, and its rule.
+//! The opening of a region's table, and its invariant.
 
 ghost use Rattle.stm_region.specs.Rule.{IsCoreState};
 
@@ -10,9 +10,9 @@ use std::marker::{Model, PhantomData};
 use std::snapshot::Snapshot;
 use stm_words::Law;
 
-/// What the rule of a region's table is given once: the words at the opening, the last version and
-/// how many lock words there are; and, where it was renewed, the words of the first opening, how
-/// many renewals there were, and the seat that was the last one of the table before.
+/// The opening of a region, which the invariant of its table is given once: the words at the
+/// opening, the last version and the number of lock words. After a renewal also: the words of the
+/// first opening, the number of renewals, and the last seat of the table before.
 #[derive(Drop)]
 pub struct Opening<A: Allocator = Global> {
     pub(crate) words: Snapshot<Vec<u64, A>>,
@@ -43,7 +43,8 @@ impl<A: Allocator> Model for Opening<A> {
     } };
 }
 
-/// The table's words and the clients' values are a core state that meets the version invariant.
+/// The invariant of a region's table: its words and the clients' values are a core state that
+/// meets the version invariant.
 pub struct RegionRule<L> {
     of: PhantomData<L>,
 }

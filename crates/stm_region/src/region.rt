@@ -1,4 +1,4 @@
-//! The region: its opening, and the splitting and gathering of its clients.
+//! The region: opening it, and splitting and gathering its clients.
 ghost use Rattle.std.specs.Prelude.{◌≡◌, ◌+◌, ◌<◌, length, IfOk, IfErr};
 ghost use Rattle.stm_region.specs.declared.fault.RegionFault.TheVariants.{Clients};
 ghost use Rattle.std.specs.Prelude.{◌⊎◌};
@@ -27,16 +27,16 @@ use std::snapshot::Snapshot;
 use stm_words::{Law, Version};
 use tx_memory::Addr;
 
-/// The shared words of a transactional memory. Contracts see which table it is, its size, and the
-/// image, the last version and the number of lock words that it was opened with.
+/// The shared words of a transactional memory. Contracts see the region's table, its size, and the
+/// image, the last version and the number of lock words of its opening.
 pub struct Region<L: Law, A: Allocator = Global> {
     pub(crate) table: Table<(), View, Opening<A>, RegionRule<L>, A>,
     pub(crate) size: usize,
     pub(crate) last: Version,
     pub(crate) stripes: u32,
-    /// The place of the first data word.
+    /// Index of the first data word.
     pub(crate) cells: usize,
-    /// How many renewals there were.
+    /// Number of renewals so far.
     pub(crate) renewal: u32,
 }
 
@@ -80,9 +80,9 @@ impl<L: Law, A: Allocator> Drop for Region<L, A> {
 }
 
 impl<L: Law, A: Allocator + Copy> Region<L, A> {
-    /// Opens a region on an image, and returns it with its first client. The clock and all lock
-    /// words are 0. The client's floor is 0 and it has all grants, so its first attempt begins at
-    /// version 0.
+    /// Opens a region on an image, and returns the region with its first client. The clock and all
+    /// lock words are 0. The client's floor is 0 and the client has all grants, so its first
+    /// attempt begins at version 0.
     pub fn new(
         alloc: A,
         image: &[u64],
@@ -130,7 +130,7 @@ impl<L: Law, A: Allocator + Copy> Region<L, A> {
 }
 
 impl<L: Law, A: Allocator> Region<L, A> {
-    /// How many data words it has.
+    /// Returns the number of data words.
     #[inline]
     pub fn size(&self) -> usize
         ensures { result ≡ self.now.size }
@@ -138,7 +138,7 @@ impl<L: Law, A: Allocator> Region<L, A> {
         self.size
     }
 
-    /// The last version that the clock may reach.
+    /// Returns the last version that the clock may reach.
     #[inline]
     pub fn last(&self) -> Version
         ensures { result ≡ self.now.last }
@@ -146,7 +146,7 @@ impl<L: Law, A: Allocator> Region<L, A> {
         self.last
     }
 
-    /// How often its clock was renewed.
+    /// Returns the number of renewals of the region's clock.
     #[inline]
     pub fn renewal(&self) -> u32
         ensures { result ≡ self.now.renewal }
@@ -154,7 +154,7 @@ impl<L: Law, A: Allocator> Region<L, A> {
         self.renewal
     }
 
-    /// The number of the lock of an address.
+    /// Returns the number of the lock that covers an address.
     #[inline]
     pub fn lock_of(&self, addr: Addr) -> u32
         requires { addr.0 < self.now.size }
@@ -185,10 +185,11 @@ impl<L: Law, A: Allocator> Region<L, A> {
         Ok(Client::of_seat(seat, 0))
     }
 
-    /// Gathers another client: this one gets its records, its grants and one grant more.
+    /// Gathers another client: `client` gets the other's records, its grants and one grant more.
     ///
     /// Not said: that a client ever comes back; that no client gets more than 63 grants in this
-    /// way, which is the law `gathering_keeps_all_grants` of two clients that are out in one state.
+    /// way, which is the law `gathering_keeps_all_grants` of two clients that are out in one
+    /// state.
     pub fn gather(&self, client: &mut Client<L>, other: Client<L>)
         requires own { (client.old.table ≡ self.now.table) × (other.table ≡ self.now.table) }
         requires free_handed { IsFreeHanded client.old.value × IsFreeHanded other.value }

@@ -18,13 +18,13 @@ use std::alloc::{Allocator, Global};
 use std::snapshot::Snapshot;
 use stm_words::{Law, Version};
 
-/// Why a region was not renewed.
+/// The reason why a region was not renewed.
 #[derive(Drop)]
 pub enum RenewFault<L: Law, A: Allocator = Global> {
-    /// The region and its client are as they were.
+    /// The region and its client are as they were before the call.
     Kept(Region<L, A>, Client<L>, RegionFault),
-    /// There was no memory for the new words once the old ones were out: the region is closed, and
-    /// these are its data words and its clock.
+    /// Memory for the new words was refused after the old words were taken out. The region is
+    /// closed; these are its data words and its clock.
     Closed(Vec<u64, A>, Version),
 }
 
@@ -36,7 +36,7 @@ impl<L: Law, A: Allocator> Names<Region<L, A>> for FirstWords {
 }
 
 impl<L: Law, A: Allocator> Region<L, A> {
-    /// Room for the words of a renewal, or the first reason against it.
+    /// Reserves room for the words of a renewal, or returns the first reason against the renewal.
     fn room_to_renew(
         &self,
         alloc: A,
@@ -65,10 +65,10 @@ impl<L: Law, A: Allocator> Region<L, A> {
 }
 
 impl<L: Law, A: Allocator + Copy> Region<L, A> {
-    /// Renews the clock, which may then reach this last version, and keeps the data words: takes
-    /// the words out and opens a region on them, with as many lock words, where every other client
-    /// was gathered. The client keeps its records and its grants. Its floor is 0 now, as the clock
-    /// is, so its next attempt begins at version 0.
+    /// Renews the clock, which may then reach the version `last`, and keeps the data words. Takes
+    /// the words out and opens a region on them with the same number of lock words, if every other
+    /// client was gathered. The client keeps its records and its grants. Its floor is 0 now, as
+    /// the clock is, so its next attempt begins at version 0.
     pub fn renew(
         self,
         alloc: A,

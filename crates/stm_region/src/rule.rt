@@ -1,4 +1,4 @@
-//! What the rule of a region's table says, as laws.
+//! Laws of a region between any two steps of any threads.
 ghost use Rattle.std.specs.Prelude.{◌≡◌, false, map};
 ghost use Rattle.tx_memory.specs.Image.{In, Agrees};
 ghost use Rattle.stm_core.specs.Client.{Record, shed};
@@ -10,17 +10,19 @@ ghost use Rattle.stm_region.specs.Running.{IsListed};
 
 use stm_words::Law;
 
-/// Running threads are a list of events: between any two steps of any threads a list of allowed
-/// events, with each renewal as an event, leads from the first opening to a core with the table's
-/// words and clients, so that the core theorem holds of them. The core has what a region does not
-/// keep too: the places of the events, whose a record is, and clients that were gathered before a
-/// renewal; of its records, readers of one version may be in another order.
+/// States that running threads are a list of events: between any two steps of any threads, a list
+/// of allowed events leads from the first opening to a core with the table's words and clients.
+/// Each renewal is an event of the list. So the core theorem holds of the table. The core also has
+/// what a region does not keep: the positions of the events, the client of each record, and
+/// clients that were gathered before a renewal. Of its records, readers of one version may be in
+/// another order.
 pub fn running_threads_are_a_list<L: Law>()
     ensures { Always L.fits L.lawful (λ o s. IsListed L.lawful o s) }
 {}
 
-/// Between any two steps of any threads the records of all clients are lawful and serial from the
-/// first opening image, and each client's own are among them, each once and in their order.
+/// States that between any two steps of any threads the records of all clients are lawful and
+/// serial from the first opening image. Each client's own records are among them, each once and in
+/// their order.
 ///
 /// Not said: any order in time between clients that are out.
 pub fn records_are_serial<L: Law>()
@@ -31,16 +33,16 @@ pub fn records_are_serial<L: Law>()
         OfEach s (λ v. Sub v.records (all_records s.views))) }
 {}
 
-/// Between any two steps all words that an attempt has read are those of the image of its read
-/// version.
+/// States that between any two steps of any threads all words that an attempt has read are those
+/// of the image of its read version.
 pub fn reads_are_of_one_version<L: Law>()
     ensures { Always L.fits L.lawful (λ o s. OfEach s (λ v.
         Agrees (image_at o.image v.attempt.rv (all_records (map (shed o.renewal) s.views)))
         v.attempt.reads)) }
 {}
 
-/// Gathering takes no grant away: two clients that are out have fewer grants together than there
-/// are, so the bound in `with_gathered` is never met.
+/// States that gathering takes no grant away: two clients that are out have fewer grants together
+/// than there are, so the bound in `with_gathered` is never reached.
 pub fn gathering_keeps_all_grants<L: Law>()
     ensures { Always L.fits L.lawful (λ o s. OfEachTwo s (λ v w.
         v.is_gathered ≡ false → w.is_gathered ≡ false → with_gathered v w ≡ taking v w)) }

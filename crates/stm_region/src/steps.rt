@@ -1,4 +1,4 @@
-//! The steps: each is one atomic step on one word, and one event of the core.
+//! The steps of a client: each is one atomic access to one word, and one event of the core.
 ghost use Rattle.std.specs.Prelude.{◌≡◌, ℕ, ◌+◌, ◌<◌, ◌≤◌, ◌==◌, true, [], MatchResult, IfErr, IsOk};
 ghost use Rattle.stm_core.specs.Client.{word_before, decided};
 ghost use Rattle.stm_core.specs.Event.{begin as begins, probe as probes, fetch as fetches, check as checks, lock as locks, tick as ticks, validate as validates, put as puts, release as releases, give_back as gives_back, finish as finishes};
@@ -20,8 +20,8 @@ use stm_words::{Law, LockWord, Tag, Version, Writes};
 use tx_memory::Addr;
 
 impl<L: Law, A: Allocator> Region<L, A> {
-    /// Begins an attempt: one load of the clock, which is the read version. A client with all
-    /// grants is the only one out, so that it finds its floor, the version that it knows.
+    /// Begins an attempt: loads the clock, which gives the read version. A client with all grants
+    /// is the only one out, so that it finds its floor, the version that it knows.
     #[inline]
     pub fn begin(&self, client: &mut Client<L>) -> Version
         requires own { client.old.table ≡ self.now.table }
@@ -61,7 +61,7 @@ impl<L: Law, A: Allocator> Region<L, A> {
         found
     }
 
-    /// Loads the data word of an address, whose lock was found free.
+    /// Loads the data word of an address whose lock was found free.
     #[inline]
     pub fn fetch(&self, client: &mut Client<L>, addr: Addr) -> u64
         requires own { client.old.table ≡ self.now.table }
@@ -73,8 +73,8 @@ impl<L: Law, A: Allocator> Region<L, A> {
         self.load_as::<Brand>(&mut client.seat, self.cells + addr.0 as usize, addr.0)
     }
 
-    /// Loads the lock word of an address again, whose lock has the given number. Where it is as it
-    /// was, the value fetched enters the reads.
+    /// Loads the lock word of an address again; `lock` is the number of that lock. If the word has
+    /// not changed, the value fetched enters the reads.
     #[inline]
     pub fn check(&self, client: &mut Client<L>, addr: Addr, lock: u32) -> u64
         requires own { client.old.table ≡ self.now.table }
@@ -92,8 +92,8 @@ impl<L: Law, A: Allocator> Region<L, A> {
         self.load_as::<Brand>(&mut client.seat, FIRST_LOCK + lock as usize, addr.0)
     }
 
-    /// Takes a lock that the last step, a probe, found free: one compare-and-exchange. Where it
-    /// loses, the word found is returned.
+    /// Takes a lock that the last step, a probe, found free, by one compare-and-exchange. Returns
+    /// the word found if the exchange fails.
     #[inline]
     pub fn lock(&self, client: &mut Client<L>, lock: u32) -> Result<(), u64>
         requires own { client.old.table ≡ self.now.table }
@@ -123,10 +123,10 @@ impl<L: Law, A: Allocator> Region<L, A> {
         Err(found)
     }
 
-    /// Ticks the clock from this version to the next, which becomes the write version: one
-    /// compare-and-exchange. Tag and writes are those of the attempt's record. Where nothing was
-    /// read, or the write version is the next after the read version, the attempt is decided.
-    /// Returns the write version, or, where the exchange loses, the version found.
+    /// Ticks the clock from this version to the next, which becomes the write version, by one
+    /// compare-and-exchange. Tag and writes are those of the attempt's record. If nothing was
+    /// read, or the write version follows the read version, the attempt is decided. Returns the
+    /// write version, or the version found if the exchange fails.
     #[inline]
     pub fn tick<T: Tag, W: Writes>(
         &self,
@@ -210,7 +210,7 @@ impl<L: Law, A: Allocator> Region<L, A> {
         );
     }
 
-    /// Releases a lock with the write version.
+    /// Releases a lock by storing its word with the write version.
     #[inline]
     pub fn release(&self, client: &mut Client<L>, lock: u32)
         requires own { client.old.table ≡ self.now.table }
@@ -224,7 +224,7 @@ impl<L: Law, A: Allocator> Region<L, A> {
         self.store_as::<Brand>(&mut client.seat, FIRST_LOCK + lock as usize, word, lock);
     }
 
-    /// Gives a lock back with its old version. The attempt can only abort.
+    /// Gives a lock back with its old version. After this the attempt can only abort.
     #[inline]
     pub fn give_back(&self, client: &mut Client<L>, lock: u32)
         requires own { client.old.table ≡ self.now.table }
@@ -238,7 +238,7 @@ impl<L: Law, A: Allocator> Region<L, A> {
         client.version = as_version(0);
     }
 
-    /// Ends an attempt that wrote nothing, with one more load of the clock.
+    /// Ends an attempt without writes, by one more load of the clock.
     #[inline]
     pub fn finish<T: Tag>(&self, client: &mut Client<L>, tag: &T)
         requires own { client.old.table ≡ self.now.table }

@@ -5,7 +5,7 @@ ghost use Rattle.stm_words.specs.declared.version.TheConstants.{VERSION_LIMIT};
 
 use stm_words::Version;
 
-/// The version of a number that is one.
+/// Returns the version of a number that is in range.
 #[inline]
 pub(crate) fn as_version(number: u64) -> Version
     requires { number < VERSION_LIMIT }

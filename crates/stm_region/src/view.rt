@@ -1,8 +1,9 @@
-//! What a seat of a region's table knows.
+//! The knowledge of a seat of a region's table.
 
 use std::marker::Model;
 
-/// What a seat of the table knows: a client's value. No value of it is made.
+/// The knowledge of a seat of the table: the value of its client. It exists in proofs only; no
+/// value of this type is made.
 pub struct View {
     none: (),
 }

@@ -1,4 +1,4 @@
--- Which events the running core plays: those that may happen and have their number.
+-- The events that the running core plays: those that may happen and have their number.
 use Rattle.std.proofs.Common.{◌≡◌, ℕ, ◌<◌, true, nat_lt, length, refl}
 use Rattle.stm_core.specs.Core.{Core, Event, acts, splits, gathers, renews, may_play}
 use Rattle.stm_core.proofs.Conditions.{Decides, and2, bool_test, lt_test}
@@ -13,6 +13,6 @@ run_test lk (acts k e) c = record { sound = λ h. (h, refl); complete = λ h. h.
 run_test lk (gathers k j) c = record { sound = λ h. (h, refl); complete = λ h. h.0 }
 run_test lk (renews k last) c = record { sound = λ h. (h, refl); complete = λ h. h.0 }
 
--- a split has its number where there are fewer clients than numbers
+-- a split has its number if there are fewer clients than numbers
 pub numbered_split : (c : Core) (k : ℕ) → length c.clients < MOST_CLIENTS → has_number (splits k) c ≡ true
 numbered_split c k l = (lt_test (length c.clients) MOST_CLIENTS).complete l

@@ -112,7 +112,7 @@ entered_core : (rs : List Record) (s : Running) → (entered rs s).core ≡ s.co
 entered_core [] s = refl
 entered_core (r ∷ rs) s = refl
 
--- an event leads both to what shows the same
+-- an event keeps that the running core shows the core
 play_shown : (e : Event) (c : Core) (s : Running) → s.core ≡ shown_core c →
     (run_played e s).core ≡ shown_core (played (stripes_of c) e c)
 play_shown (acts k e) c s same =
@@ -176,7 +176,7 @@ filed_behind : (rs old h : List Record) → ((x y : Record) → In x old → In 
 filed_behind [] old h f = refl
 filed_behind (r ∷ rs) old h f = placed_behind r old h (λ x i. f x r i (placed_in r h))
 
--- an event brings what it decides to its place in the order
+-- an event puts its decision into the order of both cores
 play_order : (e : Event) (c : Core) (s : Running) (old h : List Record) → s.core ≡ shown_core c → ByPoint (old ++ h) →
     s.order ≡ order_of (old ++ h) → ((x y : Record) → In x (earlier_after e old h) →
     In y (history_after (stripes_of c) e c h) → x.point < y.point)
@@ -304,7 +304,7 @@ module _ (c : Core) (h : Inv free_law (stripes_of c) c) (low : c.last < 2 ^ 62) 
         (few_grants k j n (sym (out_shown c k) ∙ o) (sym (out_shown c j) ∙ p));
   }
 
--- what no event changes, and what every event keeps small
+-- the fields that no event changes, and the bounds that every event keeps
 leads_stays : (lk : ℕ → ℕ) (es : List Event) (c d : Core) → Leads free_law lk c es d → length d.locks ≡ length c.locks
 leads_stays lk [] c d e = ap (λ (x : Core). length x.locks) (sym e)
 leads_stays lk (a ∷ es) c d e = leads_stays lk es (played lk a c) d e.1 ∙ locks_stay lk a c
@@ -341,7 +341,7 @@ ran_beside (a ∷ es) old h s c d b e =
     (played (stripes_of c) a c) d (runs_next a old h s c b e.0)
     (subst (λ m. Leads free_law (stripe_of m) (played (stripes_of c) a c) es d) (sym n) e.1)
 
--- what stands beside a history has it for its order
+-- a running core beside a history has that history as its order
 order_beside : (old h : List Record) (s : Running) (c : Core) → RunsBeside old h s c →
     IsOrderOfCore c s.order.entries s.order.points
 order_beside old h s c b =

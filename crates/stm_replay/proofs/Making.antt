@@ -1,4 +1,4 @@
--- What an allowed event of a sane running core counts on.
+-- The bounds on which an allowed event of a sane running core relies.
 use Rattle.std.proofs.Common.{◌≡◌, ◌≢◌, ℕ, ◌+◌, ◌-◌, ◌%◌, ◌<◌, ◌≤◌, List, true, length, sym, subst, arith, ap}
 use Rattle.stm_core.specs.Client.{is_committed, word_before, IsFree}
 use Rattle.stm_core.specs.Event.{Action, probe, fetch, lock, tick, validate, put, release, give_back}

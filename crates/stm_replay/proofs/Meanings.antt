@@ -1,4 +1,4 @@
--- What tests over lists of pairs mean.
+-- The meaning of tests over lists of pairs.
 use Rattle.std.proofs.Common.{◌≡◌, ℕ, Bool, true, false, cond, ◌==◌, ◌||◌, not, List, [], ◌∷◌, refl, ap}
 use Rattle.std.specs.List.{list_any, filter}
 use Rattle.stm_core.specs.Client.{writes_to, without}

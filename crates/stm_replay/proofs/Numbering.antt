@@ -1,4 +1,4 @@
--- Numbers in the place of tags: each step does the same but for the tags.
+-- Numbers in the place of tags: each step has the same effect, apart from the tags.
 use Rattle.std.proofs.Common.{◌≡◌, ℕ, zero, suc, ◌+◌, ◌-◌, ◌<◌, Bool, true, false, cond, eqb, ◌&&◌, List, [], ◌∷◌, ◌++◌}
 use Rattle.std.proofs.Common.{length, set, map, refl, sym, ap, ◌∙◌, subst, arith}
 use Rattle.std.proofs.lemmas.List.{map-set, map-append, length-map}
@@ -134,7 +134,7 @@ module _ (number : List ℕ → ℕ) where
   client_numbered : (c : Core) (k : ℕ) → client_of (numbered_core number c) k ≡ numbered_client number (client_of c k)
   client_numbered c k = get_or-map (numbered_client number) c.clients (k - 1) gone
 
-  -- a step whose client may make it does the same with numbers
+  -- an allowed step has the same effect with numbers for the tags
   stepped_numbered : (t : Stamp) (lk : ℕ → ℕ) (e : Action) (i : ℕ) (v : Client) (c : Core) →
       ((n : ℕ) → numbered_client number (after t lk e n v) ≡ after t lk (numbered_action number e) n
       (numbered_client number v))
@@ -235,7 +235,7 @@ pub allowed_with_numbers : (lawful : RecordLaw) → AllowedWithNumbers lawful
 allowed_with_numbers lawful number image last stripes es c h =
     leads_numbered number lawful (stripe_of stripes) es (opened image last stripes) c h
 
--- a list leads to one core, under whatever laws
+-- a list leads to one core only, whatever the laws
 same_end : (l m : RecordLaw) (lk : ℕ → ℕ) (es : List Event) (a c d : Core) → Leads l lk a es c → Leads m lk a es d →
     c ≡ d
 same_end l m lk [] a c d p q = sym p ∙ q

@@ -1,4 +1,5 @@
--- What an attempt has read is what the committed attempts before its begin leave, then and after all later events.
+-- The words that an attempt has read are those that the committed attempts before its begin leave,
+-- at that time and after all later events.
 use Rattle.std.proofs.Common.{◌≡◌, ℕ, zero, suc, ◌+◌, ◌-◌, ◌≤◌, ◌<◌, ◌⊎◌, inl, inr, ⊎_elim, Bool, true, false, cond}
 use Rattle.std.proofs.Common.{eqb, leb, ltb, ◌||◌, List, [], ◌∷◌, ◌++◌, append_assoc, append-nil, length, slice_index}
 use Rattle.std.proofs.Common.{refl, sym, ap, ◌∙◌, subst, arith}
@@ -27,7 +28,7 @@ use Rattle.stm_core.proofs.Playing.{first_stays, opening_beside, is_history, eve
 use Rattle.stm_replay.specs.Opacity.{before_place, IsLive, EveryListIsOpaque}
 use Rattle.stm_replay.proofs.Placing.{one_history}
 
--- the value at an address behind some records, where d stood before them
+-- the value at an address after some records, if the value before them was d
 abbrev over_all : ℕ → List Record → ℕ → ℕ
 over_all d [] a = d
 over_all d (r ∷ rs) a = over_all (value_over d r.writes a) rs a
@@ -72,13 +73,13 @@ before_all p (r ∷ rs) f =
     let l : ltb r.point p ≡ true = (let h = f r (0, refl) in grind (arith, nat_tests)) in
     rw l (ap (λ l. r ∷ l) (before_all p rs (λ x i. f x (suc i.0, i.1))))
 
--- the value behind both parts of the records
+-- the value after both parts of the records
 parted : (p : ℕ) (old h : List Record) (d a : ℕ)
     → over_all d (before_place p (old ++ h)) a ≡ over_all (over_all d (before_place p old) a) (before_place p h) a
 parted p old h d a =
     ap (λ l. over_all d l a) (before_append p old h) ∙ over_append (before_place p old) (before_place p h) d a
 
--- a record that is of no concern: it stands behind the place, or does not write the address
+-- a record that does not matter: it stands after the position, or does not write the address
 abbrev Spares : Record → ℕ → ℕ → Type 0
 Spares r p a = ltb r.point p ≡ true → (d : ℕ) → value_over d r.writes a ≡ d
 
@@ -109,8 +110,8 @@ placed_same r p a s (x ∷ l) d = go (ltb r.point x.point) (λ e. placed_same r 
     go true f = in_front r p a s (before_place p (x ∷ l)) d
     go false f = both_front x p a (before_place p (placed r l)) (before_place p l) f d
 
--- what was read agrees with what the records before the place leave, and who is to write, and won its tick before
--- the place, writes nothing of it
+-- the reads agree with what the records before the position leave, and no client that is still to
+-- write and won its tick before the position writes any of the addresses read
 pub record Fits (first : List ℕ) (p : ℕ) (reads : List (ℕ × ℕ)) (old h : List Record) (c : Core) : Type 0 where
   pub agrees : (a x : ℕ) → In (a, x) reads
       → (a < length first) × (over_all (slice_index first a) (before_place p (old ++ h)) a ≡ x)
@@ -118,13 +119,13 @@ pub record Fits (first : List ℕ) (p : ℕ) (reads : List (ℕ × ℕ)) (old h 
       → o.attempt.ticked_at < p → In (a, x) reads → writes_to o.attempt.writes a ≡ false
   pub past : p ≤ c.events
 
--- a record of a core beside its history that is no writer's writes nothing
+-- a record in the history of a core that is no writer's record has no writes
 reader_writes : (lawful : RecordLaw) (lk : ℕ → ℕ) (old h : List Record) (c : Core) → Beside lawful lk old h c
     → (r : Record) → In r h → r.writer ≡ false → r.writes ≡ []
 reader_writes lawful lk old h c b r m w =
     let q = b.dated.only r m in ((b.rule.inv.filed.filed q.0 q.1 q.2).told r q.3).reader w
 
--- it stays so through an event
+-- the reads still fit after an event
 module _ (lawful : RecordLaw) (lk : ℕ → ℕ) (start : Core) (es : List Event) (c : Core) (old h : List Record)
     (t : Trace lk start es c (old ++ h)) (first : List ℕ) (p : ℕ) (reads : List (ℕ × ℕ))
     (f : Fits first p reads old h c) where
@@ -194,7 +195,8 @@ module _ (lawful : RecordLaw) (lk : ℕ → ℕ) (start : Core) (es : List Event
     past = let l = f.past in let n : (played lk (renews k last) c).events ≡ c.events + 1 = refl in omega (arith, l, n);
   }
 
--- the image of a version is what the records before a place leave, where these are those of at most the version
+-- the image of a version is what the records before a position leave, if these are the records of
+-- at most the version
 image_before : (v p : ℕ) (rs : List Record)
     → ((r : Record) → In r rs → (leb r.version v ≡ ltb r.point p) ⊎ (r.writes ≡ [])) → (m : List ℕ) (a : ℕ)
     → a < length m → slice_index (image_at m v rs) a ≡ over_all (slice_index m a) (before_place p rs) a
@@ -221,7 +223,7 @@ image_before v p (r ∷ rs) f m a l =
         (λ e. rest m l ∙ sym (ap (λ d. over_all d (before_place p rs) a)
         (ap (λ ws. value_over (slice_index m a) ws a) e))) s
 
--- it is so while the attempt may read on
+-- the reads fit while the attempt may read on
 module _ (lawful : RecordLaw) (lk : ℕ → ℕ) (c : Core) (old h : List Record) (b : Beside lawful lk old h c) (i : ℕ)
     (v : Client) (at : At c.clients i v) (live : IsLive v) where
   at_now : (j : ℕ) (o : Client) → At c.clients j o → At (now c).clients j (shed c.renewal o)

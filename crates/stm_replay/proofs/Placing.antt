@@ -1,5 +1,5 @@
---  The order of the running core beside the core's history: a record comes to the same place in both, and a core has
--- one history.
+-- The order of the running core beside the core's history: a record comes to the same position in
+-- both, and a core has one history.
 use Rattle.std.proofs.Common.{◌≡◌, ℕ, suc, ◌+◌, ⊎_elim, cond, eqb, ltb, List, [], ◌∷◌, length, map, refl, sym, ap, ◌∙◌}
 use Rattle.std.proofs.Common.{subst, arith, add-one, zero, ◌-◌, ◌<◌, ◌≤◌, true, false, get_or}
 use Rattle.std.proofs.lemmas.Bool.Decides.{nat_tests}
@@ -31,7 +31,7 @@ later_all p [] f = refl
 later_all p (x ∷ h) f = let e : ltb p x.point ≡ true = (let l = f x (0, refl) in grind (arith, nat_tests)) in
     rw e (later_all p h (λ y i. f y (suc i.0, i.1)))
 
--- a record placed by its point is an insertion at the place among the points
+-- a record placed by its point is inserted at its position among the points
 placed_map : {X : Type 0} (f : Record → X) (r : Record) (h : List Record) → ByPoint h →
     map f (placed r h) ≡ insert (map f h) (place_among (points_of h) r.point) (f r)
 placed_map f r [] o = refl
@@ -41,7 +41,7 @@ placed_map f r (x ∷ h) o = by_bool (ltb r.point x.point)
     omega arith)) in rw (e, all) refl)
     (λ e. rw (e, add-one (place_among (points_of h) r.point)) (ap (λ l. f x ∷ l) (placed_map f r h o.1)))
 
--- the place found from the back: all from there on are later, and the one before is not
+-- the position found from the back: all points from there on are later, and the one before is not
 pub place_found : (l : List ℕ) (p n : ℕ) → n ≤ length l → ((i : ℕ) → n ≤ i → i < length l → p < get_or l i 0) →
     (0 < n → get_or l (n - 1) 0 ≤ p) → n ≡ place_among l p
 place_found [] p n w f g = omega arith
@@ -72,7 +72,7 @@ place_found (x ∷ xs) p (suc n) w f g =
 abbrev pub as_kept : Record → Record
 as_kept r = record r { attempt = 0 }
 
--- a client as far as it is kept decides the same record as far as it is kept
+-- the kept part of a client decides the kept part of the same record
 pub decision_shown : (t : Stamp) (e : Action) (n : ℕ) (v : Client) →
     decision t e n (blank v) ≡ map as_kept (decision t e n v)
 decision_shown t (tick from tag writes) n v =
@@ -91,7 +91,7 @@ decision_shown t (validate k) n v =
     (λ e. refl)
 decision_shown t _ n v = refl
 
--- what is decided comes to its place in the order as in the history
+-- a decision comes to the same position in the order as in the history
 pub entered_order : (kept rs : List Record) → kept ≡ map as_kept rs → (s : Running) (h : List Record) → ByPoint h →
     s.order ≡ order_of h → (entered kept s).order ≡ order_of (filed rs h)
 entered_order kept rs same s h by o = subst (λ l. (entered l s).order ≡ order_of (filed rs h)) (sym same) (go rs)
@@ -103,7 +103,8 @@ entered_order kept rs same s h by o = subst (λ l. (entered l s).order ≡ order
       points = sym (placed_map (λ (x : Record). x.point) r h by) i;
     })
 
--- the same records stand behind the first ones of two lists by point steps
+-- if two lists begin with the same record, the first one is by point steps, and its records are
+-- records of the second, then the rest of the second has the rest of the first
 behind_first : (x y : Record) (h g : List Record) → x ≡ y → ByPoint (x ∷ h) →
     ((r : Record) → In r (x ∷ h) → In r (y ∷ g)) → (r : Record) → In r h → In r g
 behind_first x y h g same o f r i = ⊎_elim (λ e. absurd (let a = o.0 r i in let c : x.point ≡ r.point =

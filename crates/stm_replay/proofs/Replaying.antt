@@ -40,7 +40,7 @@ more : (c : Core) (k : ℕ) → length (set c.clients (k - 1) (giving (client_of
 more c k = length-append (set c.clients (k - 1) (giving (client_of c k))) (fresh (client_of c k) ∷ []) ∙ (let h =
     length-set c.clients (k - 1) (giving (client_of c k)) in omega arith)
 
--- clients are never fewer, and a split makes one more
+-- the number of clients never falls, and a split adds one
 grow : (lk : ℕ → ℕ) (e : Event) (c : Core) → length c.clients ≤ length (played lk e c).clients
 grow lk (acts k e) c = (let h = length-set c.clients (k - 1)
     (after (stamp_of c k) lk e (found lk c e) (client_of c k)) in omega arith)
@@ -63,7 +63,7 @@ numbers lk (gathers k j) es c d h l = refl
 numbers lk (renews k last) es c d h l = refl
 
 module _ (image : List ℕ) (last stripes : ℕ) where
-  -- what is allowed next may be played next
+  -- an event that is allowed next may be played next
   may_run : (past es : List Event) (c d : Core) → length d.clients ≤ 4294967295 →
       Leads free_law (stripe_of stripes) (opened image last stripes) past c →
       Leads free_law (stripe_of stripes) c es d → MayRunInTurn es (ran past (run_opened image last stripes))

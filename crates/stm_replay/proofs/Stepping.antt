@@ -1,4 +1,4 @@
--- What a step of the running core makes of its fields.
+-- The effect of a step of the running core on its fields.
 use Rattle.std.proofs.Common.{◌≡◌, ℕ, zero, suc, ◌+◌, ◌-◌, ◌<◌, ◌≤◌, List, [], ◌∷◌, ◌++◌, length, set, get_or}
 use Rattle.std.proofs.Common.{replicate}
 use Rattle.std.proofs.Common.{Result, Ok, Err}
@@ -26,7 +26,7 @@ set_own [] i d = refl
 set_own (x ∷ l) zero d = refl
 set_own (x ∷ l) (suc i) d = ap (λ m. x ∷ m) (set_own l i d)
 
--- a seat that is written back as it was
+-- the state of a client, written back as it was
 pub kept_seat : {A : Type 0} (i : Inside A) (s : Running) (k : ℕ) (x y : Client) → running_of i ≡ s →
     x ≡ get_or i.seats.items k x → y ≡ x → running_of (record i { seats = with_item i.seats k y }) ≡ s
 kept_seat i s k x y v e f = ap (λ l. record (running_of i) { core = record (running_of i).core { clients = l } })
@@ -58,14 +58,14 @@ acts_in i k e n next x y d o inside value word more seat words filed =
           r.core.events + 1;
     }))
 
--- the seat that is lent is the client's
+-- the borrowed state is the client's
 pub seen : {A : Type 0} (i : Inside A) (s : Running) (k : ℕ) (x : Client) → running_of i ≡ s →
     k - 1 < length s.core.clients → x ≡ get_or i.seats.items (k - 1) x → x ≡ client_of s.core k
 seen i s k x v = subst (λ (r : Running). k - 1 < length r.core.clients → x ≡ get_or i.seats.items (k - 1) x →
     x ≡ client_of r.core k) v (λ inside value. value ∙ get_or_default i.seats.items (k - 1) x gone inside)
 
---  a step of a client that is there, by the word that it finds, the seat before and after, and what it makes of the
--- words and of the order
+-- a step of an existing client, from the word that it finds, the client's state before and after,
+-- and its effects on the words and on the order
 pub acts_is : {A : Type 0} (i : Inside A) (s : Running) (k : ℕ) (e : Action) (n next : ℕ) (x y : Client) (d : Core)
     (o : Placed)
     → running_of i ≡ s
@@ -156,7 +156,7 @@ renews_is i s k last next locks x y v stripes = subst (λ (r : Running). k - 1 <
     let same : x ≡ client_of (running_of i).core k =
     value ∙ get_or_default i.seats.items (k - 1) x gone inside in rw (free, stripes, renewed, more, same) refl)
 
--- what an exchange leaves, by the number found or by the number wanted
+-- the word after an exchange, by the number found or by the number wanted
 pub exchange : (n m : ℕ) → cond (eqb n m) (n + 1) n ≡ cond (eqb n m) (m + 1) n
 exchange n m = grind (arith, nat_tests)
 

@@ -1,4 +1,4 @@
--- The tags of a list of events: numbers for them, and what is read back by the numbers.
+-- The tags of a list of events: numbers for them, and the tags that numbers stand for.
 use Rattle.std.proofs.Common.{◌≡◌, ◌≢◌, ℕ, zero, suc, ◌+◌, ◌<◌, ◌≤◌, ⊎_elim, Bool, true, false, cond, eqb, List, []}
 use Rattle.std.proofs.Common.{◌∷◌, ◌++◌, length, map, refl, sym, ap, ◌∙◌, subst, arith, nat_eq}
 use Rattle.std.specs.Cmp.Lexicographic.{pointwise, same_text, other_text}
@@ -30,7 +30,7 @@ in_tail : {A : Type 0} (x y : A) (l : List A) → x ≢ y → In y (x ∷ l) →
 in_tail x y l n (zero, e) = absurd (n (some-injective x y e))
 in_tail x y l n (suc j, e) = (j, e)
 
--- the first place of a tag
+-- the first position of a tag
 abbrev place_of : List (List ℕ) → List ℕ → ℕ
 place_of [] t = 0
 place_of (x ∷ xs) t = cond (pointwise nat_eq x t) 0 (place_of xs t + 1)
@@ -137,7 +137,7 @@ module _ (number : List ℕ → ℕ) where
         );
   }
 
-  -- the records of which these are the ones with numbers
+  -- the records whose versions with numbers these are
   pulled : (c : Core) (rs : List Record) → ((r : Record) → In r rs →
       (i : ℕ) × (w : Client) × At (numbered_core number c).clients i w × In r w.records)
       → (l : List Record) × (map (numbered_record number) l ≡ rs) × ((r : Record) → In r l →
@@ -155,7 +155,7 @@ module _ (number : List ℕ → ℕ) where
             At c.clients i w × In z w.records) e (q.0, v.0, v.1, (n.0, x.1))) (λ k. p.2 y k) (in_cons x.0 y p.0 m),
       )
 
-  -- records that differ at most in their tags, and these are told apart
+  -- records that differ at most in their tags are equal if their tags have one number
   same_record : (tags : List (List ℕ)) → TellsApart number tags → (r x : Record) → In r.tag tags → In x.tag tags →
       numbered_record number x ≡ numbered_record number r → x ≡ r
   same_record tags h r x i j e =

@@ -1,11 +1,12 @@
--- The events of the running core as events.
+-- The events of the running core as events of the abstract core.
 use Rattle.std.specs.Prelude.{[], ◌∷◌}
 use Rattle.stm_core.specs.Event as event
 use Rattle.stm_core.specs.Core as core
 use Rattle.stm_replay.specs.declared.event.Event.{Event}
 use Rattle.stm_replay.specs.declared.event.Event.TheVariants.{Begin, Probe, Fetch, Check, Lock, Tick, Validate, Put, Release, GiveBack, Finish, Split, Gather, Renew}
 
--- the event that one of the running core stands for; its number is the tag
+-- the abstract event that an event of the running core stands for; its tag is the list of the one
+-- number
 abbrev pub event_of : {A : Type 0} → Event A → core.Event
 event_of (Begin k) = core.acts k event.begin
 event_of (Probe k n) = core.acts k (event.probe n)

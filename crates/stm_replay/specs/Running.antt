@@ -1,4 +1,4 @@
--- The running core: its state as far as it is kept, and its decided records.
+-- The running core: the part of the core's state that it keeps, and the decided records.
 use Rattle.std.specs.Prelude.{◌≡◌, ℕ, ◌+◌, ◌-◌, ◌<◌, Bool, true, ◌&&◌, nat_lt, cond, List, [], ◌∷◌, ◌++◌, length, map, slice_set, replicate, ◌≢◌, ◌≤◌, Option, None}
 use Rattle.tx_memory.specs.Image.{In}
 use Rattle.stm_core.specs.Client.{Record, found_by, old_version, writes_to, is_committed}
@@ -12,27 +12,29 @@ use Rattle.stm_core.specs.declared.limits.TheConstants.{MOST_GRANTS}
 use Rattle.stm_replay.specs.declared.limits.TheConstants.{MOST_CLIENTS}
 use Rattle.stm_words.specs.declared.version.TheConstants.{VERSION_LIMIT}
 
--- the core with its clients' values as far as they are kept, the decided records in the order of
--- their point steps, and these steps' places
+-- the running core: the part of the core that is kept, and the decided records in the order of
+-- their point steps, with the positions of these steps in the list of events
 pub record Running : Type 0 where
   pub core : Core
   pub order : Placed
 
--- the lock of an address in this core
+-- the lock that covers an address in this core
 abbrev pub stripes_of : Core → ℕ → ℕ
 stripes_of c = stripe_of (length c.locks)
 
--- whether a new client has a number left, where these are of 32 bits
+-- true unless the event splits off a client and no client number is left. Client numbers have 32
+-- bits
 abbrev pub has_number : Event → Core → Bool
 has_number (splits k) c = nat_lt (length c.clients) MOST_CLIENTS
 has_number _ c = true
 
--- whether the running core plays the event: it may happen, and has its number
+-- true if the running core plays the event: the event may be played, and a new client has a number
+-- left
 abbrev pub may_run : (ℕ → ℕ) → Event → Core → Bool
 may_run lk (splits k) c = may_play lk (splits k) c && nat_lt (length c.clients) MOST_CLIENTS
 may_run lk e c = may_play lk e c
 
--- what is kept of a decided record: no reads and no writes, and its tag as a number
+-- the entry of a decided record: without reads and writes, and with the tag as a number
 abbrev pub entry_of_record : Record → Entry
 entry_of_record r = record {
   client = r.client;
@@ -42,12 +44,13 @@ entry_of_record r = record {
   renewal = r.renewal;
 }
 
--- the records that one event decided, which are one or none, are put in their places
+-- the running core with the record that one event decided, if there is one, put into the order. An
+-- event decides at most one record
 abbrev pub entered : List Record → Running → Running
 entered [] s = s
 entered (r ∷ rs) s = record s { order = put_in (entry_of_record r) r.point s.order }
 
--- the running core after a step of client k
+-- the running core after a step e of client k
 abbrev pub run_acts : ℕ → Action → Running → Running
 run_acts k e s =
     let c = s.core in
@@ -84,7 +87,7 @@ run_played (renews k last) s =
       };
     }
 
--- the running core just opened
+-- the running core just opened on an image
 abbrev pub run_opened : List ℕ → ℕ → ℕ → Running
 run_opened image last stripes = record {
   core = record {
@@ -102,17 +105,19 @@ run_opened image last stripes = record {
   order = record { entries = []; points = [] };
 }
 
--- the word that the last step of the client with this number found, none where no client has it
+-- the word that the last step of the client with this number found; none if no client has the
+-- number
 abbrev pub found_of : Core → ℕ → Option ℕ
 found_of c k =
     cond (nat_lt 0 k && nat_lt (k - 1) (length c.clients)) (found_by (client_of c k)) None
 
--- a client has this number
+-- some client has this number
 pub record IsThere (c : Core) (k : ℕ) : Type 0 where
   pub some : 0 < k
   pub inside : k - 1 < length c.clients
 
--- the numbers that a step counts on
+-- the bounds on which the code of a step relies: versions below the limit, held locks and decided
+-- writes inside the region, and few enough grants
 pub record IsSane (c : Core) : Type 0 where
   pub last : c.last < VERSION_LIMIT
   pub some : 0 < length c.locks
@@ -124,7 +129,7 @@ pub record IsSane (c : Core) : Type 0 where
   pub grants : (k j : ℕ) → k ≢ j → is_out c k ≡ true → is_out c j ≡ true
       → (client_of c k).grants + (client_of c j).grants + 1 ≤ MOST_GRANTS
 
--- a core as far as it is kept
+-- the part of a core that the running core keeps
 abbrev pub shown_core : Core → Core
 shown_core c = record c { first = []; past = []; opening = []; clients = map blank c.clients }
 

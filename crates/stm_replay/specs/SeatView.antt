@@ -1,4 +1,4 @@
--- The client's value that a seat of the running core stands for.
+-- The client's value that the running core's record of a client stands for.
 use Rattle.std.specs.Prelude.{ℕ, List, [], ◌∷◌, Option, Some, None}
 use Rattle.stm_core.specs.Client as client
 use Rattle.stm_core.specs.Event.{idle_attempt}
@@ -8,7 +8,7 @@ use Rattle.stm_replay.specs.declared.seat.Step.{Step}
 use Rattle.stm_replay.specs.declared.seat.Step.TheVariants.{Nothing, Began, Probed, Fetched, Checked, Locked, Ticked, Validated, Ended}
 use Rattle.stm_replay.specs.declared.seat.Seat.TheInside.{Inside}
 
--- the phase that the running core keeps, as one of the core
+-- the abstract phase that a phase of the running core stands for
 abbrev pub phase_of : Phase → client.Phase
 phase_of Idle = client.idle
 phase_of Running = client.running
@@ -16,7 +16,7 @@ phase_of Ending = client.ending
 phase_of Committed = client.committed
 phase_of Finished = client.finished
 
--- the step that the running core keeps, as one of the core
+-- the abstract step that a step of the running core stands for
 abbrev pub step_of : Step → client.Step
 step_of Nothing = client.nothing
 step_of (Began n) = client.began n
@@ -28,12 +28,13 @@ step_of (Ticked f m) = client.ticked f m
 step_of (Validated k n) = client.validated k n
 step_of (Ended n) = client.ended n
 
--- the tag that the running core keeps: a number, or none yet
+-- the tag that the running core keeps: a list of one number, or empty before the won tick
 abbrev pub tag_of : Option ℕ → List ℕ
 tag_of None = []
 tag_of (Some n) = n ∷ []
 
--- the client's value that a seat stands for, without what a seat does not keep
+-- the client's value that the running core's record of a client stands for; fields that are not
+-- kept have their first value
 abbrev pub client_of_seat : {A : Type 0} → Inside A → client.Client
 client_of_seat s = record {
   grants = s.grants;

@@ -1,9 +1,10 @@
--- The running core that a state stands for.
+-- The running core that a state of the code stands for.
 use Rattle.std.specs.Prelude.{◌≡◌, ◌<◌, [], length}
 use Rattle.stm_replay.specs.Running.{Running}
 use Rattle.stm_replay.specs.declared.state.State.TheInside.{Inside}
 
--- the running core of a state, which keeps no images and no records of earlier renewals
+-- the running core that a state stands for; a state keeps no images and no records of earlier
+-- renewals
 abbrev pub running_of : {A : Type 0} → Inside A → Running
 running_of s = record {
   core = record {
@@ -21,7 +22,7 @@ running_of s = record {
   order = s.order;
 }
 
--- there is a lock word, and their number is kept right
+-- there is at least one lock word, and `stripes` is the number of lock words
 pub record HasLockWords {A : Type 0} (s : Inside A) : Type 0 where
   pub stripes : s.stripes ≡ length s.locks.items
   pub some : 0 < s.stripes

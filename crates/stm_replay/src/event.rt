@@ -1,11 +1,11 @@
-//! The events that the running core plays, and what it returns.
+//! The events that the running core plays, and its results.
 
 ghost use Rattle.std.specs.Prelude.{◌≡◌, IfOk};
 
 use std::alloc::{AllocError, Allocator, Global};
 use std::marker::Model;
 
-/// What a tick is to write: pairs of address and value.
+/// The writes of a tick: pairs of address and value.
 #[derive(Drop)]
 pub struct Writes<A: Allocator + Copy = Global> {
     pairs: Vec<(u32, u64), A>,
@@ -20,11 +20,11 @@ impl<A: Allocator + Copy> Model for Writes<A> {
 }
 
 impl<A: Allocator + Copy> Writes<A> {
-    /// The pairs that were given, in their order.
+    /// Returns a copy of the pairs, in their order.
     ///
     /// # Errors
     ///
-    /// Where the memory for them is refused.
+    /// Returns an error if the memory for the pairs is refused.
     pub fn of(alloc: A, pairs: &[(u32, u64)]) -> Result<Writes<A>, AllocError>
         ensures { IfOk result (λ w. w ≡ pairs.now) }
     {
@@ -33,14 +33,14 @@ impl<A: Allocator + Copy> Writes<A> {
         })
     }
 
-    /// The pairs as a slice.
+    /// Returns the pairs as a slice.
     pub(crate) fn as_slice(&self) -> &[(u32, u64)]
         ensures { result.now ≡ self.now }
     {
         &self.pairs
     }
 
-    /// The pairs as a vector.
+    /// Returns the pairs as a vector.
     pub(crate) fn into_pairs(self) -> Vec<(u32, u64), A>
         ensures { result.items ≡ self }
     {
@@ -48,11 +48,12 @@ impl<A: Allocator + Copy> Writes<A> {
     }
 }
 
-/// One atomic step of one client, a client split off or gathered, or the clock renewed. Clients
-/// are numbered from 1 in the order of opening and splitting, and no number is used again.
+/// An event of a region: an atomic step of one client, the split or the gathering of a client, or
+/// a renewal of the clock. Clients are numbered from 1 in the order of opening and splitting, and
+/// no number is used again.
 #[derive(Drop)]
 pub enum Event<A: Allocator + Copy = Global> {
-    /// Loads the clock: a new attempt, with the value found as its read version.
+    /// Loads the clock and begins an attempt; the value found is its read version.
     Begin {
         client: u32,
     },
@@ -61,12 +62,13 @@ pub enum Event<A: Allocator + Copy = Global> {
         client: u32,
         lock: u32,
     },
-    /// Loads a data word, after a probe that found its lock free and old enough.
+    /// Loads a data word, after a probe that found its lock free, with a version of at most the
+    /// read version.
     Fetch {
         client: u32,
         addr: u32,
     },
-    /// Loads the lock word again; where it has not changed, the value is read.
+    /// Loads the lock word again; if the word has not changed, the value counts as read.
     Check {
         client: u32,
         addr: u32,
@@ -83,7 +85,7 @@ pub enum Event<A: Allocator + Copy = Global> {
         tag: u64,
         writes: Writes<A>,
     },
-    /// Loads the lock word of the next read word; the last validation that passes decides.
+    /// Loads the lock word of the next read address; the last validation that passes decides.
     Validate {
         client: u32,
         lock: u32,
@@ -109,25 +111,25 @@ pub enum Event<A: Allocator + Copy = Global> {
         client: u32,
         tag: u64,
     },
-    /// A new client is made, for one grant.
+    /// Splits off a new client, for one grant.
     Split {
         client: u32,
     },
-    /// Another client's records and grants come to this one, and it is no client any more.
+    /// Takes over the records and grants of another client, which is no client any more.
     Gather {
         client: u32,
         other: u32,
     },
-    /// The clock begins anew at 0, on the same data words and with every lock free at version 0;
-    /// the client is the only one that is out, and its attempt has ended.
+    /// Resets the clock to 0, with the same data words and every lock free at version 0. The
+    /// client must be the only one that is out, and its attempt must have ended.
     Renew {
         client: u32,
         last: u64,
     },
 }
 
-/// A decided record: who decided it, its tag, its version, whether it is a writer's, and how many
-/// renewals of the clock came before.
+/// A decided record: its client, its tag, its version, whether it is a writer's record, and the
+/// number of renewals of the clock before it.
 #[derive(Clone, Copy, Debug, PartialEq, Eq)]
 pub struct Entry {
     pub client: u32,
@@ -137,11 +139,11 @@ pub struct Entry {
     pub renewal: u32,
 }
 
-/// Why an event was not played.
+/// The reason why an event was not played.
 #[derive(Clone, Copy, Debug, PartialEq, Eq)]
 pub enum NotAllowed {
-    /// It is not allowed in this state.
+    /// The event is not allowed in this state.
     Event = 1,
-    /// The memory that it needs was refused, or no more events can be counted.
+    /// The memory that the event needs was refused, or no more events can be counted.
     Memory = 2,
 }

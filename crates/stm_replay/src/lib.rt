@@ -1,8 +1,8 @@
-//! The transaction core as running code: plays a list of events one by one, refuses those that are
-//! not allowed, and keeps the decided records in the order of the one history. For tests and for
-//! replaying what a region did; no thread runs here.
+//! The transaction core as running code: plays a list of events one by one, refuses events that
+//! are not allowed, and keeps the decided records in the order of the one history. For tests and
+//! for replaying the events of a region; no thread runs here.
 //!
-//! What an event is, when it is allowed and what it does is defined in `stm_core`; [`Core`] is
+//! `stm_core` defines what an event is, when an event is allowed and what it does; [`Core`] is
 //! proved to follow those definitions.
 #![tactic(auto)]
 

@@ -1,4 +1,4 @@
-//! The number that bounds a replay.
+//! The bound of a replay.
 
-/// How many clients a replay numbers at most, those that were gathered among them.
+/// Largest number of clients that a replay numbers, gathered clients included.
 pub const MOST_CLIENTS: u32 = 4_294_967_295;

@@ -8,7 +8,7 @@ use crate::event::Entry;
 use std::alloc::{AllocError, Allocator};
 use std::marker::Model;
 
-/// The decided records in the order of their point steps, with the places of these steps in the
+/// The decided records in the order of their point steps, with the positions of these steps in the
 /// list of events.
 #[derive(Drop)]
 pub(crate) struct Order<A: Allocator + Copy> {
@@ -28,7 +28,7 @@ impl<A: Allocator + Copy> Model for Order<A> {
 }
 
 impl<A: Allocator + Copy> Order<A> {
-    /// No records.
+    /// Returns an order without records.
     pub(crate) fn new(alloc: A) -> Order<A>
         ensures { result ≡ record { entries = []; points = [] } }
     {
@@ -38,14 +38,15 @@ impl<A: Allocator + Copy> Order<A> {
         }
     }
 
-    /// The records.
+    /// Returns the records in their order.
     pub(crate) fn entries(&self) -> &[Entry]
         ensures { result.now ≡ self.now.entries }
     {
         &self.entries
     }
 
-    /// Puts a record at its place.
+    /// Inserts a record at its position. Reserves room in both vectors first: if memory is
+    /// refused, nothing has changed.
     pub(crate) fn enter(&mut self, entry: Entry, point: usize) -> Result<(), AllocError>
         ensures done { OnOk result (self.new ≡ put_in entry point self.old) }
         ensures kept { OnErr result (self.new ≡ self.old) }
@@ -58,7 +59,7 @@ impl<A: Allocator + Copy> Order<A> {
         Ok(())
     }
 
-    /// Puts a record at its place, if it is decided.
+    /// Inserts a record at its position if the record is decided.
     pub(crate) fn enter_if(
         &mut self,
         decided: bool,
@@ -77,7 +78,8 @@ impl<A: Allocator + Copy> Order<A> {
     }
 }
 
-/// How many points there are up to the last one that is not later, looked for from the back.
+/// Returns the number of points up to and including the last point that is not later. Searches
+/// from the back, since a new point is mostly among the last.
 fn place_in(points: &[usize], point: usize) -> usize
     ensures place { result ≡ place_among points.now point }
     ensures within { result ≤ length points.now }
@@ -89,7 +91,7 @@ fn place_in(points: &[usize], point: usize) -> usize
     place
 }
 
-/// Puts a value in, where there is room.
+/// Inserts a value without allocating: the caller has reserved the room.
 fn insert_in_room<T: Drop, A: Allocator + Copy>(list: &mut Vec<T, A>, place: usize, value: T)
     requires place { place ≤ vec_len list.old }
     requires room { vec_len list.old < vec_capacity list.old }

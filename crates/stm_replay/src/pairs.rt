@@ -1,4 +1,4 @@
-//! Lists of pairs and of numbers, as tests of a guard ask for them.
+//! Tests and changes of lists of pairs and of numbers, as the guards of events need them.
 
 ghost use Rattle.std.specs.Prelude.{◌≡◌, ◌==◌, ◌<◌, ◌%◌, ◌&&◌, ◌||◌, nat_lt, []};
 ghost use Rattle.std.specs.List.{list_any, list_all};
@@ -11,7 +11,7 @@ ghost use Rattle.stm_words.specs.declared.version.TheConstants.{VERSION_LIMIT};
 use std::alloc::Allocator;
 use stm_words::{LockWord, Version};
 
-/// Whether some pair has this first number.
+/// Returns whether some pair has this number as its first component.
 pub(crate) fn names(pairs: &[(u32, u64)], number: u32) -> bool
     ensures { result ≡ writes_to pairs.now number }
 {
@@ -21,28 +21,28 @@ pub(crate) fn names(pairs: &[(u32, u64)], number: u32) -> bool
     }
 }
 
-/// Whether every pair's first number is below a bound.
+/// Returns whether the first component of every pair is below the bound.
 pub(crate) fn all_below(pairs: &[(u32, u64)], bound: u32) -> bool
     ensures { result ≡ list_all (λ p. nat_lt p.0 bound) pairs.now }
 {
     pairs.iter().all(|pair| pair.0 < bound)
 }
 
-/// Whether a pair is among others.
+/// Returns whether the list contains the pair of this number and value.
 pub(crate) fn has_pair(pairs: &[(u32, u64)], number: u32, value: u64) -> bool
     ensures { result ≡ list_any (λ p. (p.0 == number) && (p.1 == value)) pairs.now }
 {
     pairs.iter().any(|pair| pair.0 == number && pair.1 == value)
 }
 
-/// Whether a number is among others.
+/// Returns whether the list contains the number.
 pub(crate) fn has(numbers: &[u32], number: u32) -> bool
     ensures { result ≡ list_any (λ n. n == number) numbers.now }
 {
     numbers.iter().any(|n| *n == number)
 }
 
-/// Whether the stripe of every pair's address is held.
+/// Returns whether the stripe of every written address is held.
 pub(crate) fn all_held(writes: &[(u32, u64)], held: &[(u32, u64)], stripes: u32) -> bool
     requires { 0 < stripes }
     ensures { result ≡ list_all (λ p. writes_to held.now (p.0 % stripes)) writes.now }
@@ -50,7 +50,7 @@ pub(crate) fn all_held(writes: &[(u32, u64)], held: &[(u32, u64)], stripes: u32)
     writes.iter().all(|pair| names(held, pair.0 % stripes))
 }
 
-/// Whether some pair's address has this stripe.
+/// Returns whether some written address lies in the stripe `lock`.
 pub(crate) fn touches(writes: &[(u32, u64)], lock: u32, stripes: u32) -> bool
     requires { 0 < stripes }
     ensures { result ≡ list_any (λ p. (p.0 % stripes) == lock) writes.now }
@@ -58,7 +58,7 @@ pub(crate) fn touches(writes: &[(u32, u64)], lock: u32, stripes: u32) -> bool
     writes.iter().any(|pair| pair.0 % stripes == lock)
 }
 
-/// Whether every held lock is the stripe of some pair's address.
+/// Returns whether every held lock is the stripe of some written address.
 pub(crate) fn all_touched(held: &[(u32, u64)], writes: &[(u32, u64)], stripes: u32) -> bool
     requires { 0 < stripes }
     ensures { result ≡ list_all (λ q. list_any (λ p. (p.0 % stripes) == q.0) writes.now) held.now }
@@ -66,7 +66,7 @@ pub(crate) fn all_touched(held: &[(u32, u64)], writes: &[(u32, u64)], stripes: u
     held.iter().all(|pair| touches(writes, pair.0, stripes))
 }
 
-/// Whether every pair whose address has this stripe is stored.
+/// Returns whether every written address in the stripe `lock` has been stored.
 pub(crate) fn all_stored(writes: &[(u32, u64)], stored: &[u32], lock: u32, stripes: u32) -> bool
     requires { 0 < stripes }
     ensures { result ≡ are_stored (stripe_of stripes) lock stored.now writes.now }
@@ -76,7 +76,7 @@ pub(crate) fn all_stored(writes: &[(u32, u64)], stored: &[u32], lock: u32, strip
         .all(|pair| pair.0 % stripes != lock || has(stored, pair.0))
 }
 
-/// Whether no address occurs twice.
+/// Returns whether no address occurs twice.
 pub(crate) fn once(pairs: &[(u32, u64)]) -> bool
     ensures { result ≡ is_map pairs.now }
 {
@@ -86,7 +86,7 @@ pub(crate) fn once(pairs: &[(u32, u64)]) -> bool
     }
 }
 
-/// Whether the stripe of the pair at a place is this one.
+/// Returns whether the address read at position `place` lies in the stripe `lock`.
 pub(crate) fn is_next(reads: &[(u32, u64)], place: usize, lock: u32, stripes: u32) -> bool
     requires { 0 < stripes }
     ensures { result ≡ is_next (stripe_of stripes) lock reads.now place }
@@ -101,8 +101,8 @@ pub(crate) fn is_next(reads: &[(u32, u64)], place: usize, lock: u32, stripes: u3
     }
 }
 
-/// Whether a tick may have these writes: some, no address twice, all in the region, their stripes
-/// exactly those held.
+/// Returns whether a tick may carry these writes: at least one, no address twice, all addresses in
+/// the region, and their stripes exactly the held ones.
 pub(crate) fn may_write(
     writes: &[(u32, u64)],
     held: &[(u32, u64)],
@@ -119,14 +119,14 @@ pub(crate) fn may_write(
         && all_touched(held, writes, stripes)
 }
 
-/// Whether every pair's address is below a size.
+/// Returns whether every address is below the size.
 pub(crate) fn all_inside(pairs: &[(u32, u64)], size: usize) -> bool
     ensures { result ≡ list_all (λ p. nat_lt p.0 size) pairs.now }
 {
     pairs.iter().all(|pair| (pair.0 as usize) < size)
 }
 
-/// Whether there are no pairs.
+/// Returns whether the list is empty.
 pub(crate) fn none(pairs: &[(u32, u64)]) -> bool
     ensures { result ≡ is_empty pairs.now }
 {
@@ -136,7 +136,7 @@ pub(crate) fn none(pairs: &[(u32, u64)]) -> bool
     }
 }
 
-/// The second number of the first pair with this first number, or 0.
+/// Returns the second component of the first pair with this first component, or 0.
 pub(crate) fn behind(pairs: &[(u32, u64)], number: u32) -> u64
     ensures { result ≡ old_version pairs.now number }
 {
@@ -150,14 +150,14 @@ pub(crate) fn behind(pairs: &[(u32, u64)], number: u32) -> u64
     }
 }
 
-/// Takes out the pairs with this first number.
+/// Removes every pair with this first component.
 pub(crate) fn take_out<A: Allocator + Copy>(pairs: &mut Vec<(u32, u64), A>, number: u32)
     ensures { pairs.new.items ≡ without pairs.old.items number }
 {
     pairs.retain(|pair| pair.0 != number);
 }
 
-/// Whether a lock word says free.
+/// Returns whether a lock word is free.
 #[inline]
 pub(crate) fn says_free(word: u64) -> bool
     ensures { result ≡ is_free word }
@@ -165,7 +165,7 @@ pub(crate) fn says_free(word: u64) -> bool
     word == 2 * (word / 2)
 }
 
-/// The word of a free lock of the version of this number.
+/// Returns the lock word of a free lock with this version.
 #[inline]
 pub(crate) fn free_lock(number: u64) -> u64
     requires { number < VERSION_LIMIT }

@@ -13,8 +13,8 @@ use crate::state::State;
 use std::alloc::{AllocError, Allocator, Global};
 use std::marker::Model;
 
-/// A region as running code on one thread, for tests and for replaying a list of events: it plays
-/// one event after another, and refuses those that are not allowed.
+/// A region as running code on one thread, for tests and for replaying a list of events. Plays one
+/// event after another, and refuses events that are not allowed.
 #[derive(Drop)]
 pub struct Core<A: Allocator + Copy = Global> {
     alloc: A,
@@ -34,12 +34,12 @@ impl<A: Allocator + Copy> Model for Core<A> {
 }
 
 impl<A: Allocator + Copy> Core<A> {
-    /// A region just opened on an image: clock 0, every lock free with version 0, and client 1
-    /// with all 63 grants.
+    /// Opens a region on an image: clock 0, every lock free with version 0, and client 1 with all
+    /// 63 grants.
     ///
     /// # Errors
     ///
-    /// Where the memory for it is refused.
+    /// Returns an error if the memory for the region is refused.
     pub fn start(alloc: A, image: &[u64], last: u64, stripes: u32) -> Result<Core<A>, AllocError>
         requires words { (1 ≤ length image.now) × (length image.now ≤ MOST_WORDS) }
         requires versions { (1 ≤ last) × (last < VERSION_LIMIT) }
@@ -54,8 +54,9 @@ impl<A: Allocator + Copy> Core<A> {
     ///
     /// # Errors
     ///
-    /// `Event` exactly where the event is not allowed, and `Memory` where it is but memory was
-    /// refused, or no more events can be counted. The core comes back as it was.
+    /// Returns `Event` exactly if the event is not allowed. Returns `Memory` if the event is
+    /// allowed and memory was refused or no more events can be counted. The core comes back as it
+    /// was.
     ///
     /// Not said: which events take memory, which a test's list of events shows; that events can
     /// still be counted.
@@ -76,16 +77,16 @@ impl<A: Allocator + Copy> Core<A> {
         }
     }
 
-    /// The word that a client's last step found: none before its first step, and after a put, a
-    /// release, a give back, a split, a gather and a renewal.
+    /// Returns the word that the client's last step found. Returns `None` before the client's
+    /// first step, and after a put, a release, a give back, a split, a gather and a renewal.
     pub fn found(&self, client: u32) -> Option<u64>
         ensures { result ≡ found_of self.now.core client }
     {
         self.state.found(client)
     }
 
-    /// The decided records in the order of their point steps: a writer's won tick, a reader's
-    /// begin.
+    /// Returns the decided records in the order of their point steps: a writer's won tick, a
+    /// reader's begin.
     pub fn order(&self) -> &[Entry]
         ensures entries { result.now ≡ self.now.order.entries }
         ensures reached { IsReached self.now }

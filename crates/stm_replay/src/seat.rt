@@ -1,4 +1,4 @@
-//! What the running core keeps of one client, and when that allows a step.
+//! The client state of the running core, and the conditions under which a client may take a step.
 
 ghost use Rattle.std.specs.Prelude.{◌≡◌, ◌<◌, ◌≤◌, ◌+◌, length, OnOk, OnErr, [], ◌∷◌, not, eqb, false, ◌&&◌, ◌||◌};
 ghost use Rattle.stm_core.specs.Client.{Client};
@@ -18,7 +18,7 @@ use std::alloc::{AllocError, Allocator};
 use std::marker::Model;
 use stm_core::{MOST_GRANTS, MOST_TICKS};
 
-/// How far a client's attempt is.
+/// The phase of a client's attempt.
 #[derive(Clone, Copy)]
 pub(crate) enum Phase {
     Idle,
@@ -42,7 +42,7 @@ pub(crate) enum Step {
     Ended { version: u64 },
 }
 
-/// What the core keeps of one client.
+/// The state that the core keeps of one client.
 #[derive(Drop)]
 pub(crate) struct Seat<A: Allocator + Copy> {
     grants: u32,
@@ -75,7 +75,7 @@ impl<A: Allocator + Copy> Model for Seat<A> {
 }
 
 impl<A: Allocator + Copy> Seat<A> {
-    /// A new attempt.
+    /// Begins a new attempt at the clock's value.
     pub(crate) fn begin(&mut self, clock: u64, place: usize)
         ensures { self.new ≡ seat_after place begin clock self.old }
     {
@@ -95,7 +95,7 @@ impl<A: Allocator + Copy> Seat<A> {
         self.ticked_at = 0;
     }
 
-    /// The word of a lock was loaded.
+    /// Records that the word of a lock was loaded.
     pub(crate) fn probe(&mut self, lock: u32, word: u64)
         ensures { self.new ≡ seat_after 0 (probe lock) word self.old }
     {
@@ -103,7 +103,7 @@ impl<A: Allocator + Copy> Seat<A> {
         self.gave_back = false;
     }
 
-    /// The value of an address was loaded.
+    /// Records that the value of an address was loaded.
     pub(crate) fn fetch(&mut self, address: u32, value: u64)
         ensures { self.new ≡ seat_after 0 (fetch address) value self.old }
     {
@@ -116,7 +116,8 @@ impl<A: Allocator + Copy> Seat<A> {
         self.gave_back = false;
     }
 
-    /// The word of the lock was loaded again; where it is still the same the pair is read.
+    /// Records that the lock word was loaded again. If the word is the same as before, the address
+    /// and its value are added to the reads; else the attempt can only abort.
     pub(crate) fn check(&mut self, address: u32, now: u64) -> Result<(), AllocError>
         ensures done { OnOk result (self.new ≡ seat_after 0 (check address) now self.old) }
         ensures kept { OnErr result (self.new ≡ self.old) }
@@ -133,7 +134,8 @@ impl<A: Allocator + Copy> Seat<A> {
         Ok(())
     }
 
-    /// The exchange of a lock word found this word.
+    /// Records that the exchange of a lock word found the word `now`. If that is the word
+    /// expected, the lock is held; else the attempt can only abort.
     pub(crate) fn lock(&mut self, stripe: u32, now: u64) -> Result<(), AllocError>
         ensures done { OnOk result (self.new ≡ seat_after 0 (lock stripe) now self.old) }
         ensures kept { OnErr result (self.new ≡ self.old) }
@@ -153,7 +155,8 @@ impl<A: Allocator + Copy> Seat<A> {
         Ok(())
     }
 
-    /// A value was stored.
+    /// Records that a value was stored. The parameter `value` is for the contract alone: the
+    /// caller stores the word.
     pub(crate) fn put(&mut self, address: u32, value: u64) -> Result<(), AllocError>
         ensures done { OnOk result (self.new ≡ seat_after 0 (put address value) 0 self.old) }
         ensures kept { OnErr result (self.new ≡ self.old) }
@@ -165,8 +168,9 @@ impl<A: Allocator + Copy> Seat<A> {
         Ok(())
     }
 
-    /// The exchange of the clock found this value. A won tick gives the write version, and decides
-    /// at once where nothing was read or the version is the next after the read version.
+    /// Records that the exchange of the clock found the value `now`. A won tick gives the write
+    /// version. A won tick decides at once if nothing was read or the write version follows the
+    /// read version.
     pub(crate) fn tick(
         &mut self,
         from: u64,
@@ -196,7 +200,8 @@ impl<A: Allocator + Copy> Seat<A> {
         self.next_from = now;
     }
 
-    /// A read word's lock was validated. The last validation that passes decides.
+    /// Records that the lock of a read address was validated. The last validation that passes
+    /// decides; one that fails leaves an attempt that can only abort.
     pub(crate) fn validate(&mut self, stripe: u32, word: u64)
         requires next { self.old.attempt.passed < length self.old.attempt.reads }
         ensures { self.new ≡ seat_after 0 (validate stripe) word self.old }
@@ -214,7 +219,7 @@ impl<A: Allocator + Copy> Seat<A> {
         self.gave_back = false;
     }
 
-    /// A lock was released with the write version.
+    /// Records that a lock was released with the write version.
     pub(crate) fn release(&mut self, lock: u32)
         ensures { self.new ≡ seat_after 0 (release lock) 0 self.old }
     {
@@ -223,7 +228,7 @@ impl<A: Allocator + Copy> Seat<A> {
         self.gave_back = false;
     }
 
-    /// A lock was given back with its old version.
+    /// Records that a lock was given back with its old version.
     pub(crate) fn give_back(&mut self, lock: u32)
         ensures { self.new ≡ seat_after 0 (give_back lock) 0 self.old }
     {
@@ -236,7 +241,7 @@ impl<A: Allocator + Copy> Seat<A> {
         self.gave_back = true;
     }
 
-    /// The attempt ended as a reader.
+    /// Records that the attempt ended as a reader.
     pub(crate) fn finish(&mut self, clock: u64)
         ensures { self.new ≡ seat_after 0 (finish []) clock self.old }
     {
@@ -245,14 +250,14 @@ impl<A: Allocator + Copy> Seat<A> {
         self.phase = Phase::Finished;
     }
 
-    /// The first client, with all grants but its own.
+    /// Returns the first client, with all grants but its own.
     pub(crate) fn opener(alloc: A) -> Seat<A>
         ensures { result ≡ opener }
     {
         Seat::with_grants(alloc, MOST_GRANTS)
     }
 
-    /// A client split off, without grants.
+    /// Returns a client just split off, without grants.
     pub(crate) fn fresh(alloc: A) -> Seat<A>
         ensures { result ≡ record opener { grants = 0 } }
     {
@@ -283,7 +288,7 @@ impl<A: Allocator + Copy> Seat<A> {
         }
     }
 
-    /// A grant goes to a new client.
+    /// Gives a grant to a new client.
     pub(crate) fn give(&mut self)
         requires { 0 < self.old.grants }
         ensures { self.new ≡ blank (giving self.old) }
@@ -293,7 +298,7 @@ impl<A: Allocator + Copy> Seat<A> {
         self.gave_back = false;
     }
 
-    /// Another client's grants, and one more.
+    /// Takes over the grants of a gathered client, and the grant of that client itself.
     pub(crate) fn take(&mut self, grants: u32)
         requires { self.old.grants + grants + 1 ≤ MOST_GRANTS }
         ensures { self.new ≡ blank (record self.old {
@@ -306,14 +311,14 @@ impl<A: Allocator + Copy> Seat<A> {
         self.gave_back = false;
     }
 
-    /// The client after a renewal of the clock: it has no attempt.
+    /// Resets the client for a renewal of the clock: the client then has no attempt.
     pub(crate) fn renew(&mut self, alloc: A)
         ensures { self.new ≡ blank (renewing self.old) }
     {
         *self = Seat::with_grants(alloc, self.grants);
     }
 
-    /// A client that was gathered.
+    /// Marks the client as gathered.
     pub(crate) fn leave(&mut self, alloc: A)
         ensures { self.new ≡ gone }
     {
@@ -321,7 +326,8 @@ impl<A: Allocator + Copy> Seat<A> {
         self.is_gathered = true;
     }
 
-    /// The word that the last probe found, where the last step is that probe or its fetch; else 0.
+    /// Returns the word that the last probe found if the last step is that probe or its fetch,
+    /// else 0.
     pub(crate) fn word_before(&self) -> u64
         ensures { result ≡ word_before self.now.attempt.last }
     {
@@ -331,7 +337,7 @@ impl<A: Allocator + Copy> Seat<A> {
         }
     }
 
-    /// The value that the last step fetched.
+    /// Returns the value that the last step fetched, or 0 if the last step is no fetch.
     pub(crate) fn value_fetched(&self) -> u64
         ensures { result ≡ value_fetched self.now.attempt.last }
     {
@@ -341,7 +347,7 @@ impl<A: Allocator + Copy> Seat<A> {
         }
     }
 
-    /// The word that the last step found.
+    /// Returns the word that the last step found, if the last step found one.
     pub(crate) fn found(&self) -> Option<u64>
         ensures { result ≡ found_by self.now }
     {
@@ -358,15 +364,15 @@ impl<A: Allocator + Copy> Seat<A> {
         }
     }
 
-    /// Whether an attempt runs that has no write version.
+    /// Returns whether an attempt runs without a write version.
     pub(crate) fn is_reading(&self) -> bool
         ensures { result ≡ is_reading self.now.attempt }
     {
         matches!(self.phase, Phase::Running) && self.wv == 0
     }
 
-    /// Whether the last step was a probe of this lock that found it free, with a version of at
-    /// most the read version.
+    /// Returns whether the last step was a probe of this lock that found the lock free, with a
+    /// version of at most the read version.
     pub(crate) fn has_probed(&self, lock: u32) -> bool
         ensures { result ≡ has_probed lock self.now.attempt.rv self.now.attempt.last }
     {
@@ -378,7 +384,7 @@ impl<A: Allocator + Copy> Seat<A> {
         }
     }
 
-    /// Whether the last step was a probe of this lock that found it free.
+    /// Returns whether the last step was a probe of this lock that found the lock free.
     pub(crate) fn has_found_free(&self, lock: u32) -> bool
         ensures { result ≡ has_found_free lock self.now.attempt.last }
     {
@@ -388,8 +394,8 @@ impl<A: Allocator + Copy> Seat<A> {
         }
     }
 
-    /// Whether the last step was a fetch of this address, on a probe that found its lock free and
-    /// old enough.
+    /// Returns whether the last step was a fetch of this address, after a probe that found the
+    /// lock free with a version of at most the read version.
     pub(crate) fn has_fetched(&self, address: u32) -> bool
         ensures { result ≡ has_fetched address self.now.attempt.rv self.now.attempt.last }
     {
@@ -403,7 +409,7 @@ impl<A: Allocator + Copy> Seat<A> {
         }
     }
 
-    /// Whether it may begin an attempt.
+    /// Returns whether the client may begin an attempt.
     pub(crate) fn may_begin(&self) -> bool
         ensures { result ≡ may_act (stripe_of 0)
             (record { last = 0; stripes = 0; size = 0 }) begin self.now.attempt }
@@ -411,7 +417,7 @@ impl<A: Allocator + Copy> Seat<A> {
         none(&self.held)
     }
 
-    /// Whether it may load the word of a lock.
+    /// Returns whether the client may load the word of a lock.
     pub(crate) fn may_probe(&self, lock: u32, stripes: u32) -> bool
         ensures { result ≡ may_act (stripe_of stripes)
             (record { last = 0; stripes = stripes; size = 0 }) (probe lock) self.now.attempt }
@@ -419,7 +425,7 @@ impl<A: Allocator + Copy> Seat<A> {
         self.is_reading() && lock < stripes
     }
 
-    /// Whether it may load the value of an address.
+    /// Returns whether the client may load the value of an address.
     pub(crate) fn may_fetch(&self, address: u32, stripes: u32, size: usize) -> bool
         requires { 0 < stripes }
         ensures { result ≡ may_act (stripe_of stripes)
@@ -432,7 +438,8 @@ impl<A: Allocator + Copy> Seat<A> {
             && self.has_probed(address % stripes)
     }
 
-    /// Whether it may check a fetched address.
+    /// Returns whether the client may check a fetched address. The parameter `stripes` is for the
+    /// contract alone.
     pub(crate) fn may_check(&self, address: u32, stripes: u32, size: usize) -> bool
         ensures { result ≡ may_act (stripe_of stripes)
             (record { last = 0; stripes = stripes; size = size })
@@ -445,7 +452,7 @@ impl<A: Allocator + Copy> Seat<A> {
             && self.has_fetched(address)
     }
 
-    /// Whether it may try to take a lock.
+    /// Returns whether the client may try to take a lock.
     pub(crate) fn may_lock(&self, stripe: u32, stripes: u32) -> bool
         ensures { result ≡ may_act (stripe_of stripes)
             (record { last = 0; stripes = stripes; size = 0 }) (lock stripe) self.now.attempt }
@@ -456,7 +463,7 @@ impl<A: Allocator + Copy> Seat<A> {
             && all_below(&self.held, stripe)
     }
 
-    /// Whether it may try to tick the clock with these writes.
+    /// Returns whether the client may try to tick the clock with these writes.
     pub(crate) fn may_tick(
         &self,
         from: u64,
@@ -477,7 +484,7 @@ impl<A: Allocator + Copy> Seat<A> {
             && may_write(writes, &self.held, stripes, size)
     }
 
-    /// Whether its next validation is of this lock.
+    /// Returns whether the client's next validation is of this lock.
     pub(crate) fn may_validate(&self, stripe: u32, stripes: u32) -> bool
         requires { 0 < stripes }
         ensures { result ≡ may_act (stripe_of stripes)
@@ -488,7 +495,7 @@ impl<A: Allocator + Copy> Seat<A> {
             && is_next(&self.reads, self.passed, stripe, stripes)
     }
 
-    /// Whether it may store this value.
+    /// Returns whether the client may store this value.
     pub(crate) fn may_put(&self, address: u32, value: u64, stripes: u32) -> bool
         requires { 0 < stripes }
         ensures { result ≡ may_act (stripe_of stripes)
@@ -501,7 +508,7 @@ impl<A: Allocator + Copy> Seat<A> {
             && !has(&self.stored, address)
     }
 
-    /// Whether it may release this lock.
+    /// Returns whether the client may release this lock.
     pub(crate) fn may_release(&self, lock: u32, stripes: u32) -> bool
         requires { 0 < stripes }
         ensures { result ≡ may_act (stripe_of stripes)
@@ -512,7 +519,7 @@ impl<A: Allocator + Copy> Seat<A> {
             && all_stored(&self.writes, &self.stored, lock, stripes)
     }
 
-    /// Whether it may give this lock back.
+    /// Returns whether the client may give this lock back.
     pub(crate) fn may_give_back(&self, lock: u32) -> bool
         ensures { result ≡ may_act (stripe_of 0)
             (record { last = 0; stripes = 0; size = 0 }) (give_back lock) self.now.attempt }
@@ -520,7 +527,7 @@ impl<A: Allocator + Copy> Seat<A> {
         matches!(self.phase, Phase::Running | Phase::Ending) && names(&self.held, lock)
     }
 
-    /// Whether it may end as a reader.
+    /// Returns whether the client may end its attempt as a reader.
     pub(crate) fn may_end(&self) -> bool
         ensures { result ≡ may_act (stripe_of 0)
             (record { last = 0; stripes = 0; size = 0 }) (finish []) self.now.attempt }
@@ -528,84 +535,85 @@ impl<A: Allocator + Copy> Seat<A> {
         self.is_reading() && none(&self.held)
     }
 
-    /// Whether it is a decided writer.
+    /// Returns whether the client is a decided writer.
     pub(crate) fn is_committed(&self) -> bool
         ensures { result ≡ is_committed self.now.attempt.phase }
     {
         matches!(self.phase, Phase::Committed)
     }
 
-    /// Whether it is still out.
+    /// Returns whether the client is still out, that is, not gathered.
     pub(crate) fn is_out(&self) -> bool
         ensures { result ≡ not self.now.is_gathered }
     {
         !self.is_gathered
     }
 
-    /// Whether it holds no lock.
+    /// Returns whether the client holds no lock.
     pub(crate) fn holds_none(&self) -> bool
         ensures { result ≡ is_empty self.now.attempt.held }
     {
         none(&self.held)
     }
 
-    /// How many more clients it may split off.
+    /// Returns the number of clients that the client may still split off.
     pub(crate) fn grants(&self) -> u32
         ensures { result ≡ self.now.grants }
     {
         self.grants
     }
 
-    /// The write version, 0 for none.
+    /// Returns the write version, or 0 if the attempt has none.
     pub(crate) fn write_version(&self) -> u64
         ensures { result ≡ self.now.attempt.wv }
     {
         self.wv
     }
 
-    /// The read version.
+    /// Returns the read version.
     pub(crate) fn read_version(&self) -> u64
         ensures { result ≡ self.now.attempt.rv }
     {
         self.rv
     }
 
-    /// The old version of a lock that it holds.
+    /// Returns the old version of a lock that the client holds, or 0 if the client does not hold
+    /// the lock.
     pub(crate) fn old_version(&self, lock: u32) -> u64
         ensures { result ≡ old_version self.now.attempt.held lock }
     {
         behind(&self.held, lock)
     }
 
-    /// The place of its begin in the list of events.
+    /// Returns the position of the attempt's begin in the list of events.
     pub(crate) fn began_at(&self) -> usize
         ensures { result ≡ self.now.attempt.began_at }
     {
         self.began_at
     }
 
-    /// The place of its won tick in the list of events.
+    /// Returns the position of the attempt's won tick in the list of events.
     pub(crate) fn ticked_at(&self) -> usize
         ensures { result ≡ self.now.attempt.ticked_at }
     {
         self.ticked_at
     }
 
-    /// The tag of its won tick, or 0.
+    /// Returns the tag of the attempt's won tick, or 0.
     pub(crate) fn tag(&self) -> u64
         ensures { result ≡ tag_number self.now.attempt.tag }
     {
         self.tag.unwrap_or(0)
     }
 
-    /// Whether a validation of this lock that finds this word passes.
+    /// Returns whether a validation of this lock passes if it finds this word.
     fn passes(&self, stripe: u32, word: u64) -> bool
         ensures { result ≡ passes stripe word self.now }
     {
         (says_free(word) || names(&self.held, stripe)) && word / 2 <= self.rv
     }
 
-    /// Whether a validation of this lock that finds this word decides.
+    /// Returns whether a validation of this lock decides if it finds this word.
     pub(crate) fn decides_by(&self, stripe: u32, word: u64) -> bool
         requires { self.now.attempt.passed < length self.now.attempt.reads }
         ensures { result
@@ -615,7 +623,7 @@ impl<A: Allocator + Copy> Seat<A> {
         self.passes(stripe, word) && self.passed + 1 == self.reads.len()
     }
 
-    /// Whether a tick from `from` that finds the clock at `now` decides at once.
+    /// Returns whether a tick from `from` that finds the clock at `now` decides at once.
     pub(crate) fn decides_from(&self, from: u64, now: u64) -> bool
         ensures { result
             ≡ (eqb now from
@@ -625,7 +633,7 @@ impl<A: Allocator + Copy> Seat<A> {
     }
 }
 
-/// Whether every client but the one at a place is gathered.
+/// Returns whether every client except the one at position `place` is gathered.
 pub(crate) fn others_gathered<A: Allocator + Copy>(seats: &[Seat<A>], place: usize) -> bool
     ensures { result ≡ others_gathered seats.now place }
 {
@@ -639,7 +647,7 @@ pub(crate) fn others_gathered<A: Allocator + Copy>(seats: &[Seat<A>], place: usi
     }
 }
 
-/// Whether every client is gathered.
+/// Returns whether every client is gathered.
 fn are_gathered<A: Allocator + Copy>(seats: &[Seat<A>]) -> bool
     ensures { result ≡ are_gathered seats.now }
 {

@@ -1,5 +1,5 @@
-//! The words, the clients and the decided records of the running core: when it allows an event, and
-//! what it makes of one.
+//! The words, the clients and the decided records of the running core: which events it allows, and
+//! how an event changes it.
 
 ghost use Rattle.std.specs.Prelude.{◌≡◌, ◌≢◌, ◌<◌, ◌≤◌, ◌+◌, ◌-◌, ◌*◌, ◌^◌, ◌&&◌, cond, eqb, true, length, slice_index, OnOk, OnErr, IfOk, [], ◌∷◌};
 ghost use Rattle.stm_core.specs.Core.{client_of, is_out, others_gathered, splits, gathers, renews};
@@ -20,7 +20,7 @@ use std::marker::Model;
 use stm_core::MOST_RENEWALS;
 use stm_words::VERSION_LIMIT;
 
-/// The words, what is kept of the clients, and the decided records.
+/// The state of the running core: its words, its clients and the decided records.
 #[derive(Drop)]
 pub(crate) struct State<A: Allocator + Copy> {
     last: u64,
@@ -30,7 +30,7 @@ pub(crate) struct State<A: Allocator + Copy> {
     locks: Vec<u64, A>,
     cells: Vec<u64, A>,
     seats: Vec<Seat<A>, A>,
-    /// How many events there were: the place of the next one.
+    /// Number of events so far, which is the position of the next event.
     events: usize,
     order: Order<A>,
 }
@@ -48,14 +48,14 @@ impl<A: Allocator + Copy> Model for State<A> {
 }
 
 impl<A: Allocator + Copy> State<A> {
-    /// Whether a client has this number, and is out.
+    /// Returns whether a client has this number and is out.
     fn is_out(&self, client: u32) -> bool
         ensures { result ≡ is_out self.now.core client }
     {
         0 < client && (client as usize - 1) < self.seats.len() && self.seat(client).is_out()
     }
 
-    /// What is kept of a client.
+    /// Returns the kept state of a client.
     fn seat(&self, client: u32) -> &Seat<A>
         requires there { client - 1 < length self.now.core.clients }
         requires some { 0 < client }
@@ -64,7 +64,7 @@ impl<A: Allocator + Copy> State<A> {
         &self.seats[client as usize - 1]
     }
 
-    /// The word of a lock.
+    /// Returns the word of a lock.
     fn lock_word(&self, stripe: u32) -> u64
         requires { stripe < length self.now.core.locks }
         ensures { result ≡ slice_index self.now.core.locks stripe }
@@ -72,7 +72,7 @@ impl<A: Allocator + Copy> State<A> {
         self.locks[stripe as usize]
     }
 
-    /// The data word of an address.
+    /// Returns the data word of an address.
     fn cell(&self, address: u32) -> u64
         requires { address < length self.now.core.cells }
         ensures { result ≡ slice_index self.now.core.cells address }
@@ -80,7 +80,7 @@ impl<A: Allocator + Copy> State<A> {
         self.cells[address as usize]
     }
 
-    /// The word of an address's lock.
+    /// Returns the word of the lock that covers an address.
     fn word_of(&self, address: u32) -> u64
         ensures { result
             ≡ slice_index self.now.core.locks (stripes_of self.now.core address) }
@@ -88,7 +88,7 @@ impl<A: Allocator + Copy> State<A> {
         self.lock_word(address % self.stripes)
     }
 
-    /// The number of events with the next one.
+    /// Returns the number of events with the next one included.
     fn one_more(&self) -> Result<usize, AllocError>
         ensures { IfOk result (λ n. n ≡ self.now.core.events + 1) }
     {
@@ -153,7 +153,7 @@ impl<A: Allocator + Copy> State<A> {
         Ok(())
     }
 
-    /// Exchanges a lock word that was found free.
+    /// Exchanges a lock word that the client's last probe found free.
     fn lock(&mut self, client: u32, stripe: u32) -> Result<(), AllocError>
         requires there { IsThere self.old.core client }
         requires inside { stripe < length self.old.core.locks }
@@ -244,7 +244,7 @@ impl<A: Allocator + Copy> State<A> {
         Ok(())
     }
 
-    /// Validates the lock of a read word.
+    /// Validates the lock of the next read address.
     fn validate(&mut self, client: u32, stripe: u32) -> Result<(), AllocError>
         requires there { IsThere self.old.core client }
         requires inside { stripe < length self.old.core.locks }
@@ -272,7 +272,7 @@ impl<A: Allocator + Copy> State<A> {
         Ok(())
     }
 
-    /// Exchanges the clock.
+    /// Tries to exchange the clock for its next value.
     fn tick(
         &mut self,
         client: u32,
@@ -307,7 +307,8 @@ impl<A: Allocator + Copy> State<A> {
         Ok(())
     }
 
-    /// Splits a client off.
+    /// Splits a client off. Reserves room for the new client first: if memory is refused, nothing
+    /// has changed.
     fn split(&mut self, alloc: A, client: u32) -> Result<(), AllocError>
         requires there { IsThere self.old.core client }
         requires grants { 0 < (client_of self.old.core client).grants }
@@ -323,7 +324,7 @@ impl<A: Allocator + Copy> State<A> {
         Ok(())
     }
 
-    /// Gathers a client.
+    /// Gathers another client into the client.
     fn gather(&mut self, alloc: A, client: u32, other: u32) -> Result<(), AllocError>
         requires there { IsThere self.old.core client }
         requires other { IsThere self.old.core other }
@@ -362,7 +363,7 @@ impl<A: Allocator + Copy> State<A> {
         Ok(())
     }
 
-    /// Whether an event is allowed.
+    /// Returns whether an event is allowed.
     pub(crate) fn allows(&self, event: &Event<A>) -> bool
         ensures { result ≡ may_run (stripes_of self.now.core) (event_of event.now) self.now.core }
     {
@@ -411,7 +412,7 @@ impl<A: Allocator + Copy> State<A> {
         }
     }
 
-    /// Whether a client is out, and holds no lock.
+    /// Returns whether a client is out and holds no lock.
     fn is_free_handed(&self, client: u32) -> bool
         ensures { result
             ≡ (is_out self.now.core client
@@ -420,7 +421,7 @@ impl<A: Allocator + Copy> State<A> {
         self.is_out(client) && self.seat(client).holds_none()
     }
 
-    /// Whether a client may split one off.
+    /// Returns whether a client may split off another.
     fn may_split(&self, client: u32) -> bool
         ensures { result ≡ may_run (stripes_of self.now.core) (splits client) self.now.core }
     {
@@ -429,7 +430,7 @@ impl<A: Allocator + Copy> State<A> {
             && self.seats.len() < MOST_CLIENTS as usize
     }
 
-    /// Whether a client may gather another.
+    /// Returns whether a client may gather another.
     fn may_gather(&self, client: u32, other: u32) -> bool
         ensures { result
             ≡ may_run (stripes_of self.now.core) (gathers client other) self.now.core }
@@ -441,7 +442,7 @@ impl<A: Allocator + Copy> State<A> {
             && self.seat(other).holds_none()
     }
 
-    /// Whether a client is the only one that is out, and holds no lock.
+    /// Returns whether a client is the only one that is out, and holds no lock.
     fn is_alone(&self, client: u32) -> bool
         ensures { result
             ≡ (is_out self.now.core client
@@ -451,14 +452,14 @@ impl<A: Allocator + Copy> State<A> {
         self.is_free_handed(client) && others_gathered(&self.seats, client as usize - 1)
     }
 
-    /// Whether a client may renew the clock.
+    /// Returns whether a client may renew the clock.
     fn may_renew(&self, client: u32, last: u64) -> bool
         ensures { result ≡ may_run (stripes_of self.now.core) (renews client last) self.now.core }
     {
         self.is_alone(client) && 1 <= last && last < VERSION_LIMIT && self.renewal < MOST_RENEWALS
     }
 
-    /// Plays an event that is allowed.
+    /// Plays an event that the caller has found allowed.
     pub(crate) fn make(&mut self, alloc: A, event: Event<A>) -> Result<(), AllocError>
         requires may { may_run (stripes_of self.old.core) (event_of event) self.old.core ≡ true }
         requires sane { IsSane self.old.core }
@@ -492,7 +493,7 @@ impl<A: Allocator + Copy> State<A> {
         }
     }
 
-    /// The word that a client's last step found.
+    /// Returns the word that a client's last step found, if there is one.
     pub(crate) fn found(&self, client: u32) -> Option<u64>
         ensures { result ≡ found_of self.now.core client }
     {
@@ -503,14 +504,14 @@ impl<A: Allocator + Copy> State<A> {
         }
     }
 
-    /// The decided records in the order of their point steps.
+    /// Returns the decided records in the order of their point steps.
     pub(crate) fn entries(&self) -> &[Entry]
         ensures { result.now ≡ self.now.order.entries }
     {
         self.order.entries()
     }
 
-    /// A core just opened.
+    /// Returns a core just opened on an image.
     pub(crate) fn open(
         alloc: A,
         image: &[u64],
@@ -536,7 +537,8 @@ impl<A: Allocator + Copy> State<A> {
     }
 }
 
-/// The word that an exchange leaves: the next number, where it finds the wanted one.
+/// Returns the word after a compare-and-exchange: the next number if the word is the wanted one,
+/// else the word itself.
 fn exchanged(word: u64, wanted: u64) -> u64
     requires { wanted + 1 < 2 ^ 64 }
     ensures { result ≡ cond (eqb word wanted) (word + 1) word }

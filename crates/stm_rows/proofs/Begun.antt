@@ -1,4 +1,4 @@
--- What holds of a region's words holds of an attempt that begins.
+-- Properties of a region's words hold in an attempt that begins.
 use Rattle.std.proofs.Common.{◌≡◌, ℕ, Bool, true, false, List, Option, unwrap_or, slice_index, ap, ◌∙◌}
 use Rattle.std.specs.FinMap.{empty, get-empty}
 use Rattle.std.specs.Ordering.{nat_cmp}

@@ -1,4 +1,4 @@
--- Structures over images that have the words that lead to them at 0, asked for at one length alone.
+-- Structures over images whose words that point to the structures are 0, at one length only.
 use Rattle.std.proofs.Common.{◌≡◌, inl, inr, ℕ, ◌+◌, ◌<◌, List, [], ◌∷◌, Option, Some, None}
 use Rattle.std.proofs.Common.{MatchOption, length, replicate, slice_index, nat_eq, false, refl, sym, ap, ◌∙◌, subst}
 use Rattle.std.proofs.Common.{arith}

@@ -1,4 +1,4 @@
--- What the calls on a customer make of its bookings.
+-- The effects of the calls on a customer on its bookings.
 use Rattle.std.proofs.Common.{◌≡◌, ◌≢◌, inl, inr, ℕ, ◌+◌, ◌*◌, ◌<◌, ◌≤◌, ◌^◌, List, [], ◌∷◌, length, nat_eq, false}
 use Rattle.std.proofs.Common.{refl, sym, ap, ◌∙◌, subst, arith}
 use Rattle.std.proofs.lemmas.Bool.Decides.{nat_tests}
@@ -94,7 +94,7 @@ booked s s' place num price h b = record {
       inr (omega (arith, e))) ∙ ap (λ (k : Booking). k.units) t.made.is;
 }
 
--- the words that lead on, and the keys, are as before
+-- the words that link the blocks, and the keys, are as before
 kept_list : (m m' : ℕ → ℕ) (n key : ℕ) → ((x : ℕ) → x ≢ 34 → x ≢ 36 → m' x ≡ m x) → IsListAt m n 28 ((key, 32) ∷ []) →
     IsListAt m' n 28 ((key, 32) ∷ [])
 kept_list m m' n key same l =

@@ -1,4 +1,4 @@
--- What the calls on an item make of it.
+-- The effects of the calls on an item.
 use Rattle.std.proofs.Common.{◌≡◌, ℕ, ◌+◌, ◌<◌, ◌≤◌, ◌^◌, List, ap, ◌∙◌, arith}
 use Rattle.std.specs.Prelude.{None}
 use Rattle.tx_memory.specs.View.{View, Sees, Kept, Stored}

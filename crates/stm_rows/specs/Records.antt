@@ -1,4 +1,4 @@
--- Memories of 96 words with an item or a customer in a block.
+-- Memories of 96 words with an item or a customer in one of the blocks.
 use Rattle.std.specs.Prelude.{◌≡◌, ℕ, List, [], ◌∷◌, length}
 use Rattle.tx_memory.specs.View.{View, Sees}
 use Rattle.vac_model.specs.declared.items.Kind.TheVariants.{Flight}
@@ -11,20 +11,20 @@ use Rattle.vac_records.specs.Customers.{head_of}
 abbrev pub IsSized : (ℕ → ℕ) → ℕ → Type 0
 IsSized m n = n ≡ 96
 
--- under each image that there may be the block has these counts and this price
+-- under each possible image, the block has these counts and this price
 pub record HasItem (s : View) (node used free total price : ℕ) : Type 0 where
   pub node_is : IsNode s node
   pub under : (image : List ℕ) → Sees s image →
       item_in (mem s image) node ≡
       record { used = used; free = free; total = total; price = price }
 
--- under each image that there may be the customer in block 24 has no booking
+-- under each possible image, the customer in block 24 has no booking
 pub record HasNoBooking (s : View) : Type 0 where
   pub size : s.size ≡ 96
   pub long : (image : List ℕ) → Sees s image → length image ≡ 96
   pub head_is : (image : List ℕ) → Sees s image → mem s image (head_of 24) ≡ 0
 
--- it has one booking, in block 32
+-- under each possible image, the customer in block 24 has one booking, in block 32
 pub record HasOneBooking (s : View) (key units sum : ℕ) : Type 0 where
   pub size : s.size ≡ 96
   pub long : (image : List ℕ) → Sees s image → length image ≡ 96

@@ -1,4 +1,4 @@
-//! Attempts of one step, for the other tests.
+//! Attempts with one read or one write, for the other tests.
 ghost use Rattle.std.specs.Prelude.{◌≡◌, ◌<◌, IfOk};
 ghost use Rattle.stm_core.specs.Core.{IsFreeHanded};
 
@@ -7,8 +7,8 @@ use stm_region::{Client, Region};
 use stm_words::{FreeLaw, Version};
 use tx_memory::{Addr, TxMem, TxRead};
 
-/// One attempt that writes a word. Its client then knows the version that it returns, and no later
-/// one.
+/// Writes a word in one attempt. Its client then knows the version that the attempt returns, and
+/// no later one.
 pub(crate) fn write_one(
     region: &Region<FreeLaw>,
     client: &mut Client<FreeLaw>,
@@ -33,7 +33,7 @@ pub(crate) fn write_one(
     }
 }
 
-/// One attempt that reads a word.
+/// Reads a word in one attempt.
 pub(crate) fn read_one(
     region: &Region<FreeLaw>,
     client: &mut Client<FreeLaw>,

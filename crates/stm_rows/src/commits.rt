@@ -1,4 +1,5 @@
-//! Attempts of one or two clients in turn: what they read, return and leave.
+//! Attempts of one client, or of two in turn: their reads, their results and the words that they
+//! leave.
 ghost use Rattle.std.specs.Prelude.{◌≡◌, ◌<◌};
 ghost use Rattle.stm_core.specs.Core.{IsFreeHanded};
 
@@ -11,7 +12,7 @@ use stm_region::{Client, Region};
 use stm_words::{FreeLaw, Version};
 use tx_memory::{Addr, TxMem, TxRead};
 
-/// The sum of two words.
+/// Returns the sum of two words.
 fn sum_of<M: TxRead>(memory: &mut M, first: Addr, second: Addr) -> Result<u64, M::Stop>
     requires first { first.0 < (M.view memory.old).size }
     requires second { second.0 < (M.view memory.old).size }
@@ -20,7 +21,7 @@ fn sum_of<M: TxRead>(memory: &mut M, first: Addr, second: Addr) -> Result<u64, M
     Ok(memory.read(first)?.wrapping_add(memory.read(second)?))
 }
 
-/// The word of a lock has version 1, and the read version is 0.
+/// Returns the conflict of a lock word with version 1 in an attempt with read version 0.
 fn newer(rt: &impl Abort, lock: u32) -> Conflict {
     Conflict::Newer {
         lock,
@@ -189,7 +190,7 @@ fn two_words_of_one_stripe(rt: HostRuntime) -> Result<(), Fail> {
     Ok(())
 }
 
-/// One attempt that adds a number to each of 32 words, and is tried once.
+/// Adds a number to each of 32 words in one attempt.
 fn add_to_all(
     region: &Region<FreeLaw>,
     client: &mut Client<FreeLaw>,

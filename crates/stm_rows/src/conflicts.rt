@@ -1,4 +1,4 @@
-//! What a commit returns where another client has committed since the attempt began.
+//! The result of a commit if another client has committed since the attempt began.
 ghost use Rattle.std.specs.Prelude.{◌≡◌, ◌<◌};
 ghost use Rattle.stm_core.specs.Core.{IsFreeHanded};
 
@@ -37,8 +37,8 @@ fn write_beside_a_commit(
     Ok(committed)
 }
 
-/// The word that was read has a version above the read version, be its lock free or the client's
-/// own.
+/// The word that was read has a version above the read version, whether its lock is free or the
+/// client's own.
 #[test]
 fn a_validation_meets_a_newer_version(rt: HostRuntime) -> Result<(), Fail> {
     let alloc = rt.alloc();
@@ -73,8 +73,7 @@ fn a_validation_meets_a_newer_version(rt: HostRuntime) -> Result<(), Fail> {
     Ok(())
 }
 
-/// The other one has made the last version, which the first tick finds; no validation comes after
-/// it.
+/// The other client has made the last version, which the first tick finds; no validation follows.
 #[test]
 fn a_lost_tick_finds_the_clock_spent(rt: HostRuntime) -> Result<(), Fail> {
     let alloc = rt.alloc();

@@ -23,7 +23,7 @@ const BOOKING: Block = Block(Addr(32));
 
 const FLIGHT: u32 = 7;
 
-/// A customer who books three units at 50.
+/// Creates a customer and books three units at 50.
 fn make_customer<M: TxMem>(memory: &mut M) -> Result<(), M::Stop>
     requires sized { HoldsUnder (λ m n. IsSized m n) 96 (M.view memory.old) }
     ensures origin { M.origin memory.new ≡ M.origin memory.old }
@@ -34,7 +34,7 @@ fn make_customer<M: TxMem>(memory: &mut M) -> Result<(), M::Stop>
     Ok(())
 }
 
-/// The bill, and then two units more at 80.
+/// Returns the bill, and then adds two units at 80 to the booking.
 fn bill_and_extend<M: TxMem>(memory: &mut M) -> Result<u64, M::Stop>
     requires booking { HasOneBooking (M.view memory.old) flight_key 3 150 }
     ensures origin { M.origin memory.new ≡ M.origin memory.old }
@@ -45,7 +45,7 @@ fn bill_and_extend<M: TxMem>(memory: &mut M) -> Result<u64, M::Stop>
     Ok(total)
 }
 
-/// The booking, and its numbers one by one.
+/// Returns the booking, and its numbers read one by one.
 fn read_booking<M: TxMem>(memory: &mut M) -> Result<(Booking, [u64; 2]), M::Stop>
     requires booking { HasOneBooking (M.view memory.old) flight_key 5 310 }
     ensures origin { M.origin memory.new ≡ M.origin memory.old }
@@ -59,7 +59,8 @@ fn read_booking<M: TxMem>(memory: &mut M) -> Result<(Booking, [u64; 2]), M::Stop
 
 type Gone = (Option<Block>, u64, Option<(Block, u64)>);
 
-/// The booking's block, the bill, and the block and the units of the booking that goes.
+/// Returns the booking's block, the bill, and the block and the units of the booking, which is
+/// removed.
 fn bill_and_unbook<M: TxMem>(memory: &mut M) -> Result<Gone, M::Stop>
     requires booking { HasOneBooking (M.view memory.old) flight_key 5 310 }
     ensures origin { M.origin memory.new ≡ M.origin memory.old }

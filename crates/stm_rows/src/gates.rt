@@ -1,4 +1,5 @@
-//! What the gate of a commit is told where the commit stops, and what other clients meet there.
+//! The points that a commit reports to its gate, up to the point at which the commit stops, and
+//! the state that other clients find at those points.
 ghost use Rattle.std.specs.Prelude.{◌≡◌, ◌<◌, true};
 ghost use Rattle.stm_core.specs.Core.{IsFreeHanded};
 
@@ -14,7 +15,7 @@ use tx_memory::{Addr, TxMem, TxRead};
 
 type Answer = Result<Version, Stop>;
 
-/// Keeps the points that it is told.
+/// A gate that records the points that it is told.
 #[derive(Drop)]
 struct Points {
     points: [Option<Point>; 6],
@@ -63,7 +64,7 @@ fn gates_are_told_each_point(rt: HostRuntime) -> Result<(), Fail> {
         let first = attempt.commit(&1u64, &mut writing);
         let attempt = Attempt::begin(&region, &mut a, &mut logs_a);
         let second = attempt.commit(&2u64, &mut reading);
-        // It validates its reads, since another one comes between.
+        // The third attempt validates its reads, since another client commits between.
         let mut attempt = Attempt::begin(&region, &mut a, &mut logs_a);
         let read = attempt.read(Addr(9));
         let rewritten = attempt.write(Addr(9), 3);
@@ -91,8 +92,8 @@ fn gates_are_told_each_point(rt: HostRuntime) -> Result<(), Fail> {
     Ok(())
 }
 
-/// Reads word 9, writes word 10 and commits under the gate, while the other client writes to word 9
-/// after the read.
+/// Reads word 9, writes word 10 and commits under the gate, after the other client has written
+/// word 9 since the read.
 fn commit_after_a_newer_write<G: Gate>(
     region: &Region<FreeLaw>,
     client: &mut Client<FreeLaw>,
@@ -119,7 +120,7 @@ fn commit_after_a_newer_write<G: Gate>(
     }
 }
 
-/// Reads word 9 and commits under the gate, where the other client has written to word 9 since the
+/// Reads word 9 and commits under the gate, after the other client has written word 9 since the
 /// attempt began.
 fn commit_after_a_stopped_read<G: Gate>(
     region: &Region<FreeLaw>,
@@ -147,7 +148,7 @@ fn commit_after_a_stopped_read<G: Gate>(
     }
 }
 
-/// The word that was read is newer than the read version.
+/// Returns the conflict of a read word that is newer than the read version.
 fn newer(rt: &impl Abort) -> Stop {
     Stop::Conflict(Conflict::Newer {
         lock: 9,
@@ -246,17 +247,17 @@ fn no_tick_is_told_where_the_clock_is_spent(rt: HostRuntime) -> Result<(), Fail>
     Ok(())
 }
 
-/// Another client's attempt, which has not ended.
+/// An attempt of another client that has not ended.
 pub(crate) struct Running<'b> {
     pub(crate) attempt: Attempt<'b, FreeLaw>,
     ghost runs: { attempt.logs.now.in_use ≡ true },
     ghost range: { 9 < attempt.region.now.size },
 }
 
-/// What a read returns, and the conflict that its attempt has met.
+/// The result of a read, and the conflict that its attempt has met.
 type Met = (Result<u64, Refusal>, Option<Conflict>);
 
-/// Reads word 9 by another client's attempt at one point, and ends that one.
+/// A gate that reads word 9 in another client's attempt at one point, and ends that attempt.
 struct ReadsAt<'a, 'b> {
     other: Option<Running<'b>>,
     when: Point,
@@ -299,7 +300,8 @@ pub(crate) fn write_under<G: Gate>(
     }
 }
 
-/// What another client's attempt, which began before the commit, reads in word 9 at a point.
+/// Returns the result of reading word 9 at a point of the commit, in an attempt of another client
+/// that began before the commit.
 fn read_at(
     region: &Region<FreeLaw>,
     client: &mut Client<FreeLaw>,
@@ -341,7 +343,7 @@ fn read_in_new_region(alloc: Global, when: Point) -> Result<Read, RegionFault> {
     Ok(read_at(&region, &mut a, &mut b, &mut logs_a, &mut logs_b, when))
 }
 
-/// The locks are held until all values are stored, and are free when nothing is written yet.
+/// The locks are held until all values are stored, and are free before anything is written.
 #[test]
 fn locks_are_held_from_locked_to_written(rt: HostRuntime) -> Result<(), Fail> {
     let held = Conflict::Held { lock: 9, word: 1 };
@@ -359,7 +361,7 @@ fn locks_are_held_from_locked_to_written(rt: HostRuntime) -> Result<(), Fail> {
     Ok(())
 }
 
-/// Commits another client's attempt at one point.
+/// A gate that commits another client's attempt at one point.
 pub(crate) struct CommitsAt<'a, 'b> {
     pub(crate) other: Option<Running<'b>>,
     pub(crate) when: Point,
@@ -376,8 +378,8 @@ impl<'a, 'b> Gate for CommitsAt<'a, 'b> {
     }
 }
 
-/// What two commits return: that of another client's attempt, which writes word 10 and commits at a
-/// point, and the one that comes by that point.
+/// Returns the results of two commits: that of another client's attempt, which writes word 10 and
+/// commits at a point, and that of the commit that reaches this point.
 fn commit_at(
     region: &Region<FreeLaw>,
     client: &mut Client<FreeLaw>,
@@ -425,8 +427,8 @@ fn commit_in_new_region(
     Ok(commit_at(&region, &mut a, &mut b, &mut logs_a, &mut logs_b, when))
 }
 
-/// The clock is ticked after the locks are taken and before the next point: what commits before the
-/// tick has the lower version.
+/// The clock is ticked after the locks are taken and before the next point: an attempt that
+/// commits before the tick has the lower version.
 #[test]
 fn the_clock_is_ticked_between_locked_and_ticked(rt: HostRuntime) -> Result<(), Fail> {
     let locked = commit_in_new_region(rt.alloc(), Point::Locked)?;

@@ -15,8 +15,8 @@ use stm_words::{Law, Version};
 use tx_alloc::{Block, FreeList, fresh_words, give, take};
 use tx_memory::{Addr, Flat, TxMem};
 
-/// An image fits where it is a heap of ten blocks, and a record is lawful where it keeps fitting
-/// images that agree with its reads.
+/// The law of heaps of ten blocks. An image fits if it is such a heap, and a record is lawful if
+/// it keeps fitting every fitting image that agrees with its reads.
 struct HeapLaw;
 
 impl Law for HeapLaw {
@@ -50,7 +50,7 @@ fn take_block<M: TxMem>(memory: &mut M, start: FreeList) -> Result<Option<Block>
     Ok(taken)
 }
 
-/// One attempt that takes a block.
+/// Takes a block in one attempt.
 fn take_and_commit(
     region: &Region<HeapLaw>,
     client: &mut Client<HeapLaw>,
@@ -73,7 +73,7 @@ fn take_and_commit(
     Some((block?, version))
 }
 
-/// An attempt that takes a block, while another client takes one and commits.
+/// Takes a block in one attempt, while another client takes a block and commits.
 fn take_beside_another(
     region: &Region<HeapLaw>,
     client: &mut Client<HeapLaw>,
@@ -101,7 +101,7 @@ fn take_beside_another(
     }
 }
 
-/// Neither takes what the other one reads, so that both commit.
+/// Neither client takes a block that the other reads, so both commit.
 #[test]
 fn two_clients_take_from_different_lists(rt: HostRuntime) -> Result<(), Fail> {
     let alloc = rt.alloc();

@@ -1,4 +1,4 @@
-//! Free blocks, a table and a list over a region whose law does not say how many words there are.
+//! Free blocks, a table and a list over a region whose law does not fix the number of words.
 ghost use Rattle.std.specs.Prelude.{◌≡◌, IfOk, replicate};
 ghost use Rattle.stm_core.specs.Core.{IsFreeHanded};
 ghost use Rattle.stm_rows.specs.Laws.{HoldsUnder, HasNulls};
@@ -14,8 +14,9 @@ use tx_alloc::{Block, FreeList, take};
 use tx_list::Key;
 use tx_memory::{Addr, TxMem, load};
 
-/// An image fits, however long it is, where the words that lead to a table, to a list and to free
-/// blocks are 0, and a record is lawful where it keeps fitting images that agree with its reads.
+/// A law that fixes no length. An image of any length fits if the words that point to a table, to
+/// a list and to free blocks are 0. A record is lawful if it keeps fitting every fitting image
+/// that agrees with its reads.
 struct NullLaw;
 
 impl Law for NullLaw {
@@ -34,8 +35,8 @@ const ROOT: Addr = Addr(3);
 
 const HEAD: Addr = Addr(5);
 
-/// Looks for a free block, of which there is none, and hangs one block into the table and one into
-/// the list.
+/// Looks for a free block, of which there is none, and inserts one block into the table and one
+/// into the list.
 fn take_and_hang<M: TxMem>(memory: &mut M) -> Result<Option<Block>, M::Stop>
     requires nulls { HoldsUnder HasNulls 96 (M.view memory.old) }
     ensures origin { M.origin memory.new ≡ M.origin memory.old }
@@ -67,7 +68,7 @@ fn null_region(alloc: Global) -> Result<(Region<NullLaw>, Client<NullLaw>), Fail
     Ok(Region::<NullLaw>::new(alloc, words.as_slice(), 100, 96)?)
 }
 
-/// What was taken, and whether the attempt has these words then.
+/// Returns the block taken, and whether the words are these after the attempt.
 fn hang_in_an_attempt(
     region: &Region<NullLaw>,
     client: &mut Client<NullLaw>,

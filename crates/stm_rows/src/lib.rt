@@ -1,4 +1,4 @@
-//! Tests of the transactional tower: what clients in turn meet at each other's attempts, what logs
+//! Tests of the transactional crates: conflicts between clients in turn, the memory that logs
 //! keep, and the structures in words over plain memory and over a region alike.
 #![tactic(auto)]
 

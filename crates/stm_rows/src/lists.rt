@@ -14,8 +14,8 @@ use stock_rows::{HEAD, look, stock_words, turn};
 use tx_list::{Key, first, next};
 use tx_memory::{Addr, Flat, TxMem, TxRead};
 
-/// An image fits where its head leads to a list and each block has its key, and a record is lawful
-/// where it keeps fitting images that agree with its reads.
+/// The law of the stocked list. An image fits if its head points to a list and each block has its
+/// key. A record is lawful if it keeps fitting every fitting image that agrees with its reads.
 struct ListLaw;
 
 impl Law for ListLaw {
@@ -31,7 +31,7 @@ impl Law for ListLaw {
     ghost keeps = { λ tag image reads writes f a l. l image f a };
 }
 
-/// Where the first two blocks of the list are.
+/// Returns the addresses of the first two blocks of the list.
 fn first_and_next<M: TxRead>(memory: &mut M) -> Result<[Option<Addr>; 2], M::Stop>
     requires stock { HasStock (M.view memory.old) }
     ensures origin { M.origin memory.new ≡ M.origin memory.old }
@@ -53,7 +53,7 @@ const ROOM: Key = Key { kind: 2, id: 39 };
 
 type Answers = ([Option<Addr>; 4], [Option<Addr>; 2]);
 
-/// Hangs in a room and a flight, and takes the room out.
+/// Inserts a room and a flight, and removes the room.
 fn change<M: TxMem>(memory: &mut M) -> Result<Answers, M::Stop>
     requires stock { HasStock (M.view memory.old) }
     ensures origin { M.origin memory.new ≡ M.origin memory.old }

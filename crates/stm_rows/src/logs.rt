@@ -1,4 +1,4 @@
-//! What logs keep of their memory, and what an attempt finds in logs that were used before.
+//! The memory that logs keep, and attempts in logs that were used before.
 ghost use Rattle.std.specs.Prelude.{◌≡◌, ◌<◌};
 ghost use Rattle.stm_core.specs.Core.{IsFreeHanded};
 ghost use Rattle.stm_logs.specs.Log.{IsStriped};
@@ -24,7 +24,7 @@ fn fill<A: Allocator + Copy>(log: &mut ReadLog<A>) -> usize {
     log.len()
 }
 
-/// Room for two chunks: one log has the first, and the other the second.
+/// The heap has room for two chunks: one log has the first, and the other log the second.
 #[test]
 fn a_cleared_read_log_keeps_its_chunks(rt: HostRuntime) -> Result<(), Fail> {
     let heap = LocalHeap::new(rt.alloc(), 10_000)?;
@@ -63,7 +63,8 @@ fn put<A: Allocator + Copy>(log: &mut WriteLog<A>, addr: u32) -> bool
     log.put(Addr(addr), addr % 1_000, 7).is_ok()
 }
 
-/// Puts the addresses below `count` into the emptied log. Returns how many it took.
+/// Puts the addresses below `count` into the emptied log. Returns the number of addresses that the
+/// log took.
 fn put_again<A: Allocator + Copy>(log: &mut WriteLog<A>, count: u32) -> u32
     ensures { IsStriped log.new 1000 }
 {
@@ -76,7 +77,7 @@ fn put_again<A: Allocator + Copy>(log: &mut WriteLog<A>, count: u32) -> u32
     count
 }
 
-/// Other logs take what is left of the heap, and nothing more once the log is cleared.
+/// Another log takes the rest of the heap, and nothing more once the first log is cleared.
 #[test]
 fn a_cleared_write_log_keeps_its_memory(rt: HostRuntime) -> Result<(), Fail> {
     let heap = LocalHeap::new(rt.alloc(), 20_000)?;
@@ -95,7 +96,7 @@ fn a_cleared_write_log_keeps_its_memory(rt: HostRuntime) -> Result<(), Fail> {
     Ok(())
 }
 
-/// One attempt that writes word 9 and reads the first `count` words.
+/// Writes word 9 and reads the first `count` words in one attempt.
 fn write_and_read<A: Allocator + Copy>(
     region: &Region<FreeLaw>,
     client: &mut Client<FreeLaw>,
@@ -140,8 +141,8 @@ fn logs_keep_their_memory_from_attempt_to_attempt(rt: HostRuntime) -> Result<(),
     Ok(())
 }
 
-/// An attempt in logs in which an attempt before has read word 3 and written word 9: it reads
-/// word 9 and commits.
+/// Reads word 9 and commits, in logs in which an earlier attempt has read word 3 and written word
+/// 9.
 fn read_in_used_logs(
     region: &Region<FreeLaw>,
     client: &mut Client<FreeLaw>,
@@ -160,7 +161,8 @@ fn read_in_used_logs(
     (read, committed)
 }
 
-/// It writes word 5 and commits, while another client writes word 3: it has read nothing itself.
+/// Writes word 5 and commits in used logs, while another client writes word 3. The attempt itself
+/// has read nothing.
 fn write_in_used_logs(
     region: &Region<FreeLaw>,
     client: &mut Client<FreeLaw>,

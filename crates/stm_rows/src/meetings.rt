@@ -1,4 +1,4 @@
-//! What another client's commit meets at the point where the locks are held.
+//! The commit of another client at the point at which the locks are held.
 
 use crate::attempts::{read_one, write_one};
 use crate::gates::{CommitsAt, Running, write_under};
@@ -9,8 +9,9 @@ use stm_region::Region;
 use stm_words::FreeLaw;
 use tx_memory::{Addr, TxMem, TxRead};
 
-/// Its tick comes between the locks and the tick of the other one, and is the first after its read
-/// version: it decides, though the word that it has read is locked.
+/// The other client's tick comes between the locks and the tick of the first commit, and is the
+/// first after its read version: it decides, though the word that the other client has read is
+/// locked.
 #[test]
 fn a_commit_at_locked_decides_by_its_tick(rt: HostRuntime) -> Result<(), Fail> {
     let alloc = rt.alloc();
@@ -46,8 +47,8 @@ fn a_commit_at_locked_decides_by_its_tick(rt: HostRuntime) -> Result<(), Fail> {
     Ok(())
 }
 
-/// Another commit came before, so that it must validate the word that it has read, and finds it
-/// held.
+/// Another commit came before, so that the other client must validate the word that it has read,
+/// and finds it held.
 #[test]
 fn a_commit_at_locked_meets_a_held_lock(rt: HostRuntime) -> Result<(), Fail> {
     let alloc = rt.alloc();
@@ -90,8 +91,8 @@ fn a_commit_at_locked_meets_a_held_lock(rt: HostRuntime) -> Result<(), Fail> {
     Ok(())
 }
 
-/// It writes the same word, and one below it: it takes that one's lock, finds the other one held,
-/// and gives the first back.
+/// The other client writes the same word and one below it. It takes the lock of the lower word,
+/// finds the other lock held, and gives the first lock back.
 #[test]
 fn a_commit_at_locked_finds_a_lock_taken(rt: HostRuntime) -> Result<(), Fail> {
     let alloc = rt.alloc();

@@ -1,4 +1,4 @@
-//! What a log that cannot grow leaves.
+//! Attempts whose logs cannot grow.
 
 use crate::same::{close, same, version};
 use linked_list_allocator::LocalHeap;
@@ -9,7 +9,7 @@ use stm_region::{Region, RegionFault};
 use stm_words::{FreeLaw, Version};
 use tx_memory::{Addr, TxMem, TxRead};
 
-/// How many words were read or written, what came then, and what the commit returned.
+/// The number of words read or written, the refusal that followed, and the result of the commit.
 type Ended = (u32, Option<Refusal>, Result<Version, Stop>);
 
 #[test]
@@ -79,8 +79,8 @@ fn a_refused_read_leaves_the_attempt(rt: HostRuntime) -> Result<(), Fail> {
     Ok(())
 }
 
-/// How many of 200 words an attempt writes whose logs take their memory here, whether what came
-/// then was want of memory, and what its commit returns.
+/// Writes up to 200 words in an attempt whose logs take their memory from `logs_in`. Returns the
+/// number written, the refusal that followed, and the result of the commit.
 fn write_in<A: Allocator + Copy>(alloc: Global, logs_in: A) -> Result<Ended, RegionFault> {
     let (region, mut client) = Region::<FreeLaw>::new(alloc, &[0; 200], 100, 64)?;
     let mut logs = Logs::new(logs_in);
@@ -96,8 +96,8 @@ fn write_in<A: Allocator + Copy>(alloc: Global, logs_in: A) -> Result<Ended, Reg
     Ok((ended.0, ended.1, attempt.commit(&1u64, &mut NoGate)))
 }
 
-/// How many of 5,000 reads succeed in an attempt whose logs take their memory here, whether what
-/// came then was want of memory, and what its commit returns.
+/// Reads up to 5,000 times in an attempt whose logs take their memory from `logs_in`. Returns the
+/// number of reads that succeeded, the refusal that followed, and the result of the commit.
 fn read_in<A: Allocator + Copy>(alloc: Global, logs_in: A) -> Result<Ended, RegionFault> {
     let (region, mut client) = Region::<FreeLaw>::new(alloc, &[3; 200], 100, 64)?;
     let mut logs = Logs::new(logs_in);
@@ -113,7 +113,7 @@ fn read_in<A: Allocator + Copy>(alloc: Global, logs_in: A) -> Result<Ended, Regi
     Ok((ended.0, ended.1, attempt.commit(&1u64, &mut NoGate)))
 }
 
-/// In heaps of these sizes no growth of the write log has room, the first one has, and so on.
+/// The heaps have room for no growth of the write log, for the first growth, and so on.
 #[test]
 fn each_growth_is_refused_to_an_attempt_that_writes(rt: HostRuntime) -> Result<(), Fail> {
     for (size, most) in [
@@ -133,7 +133,7 @@ fn each_growth_is_refused_to_an_attempt_that_writes(rt: HostRuntime) -> Result<(
     Ok(())
 }
 
-/// In heaps of these sizes no growth of the read log has room, the first one has, and so on.
+/// The heaps have room for no growth of the read log, for the first growth, and so on.
 #[test]
 fn each_growth_is_refused_to_an_attempt_that_reads(rt: HostRuntime) -> Result<(), Fail> {
     for (size, most) in [

@@ -19,8 +19,8 @@ use vac_records::{
 
 const ITEM: Block = Block(Addr(16));
 
-/// An image fits where it has 96 words, and a record is lawful where it keeps fitting images that
-/// agree with its reads.
+/// The law of images of 96 words. An image fits if it has 96 words, and a record is lawful if it
+/// keeps fitting every fitting image that agrees with its reads.
 pub(crate) struct SizeLaw;
 
 impl Law for SizeLaw {
@@ -36,7 +36,7 @@ impl Law for SizeLaw {
     ghost keeps = { λ tag image reads writes f a l. l image f a };
 }
 
-/// An item of 100 units at 50, of which three are taken away.
+/// Creates an item of 100 units at 50, and removes three units.
 fn make_item<M: TxMem>(memory: &mut M) -> Result<(), M::Stop>
     requires node { IsNode (M.view memory.old) 16 }
     ensures origin { M.origin memory.new ≡ M.origin memory.old }
@@ -47,7 +47,7 @@ fn make_item<M: TxMem>(memory: &mut M) -> Result<(), M::Stop>
     Ok(())
 }
 
-/// Ten units are booked, and four given back.
+/// Books ten units and gives four back.
 fn use_item<M: TxMem>(memory: &mut M) -> Result<(), M::Stop>
     requires item { HasItem (M.view memory.old) 16 0 97 97 50 }
     ensures origin { M.origin memory.new ≡ M.origin memory.old }
@@ -58,7 +58,7 @@ fn use_item<M: TxMem>(memory: &mut M) -> Result<(), M::Stop>
     Ok(())
 }
 
-/// Five units more, and another price.
+/// Adds five units and changes the price.
 fn extend_item<M: TxMem>(memory: &mut M) -> Result<(), M::Stop>
     requires item { HasItem (M.view memory.old) 16 6 91 97 50 }
     ensures origin { M.origin memory.new ≡ M.origin memory.old }
@@ -69,7 +69,7 @@ fn extend_item<M: TxMem>(memory: &mut M) -> Result<(), M::Stop>
     Ok(())
 }
 
-/// The item, and its numbers one by one.
+/// Returns the item, and its numbers read one by one.
 fn read_item<M: TxRead>(memory: &mut M) -> Result<(Item, [u64; 4]), M::Stop>
     requires node { IsNode (M.view memory.old) 16 }
     ensures origin { M.origin memory.new ≡ M.origin memory.old }

@@ -1,4 +1,4 @@
-//! What tests ask of their answers, in functions of their own: a test has no way out where it asks.
+//! Assertions on results, in functions of their own: a test cannot leave early at an assertion.
 ghost use Rattle.std.specs.Prelude.{◌≡◌};
 ghost use Rattle.stm_core.specs.Core.{IsFreeHanded};
 ghost use Rattle.stm_region.specs.Shown.{HasSplit};
@@ -24,7 +24,7 @@ pub(crate) fn version(rt: &impl Abort, number: u64) -> Version {
     version
 }
 
-/// Another client of the region.
+/// Splits another client off.
 pub(crate) fn split<L: Law>(
     rt: &impl Abort,
     region: &Region<L>,
@@ -40,7 +40,7 @@ pub(crate) fn split<L: Law>(
     other
 }
 
-/// The words and the clock of a region whose clients are all back.
+/// Closes a region whose clients are all gathered. Returns its words and its clock.
 pub(crate) fn close<L: Law>(
     rt: &impl Abort,
     alloc: Global,

@@ -19,8 +19,8 @@ const ROOT: Addr = Addr(3);
 
 const BLOCKS: u32 = 10;
 
-/// An image fits where it is a heap of ten blocks with an empty table, and a record is lawful where
-/// it keeps fitting images that agree with its reads.
+/// The law of tables. An image fits if it is a heap of ten blocks with an empty table, and a
+/// record is lawful if it keeps fitting every fitting image that agrees with its reads.
 struct TableLaw;
 
 impl Law for TableLaw {
@@ -35,7 +35,7 @@ impl Law for TableLaw {
     ghost keeps = { λ tag image reads writes f a l. l image f a };
 }
 
-/// Ten blocks with different keys below 50, and no table.
+/// Returns the words of ten blocks with different keys below 50, without a table.
 fn table_words(alloc: Global) -> Result<Vec<u64>, Fail>
     ensures { IfOk result (λ words. IsTableless words.items) }
 {
@@ -54,7 +54,7 @@ fn table_words(alloc: Global) -> Result<Vec<u64>, Fail>
     Ok(words)
 }
 
-/// Puts a block under its key. Returns how many entries there are.
+/// Puts a block under its key. Returns the number of entries.
 fn put<M: TxMem>(memory: &mut M, count: usize, number: u32) -> Result<usize, M::Stop>
     requires table { HoldsTable (M.view memory.old) count }
     ensures origin { M.origin memory.new ≡ M.origin memory.old }
@@ -75,7 +75,7 @@ fn put<M: TxMem>(memory: &mut M, count: usize, number: u32) -> Result<usize, M::
     }
 }
 
-/// Takes the entry of a key out. Returns how many entries are left, and the block.
+/// Removes the entry of a key. Returns the number of entries left, and the block.
 fn cut<M: TxMem>(memory: &mut M, count: usize, key: u64) -> Result<(usize, Option<Block>), M::Stop>
     requires table { HoldsTable (M.view memory.old) count }
     ensures origin { M.origin memory.new ≡ M.origin memory.old }
@@ -88,7 +88,7 @@ fn cut<M: TxMem>(memory: &mut M, count: usize, key: u64) -> Result<(usize, Optio
     }
 }
 
-/// The keys of the table in their order, and zeros for those that it lacks.
+/// Returns the keys of the table in their order, and zeros for missing ones.
 fn keys<M: TxRead>(memory: &mut M, count: usize) -> Result<[u64; 10], M::Stop>
     requires table { HoldsTable (M.view memory.old) count }
     ensures origin { M.origin memory.new ≡ M.origin memory.old }
@@ -106,7 +106,7 @@ fn keys<M: TxRead>(memory: &mut M, count: usize) -> Result<[u64; 10], M::Stop>
     Ok(keys)
 }
 
-/// Puts all blocks under their keys, from the last one on.
+/// Puts all blocks under their keys, from the last block on.
 fn put_all<M: TxMem>(memory: &mut M) -> Result<usize, M::Stop>
     requires table { HoldsTable (M.view memory.old) 0 }
     ensures origin { M.origin memory.new ≡ M.origin memory.old }
@@ -128,7 +128,7 @@ struct Answers {
     rest: [u64; 10],
 }
 
-/// Puts all, and takes two keys out, of which the table has one.
+/// Puts all blocks, and removes two keys, of which the table has one.
 fn change<M: TxMem>(memory: &mut M) -> Result<Answers, M::Stop>
     requires table { HoldsTable (M.view memory.old) 0 }
     ensures origin { M.origin memory.new ≡ M.origin memory.old }
@@ -185,7 +185,7 @@ fn a_table_of_plain_memory_and_of_a_region(rt: HostRuntime) -> Result<(), Fail> 
         change_in_an_attempt(&region, &mut client, &mut logs, &words)
     };
     same(&rt, &answers, &Some((expected, true)));
-    // Block b has 7 * (b + 2) modulo 50.
+    // The key of block b is 7 * (b + 2) modulo 50.
     let by_hand = Answers {
         count: 10,
         keys: [6, 13, 14, 20, 21, 27, 28, 35, 42, 49],

@@ -46,7 +46,7 @@ fn move_amount<M: TxMem>(
     Ok((left, there))
 }
 
-/// One attempt of a move.
+/// Tries a move in one attempt.
 fn try_move(
     region: &Region<FreeLaw>,
     client: &mut Client<FreeLaw>,
@@ -135,7 +135,8 @@ fn two_clients<R: Threads + Sync>(
     )
 }
 
-/// The moves in order of version, played one after the other: each found what those before it left.
+/// Plays the moves one after another in the order of their versions, and asserts that each found
+/// the words that the moves before it left.
 fn replay(rt: &impl Abort, moves: &[Move]) -> [u64; 64] {
     let mut words = [1_000u64; 64];
     let mut last = 0;

@@ -4,7 +4,7 @@ ghost use Rattle.std.specs.Prelude.{◌≡◌, ◌≤◌};
 use tx_alloc::Block;
 use tx_memory::{Addr, TxRead};
 
-/// Whether the first words are these.
+/// Returns whether the memory's first `size` words are these.
 pub(crate) fn has_words<M: TxRead>(
     memory: &mut M,
     size: u32,
@@ -21,7 +21,7 @@ pub(crate) fn has_words<M: TxRead>(
     Ok(same)
 }
 
-/// Where a block is, if there is one.
+/// Returns the address of a block, if there is one.
 pub(crate) fn place_of(block: Option<Block>) -> Option<Addr> {
     match block {
         Some(block) => Some(block.addr()),

@@ -1,14 +1,14 @@
-//! Tags of records, and laws of which records are lawful.
+//! Tags of records, and the laws that say which records are lawful.
 
 ghost use Rattle.std.specs.Prelude.{ℕ, List, [], ◌∷◌};
 ghost use Rattle.tx_memory.specs.Image.{Agrees, laid};
 
-/// What a record has besides its reads and writes, seen as a list of whole numbers.
+/// The tag of a record: everything but its reads and writes, seen as a list of whole numbers.
 pub trait Tag {
     ghost numbers: { Self → List ℕ };
 }
 
-/// A number, seen as the list of itself alone.
+/// A number as a tag: the list of that number alone.
 impl Tag for u64 {
     ghost numbers = { λ n. n ∷ [] };
 }
@@ -18,11 +18,12 @@ pub trait Writes {
     ghost pairs: { Self → List (ℕ × ℕ) };
 }
 
-/// Which images a region may have, and which records (tag, reads, writes) may be made on it.
+/// The images that a region may have, and the records (tag, reads, writes) that may be made on
+/// them.
 ///
-/// Reads and writes are finite maps from addresses to values, given as lists of their pairs. The
-/// law `keeps` is what a region rests on: a lawful record on a fitting image that agrees with its
-/// reads gives a fitting image.
+/// Reads and writes are finite maps from addresses to values, given as lists of their pairs. A
+/// region relies on the law `keeps`: a lawful record whose reads agree with a fitting image gives
+/// a fitting image.
 pub trait Law {
     ghost fits: { List ℕ → Type 0 };
 
@@ -43,7 +44,7 @@ impl Law for FreeLaw {
     ghost keeps = { λ tag image reads writes f a l. tt };
 }
 
-/// The one law of every `Law`, as a contract.
+/// States that under every law a lawful record keeps a fitting image fitting.
 pub fn law_keeps_fitting<L: Law>()
     ensures { (tag image : List ℕ) (reads writes : List (ℕ × ℕ)) → L.fits image
         → Agrees image reads → L.lawful tag reads writes → L.fits (laid image writes) }

@@ -1,5 +1,5 @@
-//! Versions, lock words, tags, laws of records, and the writes of a commit: what a transactional
-//! memory adds to the data words of `tx_memory`.
+//! Versions, lock words, tags, laws of records, and the writes of a commit: the words that a
+//! transactional memory adds to the data words of `tx_memory`.
 //!
 //! The encoding of a lock word is this product's own; versioned lock words and the version clock
 //! are those of Transactional Locking II (Dice, Shalev, Shavit, DISC 2006).

@@ -5,8 +5,8 @@ ghost use Rattle.stm_words.specs.LockWord.{free_word, held_word};
 
 use std::marker::Model;
 
-/// Every version is below this, so that a lock word has room for a version and for whether it is
-/// held.
+/// Bound of the versions: every version is below it, so that a lock word has room for a version
+/// and for the held bit.
 pub const VERSION_LIMIT: u64 = 1 << 62;
 
 /// A version of the version clock, at most 2^62 - 1.
@@ -29,7 +29,7 @@ impl Model for Version {
 }
 
 impl Version {
-    /// The version of a number, or `None` above 2^62 - 1.
+    /// Returns the version of a number, or `None` if the number is above 2^62 - 1.
     #[inline]
     pub fn new(number: u64) -> Option<Version>
         ensures none { IsNone result ↔ (VERSION_LIMIT ≤ number) }
@@ -42,7 +42,7 @@ impl Version {
         }
     }
 
-    /// The version's number.
+    /// Returns the version's number.
     #[inline]
     pub fn get(self) -> u64
         ensures number { result ≡ self }
@@ -52,12 +52,12 @@ impl Version {
     }
 }
 
-/// The encoding of lock words: twice the version when free, and one more when held, then with the
-/// version from before.
+/// The encoding of lock words: twice the version if the lock is free; one more, with the version
+/// from before, if it is held.
 pub struct LockWord;
 
 impl LockWord {
-    /// The word of a free lock of this version.
+    /// Returns the word of a free lock of this version.
     #[inline]
     pub fn free(version: Version) -> u64
         ensures { result ≡ free_word version }
@@ -65,7 +65,7 @@ impl LockWord {
         2 * version.number
     }
 
-    /// The word of a held lock whose version was this one before.
+    /// Returns the word of a held lock whose old version is this one.
     #[inline]
     pub fn held(version: Version) -> u64
         ensures { result ≡ held_word version }
@@ -73,7 +73,7 @@ impl LockWord {
         Self::free(version) + 1
     }
 
-    /// The version of a lock word and whether the lock is held.
+    /// Returns the version of a lock word and whether the lock is held.
     #[inline]
     pub fn decode(word: u64) -> (Version, bool)
         requires { word < 2 ^ 63 }

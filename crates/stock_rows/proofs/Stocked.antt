@@ -24,7 +24,7 @@ stock_list s h = record {
   under = λ image i. (h.under image i).list;
 }
 
--- a word of a block before the one that leads on
+-- a word of a block before its link word
 kept_word : (m m' : ℕ → ℕ) (n j k : ℕ) (rs : Rows) → Relinks m m' 3 5 rs → ((a : ℕ) → 0 < times a rs → IsBlock n a) →
     k < 3 → m' (stock_block j + k) ≡ m (stock_block j + k)
 kept_word m m' n j k rs r blocks l = r.others (stock_block j + k) (omega arith) (λ a i.
@@ -84,7 +84,7 @@ stock_inserted s s' key b h fresh d = record {
       };
 }
 
--- the block of a key that the list does not have can be hung in
+-- the block of a key that the list does not have can be inserted
 pub stock_fresh : (s s' : View) (key : Key) (b : ℕ) (removed : Option ℕ) → HasStock s →
     RemovedBooking s s' 5 (code_of key) removed → removed ≡ None → IsStockKey key →
     b ≡ stock_block (40 * key.kind + key.id) →

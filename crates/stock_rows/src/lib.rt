@@ -1,5 +1,5 @@
-//! What tests of lists of bookings share: a memory with one list, and a block for each of 120 keys
-//! which hangs in the list or does not.
+//! The memory that tests of lists of bookings share: one list, and a block for each of 120 keys,
+//! which is in the list or not.
 #![tactic(auto)]
 
 ghost use Rattle.std.specs.Prelude.{◌≡◌, ◌+◌, ◌*◌, ◌<◌, IfOk};
@@ -10,15 +10,15 @@ use tx_alloc::Block;
 use tx_list::{Key, find, insert, remove};
 use tx_memory::{Addr, TxMem, TxRead};
 
-/// The word that leads to the list.
+/// Address of the word that points to the list.
 pub const HEAD: Addr = Addr(5);
 
-/// How many ids each of the three kinds has.
+/// Number of ids of each of the three kinds.
 pub const IDS: u32 = 40;
 
 const WORDS: usize = 976;
 
-/// The block that has this key written from the start.
+/// Returns the block that has this key written from the start.
 pub fn block_of(key: Key) -> Block
     requires { IsStockKey key }
     ensures { result ≡ stock_block (40 * key.kind + key.id) }
@@ -26,7 +26,7 @@ pub fn block_of(key: Key) -> Block
     Block(Addr(16 + 8 * (IDS * key.kind as u32 + key.id as u32)))
 }
 
-/// A word of the memory before the first change.
+/// Returns a word of the memory before the first change.
 fn word_at(place: usize) -> u64
     requires { place < WORDS }
     ensures { result ≡ stock_word place }
@@ -42,7 +42,7 @@ fn word_at(place: usize) -> u64
     }
 }
 
-/// The words before the first change.
+/// Returns the words before the first change.
 pub fn stock_words(alloc: Global) -> Result<Vec<u64>, AllocError>
     ensures { IfOk result (λ words. IsStock words.items) }
 {
@@ -53,7 +53,7 @@ pub fn stock_words(alloc: Global) -> Result<Vec<u64>, AllocError>
     Ok(words)
 }
 
-/// Takes the booking of a key out, or hangs it in where there is none.
+/// Removes the booking of a key, or inserts it if there is none.
 pub fn turn<M: TxMem>(memory: &mut M, key: Key) -> Result<Option<Block>, M::Stop>
     requires stock { HasStock (M.view memory.old) }
     requires key { IsStockKey key }
@@ -70,7 +70,7 @@ pub fn turn<M: TxMem>(memory: &mut M, key: Key) -> Result<Option<Block>, M::Stop
     }
 }
 
-/// The block of a key in the list, if it is there.
+/// Returns the block of a key in the list, if the list has the key.
 pub fn look<M: TxRead>(memory: &mut M, key: Key) -> Result<Option<Block>, M::Stop>
     requires stock { HasStock (M.view memory.old) }
     requires key { IsStockKey key }

@@ -3,7 +3,7 @@ use Rattle.std.specs.Prelude.{◌≡◌, ℕ, ◌<◌, List, [], ◌∷◌, slic
 use mathlib.Core.Option.{some}
 use lib.ListN.{get_elem?}
 
--- x is in the list
+-- x is a member of the list
 abbrev pub In : {A : Type 0} → A → List A → Type 0
 In x xs = (j : ℕ) × (get_elem? xs j ≡ some x)
 
@@ -11,11 +11,12 @@ In x xs = (j : ℕ) × (get_elem? xs j ≡ some x)
 abbrev pub Has : List ℕ → ℕ → ℕ → Type 0
 Has image address value = (address < length image) × (slice_index image address ≡ value)
 
--- the image has each pair's value at its address
+-- for each pair, the image has the pair's value at its address
 abbrev pub Agrees : List ℕ → List (ℕ × ℕ) → Type 0
 Agrees image reads = (address value : ℕ) → In (address, value) reads → Has image address value
 
--- the image with each pair's value at its address, the later over the earlier
+-- the image with the pairs written to it in their order, so that the last pair of an address
+-- counts
 abbrev pub laid : List ℕ → List (ℕ × ℕ) → List ℕ
 laid image [] = image
 laid image (pair ∷ pairs) = laid (slice_set image pair.0 pair.1) pairs

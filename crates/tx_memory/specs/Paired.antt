@@ -1,4 +1,4 @@
--- Finite maps as lists of pairs: what was read in pairs, and what is laid over an image in pairs.
+-- Finite maps as lists of pairs: the reads of a memory as pairs, and pairs written to an image.
 use Rattle.std.proofs.Common.{◌≡◌, ◌⊎◌, inl, inr, ℕ, ◌<◌, ◌&&◌, zero, suc, List, [], ◌∷◌, ◌++◌, length, Option, Some, None, T, true, false, Bool, slice_index, slice_set, unwrap_or, refl, sym, ap, subst, ◌∙◌, arith, get_or-set_same, get_or-set_other, length-set}
 use Rattle.std.specs.FinMap.{get, insert, empty, entries, entries_sorted, find, is_sorted, get-empty, get-entries}
 use Rattle.std.specs.FinMap.Entries.{below_all}
@@ -10,20 +10,20 @@ use Rattle.tx_memory.specs.View.{Words, memory}
 use Rattle.tx_memory.specs.Pairs.{with_pairs, map_of}
 use Rattle.tx_memory.specs.Seen.{same_or, get_here, get_other}
 
--- one pair more at the end is an insertion
+-- appending a pair to the list is an insertion into the map
 pub with_pairs-append : (m : Words) (ps : List (ℕ × ℕ)) (a v : ℕ) →
     with_pairs m (ps ++ (a, v) ∷ []) ≡ insert (with_pairs m ps) a v
 with_pairs-append m [] a v = refl
 with_pairs-append m (p ∷ ps) a v = with_pairs-append (insert m p.0 p.1) ps a v
 
--- what is in a list is still in it with one more before it
+-- a member of a list is a member of the list with one more element in front
 pub in_later : {A : Type 0} (x y : A) (xs : List A) → In x xs → In x (y ∷ xs)
 in_later x y xs i = (suc i.0, i.1)
 
 same_pair : (p : ℕ × ℕ) (a v : ℕ) → p.0 ≡ a → p.1 ≡ v → p ≡ (a, v)
 same_pair p a v e f = λ i. (e i, f i)
 
--- a value of a map with pairs is the map's, or one of the pairs'
+-- a value of a map with pairs is a value of the map or of one of the pairs
 pub get-with_pairs : (m : Words) (ps : List (ℕ × ℕ)) (a v : ℕ) →
     get (with_pairs m ps) a ≡ Some v → (get m a ≡ Some v) ⊎ In (a, v) ps
 get-with_pairs m [] a v e = inl e
@@ -44,7 +44,7 @@ get-with_pairs m (p ∷ ps) a v e =
 not_both : {A : Type 0} {x : A} → None ≡ Some x → ⊥
 not_both e = cc
 
--- an image that agrees with the pairs agrees with their map
+-- an image that agrees with the pairs agrees with the map of the pairs
 pub agrees-map_of : (image : List ℕ) (ps : List (ℕ × ℕ)) → Agrees image ps → (a v : ℕ) →
     get (map_of ps) a ≡ Some v → Has image a v
 agrees-map_of image ps h a v e =
@@ -61,7 +61,7 @@ second : (a b : Bool) → T (a && b) → T b
 second true b p = p
 second false b p = absurd p
 
--- no key of a list above x is x
+-- if all keys of a list are above x, no key of the list is x
 none_below : (x : ℕ) (es : List (ℕ × ℕ)) → T (below_all nat_cmp x es) → find nat_cmp x es ≡ None
 none_below x [] h = refl
 none_below x (e ∷ es) h =
@@ -95,14 +95,14 @@ laid-find (e ∷ es) image a h l =
           rest ∙ ap (unwrap_or (find nat_cmp a es)) other ∙ sym (rw t refl))
     ]
 
--- the pairs of a map laid over an image give the memory of both
+-- writing the pairs of a map to an image gives the memory of both
 pub laid-entries : (writes : Words) (image : List ℕ) (a : ℕ) → a < length image →
     slice_index (laid image (entries writes)) a ≡ memory image writes a
 laid-entries writes image a l =
     laid-find (entries writes) image a (entries_sorted writes) l
     ∙ ap (λ (o : Option ℕ). unwrap_or o (slice_index image a)) (sym (get-entries writes a))
 
--- an image with pairs laid over it is as long as the image
+-- writing pairs to an image does not change its length
 pub length-laid : (image : List ℕ) (ps : List (ℕ × ℕ)) → length (laid image ps) ≡ length image
 length-laid image [] = refl
 length-laid image (p ∷ ps) =

@@ -1,4 +1,4 @@
--- Plain memory is a transactional memory.
+-- Plain memory satisfies the conditions of a transactional memory.
 use Rattle.std.proofs.Common.{◌≡◌, inl, inr, ℕ, ◌+◌, ◌<◌, ◌≤◌, List, [], ◌∷◌, Option, Some, None, length, refl, sym, ap, ◌∙◌, arith, get_or, set, add-zero, zero-add, get_or-set_other, get_or-set_same, suc, zero, length-set}
 use Rattle.std.specs.FinMap.{get, insert, empty, get-empty, same_map, nat_cmp-IsAntisymmetric}
 use Rattle.std.specs.Ordering.{nat_cmp}
@@ -11,7 +11,8 @@ use Rattle.tx_memory.specs.Seen.{same_or, get_here, get_other}
 none_at : (q : ℕ) → get {R = nat_cmp} (empty {X = ℕ}) q ≡ None
 none_at q = get-empty nat_cmp q
 
--- the word at an address that the list has, and none before the first or after the last
+-- the map of a list has the list's word at each of its addresses, and none before the first or
+-- after the last
 pub get_in : (xs : List ℕ) (i k : ℕ) → k < length xs →
     get (numbered i xs) (i + k) ≡ Some (get_or xs k 0)
 get_in [] i k l = absurd (omega arith)

@@ -1,4 +1,4 @@
--- What a read and a write say of every image that a memory may stand on.
+-- The effect of a read and of a write on every possible image of a memory.
 use Rattle.std.proofs.Common.{Result, Ok, Err, IfOk, MatchResult, ◌≡◌, ◌≢◌, ◌⊎◌, inl, inr, ℕ, ◌≤◌, List, Option, Some, None, slice_index, true, false, refl, sym, ap, ◌∙◌, arith, unwrap_or}
 use Rattle.std.specs.FinMap.{get, insert, get-insert}
 use Rattle.std.specs.Ordering.{nat_cmp, eq_by_cmp}
@@ -96,7 +96,7 @@ has_stored (Ok u) s s' a v f e h = record {
 }
 has_stored (Err x) s s' a v f e h = tt
 
--- an order that follows from some value follows from there being one
+-- an inequality that follows from some value also follows from the mere existence of such a value
 pub some_le : {W : Type 0} (a b : ℕ) → ∥ W ∥₁ → (W → a ≤ b) → a ≤ b
 some_le a b w f =
     elim (cases_lt b a) [

@@ -1,4 +1,4 @@
--- What a transactional memory means, and the images that it may stand on.
+-- The view of a transactional memory, and its possible images.
 use Rattle.std.specs.Prelude.{◌≡◌, ◌≢◌, ℕ, List, Some, None, slice_index, length, unwrap_or}
 use Rattle.std.specs.Ordering.{nat_cmp}
 use Rattle.std.specs.FinMap.{FinMap, get, insert}
@@ -8,60 +8,62 @@ use Rattle.tx_memory.specs.Image.{Has}
 abbrev pub Words : Type 0
 Words = FinMap nat_cmp ℕ
 
--- the size, the images that fit, what was read of the image, and what is to be written to it
+-- the view of a memory: its size, the images that fit, the words that were read of the image, and
+-- the words that are to be written to it
 pub record View : Type 1 where
   pub size : ℕ
   pub fits : List ℕ → Type 0
   pub reads : Words
   pub writes : Words
 
--- the image with the writes laid over it, as a function from an address to its word
+-- the image with the writes applied, as a function from an address to its word
 abbrev pub memory : List ℕ → Words → ℕ → ℕ
 memory image writes address = unwrap_or (get writes address) (slice_index image address)
 
--- the words of a memory, should this be the image that it stands on
+-- the words of a memory, if this is its image
 abbrev pub mem : View → List ℕ → ℕ → ℕ
 mem s image = memory image s.writes
 
--- the memory may stand on this image, whatever its length: it fits, and agrees with the reads
+-- the image is possible for the memory, whatever its length: the image fits and agrees with the
+-- reads
 pub record Sees (s : View) (image : List ℕ) : Type 0 where
   pub fits : s.fits image
   pub agrees : (address value : ℕ) → get s.reads address ≡ Some value → Has image address value
 
--- an image of the memory's size on which it may stand
+-- the image is possible for the memory and has its size
 pub record RestsOn (s : View) (image : List ℕ) : Type 0 where
   pub size : length image ≡ s.size
   pub sees : Sees s image
 
--- each image on which the memory may stand afterwards is one on which it may have stood before
+-- each image that is possible afterwards was possible before, and the size is unchanged
 pub record Kept (s s' : View) : Type 0 where
   pub size : s'.size ≡ s.size
   pub seen : (image : List ℕ) → Sees s' image → Sees s image
 
--- the same size, and no image fits that did not fit before
+-- the size is unchanged, and no image fits that did not fit before
 pub record SameFrame (s s' : View) : Type 0 where
   pub size : s'.size ≡ s.size
   pub fits : (image : List ℕ) → s'.fits image → s.fits image
 
--- a read at an address returned v: its own write there, with the reads as before; or, where there
--- is none, v entered the reads, which had no other value there
+-- a read at an address returned v: the memory's own write there, with the reads as before, or else
+-- a value that entered the reads, which had no other value there
 pub record HasRead (s s' : View) (address v : ℕ) : Type 0 where
   pub own : (w : ℕ) → get s.writes address ≡ Some w → (v ≡ w) × (s'.reads ≡ s.reads)
   pub entered : get s.writes address ≡ None →
       (s'.reads ≡ insert s.reads address v) × ((w : ℕ) → get s.reads address ≡ Some w → v ≡ w)
 
--- m' is m but for v at an address
+-- memory m' is m with the word at one address replaced by v
 pub record IsWrite (m m' : ℕ → ℕ) (address v : ℕ) : Type 0 where
   pub here : m' address ≡ v
   pub others : (a : ℕ) → a ≢ address → m' a ≡ m a
 
--- a load at an address returned v, which is the word there under each image that there may be
+-- a load at an address returned v, which is the word there under each possible image
 pub record Loaded (s s' : View) (address v : ℕ) : Type 0 where
   pub kept : Kept s s'
   pub writes : s'.writes ≡ s.writes
   pub answer : (image : List ℕ) → Sees s' image → memory image s.writes address ≡ v
 
--- a store put v at an address, under each image
+-- a store put v at an address, under each possible image, and changed no other word
 pub record Stored (s s' : View) (address v : ℕ) : Type 0 where
   pub kept : Kept s s'
   pub written : (image : List ℕ) →

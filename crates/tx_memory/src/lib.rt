@@ -1,5 +1,5 @@
-//! Memories of words: addresses, what a memory means to code that runs over it, images, and plain
-//! memory. Nothing here knows of versions, locks or clients.
+//! Memories of words: addresses, the view of a memory that code over it relies on, images, and
+//! plain memory. Nothing here knows of versions, locks or clients.
 #![tactic(auto)]
 
 mod memory;

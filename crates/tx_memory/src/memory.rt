@@ -4,20 +4,20 @@ ghost use Rattle.std.specs.Prelude.{◌≡◌, ℕ, ◌<◌, List, IfOk, IfErr, 
 ghost use Rattle.std.specs.FinMap.{insert};
 ghost use Rattle.tx_memory.specs.View.{View, RestsOn, SameFrame, HasRead, Loaded, Stored};
 
-/// The number of a data word.
+/// The address of a data word.
 #[derive(Clone, Copy, Debug, PartialEq, Eq, PartialOrd, Ord)]
 pub struct Addr(pub u32);
 
 /// A memory whose words are read in a transaction.
 ///
-/// Its meaning is a `View`: a size, the images that fit, and two finite maps, the reads and the
-/// writes. Some fitting image of that size agrees with the reads at every moment (`seen`). Its
-/// `origin` is what no read and no write changes, refused ones among them: of a running
-/// transaction, its region and its client as the attempt began. `stopped_for` a reason is what
-/// holds of it when it has refused a read for that reason: of a running transaction, that it keeps
-/// the conflict that it met.
+/// A memory's meaning is a `View`: a size, the images that fit, and two finite maps, the reads and
+/// the writes. At every moment, some fitting image of that size agrees with the reads (`seen`).
+/// The memory's `origin` is what no read and no write changes, refused ones included; for a
+/// running transaction, this is its region and its client as the attempt began. `stopped_for` a
+/// reason holds of a memory that has refused a read for that reason; for a running transaction, it
+/// says that the transaction keeps the conflict that it met.
 pub trait TxRead {
-    /// Why the transaction cannot go on.
+    /// The reason why the transaction cannot go on.
     type Stop;
 
     ghost Origin: { Type 0 };
@@ -28,8 +28,8 @@ pub trait TxRead {
 
     ghost stopped_for: { Self → Self.Stop → Type 0 };
 
-    /// The word at an address below the size: the transaction's own write of it, or a value that
-    /// enters the reads. A refusal changes neither reads nor writes.
+    /// Returns the word at an address below the size: the transaction's own write there, or a
+    /// value that enters the reads. A refusal changes neither reads nor writes.
     ///
     /// Not said: when a read is refused.
     fn read(&mut self, addr: Addr) -> Result<u64, Self::Stop>
@@ -61,8 +61,8 @@ pub trait TxMem: TxRead {
             (λ _. (Self.view self.new).writes ≡ (Self.view self.old).writes) };
 }
 
-/// A read, in terms of every image that the memory may stand on: under each that agrees with the
-/// reads afterwards, the word was the one returned.
+/// Reads a word: under each possible image that agrees with the reads afterwards, the word is the
+/// one returned.
 ///
 /// Not said: what a refused read leaves; that no other word enters the reads.
 #[inline(always)]
@@ -76,8 +76,8 @@ pub fn load<M: TxRead>(memory: &mut M, addr: Addr) -> Result<u64, M::Stop>
     memory.read(addr)
 }
 
-/// A write, in terms of every image that the memory may stand on: under each, the word at this
-/// address is the value, and every other word is as before.
+/// Writes a word: under each possible image, the word at this address is the value, and every
+/// other word is as before.
 ///
 /// Not said: what a refused write leaves.
 #[inline]

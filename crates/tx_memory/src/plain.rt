@@ -1,4 +1,4 @@
-//! Plain memory as a memory of transactions.
+//! Plain memory as a transactional memory.
 
 ghost use Rattle.std.specs.Prelude.{◌≡◌, ℕ, List};
 
@@ -21,14 +21,14 @@ impl Model for Flat {
 }
 
 impl Flat {
-    /// A memory of these words.
+    /// Returns a memory of these words.
     pub fn new(words: Vec<u64>) -> Flat
         ensures { result ≡ words.items }
     {
         Flat { words }
     }
 
-    /// The words as they were written.
+    /// Returns the words of the memory.
     pub fn words(self) -> Vec<u64>
         ensures { result.items ≡ self }
     {

@@ -1,4 +1,4 @@
--- One access more of a memory whose accesses are seen.
+-- One more access of a memory whose accesses are observed.
 use Rattle.std.proofs.Common.{◌≡◌, ℕ, Bool, true, false, ◌&&◌, eqb, List, [], ◌∷◌, ◌++◌, Option, Some, None, refl, sym}
 use Rattle.std.proofs.Common.{ap, subst, ◌∙◌, arith}
 use Rattle.std.proofs.lemmas.Bool.Decides.{nat_tests}
@@ -71,7 +71,7 @@ right_write r w (Write b x ∷ xs) a v h = right_write r (insert w b.0 x) xs a v
 same : (v u : ℕ) → v ≡ u → eqb v u ≡ true
 same v u e = grind (arith, nat_tests)
 
--- what a read returns is what was written or read there before, if it was
+-- a read returns the value written or read there before, if there was one
 returned : (s s' : View) (a v : ℕ) (own read : Option ℕ) → get s.writes a ≡ own → get s.reads a ≡ read →
     HasRead s s' a v → is_right_read own read v ≡ true
 returned s s' a v (Some w) read e f h = same v w (h.own w e).0
@@ -83,7 +83,7 @@ enters : (s s' : View) (a v : ℕ) (own : Option ℕ) → get s.writes a ≡ own
 enters s s' a v (Some w) e h = rw e (h.own w e).1
 enters s s' a v None e h = rw e (h.entered e).0
 
--- one read more
+-- one more read
 pub tracked_read : (s s' : View) (a : Addr) (v : ℕ) (seen seen' : Option (List Access)) →
     IsTracked seen s.reads s.writes → HasRead s s' a.0 v → s'.writes ≡ s.writes → HasSeen (Read a v) seen seen' →
     IsTracked seen' s'.reads s'.writes
@@ -102,7 +102,7 @@ tracked_read s s' a v seen seen' tracked h wrote sees = λ all is.
       right_read empty empty k.0 a v t.2 right,
     )
 
--- one write more
+-- one more write
 pub tracked_write : (s s' : View) (a : Addr) (v : ℕ) (seen seen' : Option (List Access)) →
     IsTracked seen s.reads s.writes → s'.reads ≡ s.reads → s'.writes ≡ insert s.writes a.0 v →
     HasSeen (Write a v) seen seen' → IsTracked seen' s'.reads s'.writes

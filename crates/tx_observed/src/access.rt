@@ -1,8 +1,8 @@
-//! A read or a write.
+//! The accesses of a memory.
 
 use tx_memory::Addr;
 
-/// A read or a write of a word that was answered.
+/// An access that the memory answered: a read or a write of a word.
 #[derive(Clone, Copy, Debug, PartialEq, Eq)]
 pub enum Access {
     /// The word was read, and had this value.

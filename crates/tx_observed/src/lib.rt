@@ -1,4 +1,4 @@
-//! Memories whose accesses an observer sees.
+//! Memories whose accesses are reported to an observer.
 #![tactic(auto)]
 
 mod access;

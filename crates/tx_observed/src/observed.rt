@@ -1,4 +1,4 @@
-//! A memory whose accesses an observer sees.
+//! A memory whose accesses are reported to an observer.
 
 ghost use Rattle.std.specs.Prelude.{◌≡◌};
 ghost use Rattle.tx_observed.specs.Accesses.{IsTracked, IsTracked-prop};
@@ -7,10 +7,10 @@ use crate::access::Access;
 use crate::observer::Observer;
 use tx_memory::{Addr, TxMem, TxRead};
 
-/// A memory whose accesses an observer sees: each read and each write that the memory answers, and
-/// no other. As a memory it is the one that it stands before.
+/// A memory whose accesses are reported to an observer: each read and each write that the memory
+/// answers, and no other. As a memory, it is the one that it wraps.
 ///
-/// What was seen is what the memory's view has read and written.
+/// The recorded accesses are those of the reads and writes of the memory's view.
 #[derive(Drop)]
 pub struct Observed<'a, M: TxRead, O: Observer> {
     memory: &'a mut M,
@@ -21,7 +21,8 @@ pub struct Observed<'a, M: TxRead, O: Observer> {
 }
 
 impl<'a, M: TxRead, O: Observer> Observed<'a, M, O> {
-    /// The memory with its observer, who has seen what it has read and written.
+    /// Wraps a memory with an observer whose recorded accesses are those of the memory's reads and
+    /// writes.
     pub fn new(memory: &'a mut M, observer: &'a mut O) -> Observed<'a, M, O>
         requires { IsTracked (O.seen observer.old)
             (M.view memory.old).reads (M.view memory.old).writes }

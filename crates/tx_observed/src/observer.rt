@@ -1,4 +1,4 @@
-//! Who sees accesses.
+//! Observers of accesses.
 
 ghost use Rattle.std.specs.Prelude.{List, Option};
 ghost use Rattle.tx_observed.specs.declared.access.Access.{Access};
@@ -6,12 +6,12 @@ ghost use Rattle.tx_observed.specs.Accesses.{HasSeen};
 
 use crate::access::Access;
 
-/// Who sees the accesses of a memory.
+/// An observer of the accesses of a memory.
 pub trait Observer {
-    /// What it has seen, in its order; none where it had no room for all of it.
+    /// The recorded accesses, in their order; none if there was no room for all of them.
     ghost seen: { Self → Option (List Access) };
 
-    /// Sees one access more.
+    /// Records one more access.
     ///
     /// Not said: when there is no room.
     fn see(&mut self, access: Access)

@@ -1,4 +1,4 @@
--- What asking for one task does, and keeping its call.
+-- The effect of issuing one task and of recording its call.
 use Rattle.std.specs.Prelude.{◌≡◌, ◌≢◌, ℕ, ◌+◌, ◌≤◌, Result, IfOk, IfErr}
 use Rattle.stm_core.specs.Client.{Client}
 use Rattle.stm_region.specs.Shown.{RegionShown}
@@ -13,10 +13,11 @@ use Rattle.vac_asking.specs.Looping.{Answered, Clocked, answered_by, counted, le
 use Rattle.vac_asking.specs.Looping.{nothing}
 use Rattle.vac_asking.specs.Opening.{IsAnswered, IsOpeningFault}
 
--- a task that is in its ranges was asked for, with this many tries, ended so and took this, or
--- there was no room to keep its call: where it was answered, it added its record, and its keeper
--- kept the call. A client that is alone met no conflict: where it was answered, it has a whole
--- history, and else it is refused as a command of an opening is
+-- a client issued a task in its ranges, with this limit on attempts, and the call ended with this
+-- result and these statistics, or the recorder had no room and the task was not issued: exactly if
+-- the call completed, its record was added, and the recorder kept the call. The call of a solo
+-- client met no conflict; if the call completed, the client's records are a complete history, and
+-- otherwise the call was refused as a command of the setup phase is
 pub record WasAsked (region : RegionShown) (t : Task) (tries : ℕ) (end : Result (Unit {0}) Fault)
     (e : Effort) (v v' : Client) (before after : KeptNotes) : Type 0 where
   pub in_range : IfErr end (λ why. why ≢ fault.Arguments)

@@ -1,11 +1,11 @@
--- What calls took, and what that has to do with how their tasks ended.
+-- The attempt statistics of calls, and their relation to the results of the tasks.
 use Rattle.std.specs.Prelude.{◌≡◌, ◌≤◌, ℕ, ◌+◌, ◌*◌}
 use Rattle.vac_manager.specs.declared.placed.Effort.{Effort}
 use Rattle.vac_asking.specs.declared.efforts.Efforts.{Efforts}
 use Rattle.vac_asking.specs.declared.tally.Tally.{Tally}
 use Rattle.vac_asking.specs.Looping.{nothing, total}
 
--- no attempt
+-- the attempt statistics of no call
 abbrev pub no_effort : Efforts
 no_effort = record {
   attempts = 0;
@@ -21,15 +21,15 @@ no_effort = record {
   stocks = 0;
 }
 
--- how many attempts aborted on a conflict
+-- the number of attempts that aborted on a conflict
 abbrev pub conflicts_in : Efforts → ℕ
 conflicts_in e = e.held + e.newer + e.moved + e.lost_lock + e.lost_tick
 
--- how many of these conflicts were over a lock, by the kind of word that it guards
+-- the number of conflicts over a lock, summed over the kinds of words that a lock guards
 abbrev pub lock_conflicts_in : Efforts → ℕ
 lock_conflicts_in e = e.roots + e.heads + e.nodes + e.uses + e.stocks
 
--- with what one more call took
+-- the statistics with those of one more call added
 abbrev pub with_call : Effort → Efforts → Efforts
 with_call c e = record {
   attempts = e.attempts + c.attempts;
@@ -45,7 +45,7 @@ with_call c e = record {
   stocks = e.stocks + c.stocks;
 }
 
--- both added up
+-- the sums of both statistics
 abbrev pub both_efforts : Efforts → Efforts → Efforts
 both_efforts d e = record {
   attempts = d.attempts + e.attempts;
@@ -61,24 +61,25 @@ both_efforts d e = record {
   stocks = d.stocks + e.stocks;
 }
 
--- how tasks ended, each of which gets this many tries
+-- the counts of tasks by their result, and the limit on the attempts of each task
 pub record TaskCountsShown : Type 0 where
   pub tally : Tally
   pub tries : ℕ
 
--- no task is counted yet, with this many tries for each
+-- the counts of no task, with this limit on the attempts of each task
 abbrev pub uncounted : ℕ → TaskCountsShown
 uncounted tries = record { tally = nothing; tries = tries }
 
--- the calls of tasks that ended so, with `tries` tries each, took this: one attempt for each answer
--- and each spent clock, at most one for each refusal of memory, which may come before the call, and
--- besides these only attempts that aborted on a conflict, at least as many as its tries for each
--- busy task; together at most `tries` attempts for each task, of which at least one met no conflict
--- where the task is not busy; each conflict but a lost tick is counted by its lock's word too
--- Not said: of one task, that a busy one met as many conflicts as it had tries and that none took
--- more attempts: the sums are compared.
--- Not said: of which kind a conflict was, or over which word; that no attempt is left out together
--- with its conflict or its answered call.
+-- the attempt statistics fit the counts of the tasks, each of which has at most `tries` attempts:
+-- one attempt for each completed call and each spent clock, at most one for each refusal of
+-- memory, which may come before the call, and apart from these only attempts that aborted on a
+-- conflict, at least `tries` of them for each busy task. Together there are at most `tries`
+-- attempts for each task, of which at least one met no conflict if the task is not busy. Each
+-- conflict except a lost tick is also counted by the word that its lock guards
+-- Not said: of a single task, that a busy task met exactly `tries` conflicts and that no task took
+-- more attempts. Only the sums are compared.
+-- Not said: the kind of a conflict, or the word that its lock guards; that no attempt is left out
+-- together with its conflict or its completed call.
 pub record IsEffort (tries : ℕ) (t : Tally) (e : Efforts) : Type 0 where
   pub least : conflicts_in e + t.answered + t.spent ≤ e.attempts
   pub most : e.attempts ≤ conflicts_in e + t.answered + t.memory + t.spent

@@ -1,4 +1,4 @@
--- What a client's loop over its tasks does.
+-- The effect of a client's loop over its tasks.
 use Rattle.std.specs.Prelude.{◌≡◌, ℕ, ◌+◌, ◌*◌, ◌<◌, ◌≤◌}
 use Rattle.std.specs.Prelude.{List, [], ◌∷◌, ◌++◌, length, Result, Ok, Err}
 use Rattle.tx_memory.specs.Image.{In}
@@ -16,16 +16,16 @@ use Rattle.vac_asking.specs.declared.tally.Tally.{Tally}
 use Rattle.vac_draws.specs.Draws.{Drawn, times_over}
 use Rattle.vac_draws.specs.Tasks.{task_of}
 
--- each record is of the task at its place and of some reply, and there are no others
+-- the lists are equally long, and each record is of the task at its position and of some reply
 abbrev pub AreOfTasks : List Task → List Record → Type 0
 AreOfTasks [] [] = Unit {0}
 AreOfTasks [] (r ∷ rs) = ⊥
 AreOfTasks (t ∷ ts) [] = ⊥
 AreOfTasks (t ∷ ts) (r ∷ rs) = ((reply : Reply) × (r.tag ≡ code t reply)) × AreOfTasks ts rs
 
--- a record was added in this renewal by a client that knew the first version before and the second
--- one after it: it is of no version below the first, comes after the writer of that version, and is
--- of no version above the second
+-- the record was added in this renewal by a client that knew version `before` earlier and knows
+-- version `after` now: its version is between the two, and it comes after the writer of version
+-- `before`
 pub record IsAdded (renewal before after : ℕ) (r : Record) : Type 0 where
   pub renewal_is : r.renewal ≡ renewal
   pub unplaced : r.point ≡ 0
@@ -33,18 +33,20 @@ pub record IsAdded (renewal before after : ℕ) (r : Record) : Type 0 where
   pub behind : 2 * before < rank r
   pub known : r.version ≤ after
 
--- the record comes after none that is added in this renewal by a client that knows this version
+-- the record does not come after any record that a client with this known version adds in this
+-- renewal
 pub record IsKnownRecord (renewal version : ℕ) (r : Record) : Type 0 where
   pub present : r.renewal ≤ renewal
   pub known : r.renewal ≡ renewal → r.version ≤ version
   pub unplaced : r.renewal ≡ renewal → r.point ≡ 0
 
--- each of these records comes after none that such a client adds in this renewal
+-- no record of the list comes after any record that a client with this known version adds in this
+-- renewal
 abbrev pub AreKnown : ℕ → ℕ → List Record → Type 0
 AreKnown renewal version records = (r : Record) → In r records → IsKnownRecord renewal version r
 
--- exactly one record for each of these tasks was added after the others, in their order, which is
--- that of the versions, all in this renewal
+-- exactly one record for each of these tasks was added in this renewal, in the order of the tasks,
+-- and the added records are sorted by commit position
 pub record Answered (renewal : ℕ) (tasks : List Task) (v v' : Client) : Type 0 where
   pub added : List Record
   pub records : v'.records ≡ v.records ++ added
@@ -54,15 +56,15 @@ pub record Answered (renewal : ℕ) (tasks : List Task) (v v' : Client) : Type 0
   pub floor : v.floor ≤ v'.floor
   pub grants : v'.grants ≡ v.grants
 
--- how many tasks were counted
+-- the number of counted tasks
 abbrev pub total : Tally → ℕ
 total t = t.answered + t.busy + t.memory + t.spent
 
--- the tally of no task
+-- the counts of no task
 abbrev pub nothing : Tally
 nothing = record { answered = 0; busy = 0; memory = 0; spent = 0 }
 
--- the tally with one more task, by how it ended
+-- the counts with one more task, by its result
 abbrev pub counted : {R : Type 0} → Result R Fault → Tally → Tally
 counted (Ok reply) t = record t { answered = t.answered + 1 }
 counted (Err fault.Arguments) t = record t { memory = t.memory + 1 }
@@ -70,7 +72,7 @@ counted (Err fault.Memory) t = record t { memory = t.memory + 1 }
 counted (Err (fault.Busy conflict)) t = record t { busy = t.busy + 1 }
 counted (Err (fault.Spent version)) t = record t { spent = t.spent + 1 }
 
--- both tallies added up
+-- the sums of both counts
 abbrev pub plus : Tally → Tally → Tally
 plus t u = record {
   answered = t.answered + u.answered;
@@ -79,14 +81,14 @@ plus t u = record {
   spent = t.spent + u.spent;
 }
 
--- the least number of attempts that were made, with this many tries for each task
+-- the least number of attempts that the counted tasks made, if each may make this many attempts
 abbrev pub least_attempts : ℕ → Tally → ℕ
 least_attempts tries t = t.answered + t.spent + t.busy * tries
 
--- a client asked for the first n of its tasks: those that were answered are a part of the tasks
--- drawn, in their order, and each of them added its record. Alone it met no conflict
--- Not said: that the gate is told of each answer; that a task which is counted under memory was
--- asked for at all. Tests count both.
+-- a client issued the first n of its tasks: the completed tasks are a sublist of the drawn ones,
+-- in their order, and each of them added its record. A solo client met no conflict
+-- Not said: that each completed call is reported to the gate; that a task counted under memory was
+-- issued at all. Tests count both.
 pub record Looped {D : Type 0} (leads : D → ℕ → D → Type 0) (s : Settings) (renewal n : ℕ)
     (v v' : Client) (state last : D) (t : Tally) : Type 0 where
   pub tasks : List Task
@@ -99,24 +101,24 @@ pub record Looped {D : Type 0} (leads : D → ℕ → D → Type 0) (s : Setting
   pub attempts : v.attempt.number + least_attempts s.tries t ≤ v'.attempt.number
   pub alone : HasAllGrants v → t.busy ≡ 0
 
--- a client was alone, and its clock ends at this version. Each answer raised the version that the
--- client knows by at most one; where a task found the clock at its end, the answers raised it to
--- that end
+-- the versions of a solo client with a clock that ends at version `last`: each completed task
+-- raised the version that the client knows by at most one, and if a task found the clock spent,
+-- the completed tasks had raised that version to the last one
 pub record Clocked (last : ℕ) (v v' : Client) (t : Tally) : Type 0 where
   pub near : t.spent ≡ 0 → v'.floor ≤ v.floor + t.answered
   pub spent : 0 < t.spent → last ≤ v.floor + t.answered
 
--- the least number of attempts of a task that ended so, with this many tries
+-- the least number of attempts of a task with this result, if the task may make this many attempts
 abbrev pub least_attempts_of : {R : Type 0} → ℕ → Result R Fault → ℕ
 least_attempts_of tries end = least_attempts tries (counted end nothing)
 
--- the task, where its end is an answer
+-- the task if its call completed, and no task otherwise
 abbrev pub answered_by : {R : Type 0} → Task → Result R Fault → List Task
 answered_by t (Ok reply) = t ∷ []
 answered_by t (Err e) = []
 
--- a task that was built was asked for, and ended so, with a conflict only where other clients were
--- out; one that was not built ended because memory was refused
+-- a task that was built was issued and had this result, with a conflict only if other clients were
+-- out; a task that could not be built has the result that memory was refused
 abbrev pub RanOne : {R E : Type 0} → ℕ → Result Task E → ℕ → Result R Fault → Client → Client
     → Type 0
 RanOne renewal (Ok t) tries end v v' = Answered renewal (answered_by t end) v v'

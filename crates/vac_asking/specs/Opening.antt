@@ -1,4 +1,4 @@
--- What the opening of a load does.
+-- The effect of a load's setup phase.
 use Rattle.std.specs.Prelude.{◌≡◌, ◌≤◌, ◌+◌, ℕ, List, [], ◌∷◌, ◌++◌, length, map}
 use Rattle.std.specs.Prelude.{Result, IfOk, IfErr}
 use Rattle.stm_core.specs.Client.{Client}
@@ -21,8 +21,8 @@ use Rattle.vac_asking.specs.Looping.{Answered}
 abbrev pub as_tasks : List Command → List Task
 as_tasks commands = map (λ c. task.One c) commands
 
--- commands were read from drawn words, and each of them was asked for and answered, in their order;
--- each raised the version that the client knows by at most one
+-- the commands were read from drawn words, and each of them was issued and completed, in their
+-- order; each raised the version that the client knows by at most one
 pub record RanDrawn {D : Type 0} (leads : D → ℕ → D → Type 0) (renewal : ℕ)
     (reader : Reader (List Command)) (v v' : Client) (state last : D) : Type 0 where
   pub commands : List Command
@@ -30,20 +30,20 @@ pub record RanDrawn {D : Type 0} (leads : D → ℕ → D → Type 0) (renewal :
   pub answered : Answered renewal (as_tasks commands) v v'
   pub near : v'.floor ≤ v.floor + length commands
 
--- the client of a session ran the commands of this reader, in its manager's renewal
+-- the client of a session ran the commands of this reader, in the renewal of its manager
 abbrev pub RanIn : {D : Type 0} → (D → ℕ → D → Type 0) → Reader (List Command)
     → SessionShown → SessionShown → D → D → Type 0
 RanIn leads reader y y' state last =
     RanDrawn leads y.manager.renewal reader y.client.value y'.client.value state last
 
--- a client that is alone had its last call answered by this region's manager: its records are a
--- whole history, and the last of them was decided in a state of the region's core
+-- the last call of a solo client was completed by the manager of this region: the client's records
+-- are a complete history, and the last of them was decided in a state of the region's core
 pub record IsAnswered (region : RegionShown) (v : Client) : Type 0 where
   pub whole : HasWholeHistory region v
   pub legal : WasLegal region v
 
--- words were drawn from the first state to the last one, and from these words, with some more after
--- them, these items are read first
+-- words were drawn from the first state to the last one, and the items are the first that the
+-- reader reads from these words followed by some more words
 pub record Begun {D X : Type 0} (leads : D → ℕ → D → Type 0) (reader : Reader (List X))
     (state : D) (xs : List X) (last : D) : Type 0 where
   pub words : List ℕ
@@ -52,15 +52,16 @@ pub record Begun {D X : Type 0} (leads : D → ℕ → D → Type 0) (reader : R
   pub rest : List X
   pub reads : Reads reader (words ++ more) (xs ++ rest)
 
--- why a command of the opening is refused to a client that knows this version: refused memory, or a
--- clock that is spent at this last version, which is the one that the client knows
+-- the reason for which a command of the setup phase is refused to a client that knows this
+-- version: refused memory, or a clock that is spent at its last version, which is the version that
+-- the client knows
 abbrev pub IsOpeningFault : ℕ → ℕ → Fault → Type 0
 IsOpeningFault last floor fault.Arguments = ⊥
 IsOpeningFault last floor fault.Memory = Unit {0}
 IsOpeningFault last floor (fault.Busy conflict) = ⊥
 IsOpeningFault last floor (fault.Spent version) = (version ≡ last) × (floor ≡ last)
 
--- a client that is alone had this command answered, and its keeper kept the call: it added its
+-- a solo client completed this command, and its recorder kept the call: the command added its
 -- record, and raised the version that the client knows by at most one
 pub record WasAnswered (command : Command) (y y' : SessionShown) (before after : KeptNotes)
     : Type 0 where
@@ -69,14 +70,14 @@ pub record WasAnswered (command : Command) (y y' : SessionShown) (before after :
   pub ready : IsAnswered y.manager y'.client.value
   pub kept : HasKeptAdded y.client.value y'.client.value before after
 
--- a client that is alone had a command of the opening refused so, which added no record
+-- a command of the setup phase was refused to a solo client for this reason, and added no record
 pub record WasRefused (e : Fault) (y y' : SessionShown) : Type 0 where
   pub why : IsOpeningFault y.manager.last y.client.value.floor e
   pub same : y'.client.value.records ≡ y.client.value.records
 
--- commands were read from the front of drawn words, in their order: those before the last one were
--- asked for and answered, and the last one was refused with this fault, or not asked for since its
--- keeper had no room, and added no record
+-- the setup phase stopped with this fault: commands were read from the front of drawn words, in
+-- their order; those before the last one were issued and completed, and the last one was refused
+-- with the fault, or was not issued because the recorder had no room, and added no record
 pub record Stopped {D : Type 0} (leads : D → ℕ → D → Type 0) (renewal last : ℕ)
     (reader : Reader (List Command)) (e : Fault) (v v' : Client) (state left : D)
     : Type 0 where
@@ -89,14 +90,15 @@ pub record Stopped {D : Type 0} (leads : D → ℕ → D → Type 0) (renewal la
   pub kept : v'.records ≡ between.records
   pub why : IsOpeningFault last between.floor e
 
--- the client of a session stopped within the commands of this reader, by its manager's clock
+-- the client of a session stopped within the commands of this reader, with the clock of its
+-- manager
 abbrev pub StoppedIn : {D : Type 0} → (D → ℕ → D → Type 0) → Reader (List Command) → Fault
     → SessionShown → SessionShown → D → D → Type 0
 StoppedIn leads reader e y y' state left = Stopped leads y.manager.renewal y.manager.last reader e
     y.client.value y'.client.value state left
 
--- a client that is alone asked for the commands of this reader, which ended so: its session went on
--- and it has all grants; it ran them all, or stopped within them
+-- a solo client issued the commands of this reader with this result: its session went on, and the
+-- client still has all grants; it ran all commands, or stopped within them
 pub record RanOrStopped {D : Type 0} (leads : D → ℕ → D → Type 0) (reader : Reader (List Command))
     (result : Result (Unit {0}) Fault) (y y' : SessionShown) (state last : D) : Type 0 where
   pub session : GoesOn y y'
@@ -104,8 +106,9 @@ pub record RanOrStopped {D : Type 0} (leads : D → ℕ → D → Type 0) (reade
   pub ran : IfOk result (λ _. RanIn leads reader y y' state last)
   pub stopped : IfErr result (λ fault. StoppedIn leads reader fault y y' state last)
 
--- a client that is alone asked for the commands of a load's opening: its session went on and it has
--- all grants; it ran them all and its last call was answered, or it stopped within them
+-- a solo client issued the commands of a load's setup phase with this result: its session went on,
+-- and the client still has all grants; it ran all commands and its last call completed, or it
+-- stopped within them
 pub record OpeningEnded {D : Type 0} (leads : D → ℕ → D → Type 0) (s : Settings)
     (result : Result (Unit {0}) Fault) (y y' : SessionShown) (state last : D) : Type 0 where
   pub asked : RanOrStopped leads (opening s) result y y' state last

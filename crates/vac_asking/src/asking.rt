@@ -1,4 +1,4 @@
-//! One task that is asked for, and the keeping of its call.
+//! Issuing one task and recording its call.
 
 ghost use Rattle.std.specs.Prelude.{◌≡◌, true};
 ghost use Rattle.vac_model.specs.Ranges.{is_task};
@@ -10,8 +10,9 @@ use stm_attempt::{Gate, Point};
 use vac_manager::{Effort, Fault, Keep, Session};
 use vac_model::Task;
 
-/// Asks for a task, keeps the call where it is answered, and tells the gate then. Where there is no
-/// room to keep it, the task is not asked for. Besides how it ended, returns what its call took.
+/// Issues a task, records the call if it completes, and then reports `Answered` to the gate. If
+/// the recorder has no room for the call, the task is not issued. Returns the result of the call
+/// and its attempt statistics.
 pub(crate) fn ask_kept<G: Gate, K: Keep>(
     session: &mut Session<'_>,
     task: Task,

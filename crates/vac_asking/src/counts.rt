@@ -1,4 +1,4 @@
-//! How tasks ended, with what their calls took.
+//! Counts of tasks by their result, with the attempt statistics of their calls.
 
 ghost use Rattle.std.specs.Prelude.{◌≡◌, ◌≢◌, ◌<◌, ◌≤◌, ◌^◌, ◌+◌, IfErr};
 ghost use Rattle.vac_model.specs.declared.limits.TheConstants.{MOST_TRIES};
@@ -10,8 +10,8 @@ use crate::tally::Tally;
 use std::marker::Model;
 use vac_manager::{Effort, Fault};
 
-/// How tasks ended, each of which gets `tries` tries, and what their calls took. Contracts see the
-/// tally and the tries.
+/// Counts of tasks by their result, each with at most `tries` attempts, and the attempt statistics
+/// of their calls. Contracts see the counts and the limit on attempts.
 #[derive(Drop)]
 pub struct TaskCounts {
     tally: Tally,
@@ -32,7 +32,7 @@ impl Model for TaskCounts {
 }
 
 impl TaskCounts {
-    /// The counts of no task, with `tries` tries for each.
+    /// Returns the counts of no task, with at most `tries` attempts for each.
     pub fn new(tries: u32) -> TaskCounts
         requires few { tries ≤ MOST_TRIES }
         ensures { result ≡ uncounted tries }
@@ -44,8 +44,8 @@ impl TaskCounts {
         }
     }
 
-    /// Counts a task by how it ended, and what its call took. None is asked for whose numbers are
-    /// out of their ranges.
+    /// Counts a task by its result, and adds the attempt statistics of its call. The result is
+    /// never that a number is out of its range, because no such task is issued.
     pub(crate) fn count(&mut self, end: &Result<(), Fault>, effort: Effort)
         requires few { total self.old.tally < 2 ^ 32 }
         requires in_range { IfErr end.now (λ fault. fault ≢ Fault.Arguments) }
@@ -57,9 +57,10 @@ impl TaskCounts {
         self.efforts.add(effort);
     }
 
-    /// The counts of the tasks of both.
+    /// Adds up the counts of both.
     ///
-    /// Not said: that what the calls took is added up. `apart` tells what it fits.
+    /// Not said: that the attempt statistics are added up. The clause of `apart` says which sums
+    /// fit.
     pub fn plus(self, other: TaskCounts) -> TaskCounts
         requires fits { total self.tally + total other.tally < 2 ^ 43 }
         requires same { other.tries ≡ self.tries }
@@ -72,7 +73,7 @@ impl TaskCounts {
         }
     }
 
-    /// How the tasks ended, and what their calls took.
+    /// Returns the counts of the tasks and the attempt statistics of their calls.
     pub fn apart(self) -> (Tally, Efforts)
         ensures tally { result.0 ≡ self.tally }
         ensures efforts { IsEffort self.tries result.0 result.1 }

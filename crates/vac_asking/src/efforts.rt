@@ -1,4 +1,4 @@
-//! What the calls of a client took.
+//! The attempt statistics of a client's calls.
 
 ghost use Rattle.std.specs.Prelude.{◌≡◌, ◌<◌, ◌≤◌, ◌+◌, ◌^◌};
 ghost use Rattle.vac_manager.specs.Placed.{conflicts_of};
@@ -7,43 +7,43 @@ ghost use Rattle.vac_asking.specs.Attempted.{no_effort, conflicts_in, lock_confl
 use crate::sums::added_up;
 use vac_manager::Effort;
 
-/// How many attempts calls took, how many of these aborted on a conflict of each kind, and how many
-/// of the conflicts were over the lock of which word.
+/// Attempt statistics of several calls: the number of attempts, the number that aborted on each
+/// kind of conflict, and the number of conflicts over the lock of each kind of word.
 #[derive(Clone, Copy, Debug, PartialEq, Eq, Default)]
 pub struct Efforts {
-    /// How many attempts were begun.
+    /// Attempts begun.
     pub attempts: u64,
-    /// How many found a lock word held by another client.
+    /// Attempts that found a lock word held by another client.
     pub held: u64,
-    /// How many found a version above their read version.
+    /// Attempts that found a version above their read version.
     pub newer: u64,
-    /// How many saw a lock word change while they read.
+    /// Attempts that saw a lock word change during a read.
     pub moved: u64,
-    /// How many lost the exchange that takes a lock.
+    /// Attempts that lost the exchange that takes a lock.
     pub lost_lock: u64,
-    /// How many lost the last tick that is tried.
+    /// Attempts that lost the last exchange that a tick tries.
     pub lost_tick: u64,
-    /// How many were over the lock of a root.
+    /// Conflicts over the lock of a root.
     pub roots: u64,
-    /// How many were over that of a head of a free list.
+    /// Conflicts over the lock of a free-list head.
     pub heads: u64,
-    /// How many were over that of one of the first four words of a block.
+    /// Conflicts over the lock of a tree node: one of the first four words of a block.
     pub nodes: u64,
-    /// How many were over that of its fifth word.
+    /// Conflicts over the lock of a usage counter: the fifth word of a block.
     pub uses: u64,
-    /// How many were over that of one of its last three words.
+    /// Conflicts over the lock of a stock counter: one of the last three words of a block.
     pub stocks: u64,
 }
 
 impl Efforts {
-    /// No attempt.
+    /// Returns the statistics of no attempt.
     pub(crate) fn new() -> Efforts
         ensures { result ≡ no_effort }
     {
         Efforts::default()
     }
 
-    /// Adds what a call took.
+    /// Adds the attempt statistics of one call.
     pub(crate) fn add(&mut self, effort: Effort)
         requires few { self.old.attempts < 2 ^ 62 }
         requires conflicts { conflicts_in self.old ≤ self.old.attempts }
@@ -64,7 +64,7 @@ impl Efforts {
         self.stocks += u64::from(effort.stocks);
     }
 
-    /// Both added up.
+    /// Adds up both statistics.
     pub(crate) fn plus(self, other: Efforts) -> Efforts
         requires fits { self.attempts + other.attempts < 2 ^ 63 }
         requires conflicts { conflicts_in self ≤ self.attempts }

@@ -1,4 +1,5 @@
-//! What one client of a load asks for, the opening and the tasks that it draws, and how they ended.
+//! The part of a load that one client runs: the setup phase, the tasks that the client draws and
+//! issues, and the counts of their results.
 #![tactic(auto)]
 
 mod asking;

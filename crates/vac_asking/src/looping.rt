@@ -18,8 +18,8 @@ use vac_draws::{Draws, Settings, draw_task};
 use vac_manager::{Effort, Fault, Keep, Session, Unkept};
 use vac_model::Task;
 
-/// Asks for a task that was drawn, as `ask_kept` does. One that was not built ends for refused
-/// memory, and took nothing.
+/// Issues a drawn task as `ask_kept` does. A task that could not be built has the result that
+/// memory was refused, and made no attempt.
 fn ask_drawn<G: Gate, K: Keep>(
     session: &mut Session<'_>,
     task: Result<Task, AllocError>,
@@ -45,10 +45,11 @@ fn ask_drawn<G: Gate, K: Keep>(
     }
 }
 
-/// Asks for as many tasks as the settings say for a round, one after the other, each as it is
-/// drawn, and counts how they ended and what their calls took. A task that was not built counts
-/// under memory, and so does one for which the keeper has no room. Each call that was answered is
-/// kept, and then the gate is told `Answered`; `ready` and `done` it is told by who runs rounds.
+/// Issues the client's tasks of one round, one after the other, each as it is drawn, and counts
+/// their results and attempts. A task that could not be built counts under memory, and so does a
+/// task for which the recorder has no room. Each completed call is recorded, and then `Answered`
+/// is reported to the gate. The caller, who runs the rounds, reports to the gate when the client
+/// is ready and done.
 pub fn count_loop<D: Draws, G: Gate, K: Keep>(
     alloc: Global,
     session: &mut Session<'_>,
@@ -76,9 +77,9 @@ pub fn count_loop<D: Draws, G: Gate, K: Keep>(
     tally
 }
 
-/// Asks for as many tasks as the settings say for a round, one after the other, each as it is
-/// drawn, and counts how they ended. A task that was not built counts under memory. The gate is
-/// told `Answered` after each call that was answered.
+/// Issues the client's tasks of one round, one after the other, each as it is drawn, and counts
+/// their results. A task that could not be built counts under memory. `Answered` is reported to
+/// the gate after each completed call.
 pub fn client_loop<D: Draws, G: Gate>(
     alloc: Global,
     session: &mut Session<'_>,

@@ -1,4 +1,4 @@
-//! The opening of a load: its items and customers.
+//! The setup phase of a load: its items and customers.
 
 ghost use Rattle.std.specs.Prelude.{◌≡◌, ◌≤◌, true, IfOk, IfErr};
 ghost use Rattle.vac_model.specs.Ranges.{is_command};
@@ -15,11 +15,11 @@ use vac_draws::{Draws, Settings, draw_stock};
 use vac_manager::{Fault, Keep, Session, Unkept};
 use vac_model::{Command, Kind, Task};
 
-/// How many tries a command of the opening gets.
+/// Attempts that a command of the setup phase may make at most.
 const TRIES: u32 = 1;
 
-/// Asks for a command, and keeps the call where it is answered. Where there is no room to keep it,
-/// the command is not asked for.
+/// Issues a command, and records the call if it completes. If the recorder has no room, the
+/// command is not issued.
 fn ask_for<K: Keep>(session: &mut Session<'_>, command: Command, keep: &mut K) -> Result<(), Fault>
     requires alone { HasAllGrants session.old.client.value }
     requires range { is_command command ≡ true }
@@ -72,12 +72,12 @@ fn add_items<D: Draws, K: Keep>(
     add_item(session, draws, id, Kind::Room, keep)
 }
 
-/// Makes the items and the customers of a load, one command after the other, each by one try, and
-/// keeps the calls. The client is alone: it has all grants. The first fault ends it, refused memory
-/// or a spent clock; what was answered before it stays. A keeper without room ends it as refused
-/// memory, and its command is not asked for.
+/// Makes the items and the customers of a load, one command after the other, each in one attempt,
+/// and records the calls. The client must be solo: it has all grants. The first fault ends the
+/// setup phase: refused memory or a spent clock. What completed before the fault stays. A recorder
+/// without room counts as refused memory, and its command is not issued.
 ///
-/// Not said: what the keeper keeps where the opening stopped.
+/// Not said: which calls the recorder keeps if the setup phase stopped.
 pub fn open_kept<D: Draws, K: Keep>(
     session: &mut Session<'_>,
     draws: &mut D,
@@ -101,9 +101,9 @@ pub fn open_kept<D: Draws, K: Keep>(
     Ok(())
 }
 
-/// Makes the items and the customers of a load, one command after the other, each by one try. The
-/// client is alone: it has all grants. The first fault ends it, refused memory or a spent clock;
-/// what was answered before it stays.
+/// Makes the items and the customers of a load, one command after the other, each in one attempt.
+/// The client must be solo: it has all grants. The first fault ends the setup phase: refused
+/// memory or a spent clock. What completed before the fault stays.
 pub fn open<D: Draws>(
     session: &mut Session<'_>,
     draws: &mut D,

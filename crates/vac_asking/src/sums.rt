@@ -1,6 +1,7 @@
 //! Sums of structs, field by field.
 
-/// The sum of two structs of a type: of each of these fields, which are all that it has.
+/// Adds up two structs of one type, field by field. The listed fields must be all fields of the
+/// type.
 macro_rules! added_up {
     ($sum:ident: $first:tt + $second:tt; $($field:ident),+) => {
         $sum { $($field: $first.$field + $second.$field),+ }

@@ -1,4 +1,4 @@
-//! How the tasks of a client ended.
+//! Counts of a client's tasks by their result.
 
 ghost use Rattle.std.specs.Prelude.{◌≡◌, ◌≢◌, ◌<◌, ◌^◌, ◌+◌, IfErr};
 ghost use Rattle.vac_asking.specs.Looping.{nothing, counted, total, plus};
@@ -6,28 +6,29 @@ ghost use Rattle.vac_asking.specs.Looping.{nothing, counted, total, plus};
 use crate::sums::added_up;
 use vac_manager::Fault;
 
-/// How many tasks were answered, and how many were not, by why.
+/// Counts of tasks by their result.
 #[derive(Clone, Copy, Debug, PartialEq, Eq, Default)]
 pub struct Tally {
-    /// How many were answered.
+    /// Tasks that completed.
     pub answered: u64,
-    /// How many met a conflict in each of their tries.
+    /// Tasks that met a conflict in each allowed attempt.
     pub busy: u64,
-    /// How many were refused memory, before the call or in it.
+    /// Tasks that were refused memory, before the call or in it.
     pub memory: u64,
-    /// How many found the clock at its end.
+    /// Tasks that found the clock at its last version.
     pub spent: u64,
 }
 
 impl Tally {
-    /// The tally of no task.
+    /// Returns the counts of no task.
     pub(crate) fn new() -> Tally
         ensures { result ≡ nothing }
     {
         Tally::default()
     }
 
-    /// Counts a task by how it ended. None is asked for whose numbers are out of their ranges.
+    /// Counts a task by its result. The result is never that a number is out of its range, because
+    /// no such task is issued.
     pub(crate) fn count(&mut self, end: &Result<(), Fault>)
         requires few { total self.old < 2 ^ 32 }
         requires in_range { IfErr end.now (λ fault. fault ≢ Fault.Arguments) }
@@ -42,7 +43,7 @@ impl Tally {
         }
     }
 
-    /// Both tallies added up.
+    /// Adds up both counts.
     pub(crate) fn plus(self, other: Tally) -> Tally
         requires fits { total self + total other < 2 ^ 63 }
         ensures { result ≡ plus self other }

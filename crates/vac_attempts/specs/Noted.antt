@@ -1,13 +1,13 @@
--- What is noted of attempts.
+-- The attempts in notes.
 use Rattle.std.specs.Prelude.{Bool, not, List, is_some}
 use Rattle.std.specs.List.{list_all}
 use Rattle.vac_manager.specs.declared.note.Note.{Note}
 use Rattle.vac_manager.specs.declared.note.AttemptNote.{AttemptNote}
 
--- each call's attempt is noted
+-- each noted call has its attempt
 abbrev pub all_noted : List Note → Bool
 all_noted calls = list_all (λ n. is_some n.attempt) calls
 
--- none of these attempts is noted as one that committed
+-- no attempt of the list committed
 abbrev pub none_committed : List AttemptNote → Bool
 none_committed attempts = list_all (λ a. not a.commits) attempts

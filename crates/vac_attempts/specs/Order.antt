@@ -7,13 +7,13 @@ use Rattle.vac_history.specs.Order.{rank_of}
 use Rattle.vac_manager.specs.declared.note.AttemptNote.{AttemptNote}
 use Rattle.vac_attempts.specs.Lines.{AttemptEntry}
 
--- by renewal, by version, the writer of a version before all others that read it, and then by when
--- they began, and ended
+-- the order of two attempts: by renewal, then by version with the writer of a version before its
+-- readers, then by begin, then by end
 abbrev pub compare : AttemptNote → AttemptNote → Ordering
 compare a b =
     ordering_then (ordering_then (ordering_then (nat_cmp a.place.renewal b.place.renewal)
     (nat_cmp (rank_of a.place) (rank_of b.place))) (nat_cmp a.begin b.begin)) (nat_cmp a.end b.end)
 
--- none is to be before the one before it
+-- the entries are sorted by `compare`
 abbrev pub EntriesAreOrdered : List AttemptEntry → Type 0
 EntriesAreOrdered entries = IsSorted (λ a b. compare a.attempt b.attempt) entries

@@ -4,7 +4,8 @@ use Rattle.vac_manager.specs.declared.note.AttemptNote.{AttemptNote}
 use Rattle.vac_history.specs.Stamps.{IsStamp}
 use Rattle.vac_attempts.specs.declared.trail.Trail.{Trail}
 
--- this attempt began at the last stamp, and ended at the one that was then read
+-- the attempt began at the last stamp of the trail before, and ended at the next stamp that was
+-- read
 pub record IsStamped {W : Type 0} (shows : W → ℕ → W → Type 0) (before after : Trail W)
     (a : AttemptNote) : Type 0 where
   pub begin : a.begin ≡ before.latest

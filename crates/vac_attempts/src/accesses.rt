@@ -1,16 +1,16 @@
-//! The accesses of an attempt that runs.
+//! The accesses of a running attempt.
 
 ghost use Rattle.std.specs.Prelude.{◌≡◌, [], true, IfOk};
 
 use std::alloc::{AllocError, Global};
 use tx_observed::{Access, Observer};
 
-/// The accesses of an attempt that runs, as far as there was room for them.
+/// The accesses of a running attempt, as far as there was room for them.
 #[derive(Drop)]
 pub(crate) struct Accesses {
     alloc: Global,
     items: Vec<Access>,
-    /// Whether there was room for each access, of this attempt and of those before it.
+    /// True if there was room for each access, of this attempt and of earlier ones.
     is_whole: bool,
 }
 
@@ -27,7 +27,7 @@ impl Observer for Accesses {
 }
 
 impl Accesses {
-    /// None.
+    /// Returns an empty list of accesses.
     pub(crate) fn new(alloc: Global) -> Accesses
         ensures none { result.items.items ≡ [] }
         ensures whole { result.is_whole ≡ true }
@@ -39,7 +39,7 @@ impl Accesses {
         }
     }
 
-    /// Forgets those of the last attempt.
+    /// Forgets the accesses of the last attempt.
     pub(crate) fn clear(&mut self)
         ensures none { self.new.items.items ≡ [] }
         ensures whole { self.new.is_whole ≡ self.old.is_whole }
@@ -47,7 +47,7 @@ impl Accesses {
         self.items.clear();
     }
 
-    /// A copy of them.
+    /// Returns a copy of the accesses.
     pub(crate) fn copied(&self) -> Result<Vec<Access>, AllocError>
         ensures { IfOk result (λ copy. copy.items ≡ self.now.items.items) }
     {
@@ -56,7 +56,7 @@ impl Accesses {
         Ok(copy)
     }
 
-    /// Whether there was room for all.
+    /// Returns whether there was room for all accesses.
     pub(crate) fn is_whole(&self) -> bool
         ensures { result ≡ self.now.is_whole }
     {

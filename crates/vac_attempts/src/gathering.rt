@@ -1,4 +1,4 @@
-//! The attempts of all clients, as lines that are to be written.
+//! The attempts of all clients, as lines to be written.
 
 ghost use Rattle.std.specs.Prelude.{◌≡◌, ◌+◌, ◌<◌, ◌^◌, ◌++◌, true, length, map, OnOk};
 ghost use Rattle.vac_attempts.specs.Lines.{line_entry};
@@ -28,8 +28,8 @@ pub(crate) fn add_attempts<'a>(
     Ok(())
 }
 
-/// Adds the attempts that answered the calls of a client. Where one is wanting, there was no room
-/// for it.
+/// Adds the attempts of a client's completed calls. An error means that there was no room for some
+/// attempt.
 fn add_answered<'a>(
     lines: &mut Vec<Line<'a>>,
     client: u32,
@@ -65,7 +65,7 @@ fn add_client<'a, W: Watch + Copy + Drop>(
     add_attempts(lines, client, ledger.trail().given_up())
 }
 
-/// Adds all attempts of the opening, which is client 0, and of the clients from 1 on.
+/// Adds all attempts of the setup phase, as client 0, and of the clients, numbered from 1.
 pub(crate) fn add_all<'a, W: Watch + Copy + Drop>(
     lines: &mut Vec<Line<'a>>,
     opening: &'a Ledger<W>,

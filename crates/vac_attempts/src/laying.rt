@@ -1,4 +1,4 @@
-//! The words that a system begins with, as attempts.
+//! The initial words of a system, written as attempts.
 
 ghost use Rattle.std.specs.Prelude.{◌≡◌, ◌+◌, ◌<◌, ◌≤◌, ◌^◌, ◌++◌, true, OnOk, IfOk, length};
 ghost use Rattle.std.specs.List.{All};
@@ -12,10 +12,10 @@ use tx_observed::Access;
 use vac_manager::AttemptNote;
 use vac_model::limits::MOST_BLOCKS;
 
-/// How many words an attempt lays at most, so that its line is not too long.
+/// Largest number of words that one attempt may write, so that its line is not too long.
 const MOST_LAID: usize = 16_384;
 
-/// Adds the write of a word, where it is not 0.
+/// Adds the write of a word, if the word is not 0.
 fn lay_word(accesses: &mut Vec<Access>, address: u32, word: u64) -> Result<(), AllocError>
     ensures { OnOk result (accesses.new.items ≡ accesses.old.items ++ write_of address word) }
 {
@@ -28,7 +28,8 @@ fn lay_word(accesses: &mut Vec<Access>, address: u32, word: u64) -> Result<(), A
     Ok(())
 }
 
-/// An attempt that writes those of these words that are not 0, the first of which has this address.
+/// Returns an attempt that writes those words that are not 0. The first word of the slice has the
+/// address `first`.
 fn lay_some(alloc: Global, first: u32, words: &[u64]) -> Result<AttemptNote, AllocError>
     requires few { first + length words.now < 2 ^ 32 }
     ensures laid { IfOk result (λ a. IsLaidFirst a) }
@@ -47,7 +48,7 @@ fn lay_some(alloc: Global, first: u32, words: &[u64]) -> Result<AttemptNote, All
     })
 }
 
-/// Attempts that write those of these words that are not 0.
+/// Returns attempts that write those words that are not 0.
 fn lay_all(alloc: Global, words: &[u64]) -> Result<Vec<AttemptNote>, AllocError>
     requires few { length words.now < 2 ^ 31 }
     ensures laid { IfOk result (λ laid. All (λ a. IsLaidFirst a) laid.items) }
@@ -66,7 +67,7 @@ fn lay_all(alloc: Global, words: &[u64]) -> Result<Vec<AttemptNote>, AllocError>
     Ok(laid)
 }
 
-/// Attempts that lay the words that a system of so many blocks begins with.
+/// Returns attempts that write the initial words of a system with this number of blocks.
 pub(crate) fn lay(alloc: Global, blocks: u32) -> Result<Vec<AttemptNote>, AllocError>
     requires some { 1 ≤ blocks }
     requires most { blocks ≤ MOST_BLOCKS }

@@ -1,4 +1,4 @@
-//! What keeps the answered calls of a client, and traces their attempts.
+//! The recorder of a client's completed calls with their attempts.
 
 ghost use Rattle.std.specs.Prelude.{◌≡◌, true};
 ghost use Rattle.vac_attempts.specs.Noted.{all_noted};
@@ -9,13 +9,13 @@ use vac_history::{Journal, Watch};
 use vac_manager::{Keep, Placed};
 use vac_model::Task;
 
-/// Keeps the answered calls of a client, each with the attempt that answered it, and the attempts
-/// that were given up.
+/// A recorder of a client's completed calls, each with the attempt that committed, and of the
+/// aborted attempts.
 #[derive(Drop)]
 pub struct Ledger<W> {
     journal: Journal<W>,
     trail: Trail<W>,
-    /// Whether each call that is kept has its attempt.
+    /// True if each recorded call has its attempt.
     is_whole: bool,
     ghost noted: { is_whole ≡ true → all_noted journal.notes.items ≡ true },
 }
@@ -24,7 +24,7 @@ impl<W: Watch + Copy + Drop> Ledger<W> {
     ghost use Rattle.std.specs.Prelude.{[]};
     ghost use Rattle.vac_attempts.specs.Known.{is_whole_ledger};
 
-    /// An empty ledger, whose times are those of this watch.
+    /// Returns an empty ledger, whose times are read from this clock.
     pub fn new(alloc: Global, watch: W) -> Ledger<W>
         ensures no_calls { result.journal.notes.items ≡ [] }
         ensures none_given_up { result.trail.given_up.items ≡ [] }
@@ -37,21 +37,21 @@ impl<W: Watch + Copy + Drop> Ledger<W> {
         }
     }
 
-    /// Whether there was room for each call and each attempt.
+    /// Returns whether there was room for each call and each attempt.
     pub(crate) fn is_whole(&self) -> bool
         ensures { result ≡ is_whole_ledger self.now }
     {
         self.is_whole && self.journal.is_whole() && self.trail.is_whole()
     }
 
-    /// The calls that it keeps.
+    /// Returns the journal of the recorded calls.
     pub(crate) fn journal(&self) -> &Journal<W>
         ensures { result.now ≡ self.now.journal }
     {
         &self.journal
     }
 
-    /// What has traced their attempts.
+    /// Returns the trail of the traced attempts.
     pub(crate) fn trail(&self) -> &Trail<W>
         ensures { result.now ≡ self.now.trail }
     {

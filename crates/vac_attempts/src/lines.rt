@@ -9,7 +9,7 @@ use tx_observed::Access;
 use vac_lines::append_field;
 use vac_manager::AttemptNote;
 
-/// An attempt that is to be written, and the number of its client.
+/// An attempt to be written, and the number of its client.
 #[derive(Clone, Copy, Drop)]
 pub(crate) struct Line<'a> {
     pub(crate) client: u32,
@@ -42,7 +42,7 @@ fn append_accesses(out: &mut Vec<u8>, accesses: &[Access]) -> Result<(), AllocEr
     Ok(())
 }
 
-/// Appends how an attempt ended, after a space.
+/// Appends the outcome of an attempt, after a space.
 fn append_outcome(out: &mut Vec<u8>, commits: bool) -> Result<(), AllocError>
     ensures { OnOk result (out.new.items ≡ out.old.items ++ outcome_text commits) }
 {
@@ -53,7 +53,7 @@ fn append_outcome(out: &mut Vec<u8>, commits: bool) -> Result<(), AllocError>
     }
 }
 
-/// Appends who made an attempt, when, and how it ended.
+/// Appends the client, begin, end and outcome of an attempt.
 fn append_head(out: &mut Vec<u8>, line: Line<'_>) -> Result<(), AllocError>
     ensures { OnOk result (out.new.items ≡ out.old.items ++ head_text (line_entry line.entry)) }
 {

@@ -1,11 +1,11 @@
-//! Places of records.
+//! Commit positions of records.
 
 ghost use Rattle.std.specs.Prelude.{◌≡◌};
 
 use stm_words::Version;
 use vac_manager::Place;
 
-/// The place of the first version, of the record that wrote it or of one that only read.
+/// Returns the commit position at the first version, of its writer or of a reader.
 pub(crate) fn first_place(wrote: bool) -> Place
     ensures { result ≡ record { renewal = 0; version = 0; wrote = wrote } }
 {

@@ -1,4 +1,4 @@
-//! What traces the attempts of a client's calls.
+//! The tracer of the attempts of a client's calls.
 
 ghost use Rattle.std.specs.Prelude.{◌≡◌, true};
 ghost use Rattle.vac_attempts.specs.Noted.{none_committed};
@@ -14,21 +14,21 @@ use tx_observed::Observed;
 use vac_history::{Watch, stamp};
 use vac_manager::{AttemptNote, Body, Object, Place, Tracer};
 
-/// Traces the attempts of a client's calls, with readings of a watch before each of them and after
-/// it. Those that were given up gather in it; the one that committed stays at hand until it is
-/// taken.
+/// A tracer of the attempts of a client's calls, which reads a clock before and after each
+/// attempt. Aborted attempts are collected in the trail. The attempt that committed stays in the
+/// trail until it is taken.
 #[derive(Drop)]
 pub struct Trail<W> {
     alloc: Global,
     watch: W,
-    /// The last stamp: when the attempt that runs began, or when the last one had ended.
+    /// The last stamp: the begin of the running attempt, or the end of the last one.
     latest: u64,
-    /// The place of a record that would read what the attempt that runs reads.
+    /// The commit position of a record that reads at the running attempt's read version.
     place: Place,
     accesses: Accesses,
     given_up: Vec<AttemptNote>,
     committed: Option<AttemptNote>,
-    /// Whether there was room for each attempt.
+    /// True if there was room for each attempt.
     is_whole: bool,
     ghost aborted: { none_committed given_up.items ≡ true },
 }
@@ -39,7 +39,7 @@ impl<W: Watch> Trail<W> {
     ghost use Rattle.vac_attempts.specs.Known.{ended_by, is_whole_trail};
     ghost use Rattle.vac_attempts.specs.Stamped.{IsStamped};
 
-    /// An empty trail, whose times are those of this watch.
+    /// Returns an empty trail, whose times are read from this clock.
     pub(crate) fn new(alloc: Global, watch: W) -> Trail<W>
         ensures given_up { result.given_up.items ≡ [] }
         ensures committed { result.committed ≡ None }
@@ -59,21 +59,21 @@ impl<W: Watch> Trail<W> {
         }
     }
 
-    /// Whether there was room for each attempt and for what it read and wrote.
+    /// Returns whether there was room for each attempt and for its reads and writes.
     pub(crate) fn is_whole(&self) -> bool
         ensures { result ≡ is_whole_trail self.now }
     {
         self.is_whole && self.accesses.is_whole()
     }
 
-    /// The attempts that were given up.
+    /// Returns the aborted attempts.
     pub(crate) fn given_up(&self) -> &[AttemptNote]
         ensures { result.now ≡ self.now.given_up.items }
     {
         self.given_up.as_slice()
     }
 
-    /// Takes out the attempt that committed, and hands it on where all is whole.
+    /// Takes out the attempt that committed, and returns it if there was room for all attempts.
     pub(crate) fn take_committed(&mut self) -> Option<Box<AttemptNote>>
         ensures last { IfSome result (λ a. IsLastTraced (ended_by self.old) (trace_of a.value)) }
         ensures taken { self.new.committed ≡ None }
@@ -87,7 +87,7 @@ impl<W: Watch> Trail<W> {
         Box::new(self.alloc, note).ok()
     }
 
-    /// The attempt that has ended, with all that it has read and written.
+    /// Returns the attempt that has ended, with all its reads and writes.
     fn end(&mut self, commits: bool, place: Place) -> Result<AttemptNote, AllocError>
         ensures trace { IfOk result (λ a. trace_of a ≡ record {
           commits = commits;
@@ -122,7 +122,7 @@ impl<W: Watch + Copy> Trail<W> {
     ghost use Rattle.std.specs.Prelude.{[], Some};
     ghost use Rattle.vac_attempts.specs.Known.{ended_by};
 
-    /// Takes the trail, and leaves an empty one with the same watch.
+    /// Takes the trail, and leaves an empty one with the same clock.
     pub(crate) fn take(&mut self) -> Trail<W>
         ensures taken { result ≡ self.old }
         ensures empty { ended_by self.new ≡ Some [] }
@@ -155,9 +155,9 @@ impl<W: Watch> Tracer for Trail<W> {
 
     ghost accesses = { λ t. known t.accesses.is_whole t.accesses.items.items };
 
-    /// Reads the watch once.
+    /// Reads the clock once.
     ///
-    /// Not said: that the attempt begins right after it.
+    /// Not said: that the attempt begins right after this reading.
     fn prepare(&mut self)
         ensures ended { ended_by self.new ≡ ended_by self.old }
         ensures fresh { HasNoAccess
@@ -210,8 +210,10 @@ impl<W: Watch> Tracer for Trail<W> {
         answer
     }
 
-    /// Not said: that `prepare` was called since the last attempt ended, and that this one ended
-    /// right before it. Its caller sees to that.
+    /// Records the attempt that committed, with its commit position.
+    ///
+    /// Not said: that `prepare` was called since the last attempt ended, and that this attempt
+    /// ended right before the call. The caller guarantees both.
     fn commit(&mut self, place: &Place)
         ensures ended { HasTracedCommit place.now
             (known self.old.accesses.is_whole self.old.accesses.items.items)
@@ -225,9 +227,10 @@ impl<W: Watch> Tracer for Trail<W> {
         }
     }
 
-    /// Its place is that of a record which read the version that it read.
+    /// Records an aborted attempt, with the commit position of a reader at the attempt's read
+    /// version.
     ///
-    /// Not said: as of `commit`.
+    /// Not said: as for `commit`.
     fn give_up(&mut self, _stop: &Stop)
         ensures ended { HasGivenUp
             (known self.old.accesses.is_whole self.old.accesses.items.items)

@@ -23,8 +23,8 @@ use vac_manager::AttemptNote;
 use vac_streams::{StreamFault, send_chunk, send_rest};
 use vac_worklist::OPENING;
 
-/// By what the attempts are put in order: by renewal, by version, the writer of a version before
-/// all others that read it, and then by when they began, and ended.
+/// Returns the sort key of an attempt: its renewal, its version with the writer of a version
+/// before its readers, its begin, and its end.
 fn key_of(attempt: &AttemptNote) -> (u32, u64, u64, u64)
     ensures { result ≡ (
       attempt.now.place.renewal,
@@ -76,28 +76,29 @@ fn send_lines<O: Write>(
     Ok(())
 }
 
-/// Whether each of these ledgers had room for each call and each attempt.
+/// Returns whether each ledger had room for each call and each attempt.
 fn all_whole<W: Watch + Copy + Drop>(clients: &[Ledger<W>]) -> bool
     ensures { result ≡ list_all is_whole_ledger clients.now }
 {
     clients.iter().all(|ledger| ledger.is_whole())
 }
 
-/// Whether the opening's ledger and those of the clients had room for each call and each attempt.
+/// Returns whether the ledgers of the setup phase and of the clients had room for each call and
+/// each attempt.
 pub fn are_whole<W: Watch + Copy + Drop>(opening: &Ledger<W>, clients: &[Ledger<W>]) -> bool
     ensures { result ≡ are_whole_ledgers opening.now clients.now }
 {
     opening.is_whole() && all_whole(clients)
 }
 
-/// Writes the attempts of a load on a system of so many blocks from its start, a line each as
-/// `vacation opaque` reads it: first, as attempts of client 0, the words that it begins with; then
-/// the attempts of the opening as those of client 0, and of the clients from 1 on. They are ordered
-/// as they claim to stand: by renewal, by version, the writer of a version before all others that
-/// read it, and these by when they began, and ended.
+/// Writes the attempts of a load on a system with this number of blocks, one line each as
+/// `vacation opaque` reads them. The initial words come first, as attempts of client 0. They are
+/// followed by the attempts of the setup phase, as those of client 0, and of the clients, numbered
+/// from 1. The attempts are sorted by renewal, by version with the writer of a version before its
+/// readers, by begin, and by end.
 ///
-/// Takes a few words for each attempt, and memory for one chunk of text. After a fault, what was
-/// written is nothing or a prefix of such a text. Where a ledger had no room for a call or for an
+/// Allocates a few words for each attempt, and memory for one chunk of text. After a fault, the
+/// output has nothing or a prefix of such a text. If a ledger had no room for a call or for an
 /// attempt, nothing is written, and the fault is that memory was refused.
 pub fn write_attempts<W: Watch + Copy + Drop, O: Write>(
     alloc: Global,

@@ -1,4 +1,4 @@
--- What the program does where its words ask for a judgement, of calls or of attempts.
+-- The program's judges of calls and of attempts, by what the command line asks for.
 use Rattle.std.specs.Prelude.{◌⊎◌, ℕ, Bool, true, false, Option, Some, None, List}
 use Rattle.std.specs.Borrow.{Bor}
 use Rattle.vac_opaque.specs.Reading.{HasJudgedAttempts, HasJudgedAttemptsInPart}
@@ -6,8 +6,9 @@ use Rattle.vac_cli.specs.Ending.{EndsWithStatus}
 use Rattle.vac_cli.specs.Judging.{Judges, JudgesWork, NamedAlone}
 use Rattle.vac_cli.specs.Ordering.{JudgesAnyOrder, JudgesAnyWork}
 
--- a history is judged in any order or in its own; where a file is named, it is held against the
--- work in that, of which the bytes are known that this file has
+-- the program judges a history in any order or in the order of its lines; if a file is named, the
+-- history is also checked against the workload in the file, whose bytes are those that `files`
+-- gives for its name
 abbrev pub JudgesAs : (List ℕ → Option (List ℕ)) → Bool → Option (Bor (List ℕ)) → ℕ → ℕ → ℕ
     → Option (List ℕ) → Option (List ℕ) → Option (List ℕ) → Option (List ℕ) → Type 0
 JudgesAs files false None blocks steps status unread left held holds =
@@ -19,15 +20,15 @@ JudgesAs files true None blocks steps status unread left held holds =
 JudgesAs files true (Some name) blocks steps status unread left held holds =
     JudgesAnyWork (files name.now) blocks steps status unread left held holds
 
--- a fault ended a judgement of attempts: one of the output, and a prefix of the verdict was
--- written; or another, and nothing was written but a prefix of the line that names it
+-- a fault ended a judgement of attempts: either the output failed, and a prefix of the verdict was
+-- written; or another fault was met, and only a prefix of the line that names a fault was written
 -- Not said: which fault stands for which cause.
 abbrev pub AttemptsStopped : ℕ → Option (List ℕ) → Option (List ℕ) → Option (List ℕ)
     → Option (List ℕ) → Type 0
 AttemptsStopped words unread left held holds =
     HasJudgedAttemptsInPart words unread left held holds ⊎ NamedAlone held holds
 
--- attempts at this many words are judged: 0 where they are opaque
+-- the program judges attempts on this number of words; the status is 0 if they are opaque
 abbrev pub JudgesAttempts : ℕ → ℕ → Option (List ℕ) → Option (List ℕ) → Option (List ℕ)
     → Option (List ℕ) → Type 0
 JudgesAttempts words status unread left held holds =

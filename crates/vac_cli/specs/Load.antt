@@ -29,15 +29,17 @@ use Rattle.vac_load.specs.Streams.{LoadedBySeed, KeptBySeed}
 use Rattle.vac_lines.specs.Writing.{AppendsPrefix}
 use Rattle.vac_cli.specs.Ending.{EndsWithStatus, NamedAfterWriting, load_fault_line}
 
--- how many tasks were answered, and how many met a conflict with another client in each try
+-- the number of completed tasks, and the number of tasks that met a conflict with another client
+-- in each attempt, as text
 abbrev pub tried_text : Tally → List ℕ
 tried_text t = field_text (codes "answered ") t.answered ++ field_text (codes " busy ") t.busy
 
--- how many were refused memory, and how many found no version left
+-- the number of tasks that were refused memory, and the number of tasks that found the clock
+-- spent, as text
 abbrev pub wanting_text : Tally → List ℕ
 wanting_text t = field_text (codes " memory ") t.memory ++ field_text (codes " spent ") t.spent
 
--- how the tasks ended
+-- the text of a load's counts
 abbrev pub tally_text : Tally → List ℕ
 tally_text t = tried_text t ++ wanting_text t
 
@@ -45,24 +47,26 @@ tally_text t = tried_text t ++ wanting_text t
 abbrev pub load_text : LoadReport → List ℕ
 load_text load = as_line (tally_text load.tally) ++ as_line (report_text load.report)
 
--- the load of these settings was run to its end, and its two lines were written and nothing else
+-- the load of these settings ran to its end, and exactly its two lines were written
 pub record WroteLoad (s : Settings) (held holds : Option (List ℕ)) : Type 0 where
   pub load : LoadReport
   pub loaded : LoadedBySeed s load.tally load.report
   pub written : Appends held holds (load_text load)
 
--- the load was run to its end, and a prefix of its two lines was written
+-- the load ran to its end, and a prefix of its two lines was written
 pub record WroteLoadInPart (s : Settings) (held holds : Option (List ℕ)) : Type 0 where
   pub load : LoadReport
   pub loaded : LoadedBySeed s load.tally load.report
   pub written : AppendsPrefix held holds (load_text load)
 
--- why the load of a seed was not run to its end: its opening draws from stream 0
+-- the fault is the reason why the load of a seed did not run to its end; the setup phase of such a
+-- load draws from stream 0
 abbrev pub IsFaultBySeed : Settings → LoadFault → Type 0
 IsFaultBySeed s fault = IsLoadFault gives s (stream_of s.seed 0) fault
 
--- a load of these settings was run with these keepers, or refused where they do not fit: what they
--- kept, or why it was not run to its end
+-- a load of these settings was run with these recorders, or refused because the settings and the
+-- recorders do not fit: the result has the recorded calls, or the reason why the load did not run
+-- to its end
 pub record RunsKept {K : Type 0} (notes : K → KeptNotes) (s : Settings) (keepers : Keepers K)
     (result : Result (LoadReport × Efforts × Keepers K) LoadFault) : Type 0 where
   pub arguments : IsErrOf result load.Arguments
@@ -70,18 +74,18 @@ pub record RunsKept {K : Type 0} (notes : K → KeptNotes) (s : Settings) (keepe
   pub kept : IfOk result (λ r. KeptBySeed notes s r.0.tally r.0.report keepers r.2)
   pub refused : IfErr result (λ fault. IsFaultBySeed s fault)
 
--- a load of these settings was stopped by a fault, which is not that they do not fit each other,
--- and a prefix of the line that names it was written
--- Not said: that memory was refused where `fault memory` or `fault opening` is named, or a thread
--- where `fault spawn` is.
--- Not said: which of the three: the clock of the program's loads has time for every opening, so
--- that each can be named for any settings in range.
+-- a load of these settings was stopped by a fault other than unfitting arguments, and a prefix of
+-- the line that names the fault was written
+-- Not said: that memory was refused if `fault memory` or `fault opening` is named, or a thread if
+-- `fault spawn` is.
+-- Not said: which of the three faults. The clock of the program's loads has time for every setup
+-- phase, so the contract allows each of the three for any settings in range.
 abbrev pub NamedFault : Settings → Option (List ℕ) → Option (List ℕ) → Type 0
 NamedFault s held holds = (fault : LoadFault) × (fault ≢ load.Arguments)
     × IsFaultBySeed s fault × AppendsPrefix held holds (load_fault_line fault)
 
--- a load is run where its settings fit each other, and then this was written, or a fault ended it:
--- it was named, or this stopped it; where they do not fit, the command line is refused
+-- a load with fitting settings is run: its result is written, or a fault ends it and is named, or
+-- `stopped` describes its end; if the settings do not fit each other, the command line is refused
 abbrev pub EndsLoad : (wrote stopped : Settings → Option (List ℕ) → Option (List ℕ) → Type 0) → ℕ
     → Settings → Option (List ℕ) → Option (List ℕ) → Type 0
 EndsLoad wrote stopped status s held holds =
@@ -90,19 +94,19 @@ EndsLoad wrote stopped status s held holds =
     ⊎ ((is_settings s ≡ false) × (status ≡ 2)
     × AppendsPrefix held holds (load_fault_line load.Arguments))
 
--- the calls that a load kept were written in part, and after them a prefix of the line of a fault
+-- the recorded calls of a load were written in part, followed by a prefix of the line of a fault
 abbrev pub StoppedKept : (in_part : Settings → Option (List ℕ) → Option (List ℕ) → Type 0)
     → Settings → Option (List ℕ) → Option (List ℕ) → Type 0
 StoppedKept in_part s held holds = NamedAfterWriting (in_part s held) holds
 
--- how a load ends that writes the calls that it kept
+-- the end of a load that writes its recorded calls
 abbrev pub EndsKept : (wrote in_part : Settings → Option (List ℕ) → Option (List ℕ) → Type 0) → ℕ
     → Settings → Option (List ℕ) → Option (List ℕ) → Type 0
 EndsKept wrote in_part status s held holds =
     EndsLoad wrote (StoppedKept in_part) status s held holds
 
--- the load of these settings was run to its end, and these are its answered calls: those of the
--- opening, one for each of its records, and those of each client, one for each of its records
+-- the load of these settings ran to its end, and the notes are its completed calls: those of the
+-- setup phase and those of each client, one for each record, in the order of the records
 pub record HasNoted (s : Settings) (opening : List Note) (clients : List (List Note))
     : Type 0 where
   pub load : LoadReport
@@ -110,26 +114,27 @@ pub record HasNoted (s : Settings) (opening : List Note) (clients : List (List N
   pub of_opening : Paired IsNoted opening loaded.opened
   pub of_clients : Paired (λ notes x. Paired IsNoted notes x.records) clients loaded.shares
 
--- the calls that are kept, if any
+-- the recorded calls; none if nothing is recorded
 abbrev pub calls_kept : KeptNotes → List Note
 calls_kept None = []
 calls_kept (Some calls) = calls
 
--- the load was run to its end, and its answered calls are those that these keep
+-- the load ran to its end, and the recorders have its completed calls
 abbrev pub AreNoted : {K : Type 0} → (K → KeptNotes) → Settings → Keepers K → Type 0
 AreNoted notes s k = HasNoted s (calls_kept (notes k.opening))
     (map (λ x. calls_kept (notes x)) k.clients.items)
 
--- the load was run to its end, and the history of its answered calls was written and nothing else:
--- all in the order of their records, and readers of one version in that in which they began. In
--- this order the calls are legal, and leave the state that the load reports. Its lines are read as
--- these calls, and the judge calls it legal exactly where no call that had ended before another
--- began comes after it
--- Not said: that none does: what two clients read of the clock says nothing of which read it first.
--- Not said: that a stamp is a reading of the clock; that the state is the one which the load writes
--- to the errors, of which no clause speaks.
--- Not said: that no call was left out because a journal had no room for it: of the journals that a
--- load hands back it is only known which calls they keep.
+-- the load ran to its end, and exactly the history of its completed calls was written: all calls
+-- in the order of their records, and the readers of one version in the order of their begins. In
+-- this order the calls are legal and reach the state that the load reports. The lines are read as
+-- these calls, and the judge calls the history legal if and only if no call that ended before
+-- another began comes after that other call
+-- Not said: that the order keeps real time. The clock readings of two clients do not show which of
+-- them read first.
+-- Not said: that a stamp is a reading of the clock; that the state is the one that the load writes
+-- to the error stream, of which no clause speaks.
+-- Not said: that no call was left out because a journal had no room for it. Of the journals that a
+-- load returns, only the recorded calls are known.
 pub record WroteCalls (s : Settings) (held holds : Option (List ℕ)) : Type 0 where
   pub opening : List Note
   pub clients : List (List Note)
@@ -141,7 +146,7 @@ pub record WroteCalls (s : Settings) (held holds : Option (List ℕ)) : Type 0 w
   pub read : IsTheirHistory (map call_of_entry written.all)
   pub judged : JudgedByPrecedence s.blocks (calls_text written.all) (map call_of_entry written.all)
 
--- the load was run to its end, and a prefix of such a history was written
+-- the load ran to its end, and a prefix of such a history was written
 pub record WroteCallsInPart (s : Settings) (held holds : Option (List ℕ)) : Type 0 where
   pub opening : List Note
   pub clients : List (List Note)
@@ -153,14 +158,14 @@ pub record WroteCallsInPart (s : Settings) (held holds : Option (List ℕ)) : Ty
   pub read : IsTheirHistory (map call_of_entry written.all)
   pub judged : JudgedByPrecedence s.blocks (calls_text written.all) (map call_of_entry written.all)
 
--- the load was run to its end, and the attempts of its calls were written and nothing else: of each
--- answered call the attempt that answered it, once, at its record's place and with its record's
--- reads and writes (`IsNoted` of vac_manager), and attempts that were given up; and those that
--- write the words that the system began with; all in the order of their places
--- Not said: that each attempt that was given up is among them, that it read what the text says, and
--- at which place it is; that a stamp is a reading of the clock, and each client's are in turn.
--- `vacation opaque` judges it.
--- Not said: that the lines are read by it.
+-- the load ran to its end, and exactly the attempts of its calls were written: for each completed
+-- call its attempt, once, with the commit position, the reads and the writes of the call's record
+-- (`IsNoted` of vac_manager); aborted attempts; and attempts that write the initial words. All are
+-- sorted by commit position
+-- Not said: that each aborted attempt is among them, its reads, and its position; that a stamp is
+-- a reading of the clock, and that the stamps of each client are in turn. `vacation opaque` judges
+-- these.
+-- Not said: that `vacation opaque` reads the lines.
 -- Not said: that nothing was left out because a ledger had no room for it.
 pub record WroteTried (s : Settings) (held holds : Option (List ℕ)) : Type 0 where
   pub opening : Page
@@ -168,7 +173,7 @@ pub record WroteTried (s : Settings) (held holds : Option (List ℕ)) : Type 0 w
   pub noted : HasNoted s opening.calls (map (λ page. page.calls) clients)
   pub written : WroteAttempts s.blocks (opening ∷ clients) held holds
 
--- the load was run to its end, and a prefix of such a text was written
+-- the load ran to its end, and nothing or a prefix of the text of such attempts was written
 pub record WroteTriedInPart (s : Settings) (held holds : Option (List ℕ)) : Type 0 where
   pub opening : Page
   pub clients : List Page

@@ -1,4 +1,4 @@
--- What the program does with a command line: its status, and what it reads and writes.
+-- The contract of the program on a command line: status, input and output.
 use Rattle.std.specs.Prelude.{◌≡◌, ℕ, ◌≤◌, ◌⊎◌, Bool, true, false, Option, List, []}
 use Rattle.std.specs.Prelude.{◌++◌, codes}
 use Rattle.std.specs.Io.KnownBytes.{Appends}
@@ -25,25 +25,25 @@ use Rattle.vac_cli.specs.Ordering.{Orders}
 use Rattle.vac_cli.specs.Asking.{JudgesAs, JudgesAttempts}
 use Rattle.vac_options.specs.CommandLine.{vacation, AsksFor}
 
--- a load writes its history or its two lines
+-- the program runs a load, and writes its history or its two lines
 abbrev pub Loads : Bool → ℕ → Settings → Option (List ℕ) → Option (List ℕ) → Type 0
 Loads true status s held holds = EndsKept WroteCalls WroteCallsInPart status s held holds
 Loads false status s held holds = EndsLoad WroteLoad WroteLoadInPart status s held holds
 
--- a load writes its attempts
+-- the program runs a load, and writes its attempts
 abbrev pub Tries : ℕ → Settings → Option (List ℕ) → Option (List ℕ) → Type 0
 Tries status s held holds = EndsKept WroteTried WroteTriedInPart status s held holds
 
--- a load writes its history, its attempts or its two lines; where both of the first are asked for,
--- the command line is refused, and nothing is written
+-- the program runs a load, and writes its history, its attempts or its two lines; if both history
+-- and attempts are asked for, the command line is refused, and nothing is written
 abbrev pub LoadsAs : Bool → Bool → ℕ → Settings → Option (List ℕ) → Option (List ℕ) → Type 0
 LoadsAs true true status s held holds = (status ≡ 2) × (holds ≡ held)
 LoadsAs true false status s held holds = Loads true status s held holds
 LoadsAs false true status s held holds = Tries status s held holds
 LoadsAs false false status s held holds = Loads false status s held holds
 
--- the tasks of a load are written where its settings fit each other; where they do not, the command
--- line is refused
+-- the program writes the tasks of a load if its settings fit each other, and refuses the command
+-- line otherwise
 -- Not said: which fault stands for which cause.
 abbrev pub ListsTasks : ℕ → Settings → Option (List ℕ) → Option (List ℕ) → Type 0
 ListsTasks status s held holds =
@@ -52,21 +52,21 @@ ListsTasks status s held holds =
     ⊎ ((is_settings s ≡ false) × (status ≡ 2)
     × AppendsPrefix held holds (load_fault_line Arguments))
 
--- a script is run on a system of this many blocks, and its output is written
+-- the program runs a script on a system with this number of blocks, and writes its output
 abbrev pub RunsScript : ℕ → ℕ → Option (List ℕ) → Option (List ℕ) → Option (List ℕ)
     → Option (List ℕ) → Type 0
 RunsScript blocks status unread left held holds =
     EndsWithStatus status (WroteAll blocks unread left held holds)
     (NamedAfter (WrotePrefix blocks unread left held) holds)
 
--- the memory that a script leaves is written
+-- the program writes the memory after a script
 abbrev pub Dumps : ℕ → ℕ → Option (List ℕ) → Option (List ℕ) → Option (List ℕ)
     → Option (List ℕ) → Type 0
 Dumps blocks status unread left held holds =
     EndsWithStatus status (Dumped blocks unread left held holds)
     (NamedAfter (DumpStopped blocks unread left held) holds)
 
--- the words of a memory are audited: 0 where they are those of a balanced state
+-- the program audits the words of a memory; the status is 0 if they represent a balanced state
 abbrev pub Checks : ℕ → Option (List ℕ) → Option (List ℕ) → Option (List ℕ)
     → Option (List ℕ) → Type 0
 Checks status unread left held holds =
@@ -74,8 +74,8 @@ Checks status unread left held holds =
     (Checked false unread left held holds
     ⊎ NamedAfter (CheckStopped unread left held) holds)
 
--- what the program does where its words ask for this, and each file has the bytes that are known of
--- it
+-- the program does what the command line asks for; `files` gives the bytes of each file by its
+-- name
 abbrev pub Does : (Text → Option (List ℕ)) → Asked → ℕ → Option (List ℕ) → Option (List ℕ)
     → Option (List ℕ) → Option (List ℕ) → Type 0
 Does files (Run blocks) status unread left held holds =
@@ -93,16 +93,17 @@ Does files (Load settings how) status unread left held holds =
 Does files (Tasks settings) status unread left held holds =
     (left ≡ unread) × ListsTasks status settings held holds
 
--- what the program says of itself: its name and version, and what proved and built it
+-- the text of `--version`: the name and version of the program, and the toolchain that proved and
+-- built it
 -- Not said: that the toolchain of the second line is the one that built the program.
 abbrev pub version_text : List ℕ
 version_text = as_line (codes "vacation 0.1.0")
-    ++ as_line (codes "rattle-kit-13f logic dac8208d650f15bf")
+    ++ as_line (codes "rattle-kit-13b logic dac8208d650f15bf")
 
--- what it shows of an error of this kind: the fault where memory was refused, help and the version
--- on the output, and nothing on the output where the words are refused
--- Not said: the text of the help, nor that it was written whole where the status is 0; what is
--- written to the errors.
+-- the output for an error of this kind: the fault if memory was refused, help and version on the
+-- output, and nothing on the output if the command line is refused
+-- Not said: the text of the help, or that it was written completely if the status is 0; the text
+-- on the error stream.
 abbrev pub ShowsError : ErrorKind → ℕ → Option (List ℕ) → Option (List ℕ) → Type 0
 ShowsError error.OutOfMemory status held holds =
     (status ≡ 1) × AppendsPrefix held holds (fault_line Memory)
@@ -112,7 +113,7 @@ ShowsError error.DisplayVersion status held holds =
     EndsWithStatus status (Appends held holds version_text) (AppendsPrefix held holds version_text)
 ShowsError kind status held holds = (status ≡ 2) × (holds ≡ held)
 
--- clap takes the words, and what they ask for was done
+-- clap accepts the words, and the program did what they ask for
 pub record Obeyed (files : Text → Option (List ℕ)) (words : List Text) (status : ℕ)
     (unread left held holds : Option (List ℕ)) : Type 0 where
   pub taken : fault_of vacation words ≡ []
@@ -120,9 +121,10 @@ pub record Obeyed (files : Text → Option (List ℕ)) (words : List Text) (stat
   pub asks : AsksFor words asked
   pub done : Does files asked status unread left held holds
 
--- memory was refused, or clap does not take the words: what it says of them was shown, and nothing
+-- memory was refused, or clap does not accept the words: the explanation was shown, and no input
 -- was read
--- Not said: where clap gives two kinds of error, as for a stray word after `help`, which of them.
+-- Not said: which of two kinds of error is shown if clap gives two, as for a stray word after
+-- `help`.
 pub record Explained (words : List Text) (status : ℕ) (unread left held holds : Option (List ℕ)) :
     Type 0 where
   pub kind : ErrorKind
@@ -130,8 +132,8 @@ pub record Explained (words : List Text) (status : ℕ) (unread left held holds 
   pub unused : left ≡ unread
   pub shown : ShowsError kind status held holds
 
--- what the program does with the words of a command line, where each file has the bytes that are
--- known of it
+-- the program does what the words of its command line ask for, or explains why not; `files` gives
+-- the bytes of each file by its name
 abbrev pub Serves : (Text → Option (List ℕ)) → List Text → ℕ → Option (List ℕ) → Option (List ℕ)
     → Option (List ℕ) → Option (List ℕ) → Type 0
 Serves files words status unread left held holds =

@@ -6,12 +6,12 @@ use std::fs::File;
 use std::io;
 use std::io::Read;
 
-/// By what a file is opened for reading.
+/// A way to open files for reading.
 pub trait Open {
-    /// A file that was opened.
+    /// An opened file.
     type File: Read + Drop;
 
-    /// The bytes of the file of this name, where they are known.
+    /// The bytes of the file of this name, if they are known.
     ghost holds: { Self → List ℕ → Option (List ℕ) } = { λ _ _. None };
 
     /// Opens the file of this name.

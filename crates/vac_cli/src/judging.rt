@@ -1,4 +1,4 @@
-//! Judging histories, and how that ends.
+//! Judging histories and attempts, and the resulting statuses.
 
 ghost use Rattle.std.specs.Prelude.{◌≡◌, true, IfOk, IfErr, OnOk, IsSome, option_map};
 ghost use Rattle.vac_model.specs.Ranges.{is_block_count};
@@ -17,8 +17,8 @@ use vac_opaque::judge_attempts;
 use vac_options::Judging;
 use vac_streams::StreamFault;
 
-/// Judges a history, holds it against these tasks, where there are any, and returns the status: 0
-/// where it is legal and of all the tasks.
+/// Judges a history, checks it against these tasks if there are any, and returns the status: 0 if
+/// the history is legal and has all tasks.
 pub(crate) fn judge_with<F: Read + Drop, R: Read, W: Write>(
     alloc: Global,
     blocks: u32,
@@ -39,7 +39,7 @@ pub(crate) fn judge_with<F: Read + Drop, R: Read, W: Write>(
     }
 }
 
-/// Ends where the file of the tasks was not opened, and returns the status.
+/// Ends the program if the file of the tasks was not opened, and returns the status.
 fn end_unopened_by<W: Write>(error: &io::Error, output: &mut W) -> u8
     ensures { NotOpened result (W.contents output.old) (W.contents output.new) }
 {
@@ -50,8 +50,8 @@ fn end_unopened_by<W: Write>(error: &io::Error, output: &mut W) -> u8
     }
 }
 
-/// Opens the file of tasks of this name, where there is a name. An error is the status where it was
-/// not opened.
+/// Opens the file of tasks of this name, if there is a name. If the file was not opened, the error
+/// is the status.
 fn open_tasks<F: Open, W: Write>(
     files: &F,
     name: Option<&str>,
@@ -73,7 +73,7 @@ fn open_tasks<F: Open, W: Write>(
     }
 }
 
-/// Judges a history as it is asked for, and returns the status.
+/// Judges a history as the command line asks, and returns the status.
 pub(crate) fn judge<T: Clock + AllocGlobal, F: Open, R: Read, W: Write, E: Write>(
     rt: &T,
     files: &F,
@@ -100,7 +100,7 @@ pub(crate) fn judge<T: Clock + AllocGlobal, F: Open, R: Read, W: Write, E: Write
     }
 }
 
-/// Judges attempts at `words` words, and returns the status: 0 where they are opaque.
+/// Judges attempts on `words` words, and returns the status: 0 if they are opaque.
 pub(crate) fn judge_opaque<R: Read, W: Write>(
     alloc: Global,
     words: u32,

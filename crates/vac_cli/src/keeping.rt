@@ -1,4 +1,4 @@
-//! Loads that keep the calls of their clients, and write them.
+//! Loads that record the calls of their clients, and write them.
 
 ghost use Rattle.std.specs.Prelude.{◌≡◌, ◌<◌, ◌^◌, true, [], Some, ℕ, Bool, List, Option, length};
 ghost use Rattle.std.specs.Prelude.{vec_len, All, IfOk, OnOk, OnErr, IfErr};
@@ -24,7 +24,7 @@ use vac_load::{Keepers, LoadFault, Settings};
 use vac_manager::Keep;
 use vac_streams::StreamFault;
 
-/// A load that was run to its end, and what kept its calls.
+/// A load that ran to its end, and its recorders.
 #[derive(Drop)]
 pub(crate) struct KeptLoad<'a, K> {
     alloc: Global,
@@ -32,22 +32,23 @@ pub(crate) struct KeptLoad<'a, K> {
     keepers: Keepers<K>,
 }
 
-/// What keeps the calls of a client, by the times of a watch, and writes those of a whole load.
+/// A recorder of a client's calls that reads times from a clock, and writes the calls of a whole
+/// load.
 pub(crate) trait Transcript<W>: Keep + Sized {
     /// The calls of a load of these settings were written.
     ghost wrote: { Settings → Option (List ℕ) → Option (List ℕ) → Type 0 };
 
-    /// They were written in part.
+    /// The calls of a load of these settings were written in part.
     ghost wrote_in_part: { Settings → Option (List ℕ) → Option (List ℕ) → Type 0 };
 
-    /// There was room for all that these were to keep.
+    /// The recorders had room for all calls.
     ghost are_whole: { Keepers Self → Bool };
 
-    /// One that keeps no call yet.
+    /// Returns a recorder without calls.
     fn empty(alloc: Global, watch: W) -> Self
         ensures { Self.notes result ≡ Some [] };
 
-    /// Whether there was room for all that these were to keep.
+    /// Returns whether the recorders had room for all calls.
     fn are_whole(keepers: &Keepers<Self>) -> bool
         ensures { result ≡ are_whole keepers.now };
 
@@ -117,7 +118,7 @@ impl<W: Watch + Copy + Drop> Transcript<W> for Ledger<W> {
     }
 }
 
-/// The empty keepers of a load of `count` clients, with one clock and one start.
+/// Returns the empty recorders of a load of `count` clients, with one clock and one start.
 fn empty_keepers<'a, T: Clock, K: Transcript<Since<'a, T>> + Drop>(
     alloc: Global,
     clock: &'a T,
@@ -138,9 +139,9 @@ fn empty_keepers<'a, T: Clock, K: Transcript<Since<'a, T>> + Drop>(
 }
 
 impl<'a, T: Threads + Wait + Clock + Sync + AllocGlobal> AskedLoad<'a, T> {
-    /// Runs the load, writes the history of its calls, its two lines to `errors`, and returns the
-    /// status. A call for which a journal had no room was not made, and the load then ends with the
-    /// fault of refused memory.
+    /// Runs the load, writes the history of its calls, writes its two lines to `errors`, and
+    /// returns the status. A call for which a journal had no room was not issued, and the load
+    /// then ends with the fault of refused memory.
     pub(crate) fn note<W: Write, E: Write + Send>(&self, output: &mut W, errors: &mut E) -> u8
         ensures { Loads true result self.now.settings.now
             (W.contents output.old) (W.contents output.new) }
@@ -150,9 +151,9 @@ impl<'a, T: Threads + Wait + Clock + Sync + AllocGlobal> AskedLoad<'a, T> {
         self.keep(keepers, output, errors)
     }
 
-    /// Runs the load, writes the attempts of its calls, its two lines to `errors`, and returns the
-    /// status. Where there was no room for a call, for an attempt, or for what it read and wrote,
-    /// the load ends with the fault of refused memory.
+    /// Runs the load, writes the attempts of its calls, writes its two lines to `errors`, and
+    /// returns the status. If there was no room for a call, for an attempt, or for the reads and
+    /// writes of an attempt, the load ends with the fault of refused memory.
     pub(crate) fn trace<W: Write, E: Write + Send>(&self, output: &mut W, errors: &mut E) -> u8
         ensures { Tries result self.now.settings.now
             (W.contents output.old) (W.contents output.new) }
@@ -162,9 +163,9 @@ impl<'a, T: Threads + Wait + Clock + Sync + AllocGlobal> AskedLoad<'a, T> {
         self.keep(keepers, output, errors)
     }
 
-    /// Runs the load, writes its calls by what kept them, and its two lines to `errors`, and
-    /// returns the status. Where there was no room for all that was to be kept, the load ends with
-    /// the fault of refused memory.
+    /// Runs the load with these recorders, writes the recorded calls, writes the load's two lines
+    /// to `errors`, and returns the status. If a recorder had no room, the load ends with the
+    /// fault of refused memory.
     fn keep<K: Transcript<Since<'a, T>> + Send + Drop, W: Write, E: Write + Send>(
         &self,
         keepers: Result<Keepers<K>, AllocError>,

@@ -1,6 +1,7 @@
-//! The program: it does what its command line asks for, over the streams that it is given.
+//! The program: runs the command that its command line asks for, over the streams that the caller
+//! gives.
 //!
-//! Scripts over streams, and what is read and printed line by line, are re-exported from the crates
+//! Scripts over streams, and the line-by-line readers and writers, are re-exported from the crates
 //! below.
 #![tactic(auto)]
 

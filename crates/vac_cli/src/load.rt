@@ -1,4 +1,4 @@
-//! A load from the command line, and the lines that it writes.
+//! A load from the command line, and the lines that the load writes.
 
 ghost use Rattle.std.specs.Prelude.{◌≡◌, ◌≤◌, ◌++◌, ◌⊎◌, false, OnOk};
 ghost use Rattle.vac_cli.specs.Load.{tried_text, wanting_text};
@@ -25,16 +25,16 @@ use vac_model::{Reply, Report};
 use vac_options::How;
 use vac_streams::StreamFault;
 
-/// A load that is asked for, and what it runs on.
+/// A load from the command line, with the runtime it runs on.
 #[derive(Drop)]
 pub(crate) struct AskedLoad<'a, T> {
     pub(crate) rt: &'a T,
     pub(crate) settings: &'a Settings,
-    /// What it is to write of itself.
+    /// The outputs that the command line asks for.
     pub(crate) how: How,
 }
 
-/// Says that a load cannot write both its history and its attempts, and returns the status of a
+/// Writes that a load cannot write both its history and its attempts, and returns the status of a
 /// refused command line.
 fn refuse_both<E: Write>(errors: &mut E) -> u8
     ensures { result ≡ 2 }
@@ -47,9 +47,9 @@ fn refuse_both<E: Write>(errors: &mut E) -> u8
 }
 
 /// Runs a load, writes its two lines, the history of its calls or their attempts, and returns the
-/// status. Where that is asked for, writes to `errors` how far it is, and in the end how long its
-/// clients took and how often they tried. Where the history or the attempts are written, the two
-/// lines go to `errors`.
+/// status. If the command line asks for them, writes progress lines to `errors`, and at the end
+/// the time and the attempt statistics of the clients. If the history or the attempts are written,
+/// the two lines go to `errors`.
 pub(crate) fn load<T: Threads + Wait + Clock + Sync + AllocGlobal, W: Write, E: Write + Send>(
     rt: &T,
     settings: &Settings,
@@ -95,8 +95,8 @@ impl<T: Threads + Wait + Clock + Sync + AllocGlobal> AskedLoad<'_, T> {
     }
 }
 
-/// Writes the two lines of a load to `errors`. Where memory or the write is refused, only these
-/// lines are lost.
+/// Writes the two lines of a load to `errors`. If memory or the write is refused, only these lines
+/// are lost.
 pub(crate) fn tell_load<E: Write>(alloc: Global, report: &LoadReport, errors: &mut E) {
     let mut text = Vec::new(alloc);
     if append_load(&mut text, report).is_ok() {
@@ -123,8 +123,8 @@ fn write_load<W: Write>(alloc: Global, report: &LoadReport, output: &mut W) -> u
     }
 }
 
-/// Appends how many tasks were answered, and how many met a conflict with another client in each
-/// try.
+/// Appends the number of completed tasks, and the number of tasks that met a conflict with another
+/// client in each attempt.
 fn append_tried(out: &mut Vec<u8>, tally: Tally) -> Result<(), AllocError>
     ensures { OnOk result (out.new.items ≡ out.old.items ++ tried_text tally) }
 {
@@ -132,7 +132,8 @@ fn append_tried(out: &mut Vec<u8>, tally: Tally) -> Result<(), AllocError>
     append_field(out, b" busy ", tally.busy)
 }
 
-/// Appends how many tasks were refused memory, and how many found no version left.
+/// Appends the number of tasks that were refused memory, and the number of tasks that found the
+/// clock spent.
 fn append_wanting(out: &mut Vec<u8>, tally: Tally) -> Result<(), AllocError>
     ensures { OnOk result (out.new.items ≡ out.old.items ++ wanting_text tally) }
 {
@@ -140,7 +141,7 @@ fn append_wanting(out: &mut Vec<u8>, tally: Tally) -> Result<(), AllocError>
     append_field(out, b" spent ", tally.spent)
 }
 
-/// Appends how the tasks ended, without a line end.
+/// Appends the counts of the tasks, without a line end.
 fn append_tally(out: &mut Vec<u8>, tally: Tally) -> Result<(), AllocError>
     ensures { OnOk result (out.new.items ≡ out.old.items ++ tally_text tally) }
 {
@@ -148,7 +149,7 @@ fn append_tally(out: &mut Vec<u8>, tally: Tally) -> Result<(), AllocError>
     append_wanting(out, tally)
 }
 
-/// Appends how the tasks ended, as a line.
+/// Appends the counts of the tasks, as a line.
 fn append_tally_line(out: &mut Vec<u8>, tally: Tally) -> Result<(), AllocError>
     ensures { OnOk result (out.new.items ≡ out.old.items ++ as_line (tally_text tally)) }
 {
@@ -164,7 +165,7 @@ fn append_report_line(out: &mut Vec<u8>, report: Report) -> Result<(), AllocErro
     out.extend_from_slice(b"\n")
 }
 
-/// Appends the two lines of a load: how its tasks ended, and the report.
+/// Appends the two lines of a load: the counts of its tasks, and the report.
 fn append_load(out: &mut Vec<u8>, load: &LoadReport) -> Result<(), AllocError>
     ensures { OnOk result (out.new.items ≡ out.old.items ++ load_text load.now) }
 {

@@ -1,4 +1,4 @@
-//! The program: it does what its words ask for, and returns its status.
+//! The program: runs the command of a command line, and returns its status.
 
 ghost use Rattle.std.specs.Prelude.{◌≡◌, ◌≤◌, ℕ, true, List, map, string_bytes};
 ghost use Rattle.std.specs.Io.KnownBytes.{Appends};
@@ -26,17 +26,19 @@ use vac_script::{check_words, dump_script, run_script};
 use vac_streams::StreamFault;
 use vac_worklist::{TasksFault, write_tasks};
 
-/// Runs the program on a command line, of which the first word is the program's name, and returns
-/// its status: 0 where it did its work or showed its help or its version, 1 after a fault, where
-/// `check` found no balanced state, `judge` no legal history, `order` no order or `opaque` attempts
-/// that are not, 2 where the command line was refused, 3 where `order` did not decide.
+/// Runs the program on a command line, whose first word is the program's name, and returns its
+/// status. The status is 0 if the program did its work or showed its help or its version. The
+/// status is 1 after a fault, or if `check` found no balanced state, `judge` no legal history,
+/// `order` no linearization, or `opaque` attempts that are not opaque. The status is 2 if the
+/// command line was refused, and 3 if `order` did not decide.
 ///
 /// Help and the version go to `output`, the text of a refused command line to `errors`. A fault is
-/// the last line of `output`, unless `output` is what failed. What a load writes to `errors` (how
-/// far it is, its numbers, with `--history` its two lines) changes neither `output` nor the status.
+/// the last line of `output`, unless `output` failed. The lines that a load writes to `errors`
+/// (its progress, its statistics, its two lines with `--history`) change neither `output` nor the
+/// status.
 ///
-/// Not said: that a load which is to write how far it is writes it, what it writes, and when; what
-/// the line of `--stats` says. Tests look at both.
+/// Not said: that a load that is asked for progress lines writes them, their text and their times;
+/// the line of `--stats`. Tests look at these.
 pub fn run_words<
     T: Threads + Wait + Clock + Sync + AllocGlobal,
     R: Read,
@@ -62,11 +64,11 @@ pub fn run_words<
     }
 }
 
-/// Says that a word of the command line is no text, and returns the status of a refused command
-/// line. Whether that could be written changes nothing.
+/// Writes that a word of the command line is no text, and returns the status of a refused command
+/// line. A failed write changes nothing.
 ///
-/// Not said: that `main` calls it for words that are no text, and hands all words of any other line
-/// to `run_words`: three lines, read in the code.
+/// Not said: that `main` calls this function for words that are no text, and passes the words of
+/// any other command line to `run_words`. Those three lines are read in the code.
 pub fn refuse_words<E: Write>(errors: &mut E) -> u8
     ensures { result ≡ 2 }
 {
@@ -86,7 +88,7 @@ fn run<R: Read, W: Write>(alloc: Global, blocks: u32, input: &mut R, output: &mu
     end_done(run_script(alloc, blocks, input, output), output)
 }
 
-/// Dumps the memory that a script leaves, and returns the status.
+/// Dumps the memory after a script, and returns the status.
 fn dump<R: Read, W: Write>(alloc: Global, blocks: u32, input: &mut R, output: &mut W) -> u8
     requires { is_block_count blocks ≡ true }
     ensures { Dumps blocks result (R.remaining input.old) (R.remaining input.new)
@@ -95,7 +97,7 @@ fn dump<R: Read, W: Write>(alloc: Global, blocks: u32, input: &mut R, output: &m
     end_done(dump_script(alloc, blocks, input, output), output)
 }
 
-/// Audits words, and returns the status: 0 where they are those of a balanced state.
+/// Audits words, and returns the status: 0 if they represent a balanced state.
 fn check<R: Read, W: Write>(alloc: Global, input: &mut R, output: &mut W) -> u8
     ensures { Checks result (R.remaining input.old) (R.remaining input.new)
         (W.contents output.old) (W.contents output.new) }
@@ -121,8 +123,8 @@ fn list_tasks<W: Write, E: Write>(
     }
 }
 
-/// Shows the help or the version that was asked for, or why the command line was refused, and
-/// returns the status.
+/// Shows the help, the version, or the reason why the command line was refused, and returns the
+/// status.
 fn show<W: Write, E: Write>(alloc: Global, error: &Error, output: &mut W, errors: &mut E) -> u8
     ensures { ShowsError (kind_of error.now) result (W.contents output.old)
         (W.contents output.new) }
@@ -138,7 +140,7 @@ fn show<W: Write, E: Write>(alloc: Global, error: &Error, output: &mut W, errors
     }
 }
 
-/// Writes what the program says of itself, and returns the status.
+/// Writes the name and version of the program, and returns the status.
 fn show_version<W: Write>(output: &mut W) -> u8
     ensures { ShowsError DisplayVersion result (W.contents output.old) (W.contents output.new) }
 {
@@ -148,7 +150,7 @@ fn show_version<W: Write>(output: &mut W) -> u8
     }
 }
 
-/// Writes the help that was asked for, and returns the status.
+/// Writes the help, and returns the status.
 fn show_help<W: Write>(alloc: Global, help: &Error, output: &mut W) -> u8
     ensures status { result ≤ 1 }
     ensures text { (text : List ℕ) × Appends (W.contents output.old) (W.contents output.new) text }

@@ -1,4 +1,4 @@
-//! Looking for an order of a history's calls, and writing how far the search is.
+//! Searching for a linearization of a history's calls, with progress lines.
 
 ghost use Rattle.std.specs.Prelude.{◌≡◌, ◌≢◌, ◌⊎◌, true, IfOk, IfErr, OnOk, option_map};
 ghost use Rattle.std.specs.Io.KnownBytes.{Appends};
@@ -11,19 +11,20 @@ ghost use Rattle.vac_cli.specs.Ordering.{Orders, FindsNone, JudgesAnyWith, statu
 use crate::judging::judge_with;
 use crate::status::{DONE, FAULT, UNDECIDED, end_by};
 use crate::telling::has_passed;
+use judge_object::Watcher;
 use std::alloc::Global;
 use std::io::{Read, Write};
 use std::time::{Clock, Instant};
 use vac_lines::write_and_flush;
 use vac_options::Search;
 use vac_order::{Outcome, order_history};
-use vac_quick::Watcher;
 use vac_streams::StreamFault;
 
-/// After how many steps the clock is looked at.
+/// Number of steps between two readings of the clock.
 const STRIDE: u64 = 4_096;
 
-/// Writes how far a search is, at most twice a second, where that is asked for.
+/// A watcher that writes the progress of a search at most twice a second, if the command line asks
+/// for progress.
 #[derive(Drop)]
 struct Teller<'a, 'b, T, E> {
     rt: &'a T,
@@ -33,7 +34,7 @@ struct Teller<'a, 'b, T, E> {
 }
 
 impl<'a, 'b, T: Clock, E: Write> Teller<'a, 'b, T, E> {
-    /// The teller of a search that begins.
+    /// Returns the watcher of a search that begins.
     fn new(rt: &'a T, is_told: bool, errors: &'b mut E) -> Teller<'a, 'b, T, E> {
         Teller {
             rt,
@@ -57,7 +58,7 @@ impl<T: Clock + AllocGlobal, E: Write> Watcher for Teller<'_, '_, T, E> {
     }
 }
 
-/// The status of what was found.
+/// Returns the status of an outcome.
 fn status_of(outcome: Outcome) -> u8
     ensures { result ≡ status_of outcome }
 {
@@ -68,8 +69,8 @@ fn status_of(outcome: Outcome) -> u8
     }
 }
 
-/// Writes the calls of a history in an order in which they are right, or that there is none, and
-/// returns the status.
+/// Writes the calls of a history in a linearization, or writes that there is none, and returns the
+/// status.
 pub(crate) fn order<T: Clock + AllocGlobal, R: Read, W: Write, E: Write>(
     rt: &T,
     blocks: u32,
@@ -89,7 +90,7 @@ pub(crate) fn order<T: Clock + AllocGlobal, R: Read, W: Write, E: Write>(
     }
 }
 
-/// Writes what was found instead of an order, and returns the status.
+/// Writes the text of an outcome other than a linearization, and returns the status.
 fn write_found<W: Write>(outcome: Outcome, text: &[u8], output: &mut W) -> u8
     ensures { (Appends (W.contents output.old) (W.contents output.new) text.now
         × (result ≡ status_of outcome))
@@ -102,7 +103,7 @@ fn write_found<W: Write>(outcome: Outcome, text: &[u8], output: &mut W) -> u8
     }
 }
 
-/// The fault of a search that writes into memory: such an output fails only where memory is
+/// Returns the fault of a search that writes into memory. Such an output fails only if memory is
 /// refused.
 fn without_output(fault: StreamFault) -> StreamFault
     ensures { result ≢ StreamFault.Write }
@@ -115,8 +116,8 @@ fn without_output(fault: StreamFault) -> StreamFault
     }
 }
 
-/// The lines of a history in an order that is found. Where there is none, this is the status, and
-/// what was found in its place is written, or a fault.
+/// Returns the lines of a history in a linearization that is found. If none is found, writes the
+/// outcome, or names a fault, and the error is the status.
 #[tactic(auto, using(crate::proofs::Judgement::kept, crate::proofs::Judgement::unordered))]
 fn order_kept<R: Read, W: Write, V: Watcher>(
     alloc: Global,
@@ -143,8 +144,8 @@ fn order_kept<R: Read, W: Write, V: Watcher>(
     }
 }
 
-/// Judges a history in an order that is found, or says that there is none, holds it against these
-/// tasks, where there are any, and returns the status.
+/// Judges a history in a linearization that is found, or writes that there is none, checks it
+/// against these tasks if there are any, and returns the status.
 pub(crate) fn judge_any<T: Clock + AllocGlobal, F: Read + Drop, R: Read, W: Write, E: Write>(
     rt: &T,
     blocks: u32,

@@ -1,4 +1,4 @@
-//! How long the clients of a load took, and the numbers that it writes when it has ended.
+//! The time that the clients of a load take, and the line of statistics at the end of a load.
 
 use std::alloc::{AllocError, Global};
 use std::io::Write;
@@ -8,35 +8,36 @@ use std::time::{Clock, Instant};
 use stm_attempt::{Gate, Point};
 use vac_load::Efforts;
 
-/// The nanoseconds of a second.
+/// Nanoseconds of a second.
 const SECOND: u128 = 1_000_000_000;
 
-/// The nanoseconds of a microsecond.
+/// Nanoseconds of a microsecond.
 const MICROSECOND: u64 = 1_000;
 
-/// How often, at most, a client that is ready lets other threads run before it begins without them.
+/// Largest number of times that a ready client yields to other threads before it begins without
+/// them.
 const MOST_TURNS: u32 = 1_000_000;
 
-/// How long the clients of a load took: from when all of them were ready for the first time to when
-/// the last one was done. It is 0 where the time cannot be read.
+/// The time that the clients of a load took: from the time when all of them were ready first to
+/// the time when the last one was done. The time is 0 if the clock cannot be read.
 #[derive(Drop)]
 pub(crate) struct Span<'a, T> {
     rt: &'a T,
     clients: u32,
-    /// When its nanoseconds begin to count.
+    /// The time at which the nanoseconds begin to count.
     start: Option<Instant>,
-    /// How many clients are ready.
+    /// Number of ready clients.
     ready: AtomicU32,
-    /// How many clients are done.
+    /// Number of clients that are done.
     done: AtomicU32,
-    /// How often all clients were ready.
+    /// Number of times that all clients were ready.
     rounds: AtomicU32,
     begin: AtomicU64,
     end: AtomicU64,
 }
 
 impl<'a, T: Clock> Span<'a, T> {
-    /// The span of `clients` clients that have not begun.
+    /// Returns the time span of `clients` clients that have not begun.
     pub(crate) fn new(rt: &'a T, clients: u32) -> Span<'a, T> {
         Span {
             rt,
@@ -50,13 +51,13 @@ impl<'a, T: Clock> Span<'a, T> {
         }
     }
 
-    /// How many nanoseconds it has.
+    /// Returns the nanoseconds of the span.
     pub(crate) fn nanos(&self) -> u64 {
         let end = self.end.load(Ordering::SeqCst);
         end.saturating_sub(self.begin.load(Ordering::SeqCst))
     }
 
-    /// How many nanoseconds have passed.
+    /// Returns the nanoseconds since the start.
     fn passed(&self) -> u64 {
         let Some(start) = self.start else {
             return 0;
@@ -67,8 +68,8 @@ impl<'a, T: Clock> Span<'a, T> {
         }
     }
 
-    /// Adds a client to this count, and says whether all are counted. Then the count begins at zero
-    /// again.
+    /// Adds a client to this count, and returns whether all clients are counted. If they are, the
+    /// count is reset to zero.
     fn are_all(&self, clients: &AtomicU32) -> bool {
         let before = clients.fetch_add(1, Ordering::SeqCst);
         if before.saturating_add(1) < self.clients {
@@ -78,7 +79,8 @@ impl<'a, T: Clock> Span<'a, T> {
         true
     }
 
-    /// Lets other threads run until all clients are ready.
+    /// Yields to other threads until all clients are ready. Bounded loop: if a client cannot be
+    /// started, the others begin without it.
     fn wait_for_all(&self, round: u32) {
         for _ in 0..MOST_TURNS {
             if self.rounds.load(Ordering::SeqCst) != round {
@@ -88,7 +90,7 @@ impl<'a, T: Clock> Span<'a, T> {
         }
     }
 
-    /// Returns once all clients are ready. Where one cannot be started, the others begin without
+    /// Returns once all clients are ready. If a client cannot be started, the others begin without
     /// it.
     fn stand_ready(&self) {
         let round = self.rounds.load(Ordering::SeqCst);
@@ -101,7 +103,7 @@ impl<'a, T: Clock> Span<'a, T> {
         self.rounds.fetch_add(1, Ordering::SeqCst);
     }
 
-    /// Notes the time once all clients are done.
+    /// Stores the time once all clients are done.
     fn end_one(&self) {
         if self.are_all(&self.done) {
             self.end.store(self.passed(), Ordering::SeqCst);
@@ -122,14 +124,14 @@ impl<T: Clock> Gate for &Span<'_, T> {
     }
 }
 
-/// How many of `count` there are for each of `whole`, and none where that is zero.
+/// Returns `count / whole`, or zero if `whole` is zero.
 fn each(count: u128, whole: u128) -> u128 {
     if whole == 0 { 0 } else { count / whole }
 }
 
-/// The line with the numbers of a load: the seconds of its clients, how many tasks they had
-/// answered in a second, how many attempts they made, how many of these ended by which conflict,
-/// over the lock of which word, and how many there were for each task that was answered.
+/// Returns the line of statistics of a load: the seconds that its clients took, the completed
+/// tasks in a second, the number of attempts, the number of conflicts of each kind and over the
+/// lock of each kind of word, and the number of attempts for each completed task.
 fn stats_line(
     alloc: Global,
     nanos: u64,
@@ -162,8 +164,8 @@ fn stats_line(
     )
 }
 
-/// Writes the numbers of a load to `errors`. Where memory or the write is refused, only the line is
-/// lost.
+/// Writes the line of statistics of a load to `errors`. If memory or the write is refused, only
+/// the line is lost.
 pub(crate) fn tell_stats<E: Write>(
     alloc: Global,
     nanos: u64,

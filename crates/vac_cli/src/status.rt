@@ -1,4 +1,4 @@
-//! How the program ends.
+//! The statuses of the program, and its last line after a fault.
 
 ghost use Rattle.std.specs.Prelude.{◌≡◌, ◌≤◌, ◌↔◌};
 ghost use Rattle.vac_lines.specs.Writing.{AppendsPrefix};
@@ -12,16 +12,16 @@ use vac_lines::write_and_flush;
 use vac_load::{LoadFault, Settings};
 use vac_streams::StreamFault;
 
-/// The status of a program that did its work or showed its help.
+/// Status of a program that did its work or showed its help.
 pub(crate) const DONE: u8 = 0;
 
-/// The status of a program that met a fault.
+/// Status of a program that met a fault.
 pub(crate) const FAULT: u8 = 1;
 
-/// The status of a program that did not decide within its steps.
+/// Status of a program that did not decide within its steps.
 pub(crate) const UNDECIDED: u8 = 3;
 
-/// The status of a program whose command line was refused.
+/// Status of a program whose command line was refused.
 pub(crate) const REFUSED: u8 = 2;
 
 /// Writes the last line of a program. A failed write changes nothing.
@@ -32,7 +32,7 @@ fn write_last<W: Write>(line: &[u8], output: &mut W)
     let _ = write_and_flush(output, line);
 }
 
-/// Writes this line, the last of a program that met a fault, and returns its status.
+/// Writes this line as the last line of a program that met a fault, and returns the status.
 fn end_with<W: Write>(line: &[u8], output: &mut W) -> u8
     ensures status { result ≡ 1 }
     ensures line { AppendsPrefix (W.contents output.old) (W.contents output.new) line.now }
@@ -41,8 +41,8 @@ fn end_with<W: Write>(line: &[u8], output: &mut W) -> u8
     FAULT
 }
 
-/// Writes the last line of a program that met a fault, and returns its status. There is no line
-/// where the output failed. A failed write of it changes nothing.
+/// Writes the last line of a program that met a fault, and returns the status. If the output
+/// failed, there is no such line. A failed write of the line changes nothing.
 #[tactic(auto, using(crate::proofs::Ending::nothing))]
 pub(crate) fn end_by<W: Write>(fault: StreamFault, output: &mut W) -> u8
     ensures status { result ≡ 1 }
@@ -67,7 +67,7 @@ pub(crate) fn end_done<W: Write>(done: Result<(), StreamFault>, output: &mut W) 
     }
 }
 
-/// Ends the program after a judgement, and returns the status: 0 where what was judged is right.
+/// Ends the program after a judgement, and returns the status: 0 if the verdict is positive.
 pub(crate) fn end_judged<W: Write>(judged: Result<bool, StreamFault>, output: &mut W) -> u8
     ensures { EndsJudged judged result (W.contents output.old) (W.contents output.new) }
 {
@@ -78,7 +78,7 @@ pub(crate) fn end_judged<W: Write>(judged: Result<bool, StreamFault>, output: &m
     }
 }
 
-/// Writes the last line of a program that could not open a file, and returns its status.
+/// Writes the last line of a program that could not open a file, and returns the status.
 pub(crate) fn end_unopened<W: Write>(output: &mut W) -> u8
     ensures status { result ≡ 1 }
     ensures line { AppendsPrefix (W.contents output.old) (W.contents output.new)
@@ -87,8 +87,8 @@ pub(crate) fn end_unopened<W: Write>(output: &mut W) -> u8
     end_with(b"fault open\n", output)
 }
 
-/// Writes the last line of a load that met a fault, and returns its status. Settings that do not
-/// fit each other are a refused command line.
+/// Writes the last line of a load that met a fault, and returns the status. Settings that do not
+/// fit each other count as a refused command line.
 pub(crate) fn end_load_by<W: Write>(fault: LoadFault, output: &mut W) -> u8
     ensures low { 1 ≤ result }
     ensures high { result ≤ 2 }
@@ -107,8 +107,8 @@ pub(crate) fn end_load_by<W: Write>(fault: LoadFault, output: &mut W) -> u8
     }
 }
 
-/// Writes to `errors` which numbers of a load do not fit each other: the only thing that can still
-/// be wrong once each of them is in its range. Whether that could be written changes nothing.
+/// Writes to `errors` which settings of a load do not fit each other. Nothing else can be wrong
+/// once each setting is in its range. A failed write changes nothing.
 fn tell_settings<E: Write>(alloc: Global, settings: &Settings, errors: &mut E) {
     let (items, blocks) = (settings.items, settings.blocks);
     let least = u64::from(BLOCKS_OF_ITEM) * u64::from(items);
@@ -120,8 +120,8 @@ fn tell_settings<E: Write>(alloc: Global, settings: &Settings, errors: &mut E) {
     let _ = write_and_flush(errors, line.as_bytes());
 }
 
-/// Ends a load whose settings do not fit each other, writes to `errors` which, and returns the
-/// status of a refused command line.
+/// Ends a load whose settings do not fit each other, writes to `errors` which of them, and returns
+/// the status of a refused command line.
 pub(crate) fn end_by_settings<W: Write, E: Write>(
     alloc: Global,
     settings: &Settings,

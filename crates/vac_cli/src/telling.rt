@@ -1,4 +1,4 @@
-//! Loads that write how far they are while they run.
+//! Loads that write progress lines while they run.
 
 ghost use Rattle.vac_cli.specs.Load.{RunsKept};
 
@@ -15,10 +15,10 @@ use vac_load::{Efforts, Keepers, LoadFault, LoadReport, Settings, run_load_kept}
 use vac_manager::Keep;
 use vac_options::How;
 
-/// The least time between two lines, in milliseconds.
+/// Least time between two lines, in milliseconds.
 const PAUSE_MILLIS: u64 = 500;
 
-/// The gate of a client, which counts the tasks that are answered, and hands on what it is told.
+/// The gate of a client that counts completed tasks and passes each event on to another gate.
 #[derive(Clone, Copy, Drop)]
 struct Counter<'a, G> {
     answered: &'a AtomicU64,
@@ -42,7 +42,7 @@ impl<G: Gate> Gate for Counter<'_, G> {
     }
 }
 
-/// What a load shares with the thread that writes how far it is.
+/// State that a load shares with the thread that writes its progress lines.
 #[derive(Drop)]
 struct Progress {
     answered: AtomicU64,
@@ -59,7 +59,7 @@ impl Progress {
         }
     }
 
-    /// Runs the load, and then has the teller end.
+    /// Runs the load, and then ends the thread that writes progress lines.
     fn run<T: Threads + Wait + Clock + Sync + AllocGlobal, K: Keep + Send + Drop>(
         &self,
         rt: &T,
@@ -81,8 +81,8 @@ impl Progress {
         loaded
     }
 
-    /// Writes a line each time that the pause has passed, until the load has ended. Where the time
-    /// cannot be read, nothing is written.
+    /// Writes a line each time the pause has passed, until the load has ended. If the time cannot
+    /// be read, nothing is written.
     fn tell<T: Wait + Clock + AllocGlobal, E: Write>(&self, rt: &T, all: u64, errors: &mut E) {
         let mut last = Instant::now(rt).ok();
         for _ in rt.forever() {
@@ -99,12 +99,12 @@ impl Progress {
     }
 }
 
-/// The least time between two lines.
+/// Returns the least time between two lines.
 fn pause() -> Duration {
     Duration::from_millis(PAUSE_MILLIS)
 }
 
-/// Whether the pause has passed since the last line; false where the time cannot be read.
+/// Returns whether the pause has passed since the last line; false if the time cannot be read.
 pub(crate) fn has_passed<T: Clock>(rt: &T, last: Option<Instant>) -> bool {
     let Some(last) = last else {
         return false;
@@ -115,8 +115,8 @@ pub(crate) fn has_passed<T: Clock>(rt: &T, last: Option<Instant>) -> bool {
     }
 }
 
-/// Writes how many of all tasks were answered. Where memory or the write is refused, only the line
-/// is lost.
+/// Writes the number of completed tasks and the number of all tasks. If memory or the write is
+/// refused, only the line is lost.
 fn write_line<E: Write>(alloc: Global, answered: u64, all: u64, errors: &mut E) {
     let Ok(line) = format!(in alloc; "answered {answered} of {all}\n") else {
         return;
@@ -126,17 +126,17 @@ fn write_line<E: Write>(alloc: Global, answered: u64, all: u64, errors: &mut E) 
     }
 }
 
-/// How many tasks a load has.
+/// Returns the number of tasks of a load.
 fn all_tasks(settings: &Settings) -> u64 {
     let of_one = u64::from(settings.rounds).saturating_mul(u64::from(settings.tasks));
     of_one.saturating_mul(u64::from(settings.clients))
 }
 
-/// Runs the load of a seed as `run_load_kept` does. Where that is asked for, writes to `errors`
-/// while it runs, at most twice a second, how many of its tasks were answered.
+/// Runs the load of a seed as `run_load_kept` does. If the command line asks for progress, writes
+/// the number of completed tasks to `errors` while the load runs, at most twice a second.
 ///
-/// Where no thread can be started for that, the load is run and nothing is written: a join then
-/// makes its second call first.
+/// If no thread can be started for the progress lines, the load runs and none is written: a join
+/// then runs its second closure first.
 pub(crate) fn run_told<
     T: Threads + Wait + Clock + Sync + AllocGlobal,
     K: Keep + Send + Drop,

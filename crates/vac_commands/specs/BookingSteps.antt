@@ -1,4 +1,5 @@
--- What a command on bookings needs and does, when its customer and its item have been found.
+-- The conditions and effects of commands on bookings after their customer and their item have been
+-- found.
 use Rattle.std.specs.Prelude.{◌≡◌, ◌≢◌, ℕ, ◌+◌, ◌<◌, ◌≤◌, ◌^◌, List, [], length, true}
 use Rattle.tx_memory.specs.View.{View, Sees, RestsOn, Kept}
 use Rattle.vac_model.specs.declared.commands.Command.{Command}
@@ -25,7 +26,7 @@ use Rattle.vac_commands.specs.declared.bookings.Offer.{Offer}
 use Rattle.vac_commands.specs.Ran.{Untouched, Idle}
 use Rattle.vac_commands.specs.Entries.{item_block, customer_block, ItemIsAt, CustomerIsAt}
 
--- the block of the place's booking among those of the customer in block owner, or 0
+-- the block of the place's booking in the list of the customer in block `owner`, or 0
 abbrev pub booking_block : {m : ℕ → ℕ} {n : ℕ} {s : State} → IsState m n s → ℕ → Place → ℕ
 booking_block h owner place = block_at (h.represents.parts.lists owner) (place_key place)
 
@@ -43,26 +44,28 @@ abbrev pub AtBlocks : ℕ → ℕ → Kind → ℕ → ℕ → (m : ℕ → ℕ)
     IsState m n s → Type 0
 AtBlocks customer owner kind id item m n s h = Here h customer owner kind id item
 
--- and the booking is in this one
+-- the customer, the item and the customer's booking of the item are in these blocks
 pub record AtBooking (customer owner : ℕ) (kind : Kind) (id item b : ℕ) (m : ℕ → ℕ) (n : ℕ)
     (s : State) (h : IsState m n s) : Type 0 where
   pub here : Here h customer owner kind id item
   pub is : booking_block h owner (kind, id) ≡ b
 
--- and this is the booking's spot in the customer's list
+-- the customer and the item are in these blocks, and this is the spot of the item's booking in the
+-- customer's list
 pub record AtSpot (customer owner : ℕ) (kind : Kind) (id item : ℕ) (spot : Spot) (m : ℕ → ℕ)
     (n : ℕ) (s : State) (h : IsState m n s) : Type 0 where
   pub here : Here h customer owner kind id item
   pub at : SpotAt m (head_of owner) (place_key (kind, id)) spot (h.represents.parts.lists owner)
 
--- under each image of the memory's size b is the block of the booking of the customer in block
--- owner
+-- under each possible image of the memory's size, b is the block of the place's booking in the
+-- list of the customer in block `owner`
 pub record HasBookingAt (s : View) (owner : ℕ) (place : Place) (b : ℕ) : Type 0 where
   pub inside : IsInside s.size b
   pub at : (image : List ℕ) (state : State) → RestsOn s image →
       (h : IsState (mem s image) (length image) state) → booking_block h owner place ≡ b
 
--- under each image of the memory's size this is the booking's spot in the list of that customer
+-- under each possible image of the memory's size, this is the spot of the place's booking in the
+-- list of the customer in block `owner`
 pub record HasSpot (s : View) (owner : ℕ) (place : Place) (spot : Spot) : Type 0 where
   pub room : spot.link.0 < s.size
   pub within : IsWithin s spot.entry
@@ -70,7 +73,7 @@ pub record HasSpot (s : View) (owner : ℕ) (place : Place) (spot : Spot) : Type
       (h : IsState (mem s image) (length image) state) →
       SpotAt (mem s image) (head_of owner) (place_key place) spot (h.represents.parts.lists owner)
 
--- under each image these are the item's free units, num or more, and its price
+-- under each possible image the item has this number of free units, at least num, and this price
 pub record IsOffered (s : View) (item num : ℕ) (offer : Offer) : Type 0 where
   pub enough : num ≤ offer.free
   pub free_is : (image : List ℕ) → Sees s image → mem s image (item + 5) ≡ offer.free
@@ -84,33 +87,36 @@ reserve_of who what num = Reserve who.customer what.kind what.id num
 abbrev pub cancel_of : CustomerAt → ItemAt → Command
 cancel_of who what = Cancel who.customer what.kind what.id
 
--- the memory holds a state, customer and item are in their blocks, and the command can be asked for
+-- the memory holds a state, the customer and the item are in their blocks, and the command is
+-- valid
 pub record CanServe (s : View) (who : CustomerAt) (what : ItemAt) (c : Command) : Type 0 where
   pub state : HoldsState s
   pub customer : CustomerIsAt s who.customer who.owner
   pub item : ItemIsAt s what.kind what.id what.item
   pub range : is_command c ≡ true
 
--- the units that are asked for can be booked, but for the limits of a booking and of the heap
+-- the units can be booked, except for the limits of a booking and of the heap
 pub record CanReserve (s : View) (who : CustomerAt) (what : ItemAt) (offer : Offer) : Type 0 where
   pub serve : CanServe s who what (reserve_of who what offer.num)
   pub offered : IsOffered s what.item offer.num offer
 
--- and the customer's booking of the item is in block b
+-- the units can be booked, except for the limits of a booking and of the heap, and the customer's
+-- booking of the item is in block b
 pub record CanReserveMore (s : View) (who : CustomerAt) (what : ItemAt) (offer : Offer)
     (b : ℕ) : Type 0 where
   pub ready : CanReserve s who what offer
   pub booking : HasBookingAt s who.owner (what.kind, what.id) b
 
--- the memory represents the state after the command, in the same tables, and this is the reply
+-- the memory represents the state after the command, with the same tables, and the reply is that
+-- of the command
 pub record Lands {m : ℕ → ℕ} {n : ℕ} {s : State} (h : IsState m n s) (m' : ℕ → ℕ) (c : Command)
     (r : Reply) : Type 0 where
   pub state : State
   pub is : step s c ≡ (state, r)
   pub stays : Stays h.represents m' [] state
 
--- under each image on which the memory represents a state of which P holds, the command ran, and
--- items and customers are in the same tables as before
+-- under each possible image on which the memory represents a state with the property P, the
+-- command ran, and items and customers are in the same tables as before
 pub record ServesCommand (s s' : View) (c : Command) (r : Reply)
     (P : (m : ℕ → ℕ) (n : ℕ) (state : State) → IsState m n state → Type 0) : Type 0 where
   pub kept : Kept s s'

@@ -17,67 +17,67 @@ item_block h kind id = block_at (h.represents.parts.tables (kind_number kind)) i
 abbrev pub customer_block : {m : ℕ → ℕ} {n : ℕ} {s : State} → IsState m n s → ℕ → ℕ
 customer_block h id = block_at (h.represents.parts.tables 3) id
 
--- under each image the item is missing
+-- under each possible image the item is missing
 pub record LacksItem (s : View) (kind : Kind) (id : ℕ) : Type 0 where
   pub none : (image : List ℕ) (state : State) → Sees s image →
       (h : IsState (mem s image) (length image) state) → item_block h kind id ≡ 0
 
--- under each image b is the block of the item
+-- under each possible image b is the block of the item
 pub record HasItemAt (s : View) (kind : Kind) (id b : ℕ) : Type 0 where
   pub some : b ≢ 0
   pub inside : IsInside s.size b
   pub at : (image : List ℕ) (state : State) → Sees s image →
       (h : IsState (mem s image) (length image) state) → item_block h kind id ≡ b
 
--- under each image the item is there
+-- under each possible image the item exists
 pub record HasItem (s : View) (kind : Kind) (id : ℕ) : Type 0 where
   pub there : (image : List ℕ) (state : State) → Sees s image →
       (h : IsState (mem s image) (length image) state) → item_block h kind id ≢ 0
 
--- the memory holds a state, and the item is there
+-- the memory holds a state, and the item exists
 pub record HoldsItem (s : View) (kind : Kind) (id : ℕ) : Type 0 where
   pub state : HoldsState s
   pub item : HasItem s kind id
 
--- under each image the customer is missing
+-- under each possible image the customer is missing
 pub record LacksCustomer (s : View) (id : ℕ) : Type 0 where
   pub none : (image : List ℕ) (state : State) → Sees s image →
       (h : IsState (mem s image) (length image) state) → customer_block h id ≡ 0
 
--- under each image c is the block of the customer
+-- under each possible image c is the block of the customer
 pub record HasCustomerAt (s : View) (id c : ℕ) : Type 0 where
   pub some : c ≢ 0
   pub inside : IsInside s.size c
   pub at : (image : List ℕ) (state : State) → Sees s image →
       (h : IsState (mem s image) (length image) state) → customer_block h id ≡ c
 
--- under each image of the memory's size, which is what a call asks for, b is the item's block
+-- under each possible image of the memory's size, b is the item's block. Calls require this form
 pub record ItemIsAt (s : View) (kind : Kind) (id b : ℕ) : Type 0 where
   pub some : b ≢ 0
   pub inside : IsInside s.size b
   pub at : (image : List ℕ) (state : State) → RestsOn s image →
       (h : IsState (mem s image) (length image) state) → item_block h kind id ≡ b
 
--- c is the customer's block
+-- under each possible image of the memory's size, c is the customer's block
 pub record CustomerIsAt (s : View) (id c : ℕ) : Type 0 where
   pub some : c ≢ 0
   pub inside : IsInside s.size c
   pub at : (image : List ℕ) (state : State) → RestsOn s image →
       (h : IsState (mem s image) (length image) state) → customer_block h id ≡ c
 
--- the customer is missing
+-- under each possible image of the memory's size, the customer is missing
 pub record CustomerIsMissing (s : View) (id : ℕ) : Type 0 where
   pub none : (image : List ℕ) (state : State) → RestsOn s image →
       (h : IsState (mem s image) (length image) state) → customer_block h id ≡ 0
 
--- under each image the items are in the same blocks as before
+-- under each possible image the items are in the same blocks as before
 pub record ItemsStay (s s' : View) : Type 0 where
   pub stay : (image : List ℕ) (state state' : State) → Sees s' image →
       (h : IsState (mem s image) (length image) state) →
       (h' : IsState (mem s' image) (length image) state') →
       (kind : Kind) (id : ℕ) → item_block h' kind id ≡ item_block h kind id
 
--- under each image the customers are in the same blocks as before
+-- under each possible image the customers are in the same blocks as before
 pub record CustomersStay (s s' : View) : Type 0 where
   pub stay : (image : List ℕ) (state state' : State) → Sees s' image →
       (h : IsState (mem s image) (length image) state) →

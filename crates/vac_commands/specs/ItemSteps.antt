@@ -4,7 +4,8 @@ use Rattle.tx_memory.specs.View.{View, Sees, Kept}
 use Rattle.vac_records.specs.declared.place.TheConstants.{PRICE}
 use Rattle.vac_records.specs.Items.{mem}
 
--- under each image the item has this price where one is given, and all other words are as before
+-- under each possible image the item has this price, if a price is given, and all other words are
+-- as before
 pub record PriceGiven (s s' : View) (node : ℕ) (price : Option ℕ) : Type 0 where
   pub kept : Kept s s'
   pub is : (image : List ℕ) → Sees s' image →

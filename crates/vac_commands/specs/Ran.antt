@@ -1,4 +1,4 @@
--- What a command does to a memory that holds a state, under every image.
+-- The effect of a command on a memory that holds a state, under every possible image.
 use Rattle.std.specs.Prelude.{◌≡◌, ℕ, List, [], length, Option, Some, None, true}
 use Rattle.std.specs.FinMap.{empty}
 use Rattle.vac_model.specs.declared.items.Kind.{Kind}
@@ -15,12 +15,12 @@ use Rattle.vac_records.specs.Items.{mem}
 use Rattle.vac_records.specs.Represents.{Represents, IsState}
 use Rattle.vac_records.specs.InMemory.{HoldsState}
 
--- a memory of n words represents the state of an outcome, and this is its reply
+-- a memory of n words represents the state of an outcome, and the reply is that of the outcome
 pub record IsOutcome (m : ℕ → ℕ) (n : ℕ) (o : Outcome) (r : Reply) : Type 0 where
   pub state : IsState m n o.0
   pub reply_is : o.1 ≡ r
 
--- where the reply is a refusal, nothing was written
+-- if the reply is a refusal, nothing was written
 abbrev pub Untouched : View → View → Reply → Type 0
 Untouched s s' reply.Done = Unit {0}
 Untouched s s' (reply.Number n) = Unit {0}
@@ -29,8 +29,8 @@ Untouched s s' (reply.No why) = s'.writes ≡ s.writes
 Untouched s s' (reply.Trip trip) = Unit {0}
 Untouched s s' (reply.Update update) = Unit {0}
 
--- where the command has nothing to change, nothing was written: an Add of no units without a
--- price, a Delete of no units
+-- if the command has nothing to change, nothing was written: an Add of no units without a price,
+-- or a Delete of no units
 abbrev pub Idle : View → View → Command → Type 0
 Idle s s' (command.Add kind id num price) = num ≡ 0 → price ≡ None → s'.writes ≡ s.writes
 Idle s s' (command.Delete kind id num) = num ≡ 0 → s'.writes ≡ s.writes
@@ -44,12 +44,12 @@ Idle s s' (command.Reserve customer kind id num) = Unit {0}
 Idle s s' (command.Cancel customer kind id) = Unit {0}
 Idle s s' command.Audit = Unit {0}
 
--- under each image the memory was changed as the command changes the state, and the reply is the
--- command's; a command that is refused, or has nothing to change, writes nothing
--- Not said: which blocks new entries get, and of which free list the block of a removed entry
--- becomes the first; tests of vac_rows see it for some commands.
--- Not said: that the spare words of a block stay 0, and, where something is to change, that no word
--- is written with the value that it has.
+-- under each possible image the command changed the memory as it changes the state, and the reply
+-- is the command's reply. A command that is refused, or has nothing to change, writes nothing
+-- Not said: which blocks new entries get, and the free list whose first block the block of a
+-- removed entry becomes; tests of vac_rows check both for some commands.
+-- Not said: that the spare words of a block stay 0, and, if something is to change, that no word
+-- is written with the value that it already has.
 pub record Ran (s s' : View) (c : Command) (r : Reply) : Type 0 where
   pub kept : Kept s s'
   pub untouched : Untouched s s' r
@@ -58,29 +58,30 @@ pub record Ran (s s' : View) (c : Command) (r : Reply) : Type 0 where
       IsState (mem s image) (length image) state →
       IsOutcome (mem s' image) (length image) (step state c) r
 
--- under each image the reply is the command's, and nothing was written
+-- under each possible image the reply is the command's reply, and nothing was written
 pub record RanQuestion (s s' : View) (c : Command) (r : Reply) : Type 0 where
   pub ran : Ran s s' c r
   pub writes : s'.writes ≡ s.writes
 
--- the memory holds a state, and the command is one that can be asked for
+-- the memory holds a state, and the command is valid
 pub record CanRun (s : View) (c : Command) : Type 0 where
   pub state : HoldsState s
   pub range : is_command c ≡ true
 
--- the reply to a NewCustomer that was not refused because the customer is there
+-- the reply to a NewCustomer for a missing customer, from the block that was found, if any
 abbrev pub joining : Option ℕ → Reply
 joining None = reply.No Full
 joining (Some block) = reply.Done
 
--- under each image the item is gone, and its block is free
+-- under each possible image the item is removed, and its block is free
 pub record ItemGone (s s' : View) (kind : Kind) (id : ℕ) : Type 0 where
   pub kept : Kept s s'
   pub gone : (image : List ℕ) (state : State) → Sees s' image →
       IsState (mem s image) (length image) state →
       Represents (mem s' image) (length image) [] (without_item state kind id)
 
--- under each image the customer, who had no bookings, is gone, and the block is free
+-- under each possible image the customer, who had no bookings, is removed, and the customer's
+-- block is free
 pub record CustomerGone (s s' : View) (id : ℕ) : Type 0 where
   pub kept : Kept s s'
   pub gone : (image : List ℕ) (state : State) → Sees s' image →

@@ -34,21 +34,21 @@ pub(crate) struct ItemAt {
     pub item: Block,
 }
 
-/// What is asked for of an item, and what was read of it.
+/// The number of units that are asked for, with the free units and the price of the item.
 #[derive(Clone, Copy)]
 struct Offer {
-    /// How many units are to be booked.
+    /// Number of units to book.
     num: u32,
-    /// How many units can be booked.
+    /// Number of units that can be booked.
     free: u64,
-    /// The price of one.
+    /// Price of one unit.
     price: u64,
 }
 
-/// Books units of an item for a customer, at the item's present price. A booking that is there
-/// takes more units; a new one takes its block from the first free list that has one, from `start`
-/// on, and refills list `start` where that had none. The place of an item is its kind and its id,
-/// by which a customer's bookings are told apart.
+/// Books units of an item for a customer, at the item's present price. An existing booking gets
+/// more units; a new booking takes its block from the first free list that has one, beginning with
+/// list `start`. If list `start` is exhausted, it is refilled. The place of an item is its kind
+/// and its id, by which a customer's bookings are told apart.
 pub fn reserve<M: TxMem>(
     memory: &mut M,
     customer: u32,
@@ -106,8 +106,8 @@ pub fn reserve_at<M: TxMem>(
     }
 }
 
-/// Books more units of an item that has them, at its price, for a customer who has a booking of
-/// it.
+/// Books more units of an item that has enough free ones, at its price, for a customer with a
+/// booking of the item.
 fn extend_booking<M: TxMem>(
     memory: &mut M,
     who: CustomerAt,
@@ -129,8 +129,8 @@ fn extend_booking<M: TxMem>(
     Ok(Reply::Done)
 }
 
-/// Books units of an item that has them, at its price, for a customer who has no booking of it,
-/// at the booking's spot in the customer's list.
+/// Books units of an item that has enough free ones, at its price, for a customer without a
+/// booking of the item, at the spot of the booking in the customer's list.
 fn add_booking<M: TxMem>(
     memory: &mut M,
     who: CustomerAt,
@@ -163,8 +163,8 @@ fn add_booking<M: TxMem>(
     Ok(Reply::Done)
 }
 
-/// Gives all units of a booking back and removes the booking. Its block becomes the first of free
-/// list `start`.
+/// Gives back all units of a booking and removes the booking. The booking's block becomes the
+/// first of free list `start`.
 pub fn cancel<M: TxMem>(
     memory: &mut M,
     customer: u32,

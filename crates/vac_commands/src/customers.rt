@@ -17,8 +17,8 @@ use tx_memory::{TxMem, TxRead, load};
 use vac_model::{Command, Kind, Reply, Why};
 use vac_records::{CUSTOMERS, init_customer, place};
 
-/// Makes a customer without bookings, in a block of the first free list that has one, from `start`
-/// on. List `start` is refilled where it had none.
+/// Makes a customer without bookings, in a block of the first free list that has one, beginning
+/// with list `start`. If list `start` is exhausted, it is refilled.
 pub fn new_customer<M: TxMem>(memory: &mut M, id: u32, start: FreeList) -> Result<Reply, M::Stop>
     requires { CanRun (M.view memory.old) (Command.NewCustomer id) }
     ensures origin { M.origin memory.new ≡ M.origin memory.old }
@@ -37,7 +37,8 @@ pub fn new_customer<M: TxMem>(memory: &mut M, id: u32, start: FreeList) -> Resul
     }
 }
 
-/// Makes a customer who is missing, and returns the block. `None` says that no block is free.
+/// Makes a customer who is missing, and returns the customer's block. Returns `None` if no block
+/// is free.
 pub fn add_customer<M: TxMem>(
     memory: &mut M,
     id: u32,
@@ -61,7 +62,8 @@ pub fn add_customer<M: TxMem>(
     Ok(Some(block))
 }
 
-/// The sum of the prices at which the customer's units were booked, if the customer is there.
+/// Returns the sum of the prices at which the customer's units were booked, or `None` if the
+/// customer is missing.
 pub fn bill<M: TxRead>(memory: &mut M, id: u32) -> Result<Option<u64>, M::Stop>
     requires { HoldsState (M.view memory.old) }
     ensures origin { M.origin memory.new ≡ M.origin memory.old }
@@ -78,7 +80,7 @@ pub fn bill<M: TxRead>(memory: &mut M, id: u32) -> Result<Option<u64>, M::Stop>
     }
 }
 
-/// The bill of a customer who is there, at the customer's block.
+/// Returns the bill of the customer in this block.
 pub fn bill_at<M: TxRead>(memory: &mut M, id: u32, customer: Block) -> Result<u64, M::Stop>
     requires state { HoldsState (M.view memory.old) }
     requires customer { CustomerIsAt (M.view memory.old) id customer }
@@ -92,8 +94,8 @@ pub fn bill_at<M: TxRead>(memory: &mut M, id: u32, customer: Block) -> Result<u6
     Ok(bill)
 }
 
-/// Gives back all that the customer has booked, and removes the customer. The blocks become the
-/// first of free list `start`.
+/// Gives back all units that the customer has booked, and removes the customer. The blocks of the
+/// bookings and of the customer become the first of free list `start`.
 pub fn drop_customer<M: TxMem>(memory: &mut M, id: u32, start: FreeList) -> Result<Reply, M::Stop>
     requires { CanRun (M.view memory.old) (Command.DropCustomer id) }
     ensures origin { M.origin memory.new ≡ M.origin memory.old }
@@ -130,8 +132,8 @@ pub fn drop_customer_at<M: TxMem>(
     Ok(())
 }
 
-/// Cancels the customer's first booking until there is none. A customer has no more bookings than
-/// there are blocks.
+/// Cancels the customer's first booking until none is left. Bounded loop: the prover needs a
+/// measure; a customer has no more bookings than a heap has blocks.
 fn give_bookings_back<M: TxMem>(
     memory: &mut M,
     who: CustomerAt,
@@ -152,8 +154,8 @@ fn give_bookings_back<M: TxMem>(
     Ok(())
 }
 
-/// Cancels the customer's first booking, by its block. The list is not walked: its head leads to
-/// it.
+/// Cancels the customer's first booking, by its block. The list is not walked, because its head
+/// leads to the booking.
 fn cancel_first<M: TxMem>(
     memory: &mut M,
     id: u32,
@@ -190,7 +192,7 @@ fn cancel_first<M: TxMem>(
     }
 }
 
-/// The item that is booked.
+/// Returns the kind and the id of the item of a booking.
 fn place_at<M: TxRead>(memory: &mut M, booking: Block) -> Result<(Kind, u32), M::Stop>
     requires booking { HasBooking (M.view memory.old) booking }
     requires room { booking + 8 ≤ (M.view memory.old).size }
@@ -203,8 +205,8 @@ fn place_at<M: TxRead>(memory: &mut M, booking: Block) -> Result<(Kind, u32), M:
     Ok((Kind::from_number(number), id as u32))
 }
 
-/// Takes a customer without bookings out of the table. The block becomes the first of free list
-/// `start`.
+/// Removes a customer without bookings from the table. The customer's block becomes the first of
+/// free list `start`.
 fn remove_customer<M: TxMem>(memory: &mut M, id: u32, start: FreeList) -> Result<(), M::Stop>
     requires state { HoldsState (M.view memory.old) }
     requires bare { HasNoBookings (M.view memory.old) id }

@@ -9,7 +9,8 @@ use tx_memory::TxRead;
 use vac_model::Kind;
 use vac_records::{CUSTOMERS, root_of};
 
-/// The block of an item, if the item is there.
+/// Returns the block of an item, if the item exists.
+#[inline(always)]
 pub fn find_item<M: TxRead>(memory: &mut M, kind: Kind, id: u32) -> Result<Option<Block>, M::Stop>
     requires { HoldsState (M.view memory.old) }
     ensures origin { M.origin memory.new ≡ M.origin memory.old }
@@ -23,7 +24,7 @@ pub fn find_item<M: TxRead>(memory: &mut M, kind: Kind, id: u32) -> Result<Optio
     Ok(found)
 }
 
-/// The block of a customer, if the customer is there.
+/// Returns the block of a customer, if the customer exists.
 pub fn find_customer<M: TxRead>(memory: &mut M, id: u32) -> Result<Option<Block>, M::Stop>
     requires { HoldsState (M.view memory.old) }
     ensures origin { M.origin memory.new ≡ M.origin memory.old }

@@ -18,7 +18,7 @@ use vac_records::{
     add_total, free_at, init_item, price_at, root_of, set_price, sub_total, total_at, used_at,
 };
 
-/// How many units of an item can be booked, if the item is there.
+/// Returns the number of units of an item that can be booked, or `None` if the item is missing.
 pub fn free<M: TxRead>(memory: &mut M, kind: Kind, id: u32) -> Result<Option<u64>, M::Stop>
     requires { HoldsState (M.view memory.old) }
     ensures origin { M.origin memory.new ≡ M.origin memory.old }
@@ -35,7 +35,7 @@ pub fn free<M: TxRead>(memory: &mut M, kind: Kind, id: u32) -> Result<Option<u64
     }
 }
 
-/// The price of an item, if the item is there.
+/// Returns the price of an item, or `None` if the item is missing.
 pub fn price<M: TxRead>(memory: &mut M, kind: Kind, id: u32) -> Result<Option<u64>, M::Stop>
     requires { HoldsState (M.view memory.old) }
     ensures origin { M.origin memory.new ≡ M.origin memory.old }
@@ -52,8 +52,8 @@ pub fn price<M: TxRead>(memory: &mut M, kind: Kind, id: u32) -> Result<Option<u6
     }
 }
 
-/// Makes an item that is missing, in a block of the first free list that has one, from `start` on.
-/// List `start` is refilled where it had none.
+/// Makes an item that is missing, in a block of the first free list that has one, beginning with
+/// list `start`. If list `start` is exhausted, it is refilled.
 fn add_new<M: TxMem>(
     memory: &mut M,
     kind: Kind,
@@ -84,7 +84,7 @@ fn add_new<M: TxMem>(
     Ok(Reply::Done)
 }
 
-/// Adds units to an item. Where there are none to add, nothing is written.
+/// Adds units to an item. If `num` is 0, nothing is written.
 #[inline]
 fn add_units<M: TxMem>(memory: &mut M, node: Block, num: u32) -> Result<(), M::Stop>
     requires node { IsNode (M.view memory.old) node }
@@ -101,7 +101,7 @@ fn add_units<M: TxMem>(memory: &mut M, node: Block, num: u32) -> Result<(), M::S
     }
 }
 
-/// Replaces the price of an item, where one is given.
+/// Replaces the price of an item, if a price is given.
 #[inline]
 fn replace_price<M: TxMem>(memory: &mut M, node: Block, price: Option<u32>) -> Result<(), M::Stop>
     requires { IsNode (M.view memory.old) node }
@@ -117,8 +117,8 @@ fn replace_price<M: TxMem>(memory: &mut M, node: Block, price: Option<u32>) -> R
     }
 }
 
-/// Adds units to an item that is there, and replaces its price where one is given. What does not
-/// change is not written.
+/// Adds units to an existing item, and replaces its price if a price is given. Unchanged words are
+/// not written.
 fn add_more<M: TxMem>(
     memory: &mut M,
     kind: Kind,
@@ -143,8 +143,8 @@ fn add_more<M: TxMem>(
     Ok(Reply::Done)
 }
 
-/// Makes an item, or adds units to the one that is there. A new item takes its block from the
-/// first free list that has one, from `start` on, and refills list `start` where that had none.
+/// Makes an item, or adds units to an existing one. A new item takes its block from the first free
+/// list that has one, beginning with list `start`. If list `start` is exhausted, it is refilled.
 pub fn add<M: TxMem>(
     memory: &mut M,
     kind: Kind,
@@ -165,7 +165,7 @@ pub fn add<M: TxMem>(
     }
 }
 
-/// Takes an item out of its table. Its block becomes the first of free list `start`.
+/// Removes an item from its table. The item's block becomes the first of free list `start`.
 fn remove_item<M: TxMem>(
     memory: &mut M,
     kind: Kind,
@@ -184,7 +184,7 @@ fn remove_item<M: TxMem>(
     Ok(())
 }
 
-/// Takes free units away from an item. Where there are none to take, nothing is written.
+/// Takes free units away from an item. If `num` is 0, nothing is written.
 #[inline]
 fn take_units<M: TxMem>(memory: &mut M, node: Block, num: u32) -> Result<(), M::Stop>
     requires node { IsNode (M.view memory.old) node }
@@ -201,8 +201,8 @@ fn take_units<M: TxMem>(memory: &mut M, node: Block, num: u32) -> Result<(), M::
     Ok(())
 }
 
-/// Takes free units from an item; one with no unit left is removed, and its block becomes the
-/// first of free list `start`.
+/// Takes free units away from an item. An item without units left is removed, and its block
+/// becomes the first of free list `start`.
 pub fn delete<M: TxMem>(
     memory: &mut M,
     kind: Kind,
@@ -232,7 +232,8 @@ pub fn delete<M: TxMem>(
     Ok(Reply::Done)
 }
 
-/// Removes a flight of which nothing is booked. Its block becomes the first of free list `start`.
+/// Removes a flight without booked units. The flight's block becomes the first of free list
+/// `start`.
 pub fn drop_flight<M: TxMem>(memory: &mut M, id: u32, start: FreeList) -> Result<Reply, M::Stop>
     requires state { HoldsState (M.view memory.old) }
     ensures origin { M.origin memory.new ≡ M.origin memory.old }

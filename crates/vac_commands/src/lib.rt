@@ -1,9 +1,9 @@
 //! The commands of the reservation system, over any transactional memory that holds a state.
 //!
-//! A command finds the entries that it names, and then does its work at their blocks; an entry that
-//! is made or removed is looked up once more where it enters or leaves its table. Each meets the
-//! definition of the same command (`vac_model`), under every image that agrees with what was read.
-//! No call takes memory of its own.
+//! A command finds the entries that it names, and then does its work at their blocks. An entry
+//! that is made or removed is looked up once more when it enters or leaves its table. Each command
+//! meets the definition of the same command in `vac_model`, under every image that agrees with
+//! what was read. No call takes memory of its own.
 #![tactic(auto)]
 
 mod bookings;

@@ -1,4 +1,4 @@
-//! Where the words of a load come from.
+//! Sources of the words of a load.
 
 ghost use Rattle.std.specs.Prelude.{◌≡◌, ℕ};
 ghost use Rattle.rand_pcg.specs.Lcg.{Lcg, started, increment_of};
@@ -8,9 +8,9 @@ use rand_core::utils::NextWord;
 use rand_pcg::Lcg64Xsh32;
 use std::marker::Model;
 
-/// What words are drawn from.
+/// A source of random words.
 pub trait Draws {
-    /// From the first state this word is drawn, and the last one is the state after it.
+    /// The relation of a state, the word drawn in it and the next state.
     ghost leads: { Self → ℕ → Self → Type 0 };
 
     /// Draws a word.
@@ -31,7 +31,7 @@ impl Model for PcgDraws {
 }
 
 impl PcgDraws {
-    /// The words of this stream of the generator, which begins at the seed.
+    /// Creates this stream of the generator, with this seed.
     pub fn new(seed: u64, stream: u64) -> PcgDraws
         ensures { result ≡ started 64 multiplier_64 seed (increment_of 64 stream) }
     {
@@ -49,7 +49,7 @@ impl Draws for PcgDraws {
     }
 }
 
-/// Gives this word whenever one is drawn.
+/// A source that gives the same word at every draw.
 #[derive(Clone, Copy, Debug, PartialEq, Eq)]
 pub struct FixedDraws(pub u32);
 

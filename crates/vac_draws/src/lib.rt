@@ -1,7 +1,7 @@
-//! The drawn work of a load: its settings, where its words come from, and the commands and tasks
-//! that are read from them. No manager is needed to draw them.
+//! The drawn workload of a load: its settings, the sources of its words, and the commands and
+//! tasks that are read from the words. No manager is needed to draw them.
 //!
-//! The tasks are like those of the client of the program Vacation of the STAMP benchmarks (Cao
+//! The tasks are like the tasks of the client of the program Vacation of the STAMP benchmarks (Cao
 //! Minh, Chung, Kozyrakis, Olukotun, IISWC 2008).
 #![tactic(auto)]
 

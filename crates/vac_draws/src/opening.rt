@@ -1,4 +1,4 @@
-//! The commands of a load's opening, as they are drawn.
+//! The drawn commands of a load's setup phase.
 
 ghost use Rattle.std.specs.Prelude.{◌≡◌, [], ◌∷◌, true};
 ghost use Rattle.vac_model.specs.Amounts.{is_id};
@@ -11,8 +11,8 @@ use crate::settings::{LEVELS, UNITS};
 use crate::tasks::{draw_below, draw_price};
 use vac_model::{Command, Kind};
 
-/// The command that adds the item of this id and kind at the opening: the words of its units and
-/// of its price are drawn.
+/// Draws the command that adds the item of this id and kind in the setup phase: the words for its
+/// units and its price.
 pub fn draw_stock<D: Draws>(draws: &mut D, id: u32, kind: Kind) -> Command
     requires { is_id id ≡ true }
     ensures drawn { Drawn D.leads (stock id kind) draws.old (result ∷ []) draws.new }

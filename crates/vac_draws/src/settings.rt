@@ -6,31 +6,33 @@ ghost use Rattle.vac_draws.specs.Setting.{is_settings, is_system, is_work};
 use stm_words::VERSION_LIMIT;
 use vac_model::limits::{MOST_BLOCKS, MOST_PARTS, MOST_TRIES};
 
-/// The most clients of a load.
+/// Largest number of clients of a load.
 pub const MOST_CLIENTS: u32 = 64;
 
-/// The most tasks of a client in a round.
+/// Largest number of tasks of a client in a round.
 pub const MOST_TASKS: u32 = 1_000_000;
 
-/// The most items of a kind, and the most customers.
+/// Largest number of items of a kind, and of customers.
 pub const MOST_ITEMS: u32 = 65_536;
 
-/// How many blocks a load needs for each item: one for an item of each kind, one for a customer.
+/// Number of blocks that a load needs for each id: one for an item of each kind, one for a
+/// customer.
 pub const BLOCKS_OF_ITEM: u32 = 4;
 
-/// The most rounds of a load.
+/// Largest number of rounds of a load.
 pub const MOST_ROUNDS: u32 = 100;
 
-/// The number for the whole: shares are given in per cent.
+/// The whole, of which shares are given in per cent.
 pub const PERCENT: u32 = 100;
 
-/// An opening adds units in multiples of this number; a change adds or deletes this many.
+/// Unit amount: the setup phase adds multiples of this number, and a change adds or deletes this
+/// many units.
 pub const UNITS: u32 = 100;
 
-/// How many prices there are, and how many amounts of units.
+/// Number of different prices, and of different amounts of units.
 pub const LEVELS: u32 = 5;
 
-/// From one price to the next.
+/// Difference between neighbouring prices.
 pub const PRICE_STEP: u32 = 10;
 
 /// The lowest price.
@@ -39,33 +41,33 @@ pub const LOWEST_PRICE: u32 = 50;
 /// The settings of a load.
 #[derive(Clone, Copy, Debug, PartialEq, Eq)]
 pub struct Settings {
-    /// How many clients call at once, 1 to 64.
+    /// Number of clients that run at once, 1 to 64.
     pub clients: u32,
-    /// How many tasks each client asks for in a round, 1 to 1,000,000.
+    /// Tasks per client and round, 1 to 1,000,000.
     pub tasks: u32,
-    /// How many items of each kind the opening makes, and how many customers, 1 to 65,536. All of
-    /// them fit into the blocks.
+    /// Number of items of each kind, and of customers, that the setup phase makes, 1 to 65,536.
+    /// All of them must fit into the blocks.
     pub items: u32,
-    /// The most asks of a trip, and the most changes of an update, 1 to 32.
+    /// Largest number of asks of a trip, and of changes of an update, 1 to 32.
     pub asks: u32,
-    /// How many of a hundred tasks are questions, which change nothing, 0 to 100.
+    /// Per cent of tasks that are questions, which change nothing, 0 to 100.
     pub reads: u32,
-    /// How many of a hundred other tasks are trips, 0 to 100.
+    /// Per cent of the other tasks that are trips, 0 to 100.
     pub user: u32,
-    /// Where the draws begin.
+    /// Seed of the pseudo-random generator.
     pub seed: u64,
-    /// How many entries there is room for, 1 to 262,144.
+    /// Capacity of the heap in entries, 1 to 262,144.
     pub blocks: u32,
-    /// How many tries a task gets, 1 to 1,048,576.
+    /// Largest number of attempts of a task, 1 to 1,048,576.
     pub tries: u32,
-    /// The version that the clock of each round ends at, 1 to 2^62 - 1.
+    /// The version at which the clock of each round ends, 1 to 2^62 - 1.
     pub last: u64,
-    /// How many rounds there are, 1 to 100. The clock is renewed between two of them.
+    /// Number of rounds, 1 to 100. The clock is renewed between two rounds.
     pub rounds: u32,
 }
 
 impl Settings {
-    /// Whether the numbers of clients, rounds and tasks are in their ranges.
+    /// Returns whether the numbers of clients, rounds and tasks are in their ranges.
     fn is_work_in_range(&self) -> bool
         ensures { result ≡ is_work self.now }
     {
@@ -77,8 +79,8 @@ impl Settings {
             && self.rounds <= MOST_ROUNDS
     }
 
-    /// Whether the numbers by which the tasks are drawn and those of the manager are in their
-    /// ranges.
+    /// Returns whether the numbers for drawing the tasks and the numbers of the manager are in
+    /// their ranges.
     fn is_system_in_range(&self) -> bool
         ensures { result ≡ is_system self.now }
     {
@@ -97,7 +99,7 @@ impl Settings {
             && self.last < VERSION_LIMIT
     }
 
-    /// Whether a load can be run with these settings.
+    /// Returns whether a load can be run with these settings.
     pub fn is_in_range(&self) -> bool
         ensures { result ≡ is_settings self.now }
     {

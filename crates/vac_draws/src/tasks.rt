@@ -1,4 +1,4 @@
-//! The tasks of a load, as they are drawn.
+//! The drawn tasks of a load.
 
 ghost use Rattle.std.specs.Prelude.{◌≡◌, ◌<◌, ◌≤◌, ◌&&◌, Bool, true, length, IfOk};
 ghost use Rattle.std.specs.List.{list_all};
@@ -19,7 +19,7 @@ use std::alloc::{AllocError, Global};
 use vac_model::limits::{KINDS, MOST_PARTS};
 use vac_model::{Command, Kind, Task};
 
-/// A number below `n`.
+/// Draws a number below `n`.
 pub(crate) fn draw_below<D: Draws>(draws: &mut D, n: u32) -> u32
     requires { 0 < n }
     ensures drawn { Drawn D.leads (below n) draws.old result draws.new }
@@ -28,7 +28,7 @@ pub(crate) fn draw_below<D: Draws>(draws: &mut D, n: u32) -> u32
     draws.word() % n
 }
 
-/// A number from 1 to `n`.
+/// Draws a number from 1 to `n`.
 fn draw_up_to<D: Draws>(draws: &mut D, n: u32) -> u32
     requires { 0 < n }
     ensures drawn { Drawn D.leads (up_to n) draws.old result draws.new }
@@ -51,7 +51,7 @@ pub(crate) fn draw_price<D: Draws>(draws: &mut D) -> u32
     draw_below(draws, LEVELS) * PRICE_STEP + LOWEST_PRICE
 }
 
-/// The command that takes an item away.
+/// Returns the command that takes an item away.
 fn removal_of(kind: Kind, id: u32) -> Command
     requires { is_id id ≡ true }
     ensures removal { result ≡ removal kind id }
@@ -68,7 +68,7 @@ fn removal_of(kind: Kind, id: u32) -> Command
     }
 }
 
-/// The change of this item that a number below 2 leads to.
+/// Draws the rest of a change of this item, whose direction is given by a number below 2.
 fn draw_change_of<D: Draws>(draws: &mut D, kind: Kind, id: u32, number: u32) -> Command
     requires { is_id id ≡ true }
     ensures drawn { Drawn D.leads (change_of kind id number) draws.old result draws.new }
@@ -87,7 +87,7 @@ fn draw_change_of<D: Draws>(draws: &mut D, kind: Kind, id: u32, number: u32) -> 
     }
 }
 
-/// What tasks are drawn by: settings in their ranges. The tasks are built in this memory.
+/// Settings in their ranges, by which tasks are drawn, with the allocator for the tasks.
 #[derive(Drop)]
 struct Drawing<'a> {
     alloc: Global,
@@ -95,7 +95,7 @@ struct Drawing<'a> {
     ghost in_range: { is_settings settings.now ≡ true },
 }
 
-/// What a trip or an update is made of: so many of them are drawn, one after the other.
+/// A part of a trip or an update, of which several are drawn one after the other.
 trait Part: Default + Drop {
     ghost use Rattle.vac_draws.specs.declared.settings.Settings.{Settings};
 
@@ -103,7 +103,7 @@ trait Part: Default + Drop {
 
     ghost is_part: { Self → Bool };
 
-    /// Draws one.
+    /// Draws one part.
     fn draw<D: Draws>(drawing: &Drawing<'_>, draws: &mut D) -> Self
         ensures drawn { Drawn D.leads (read drawing.now.settings.now) draws.old result draws.new }
         ensures range { is_part result ≡ true };
@@ -136,7 +136,7 @@ impl Part for Command {
 }
 
 impl Drawing<'_> {
-    /// `count` parts, one after the other.
+    /// Draws `count` parts, one after the other.
     fn draw_parts<P: Part, D: Draws>(&self, draws: &mut D, count: u32) -> ArrayVec<P, MOST_PARTS>
         requires { count ≤ MOST_PARTS }
         ensures drawn { Drawn D.leads (times_over count (P.read self.now.settings.now))
@@ -151,7 +151,7 @@ impl Drawing<'_> {
         parts
     }
 
-    /// A trip. All its words are drawn, even where memory is refused to build it.
+    /// Draws a trip. All its words are drawn, even if memory to build the trip is refused.
     fn draw_trip<D: Draws>(&self, draws: &mut D) -> Result<Task, AllocError>
         ensures drawn { DrawnTask D.leads (drawn_trip self.now.settings.now)
             draws.old result draws.new }
@@ -173,7 +173,7 @@ impl Drawing<'_> {
         }
     }
 
-    /// An update. All its words are drawn, even where memory is refused to build it.
+    /// Draws an update. All its words are drawn, even if memory to build the update is refused.
     fn draw_update<D: Draws>(&self, draws: &mut D) -> Result<Task, AllocError>
         ensures drawn { DrawnTask D.leads (drawn_update self.now.settings.now)
             draws.old result draws.new }
@@ -184,7 +184,7 @@ impl Drawing<'_> {
         Task::update(self.alloc, changes.as_slice())
     }
 
-    /// The question that a number below 100 leads to.
+    /// Draws the rest of the question that a number below 100 selects.
     fn draw_question_at<D: Draws>(&self, draws: &mut D, number: u32) -> Task
         ensures drawn { Drawn D.leads (question_at self.now.settings.now number)
             draws.old result draws.new }
@@ -205,7 +205,7 @@ impl Drawing<'_> {
         }
     }
 
-    /// A question.
+    /// Draws a question.
     fn draw_question<D: Draws>(&self, draws: &mut D) -> Task
         ensures drawn { Drawn D.leads (question self.now.settings.now) draws.old result draws.new }
         ensures range { is_task result ≡ true }
@@ -214,8 +214,8 @@ impl Drawing<'_> {
         self.draw_question_at(draws, number)
     }
 
-    /// A task that is no question. All its words are drawn, even where memory is refused to build
-    /// it.
+    /// Draws a task that is no question. All its words are drawn, even if memory to build the task
+    /// is refused.
     fn draw_work<D: Draws>(&self, draws: &mut D) -> Result<Task, AllocError>
         ensures drawn { DrawnTask D.leads (work self.now.settings.now) draws.old result draws.new }
         ensures range { IfOk result (λ task. is_task task ≡ true) }
@@ -231,7 +231,7 @@ impl Drawing<'_> {
     }
 }
 
-/// A task. All its words are drawn, even where memory is refused to build it.
+/// Draws a task. All its words are drawn, even if memory to build the task is refused.
 pub fn draw_task<D: Draws>(
     alloc: Global,
     draws: &mut D,
@@ -253,9 +253,9 @@ pub fn draw_task<D: Draws>(
     }
 }
 
-/// The tasks of a client, each made of the words that are drawn for it, as many as the settings
-/// say. Where memory is refused to build one, its words are drawn all the same, so that the tasks
-/// after it stay the same.
+/// An iterator over the tasks of a client, as many as the settings say, each built from the words
+/// that are drawn for it. If memory to build a task is refused, its words are drawn all the same,
+/// so that the tasks after it stay the same.
 #[derive(Drop)]
 pub struct Tasks<'a, D> {
     alloc: Global,
@@ -264,7 +264,7 @@ pub struct Tasks<'a, D> {
     left: u32,
 }
 
-/// The tasks that these draws make, with settings in their ranges.
+/// Returns an iterator over the tasks of these draws, with settings in their ranges.
 pub fn tasks_of<'a, D: Draws>(alloc: Global, draws: &'a mut D, settings: &Settings) -> Tasks<'a, D>
     requires { is_settings settings.now ≡ true }
     ensures same { result.draws ≡ draws.entry }
@@ -300,8 +300,8 @@ impl<'a, D: Draws> Iterator for Tasks<'a, D> {
     }
 }
 
-/// The tasks of an iterator that was taken to its end are those that the words it drew make, as
-/// far as they were built.
+/// States that an iterator over tasks that is run to its end gives the tasks of the words that it
+/// draws, as far as they are built.
 pub fn turns_make_tasks<D: Draws>()
     ensures { TurnsMakeTasks D.leads }
 {}

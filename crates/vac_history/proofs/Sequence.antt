@@ -10,7 +10,7 @@ use Rattle.stm_core.proofs.Lists.{nothing_in}
 use Rattle.stm_core.proofs.Orders.{in_cons}
 use Rattle.vac_manager.specs.declared.note.Note.{Note}
 use Rattle.vac_judge.specs.Call.{Call}
-use Rattle.vac_judge.specs.Laws.{IsCallAt, CallsTakeTime as TheyTakeTime, CallsAreSequential}
+use Rattle.judge_object.specs.Linear.{IsCallAt, CallsTakeTime as TheyTakeTime, CallsAreSequential}
 use Rattle.vac_history.specs.Turns.{NotesTakeTime, AreInTurn, EachInTurn}
 use Rattle.vac_history.specs.Order.{Entry, entries_of, entries_from, list_at, TakesFirst, Interleaves}
 use Rattle.vac_history.specs.History.{call_of_entry}

@@ -1,4 +1,4 @@
--- The history that is written of the calls that were kept.
+-- The history that is written of the recorded calls.
 use Rattle.std.specs.Prelude.{ℕ, Bool, ◌&&◌, List, ◌∷◌, map, Option}
 use Rattle.std.specs.List.{list_all}
 use Rattle.std.specs.Io.KnownBytes.{Appends}
@@ -10,39 +10,39 @@ use Rattle.vac_history.specs.declared.journal.Journal.{Journal}
 use Rattle.vac_history.specs.Order.{Entry, IsMerged}
 use Rattle.vac_history.specs.Numbers.{EachHasLines}
 
--- the calls that a client kept
+-- the calls that a client's journal has recorded
 abbrev pub notes_of : {C : Type 0} → Journal C → List Note
 notes_of journal = journal.notes.items
 
--- those of the opening, which is client 0, and of the clients from 1 on
+-- the recorded calls of the setup phase, which is client 0, and of the clients numbered from 1
 abbrev pub kept_by : {C : Type 0} → Journal C → List (Journal C) → List (List Note)
 kept_by opening clients = notes_of opening ∷ map notes_of clients
 
--- room was refused to no call of the opening, and to none of a client
--- Not said: that memory was refused where there was no room; that a load hands a journal back with
--- what it knows of its room.
+-- the journals of the setup phase and of all clients had room for each call
+-- Not said: that memory was refused if there was no room; that a load returns a journal with this
+-- knowledge unchanged.
 abbrev pub are_whole : {C : Type 0} → Journal C → List (Journal C) → Bool
 are_whole opening clients = opening.is_whole && list_all (λ j. j.is_whole) clients
 
--- the call of a history that was kept so
+-- the call of a history for a recorded entry
 abbrev pub call_of_entry : Entry → Call
 call_of_entry e = answered_call e.client e.note.begin e.note.end e.note.task e.note.reply
 
--- the lines of calls
+-- the lines of the calls
 abbrev pub calls_text : List Entry → List ℕ
 calls_text all = history_text (map call_of_entry all)
 
--- the calls that the clients kept were written, a line each, in one order, and nothing else; where
--- their tasks have lines that can be read, the text is read as these calls, and judged as such
--- Not said: in how many writes.
+-- the recorded calls of all clients were written in one order, one line each, and nothing else; if
+-- their tasks have lines that can be read, the text is read as these calls and judged as such
+-- Not said: the number of writes.
 pub record WroteHistory (kept : List (List Note)) (held holds : Option (List ℕ)) : Type 0 where
   pub all : List Entry
   pub merged : IsMerged kept all
   pub written : Appends held holds (calls_text all)
   pub read : EachHasLines kept → IsTheirHistory (map call_of_entry all)
 
--- a prefix of such a text was written
--- Not said: that it ends otherwise only where memory is refused or a write fails.
+-- a prefix of the text of such a history was written
+-- Not said: that writing stops early only if memory is refused or a write fails.
 pub record WroteHistoryPrefix (kept : List (List Note)) (held holds : Option (List ℕ))
     : Type 0 where
   pub all : List Entry

@@ -1,4 +1,4 @@
--- When the calls of a history are legal in the order in which they are written.
+-- Conditions under which the calls of a history are legal in the order in which they are written.
 use Rattle.std.specs.Prelude.{◌≡◌, ◌↔◌, ℕ, true, List, [], ◌∷◌, ◌++◌, map}
 use Rattle.stm_core.specs.Client.{Record}
 use Rattle.stm_core.specs.Invariant.{Sorted}
@@ -7,7 +7,8 @@ use Rattle.vac_manager.specs.Legal.{IsLegal, AreVersioned}
 use Rattle.vac_manager.specs.declared.note.Note.{Note}
 use Rattle.vac_manager.specs.Keeping.{IsNoted}
 use Rattle.vac_judge.specs.Call.{Call}
-use Rattle.vac_judge.specs.Laws.{GiveReplies, CallsTakeTime, CallsAreSequential, CallsKeepPrecedence}
+use Rattle.judge_object.specs.Linear.{CallsTakeTime, CallsAreSequential, CallsKeepPrecedence}
+use Rattle.vac_judge.specs.Laws.{GiveReplies}
 use Rattle.vac_judge.specs.Laws.{IsLinearization, state_after}
 use Rattle.vac_judge.specs.Verdict.{verdict_on, is_legal}
 use Rattle.vac_judge.specs.CallText.{history_text, IsTheirHistory}
@@ -15,15 +16,17 @@ use Rattle.vac_history.specs.Turns.{EachInTurn}
 use Rattle.vac_history.specs.Order.{Entry, AreOrdered, IsMerged}
 use Rattle.vac_history.specs.History.{call_of_entry}
 
--- each call is that of one of the records, and each record has one call, in any order
+-- the calls and the records correspond one to one, in any order, and each call is noted by its
+-- record
 abbrev pub AreCallsOf : List Note → List Record → Type 0
 AreCallsOf [] records = records ≡ []
 AreCallsOf (n ∷ notes) records =
     (first : List Record) × (r : Record) × (more : List Record) × (records ≡ first ++ r ∷ more)
     × IsNoted n r × AreCallsOf notes (first ++ more)
 
--- the calls are those of a history of records, one for each: it is legal for a system of n blocks
--- and leaves this state, is in order, and has one writer a version and readers that wrote nothing
+-- the calls are those of a history of records, one call for each record: the history is legal for
+-- a system of n blocks with this final state, is sorted, and has one writer a version and readers
+-- that wrote nothing
 pub record AreRecorded (n : ℕ) (all : List Entry) (last : State) : Type 0 where
   pub history : List Record
   pub legal : IsLegal (empty_state n) history last
@@ -31,35 +34,36 @@ pub record AreRecorded (n : ℕ) (all : List Entry) (last : State) : Type 0 wher
   pub versioned : AreVersioned history
   pub calls : AreCallsOf (map (λ e. e.note) all) history
 
--- the calls are legal in this order for a system of n blocks, as far as that does not rest on what
--- the times of two clients say of each other: run one after the other they give their replies and
--- leave this state; no call ends before it begins; and each client's calls do not overlap and are
--- in their order
+-- the calls are legal in this order for a system of n blocks, apart from the real-time order
+-- between two clients: run one after the other they give their replies and leave this state; no
+-- call ends before it begins; and the calls of each client do not overlap and are in their order
 pub record AreLegal (n : ℕ) (calls : List Call) (last : State) : Type 0 where
   pub replies : GiveReplies (empty_state n) calls
   pub leaves : state_after (empty_state n) calls ≡ last
   pub times : CallsTakeTime calls
   pub clients : CallsAreSequential calls
 
--- calls that are written in the order of their records, each client's in turn, are legal in it
+-- calls that are written in the order of their records, those of each client in turn, are legal in
+-- this order
 abbrev pub OrderedCallsAreLegal : Type 0
 OrderedCallsAreLegal = (n : ℕ) (kept : List (List Note)) (all : List Entry) (last : State) →
     AreRecorded n all last → IsMerged kept all → EachInTurn kept →
     AreOrdered (map (λ e. e.note) all) → AreLegal n (map call_of_entry all) last
 
--- such an order is a linearization exactly where no call that had ended before another began comes
--- after it
--- Not said: that it is so: what two clients read of the clock says nothing of which read it first.
+-- calls that are legal in their order form a linearization if and only if no call that ended
+-- before another began comes after that other call
+-- Not said: that the order keeps real time. The clock readings of two clients do not show which of
+-- them read first.
 abbrev pub LegalUpToPrecedence : Type 0
 LegalUpToPrecedence = (n : ℕ) (calls : List Call) (last : State) → AreLegal n calls last →
     IsLinearization n calls ↔ CallsKeepPrecedence calls
 
--- the text of calls is legal for the judge of a system of n blocks exactly where no call that had
--- ended before another began comes after it
+-- the text of the calls is legal for the judge of a system of n blocks if and only if no call that
+-- ended before another began comes after that other call
 abbrev pub JudgedByPrecedence : ℕ → List ℕ → List Call → Type 0
 JudgedByPrecedence n text calls = (is_legal (verdict_on n text) ≡ true) ↔ CallsKeepPrecedence calls
 
--- the text of calls that are legal so, where it is read as them, is judged by precedence
+-- the text of legal calls, if it is read as these calls, is judged by real-time precedence alone
 abbrev pub TextsAreLegalUpToPrecedence : Type 0
 TextsAreLegalUpToPrecedence = (n : ℕ) (calls : List Call) (last : State) →
     IsTheirHistory calls → AreLegal n calls last →

@@ -1,4 +1,4 @@
--- The numbers of kept calls, and the lines of their tasks.
+-- The numbers of recorded calls, and the lines of their tasks.
 use Rattle.std.specs.Prelude.{◌≡◌, ◌≤◌, ◌<◌, ◌^◌, ℕ, true, List, length}
 use Rattle.std.specs.List.{All}
 use Rattle.std.specs.Prelude.{slice_index_or}
@@ -17,11 +17,11 @@ use Rattle.vac_history.specs.Order.{list_at}
 abbrev pub EndInTime : List Note → Type 0
 EndInTime notes = All (λ n. n.end < 2 ^ 64) notes
 
--- the numbers of each reply are those of its type
+-- the numbers of each reply are in the ranges of its type
 abbrev pub HaveReplies : List Note → Type 0
 HaveReplies notes = All (λ n. IsReply n.reply) notes
 
--- that they are has one proof at most
+-- the statement that a reply is in its ranges has at most one proof
 IsReply-prop : (r : Reply) → IsProp (IsReply r)
 IsReply-prop reply.Done = hlevel props
 IsReply-prop (reply.Number n) = hlevel props
@@ -30,16 +30,16 @@ IsReply-prop (reply.No why) = hlevel props
 IsReply-prop (reply.Trip t) = hlevel props
 IsReply-prop (reply.Update u) = hlevel props
 
--- so has this
+-- the statement that all replies are in their ranges has at most one proof
 pub HaveReplies-prop : (notes : List Note) → IsProp (HaveReplies notes)
 HaveReplies-prop notes =
     Π_prop (λ k. Π_prop (λ n. Π_prop (λ _. IsReply-prop (slice_index_or notes k n).reply)))
 
--- the task of the call can be asked for, and its line is no longer than a line may be
+-- the task of the call can be issued, and its line is no longer than a line may be
 pub record HasLine (n : Note) : Type 0 where
   pub task : is_task n.task ≡ true
   pub line : length (task_text n.task) ≤ LINE_BYTES
 
--- so it is for each call of each client
+-- each call of each client has a line
 abbrev pub EachHasLines : List (List Note) → Type 0
 EachHasLines kept = (place : ℕ) → All HasLine (list_at kept place)

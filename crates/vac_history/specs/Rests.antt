@@ -1,4 +1,4 @@
--- What is left of the clients' calls, as lists, and which is to be written next.
+-- The remaining calls of the clients, as lists, and the call that is written next.
 use Rattle.std.specs.Prelude.{◌≡◌, ◌<◌, ℕ, false, Option, Some, None, List, [], ◌∷◌, map}
 use Rattle.std.specs.Borrow.{Bor}
 use Rattle.vac_manager.specs.declared.note.Note.{Note}
@@ -6,26 +6,28 @@ use Rattle.vac_history.specs.declared.merging.Rest.{Rest}
 use Rattle.vac_history.specs.declared.merging.Picked.{Picked}
 use Rattle.vac_history.specs.Order.{Entry, entries_of, list_at, precedes}
 
--- what is left of each client's calls
+-- the remaining calls of each client
 abbrev pub left_of : List Rest → List (List Entry)
 left_of rests = map (λ r. entries_of r.client r.notes.now) rests
 
--- a call that was picked
+-- the entry of a call that was picked
 abbrev pub picked_entry : Picked → Entry
 picked_entry picked = record { client = picked.client; note = picked.note.now }
 
--- the list at this place begins with this call
+-- the list at this position begins with this call
 abbrev pub BeginsWith : List (List Entry) → ℕ → Note → Type 0
 BeginsWith lists place n =
     (first : Entry) × (more : List Entry) × (list_at lists place ≡ first ∷ more)
     × (first.note ≡ n)
 
--- none of the first lists begins with a call that precedes this one
+-- none of the first `many` lists begins with a call that precedes this one
 abbrev pub IsLeast : List (List Entry) → ℕ → Note → Type 0
 IsLeast lists many n =
     (place : ℕ) (m : Note) → place < many → BeginsWith lists place m → precedes m n ≡ false
 
--- the first lists are empty, or one of them, and no other before it, begins with this call
+-- the first `many` lists are empty if the option is None; otherwise the list at the given position
+-- begins with the given call, and none of the first `many` lists begins with a call that precedes
+-- it
 abbrev pub IsBest : List (List Entry) → ℕ → Option (ℕ × Bor Note) → Type 0
 IsBest lists many None = (place : ℕ) → place < many → list_at lists place ≡ []
 IsBest lists many (Some best) =

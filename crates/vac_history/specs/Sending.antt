@@ -1,4 +1,4 @@
--- Lines of calls that are gathered before they are written.
+-- Lines of calls that are collected before they are written.
 use Rattle.std.specs.Prelude.{ℕ, List, [], ◌++◌, Option, codes, decimal}
 use Rattle.vac_lines.specs.TaskText.{task_text}
 use Rattle.vac_lines.specs.Text.{reply_text}
@@ -9,16 +9,16 @@ use Rattle.vac_history.specs.Order.{Entry}
 use Rattle.vac_history.specs.Picking.{PicksAll, Merges}
 use Rattle.vac_history.specs.History.{calls_text}
 
--- a number, and a space after it
+-- a number, followed by a space
 abbrev pub number_and_space : ℕ → List ℕ
 number_and_space n = decimal n ++ codes " "
 
--- the client and the times of a call, and a space after each
+-- the client and the times of a call, each followed by a space
 abbrev pub stamps_text : Entry → List ℕ
 stamps_text e =
     number_and_space e.client ++ number_and_space e.note.begin ++ number_and_space e.note.end
 
--- its task and its reply
+-- the task and the reply of a call
 abbrev pub task_and_reply_text : Note → List ℕ
 task_and_reply_text n = task_text n.task ++ codes " -> " ++ reply_text n.reply
 

@@ -1,4 +1,4 @@
--- What a journal keeps of a call, and its stamps.
+-- The recorded calls of a journal and their stamps.
 use Rattle.std.specs.Prelude.{◌≡◌, ℕ, Option, List, [], ◌∷◌, ◌++◌}
 use Rattle.std.specs.Global.{Box}
 use Rattle.vac_model.specs.declared.tasks.Task.{Task}
@@ -8,7 +8,8 @@ use Rattle.vac_manager.specs.declared.note.AttemptNote.{AttemptNote}
 use Rattle.vac_history.specs.declared.journal.Journal.{Journal}
 use Rattle.vac_history.specs.Stamps.{IsStamp}
 
--- one call more is kept: it began at the last stamp, and ended at the one that was then read
+-- one more call is recorded, which began at the last stamp and ended at the next stamp that was
+-- read
 pub record HasStamped {W : Type 0} (shows : W → ℕ → W → Type 0) (before after : Journal W)
     : Type 0 where
   pub note : Note
@@ -17,7 +18,8 @@ pub record HasStamped {W : Type 0} (shows : W → ℕ → W → Type 0) (before 
   pub end : note.end ≡ after.latest
   pub read : IsStamp shows before.watch after.watch before.latest after.latest
 
--- a call of this task, which was answered so, is kept after the others, and with it this attempt
+-- a call with this task, reply and commit position is recorded after the others, together with
+-- this attempt
 pub record KeepsWith (t : Task) (p : Placed) (attempt : Option (Box AttemptNote))
     (before after : List Note) : Type 0 where
   pub note : Note

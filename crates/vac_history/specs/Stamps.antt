@@ -1,8 +1,7 @@
--- What is read of a watch.
+-- Readings of a clock.
 use Rattle.std.specs.Prelude.{◌≡◌, ℕ, max}
 
--- the watch was read once, and this is the stamp of what it showed, which is not before the last
--- one
+-- the clock was read once, and the stamp is the reading or the last stamp, whichever is later
 pub record IsStamp {W : Type 0} (shows : W → ℕ → W → Type 0) (before after : W) (last stamp : ℕ)
     : Type 0 where
   pub reading : ℕ

@@ -8,10 +8,11 @@ use Rattle.vac_history.specs.Order.{list_at}
 abbrev pub NotesTakeTime : List Note → Type 0
 NotesTakeTime notes = All (λ n. n.begin ≤ n.end) notes
 
--- each call begins when those before it are over
+-- each call begins no earlier than all calls before it ended
 abbrev pub AreInTurn : List Note → Type 0
 AreInTurn notes = AllPairs (λ earlier later. earlier.end ≤ later.begin) notes
 
--- no call of a client ends before it begins, and each begins when those before it are over
+-- for each client, no call ends before it begins, and each call begins no earlier than all calls
+-- before it ended
 abbrev pub EachInTurn : List (List Note) → Type 0
 EachInTurn kept = (place : ℕ) → NotesTakeTime (list_at kept place) × AreInTurn (list_at kept place)

@@ -80,7 +80,7 @@ fn send_line<W: Write>(
     send_chunk(output, hand)
 }
 
-/// Sends the lines of all calls that are left, in their order.
+/// Sends the lines of all remaining calls, in their order.
 fn send_all<W: Write>(
     output: &mut W,
     hand: &mut Vec<u8>,
@@ -99,21 +99,21 @@ fn send_all<W: Write>(
     Ok(())
 }
 
-/// Whether each of these journals had room for each call.
+/// Returns whether each journal had room for each call.
 fn all_whole<J: Watch>(clients: &[Journal<J>]) -> bool
     ensures { result ≡ list_all (λ j. j.is_whole) clients.now }
 {
     clients.iter().all(|journal| journal.is_whole())
 }
 
-/// Whether the opening's journal and those of the clients had room for each call.
+/// Returns whether the journals of the setup phase and of the clients had room for each call.
 pub fn are_whole<J: Watch>(opening: &Journal<J>, clients: &[Journal<J>]) -> bool
     ensures { result ≡ are_whole opening.now clients.now }
 {
     opening.is_whole() && all_whole(clients)
 }
 
-/// What is left of each client's calls before the first one is written: all of them.
+/// Returns the calls of each client, none of which is written yet.
 fn rests_of<'j, J: Watch>(
     alloc: Global,
     opening: &'j Journal<J>,
@@ -137,14 +137,15 @@ fn rests_of<'j, J: Watch>(
     Ok(rests)
 }
 
-/// Writes the history of a system from its start: the calls that were kept, the opening's as those
-/// of client 0 and the others' as those of the clients from 1 on, a line each as `vacation judge`
-/// reads it. They are ordered as their records are: by renewal, by version, the writer of a version
-/// before its readers, and readers of one version by when they began.
+/// Writes the history of a system from its start, one line for each recorded call. The lines are
+/// in the form that `vacation judge` reads. The calls of the setup phase are those of client 0,
+/// and the clients are numbered from 1. The calls are ordered as their records are: by renewal,
+/// then by version with the writer of a version before its readers, and the readers of one version
+/// by the begin of their calls.
 ///
-/// Takes memory for one chunk of text, and a few words for each client. After a fault, what was
-/// written is nothing or a prefix of such a text. Where a journal had no room for a call, that call
-/// is missing: then nothing is written, and the fault is that memory was refused.
+/// Allocates memory for one chunk of text, and a few words for each client. After a fault, the
+/// output has nothing or a prefix of such a text. If a journal had no room for a call, the call is
+/// missing. In this case nothing is written, and the fault is that memory was refused.
 pub fn write_history<J: Watch, W: Write>(
     alloc: Global,
     opening: &Journal<J>,

@@ -1,4 +1,4 @@
-//! A journal of a client's answered calls.
+//! The journal of a client's completed calls.
 
 ghost use Rattle.std.specs.Prelude.{◌≡◌, ◌≤◌, [], true};
 ghost use Rattle.std.specs.List.{All};
@@ -12,14 +12,14 @@ use vac_judge::numbers_of_a_reply;
 use vac_manager::{AttemptNote, Keep, Note, Place, Placed, Untraced};
 use vac_model::Task;
 
-/// Keeps the answered calls of a client, with readings of a watch before each of them and after it.
+/// A recorder of a client's completed calls, which reads a clock before and after each call.
 #[derive(Drop)]
 pub struct Journal<W> {
     watch: W,
     notes: Vec<Note>,
     /// The last stamp.
     latest: u64,
-    /// Whether there was room for each call that was to begin.
+    /// True if there was room for each call that was about to begin.
     is_whole: bool,
     ghost timed: { NotesTakeTime notes.items },
     ghost in_turn: { AreInTurn notes.items },
@@ -28,7 +28,7 @@ pub struct Journal<W> {
     ghost replies: { HaveReplies notes.items } by { HaveReplies-prop notes.items },
 }
 
-/// Reads the watch: a stamp that is not before the last one.
+/// Reads the clock and returns a stamp that is not before the last one.
 pub fn stamp<W: Watch>(watch: &mut W, last: u64) -> u64
     ensures read { IsStamp W.shows watch.old watch.new last result }
     ensures later { last ≤ result }
@@ -40,7 +40,7 @@ impl<W: Watch> Journal<W> {
     ghost use Rattle.std.specs.Prelude.{◌≡◌, ◌<◌, vec_len, vec_capacity};
     ghost use Rattle.vac_history.specs.Stamped.{HasStamped, KeepsWith};
 
-    /// An empty journal, whose times are those of this watch.
+    /// Returns an empty journal, whose times are read from this clock.
     pub fn new(alloc: Global, watch: W) -> Journal<W>
         ensures empty { result.notes.items ≡ [] }
         ensures watch { result.watch ≡ watch }
@@ -55,21 +55,21 @@ impl<W: Watch> Journal<W> {
         }
     }
 
-    /// Whether room was refused to no call.
+    /// Returns whether there was room for each call.
     pub fn is_whole(&self) -> bool
         ensures { result ≡ self.now.is_whole }
     {
         self.is_whole
     }
 
-    /// The calls that it keeps.
+    /// Returns the recorded calls.
     pub fn notes(&self) -> &[Note]
         ensures { result.now ≡ self.now.notes.items }
     {
         self.notes.as_slice()
     }
 
-    /// Keeps a call that was answered as `keep` does, and with it the attempt that answered it.
+    /// Records a completed call as `keep` does, together with the attempt that committed.
     pub fn keep_with(&mut self, task: Task, placed: Placed, attempt: Option<Box<AttemptNote>>)
         requires { vec_len self.old.notes < vec_capacity self.old.notes }
         ensures kept { KeepsWith task placed attempt
@@ -107,10 +107,10 @@ impl<W: Watch> Keep for Journal<W> {
 
     type Tracing = Untraced;
 
-    /// Reads the watch once. Where room is refused it is not read, and the journal is not whole
-    /// from then on.
+    /// Reserves room for a call and reads the clock once. If room is refused, the clock is not
+    /// read, and the journal is incomplete from then on.
     ///
-    /// Not said: that the call begins right after it.
+    /// Not said: that the call begins right after this reading.
     fn begin(&mut self) -> Result<(), AllocError>
         ensures same { self.new.notes.items ≡ self.old.notes.items }
         ensures room { OnOk result (vec_len self.new.notes < vec_capacity self.new.notes) }
@@ -141,8 +141,11 @@ impl<W: Watch> Keep for Journal<W> {
         let Untraced = tracer;
     }
 
-    /// Not said: that `begin` was called since the last call was kept, and that the call ended
-    /// right before it; that a call without room is not made. Its caller sees to that.
+    /// Records a completed call, which ends at the next reading of the clock.
+    ///
+    /// Not said: that `begin` was called since the last call was recorded, and that the call ended
+    /// right before this one; that a call without room is not issued. The caller guarantees all
+    /// three.
     fn keep(&mut self, task: Task, placed: Placed)
         requires { vec_len self.old.notes < vec_capacity self.old.notes }
         ensures kept { HasKept task placed None

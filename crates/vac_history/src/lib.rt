@@ -1,4 +1,4 @@
-//! The answered calls of a system's clients, kept and written as one history.
+//! The completed calls of a system's clients, recorded and written as one history.
 #![tactic(auto)]
 
 mod history;

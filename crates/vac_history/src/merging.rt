@@ -1,4 +1,4 @@
-//! What is left of each client's calls, and which of them is to be written next.
+//! The remaining calls of each client, and the call that is written next.
 
 ghost use Rattle.std.specs.Prelude.{◌≡◌, ◌+◌, length, List, IfSome, IfNone};
 ghost use Rattle.vac_history.specs.Order.{Entry, entries_of, list_at, precedes, rank_of};
@@ -7,21 +7,21 @@ ghost use Rattle.vac_history.specs.Rests.{left_of, picked_entry, IsBest};
 
 use vac_manager::{Note, Place};
 
-/// What is left of a client's calls.
+/// The remaining calls of a client.
 #[derive(Clone, Copy, Drop)]
 pub(crate) struct Rest<'j> {
     pub(crate) client: u32,
     pub(crate) notes: &'j [Note],
 }
 
-/// A call that is to be written, and the number of its client.
+/// A call that is written next, and the number of its client.
 #[derive(Clone, Copy, Drop)]
 pub(crate) struct Picked<'j> {
     pub(crate) client: u32,
     pub(crate) note: &'j Note,
 }
 
-/// The place of a record among those of its renewal: by version, the writer of a version before its
+/// Returns the rank of a record within its renewal: by version, the writer of a version before its
 /// readers.
 pub fn rank(place: Place) -> u64
     ensures { result ≡ rank_of place }
@@ -30,7 +30,7 @@ pub fn rank(place: Place) -> u64
     2 * place.version.get() + reader
 }
 
-/// Whether a call is written before another.
+/// Returns whether a call is written before another.
 fn precedes(a: &Note, b: &Note) -> bool
     ensures { result ≡ precedes a.now b.now }
 {
@@ -41,8 +41,8 @@ fn precedes(a: &Note, b: &Note) -> bool
     left < right || left == right && a.begin < b.begin
 }
 
-/// The best of the clients before this one, or this client where its first call is to be written
-/// before the best one's.
+/// Returns the client at this position if its first call precedes the best call of the clients
+/// before it, and otherwise the best of those clients.
 fn better<'j>(
     best: Option<(usize, &'j Note)>,
     place: usize,
@@ -61,8 +61,7 @@ fn better<'j>(
     }
 }
 
-/// The client whose next call is to be written, and that call. There is none where nothing is
-/// left.
+/// Returns the client whose next call is written next, and that call; None if no call remains.
 fn least<'j>(rests: &[Rest<'j>]) -> Option<(usize, &'j Note)>
     ensures { IsBest (left_of rests.now) (length rests.now) result }
 {
@@ -73,7 +72,7 @@ fn least<'j>(rests: &[Rest<'j>]) -> Option<(usize, &'j Note)>
     best
 }
 
-/// Takes the call that is to be written next. There is none where nothing is left.
+/// Removes and returns the call that is written next; None if no call remains.
 pub(crate) fn take_least<'j>(rests: &mut [Rest<'j>]) -> Option<Picked<'j>>
     ensures some { IfSome result (λ picked.
         Picks (picked_entry picked) (left_of rests.old) (left_of rests.new)) }

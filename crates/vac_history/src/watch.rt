@@ -1,20 +1,20 @@
-//! Where the times of a history come from.
+//! The source of the times of a history.
 
 ghost use Rattle.std.specs.Prelude.{ℕ};
 
 use std::time::{Clock, Instant};
 
-/// What a journal reads its times from.
+/// A clock from which a journal reads its times.
 pub trait Watch {
-    /// In the first state it shows this number, and the last one is the state after it was read.
+    /// The relation between the state before a reading, the number read, and the state after it.
     ghost shows: { Self → ℕ → Self → Type 0 };
 
-    /// Reads it: nanoseconds since a start that all journals of a history share.
+    /// Reads the clock, in nanoseconds since a start that all journals of a history share.
     fn read(&mut self) -> u64
         ensures { shows self.old result self.new };
 }
 
-/// A clock, whose time counts from a start.
+/// A clock whose time counts from a start.
 #[derive(Drop)]
 #[derive_where(Clone, Copy)]
 pub struct Since<'a, C> {
@@ -23,7 +23,7 @@ pub struct Since<'a, C> {
 }
 
 impl<'a, C: Clock> Since<'a, C> {
-    /// The clock, from this start on.
+    /// Returns the clock, counting from this start.
     pub fn new(clock: &'a C, start: Option<Instant>) -> Since<'a, C> {
         Since { clock, start }
     }
@@ -32,8 +32,10 @@ impl<'a, C: Clock> Since<'a, C> {
 impl<C: Clock> Watch for Since<'_, C> {
     ghost shows = { λ _ _ _. Unit {0} };
 
-    /// Not said: that it is the clock's time, of which no contract of a clock speaks. It is 0 where
-    /// the clock cannot be read.
+    /// Returns the nanoseconds since the start.
+    ///
+    /// Not said: that the reading is the time of the clock, because no contract speaks of a
+    /// clock's time. The reading is 0 if the clock cannot be read.
     fn read(&mut self) -> u64 {
         let Some(start) = self.start else {
             return 0;

@@ -13,7 +13,7 @@ use Rattle.vac_lines.specs.TaskText.{spaced, words_text, command_words}
 spaced_both : (ws vs : List (List ℕ)) → spaced (ws ++ vs) ≡ spaced ws ++ spaced vs
 spaced_both ws vs = flat_map-append (λ word. codes " " ++ word) ws vs
 
--- words behind those of a text
+-- words after those of a text
 pub words_more : (old a new first : List ℕ) (ws vs : List (List ℕ)) → a ≡ old ++ words_text (first ∷ ws) →
     new ≡ a ++ spaced vs → new ≡ old ++ words_text (first ∷ (ws ++ vs))
 words_more old a new first ws vs e f =
@@ -21,14 +21,14 @@ words_more old a new first ws vs e f =
     ∙ ap (λ t. old ++ t) (append_assoc first (spaced ws) (spaced vs))
     ∙ ap (λ t. old ++ (first ++ t)) (sym (spaced_both ws vs))
 
--- the same, where the last call may have failed
+-- as `words_more`, if the last call may have failed
 pub words_appended : {T E : Type 0} (r : Result T E) (old a new first : List ℕ) (ws vs : List (List ℕ)) →
     a ≡ old ++ words_text (first ∷ ws) → OnOk r (new ≡ a ++ spaced vs) →
     OnOk r (new ≡ old ++ words_text (first ∷ (ws ++ vs)))
 words_appended (Ok t) old a new first ws vs e f = words_more old a new first ws vs e f
 words_appended (Err g) old a new first ws vs e f = tt
 
--- the words of a command behind a space are those words, each behind a space
+-- the words of a command after a space are those words, each after a space
 pub command_spaced : (c : Command) → codes " " ++ words_text (command_words c) ≡ spaced (command_words c)
 command_spaced (command.Add kind id num price) = refl
 command_spaced (command.Delete kind id num) = refl
@@ -58,14 +58,14 @@ flat_more f xs i d h =
     ap (λ t. flat_map f (take i xs) ++ t) (sym (append-nil (f (get_or xs i d))))
     ∙ sym (flat_map-append f (take i xs) (get_or xs i d ∷ [])) ∙ ap (flat_map f) (sym (take_more xs i d h))
 
--- the text of one item more
+-- the text of one more item
 pub text_more : {X : Type 0} (f : X → List ℕ) (old out new : List ℕ) (xs : List X) (i : ℕ) (d : X) → i < length xs →
     out ≡ old ++ flat_map f (take i xs) → new ≡ out ++ f (get_or xs i d) → new ≡ old ++ flat_map f (take (i + 1) xs)
 text_more f old out new xs i d h e g =
     g ∙ ap (λ t. t ++ f (get_or xs i d)) e ∙ append_assoc old (flat_map f (take i xs)) (f (get_or xs i d))
     ∙ ap (λ t. old ++ t) (flat_more f xs i d h)
 
--- the words of one item more
+-- the words of one more item
 pub item_more : {X : Type 0} (words : X → List (List ℕ)) (old out new : List ℕ) (xs : List X) (i : ℕ) (d : X) →
     i < length xs → out ≡ old ++ spaced (flat_map words (take i xs)) → new ≡ out ++ spaced (words (get_or xs i d)) →
     new ≡ old ++ spaced (flat_map words (take (i + 1) xs))

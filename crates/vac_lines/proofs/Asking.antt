@@ -1,4 +1,4 @@
--- Reading the asks of a trip, two words after two.
+-- Reading the asks of a trip, two words at a time.
 use Rattle.std.proofs.Common.{◌≡◌, ℕ, ◌<◌, List, [], ◌∷◌, ◌++◌, length, refl, ap, ◌∙◌, Result, Ok, Err, Bor, arith}
 use Rattle.std.proofs.lemmas.List.{map-append}
 use Rattle.vac_model.specs.declared.items.Kind.{Kind}
@@ -19,7 +19,7 @@ next_pair rest part after kind id e f =
     ap asks_of (map-append (λ (w : Bor (List ℕ)). w.now) part after)
     ∙ ap (λ (ws : List (List ℕ)). asks_of (ws ++ texts after)) f
 
--- one ask more was read
+-- one more ask was read
 pub ask_read : (rest part after : List (Bor (List ℕ))) (kind id : List ℕ) (ask : Kind × ℕ) (front : List (Kind × ℕ))
     (all : Result (List (Kind × ℕ)) LineFault)
     → rest ≡ part ++ after → texts part ≡ kind ∷ id ∷ [] → at_place kind id ≡ Ok ask →

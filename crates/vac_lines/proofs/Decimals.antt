@@ -76,11 +76,11 @@ no_separator (d ∷ ds) e = let h = first_is_digit d ds e in grind (arith, nat_t
 pub number_no_dash : (n : ℕ) → n < 2 ^ 64 → is_dash (decimal n) ≡ false
 number_no_dash n small = no_dash (decimal n) (all_digits n small)
 
--- and no separator
+-- a number is no separator
 pub number_no_separator : (n : ℕ) → n < 2 ^ 64 → is_separator (decimal n) ≡ false
 number_no_separator n small = no_separator (decimal n) (all_digits n small)
 
--- a byte that may stand in a word of a line
+-- true for a byte that a word of a line may have
 abbrev pub is_word_byte : ℕ → Bool
 is_word_byte b = nat_lt 32 b && nat_le b 126
 
@@ -96,6 +96,6 @@ digits_in_word (d ∷ ds) e =
           (and_right (is_ascii_digit d) (list_all is_ascii_digit ds) e),
     ) refl
 
--- the bytes of a number may stand in a word
+-- a word may have the bytes of a number
 pub number_in_word : (n : ℕ) → n < 2 ^ 64 → list_all is_word_byte (decimal n) ≡ true
 number_in_word n small = digits_in_word (decimal n) (all_digits n small)

@@ -10,7 +10,7 @@ use Rattle.std.proofs.lemmas.List.{take-append-drop, take_all}
 use Rattle.std.proofs.lemmas.List.Sums.{fold-append}
 use Rattle.vac_lines.specs.Words.{decimal_value}
 
--- the number with one more digit behind it
+-- the number with one more digit at its end
 abbrev with_digit : ℕ → ℕ → ℕ
 with_digit n digit = 10 * n + (digit - 48)
 
@@ -18,7 +18,7 @@ more_digits : (n : ℕ) (digits : List ℕ) → n ≤ fold with_digit n digits
 more_digits n [] = omega arith
 more_digits n (d ∷ ds) = let more = more_digits (with_digit n d) ds in omega arith
 
--- the first digits of a number write no greater one
+-- the first digits of a number write no larger number
 pub first_digits : (i : ℕ) (digits : List ℕ) → decimal_value (take i digits) ≤ decimal_value digits
 first_digits i digits =
     let more = more_digits (decimal_value (take i digits)) (drop i digits) in
@@ -26,12 +26,12 @@ first_digits i digits =
     (subst (λ n. decimal_value (take i digits) ≤ n) (sym (fold-append with_digit 0 (take i digits) (drop i digits)))
     more)
 
--- the number of decimal digits, where it is below a bound
+-- the number that decimal digits write, if it is below a bound
 abbrev pub value_below : ℕ → List ℕ → Option ℕ
 value_below most digits = if list_all is_ascii_digit digits && nat_lt (decimal_value digits) most then Some
     (decimal_value digits) else None
 
--- one digit more reaches the bound
+-- one more digit reaches the bound
 pub value_reaches : (most : ℕ) (digits : List ℕ) (i n : ℕ) → n ≡ decimal_value (take i digits) → i < length digits
     → most ≤ 10 * n + (get_or digits i 0 - 48) → value_below most digits ≡ None
 value_reaches most digits i n e h g =

@@ -1,4 +1,4 @@
--- What was appended to a list before a call failed.
+-- The texts that were appended before a call failed.
 use Rattle.std.proofs.Common.{◌≡◌, ℕ, List, [], ◌∷◌, ◌++◌, length, take, refl, arith, ap, sym, ◌∙◌, Result, Ok, Err}
 use Rattle.std.proofs.Common.{OnOk, OnErr, append_assoc, min, drop, ◌-◌, length-drop}
 use Rattle.std.proofs.Common.{inl, inr}
@@ -18,11 +18,11 @@ front_taken (x ∷ xs) zs (w ∷ ws) h =
     let tail : take (length (xs ++ zs)) ws ≡ xs ++ zs = cc in
     cc (front_taken xs zs ws tail, head)
 
--- what extends a longer list extends its front
+-- a list that extends a longer list extends the front of that list
 pub extends_front : (xs ys zs ws : List ℕ) → ys ≡ xs ++ zs → Extends ys ws → Extends xs ws
 extends_front xs ys zs ws e h = front_taken xs zs ws (rw e at h)
 
--- a list with something at its end extends it
+-- a list extends its front
 pub extends_more : (xs ys zs : List ℕ) → ys ≡ xs ++ zs → Extends xs ys
 extends_more xs ys zs e = rw e (take_front xs zs)
 
@@ -38,7 +38,7 @@ pub two_appended : {T E : Type 0} (r : Result T E) (old a new x y z : List ℕ) 
 two_appended (Ok t) old a new x y z e f g = simp (g, f, e, append_assoc)
 two_appended (Err t) old a new x y z e f g = tt
 
--- a fact that holds where a call failed
+-- a fact that holds if a call failed
 pub on_err : {T E P : Type 0} (r : Result T E) → P → OnErr r P
 on_err (Ok t) p = tt
 on_err (Err e) p = p
@@ -51,17 +51,17 @@ take_least n k xs e =
       | inr h ↦ take_all k xs (omega arith) ∙ sym (take_all n xs (omega arith))
     ]
 
--- what is left of a list, cut at its end
+-- the rest of a list, cut at its end
 pub taken_end : (xs : List ℕ) (i : ℕ) → take (length xs - i) (drop i xs) ≡ drop i xs
 taken_end xs i = let len = length-drop i xs in take_all (length xs - i) (drop i xs) (omega arith)
 
--- what is extended is extended by more
+-- a list with more appended still extends
 pub extends_longer : (xs ys zs : List ℕ) → Extends xs ys → Extends xs (ys ++ zs)
 extends_longer xs ys zs h = extends_front xs ys (drop (length xs) ys) (ys ++ zs)
     (sym (ap (λ t. t ++ drop (length xs) ys) (sym h) ∙ take-append-drop (length xs) ys))
     (extends_more ys (ys ++ zs) zs refl)
 
--- a call that fails after a text was appended leaves what stood before that text
+-- a call that fails after a text was appended leaves everything before that text
 pub err_behind : {T E : Type 0} (r : Result T E) (old a new x : List ℕ) → a ≡ old ++ x → OnErr r (Extends a new) →
     OnErr r (Extends old new)
 err_behind (Ok t) old a new x e h = tt

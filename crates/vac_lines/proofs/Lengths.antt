@@ -1,4 +1,4 @@
--- How long the lines of tasks are.
+-- The lengths of the lines of tasks.
 use Rattle.std.proofs.Common.{◌≡◌, ◌≤◌, ◌<◌, ◌+◌, ◌*◌, ◌==◌, ◌&&◌, ◌||◌, if◌then◌else◌, Bool, true, false, Option, Some}
 use Rattle.std.proofs.Common.{None, ℕ, List, [], ◌∷◌, ◌++◌, length, decimal, refl, arith, length-append, nat_le}
 use Rattle.std.specs.List.{list_all, flat_map}
@@ -19,7 +19,7 @@ use Rattle.vac_lines.specs.TaskText.{is_short_change, is_fitting}
 use Rattle.vac_lines.proofs.TaskReading.{both, small_id, small_amount, small_units, few_parts, ask_words, has_id}
 use Rattle.vac_lines.proofs.TaskReading.{is_good_change}
 
--- the bytes of words, each behind a space
+-- the number of bytes of words, each after a space
 abbrev size : List (List ℕ) → ℕ
 size [] = 0
 size (word ∷ words) = 1 + length word + size words
@@ -63,7 +63,7 @@ units_case n false h =
 units_size : (n : ℕ) → is_unit_count n ≡ true → size (units_words n) ≤ 4
 units_size n h = units_case n (n == 1) h
 
--- an add with numbers of so many digits
+-- an add with numbers of this many digits
 add_size : (i a : ℕ) (kind : Kind) (id num : ℕ) (price : Option ℕ) → length (decimal id) ≤ i →
     length (decimal num) ≤ a → length (price_word price) ≤ a
     → size (command_words (command.Add kind id num price)) ≤ 14 + i + 2 * a
@@ -76,7 +76,7 @@ delete_size i a kind id num p q = let k = kind_size kind in omega (arith, k, p, 
 drop_size : (i a : ℕ) (id : ℕ) → length (decimal id) ≤ i → size (command_words (command.DropFlight id)) ≤ 14 + i + 2 * a
 drop_size i a id p = omega (arith, p)
 
--- the words of a command in its ranges
+-- the words of a valid command
 command_size : (c : Command) → is_command c ≡ true → size (command_words c) ≤ 41
 command_size (command.Add kind id num price) h =
     let p = both (is_id id && is_amount num) (is_optional_amount price) h in
@@ -119,7 +119,7 @@ asks_size (ask ∷ asks) h =
     let more = asks_size asks p.right in
     omega (arith, k, s, more)
 
--- a change in its ranges, and one with short numbers
+-- a valid change, and one with short numbers
 long_change : (c : Command) → is_change c ≡ true → is_command c ≡ true → size (command_words c) ≤ 38
 long_change (command.Add kind id num price) k h =
     let p = both (is_id id && is_amount num) (is_optional_amount price) h in
@@ -165,7 +165,7 @@ short_change (command.Reserve customer kind id units) h = absurd (let e : false 
 short_change (command.Cancel customer kind id) h = absurd (let e : false ≡ true = h in cc)
 short_change command.Audit h = absurd (let e : false ≡ true = h in cc)
 
--- changes, each behind a separator
+-- changes, each after a separator
 long_changes : (cs : List Command) → list_all is_good_change cs ≡ true →
     size (flat_map further_words cs) ≤ 40 * length cs
 long_changes [] h = omega arith
@@ -187,7 +187,7 @@ short_changes (c ∷ cs) h =
     let e = size_both (command_words c) (flat_map further_words cs) in
     omega (arith, s, more, e)
 
--- the first change is behind none
+-- the first change has no separator
 changes_size : (cs : List Command) → size (changes_words cs) ≤ size (flat_map further_words cs)
 changes_size [] = omega arith
 changes_size (c ∷ cs) = omega arith

@@ -1,4 +1,4 @@
--- Reading one part of a line after another.
+-- Reading the parts of a line one after another.
 use Rattle.std.proofs.Common.{◌≡◌, ℕ, ◌<◌, ◌≤◌, ◌+◌, ◌*◌, length-append, drop, get_or, Bool, true, false, cond, List}
 use Rattle.std.proofs.Common.{[], ◌∷◌, ◌++◌, length, map, refl, ap, sym, ◌∙◌, append_assoc, append-nil, Result, Ok, Err}
 use Rattle.std.proofs.Common.{Bor, arith}
@@ -11,7 +11,7 @@ use Rattle.vac_lines.specs.Lines.{texts}
 use Rattle.vac_lines.specs.Words.{is_separator}
 use Rattle.vac_lines.specs.LineTable.{◌>>=◌, read_each, cut_parts}
 
--- what was read so far, and behind it what is still to be read
+-- the values read so far, and after them those still to be read
 abbrev pub put_behind : {B : Type 0} → List B → Result (List B) LineFault → Result (List B) LineFault
 put_behind front rest = rest >>= λ ys. Ok (front ++ ys)
 
@@ -26,7 +26,7 @@ put_one : {B : Type 0} (front : List B) (y : B) (rest : Result (List B) LineFaul
 put_one front y (Ok ys) = ap Ok (sym (append_assoc front (y ∷ []) ys))
 put_one front y (Err fault) = refl
 
--- one more was read
+-- one more value was read
 pub one_read : {A B : Type 0} (read : A → Result B LineFault) (x : A) (xs : List A) (y : B) (front : List B)
     (all : Result (List B) LineFault)
     → read x ≡ Ok y → all ≡ put_behind front (read_each read (x ∷ xs)) →
@@ -42,7 +42,7 @@ pub fault_read : {A B : Type 0} (read : A → Result B LineFault) (x : A) (xs : 
 fault_read read x xs fault front all e h =
     h ∙ ap (λ r. put_behind front (r >>= λ y. read_each read xs >>= λ ys. Ok (y ∷ ys))) e
 
--- all was read
+-- all values were read
 pub all_read : {B : Type 0} (front : List B) (all : Result (List B) LineFault) → all ≡ put_behind front (Ok []) →
     all ≡ Ok front
 all_read front all h = h ∙ ap Ok (append-nil front)
@@ -52,11 +52,11 @@ texts_first : (w : Bor (List ℕ)) (parts : List (List (Bor (List ℕ)))) →
 texts_first w [] = refl
 texts_first w (p ∷ ps) = refl
 
--- how the words of an update are cut
+-- the cut of the words of an update
 abbrev pub parts : List (Bor (List ℕ)) → List (List (Bor (List ℕ)))
 parts words = slice_split (λ w. is_separator w.now) words
 
--- the parts of what words say are what the parts say
+-- the parts of the words' texts are the texts of the parts
 pub parts_of_texts : (words : List (Bor (List ℕ))) → cut_parts (texts words) ≡ map texts (parts words)
 parts_of_texts [] = refl
 parts_of_texts (w ∷ ws) =
@@ -67,7 +67,7 @@ parts_of_texts (w ∷ ws) =
       | false ↦ ap (onto_first w.now) rest ∙ texts_first w (parts ws)
     ]
 
--- the part with this number is the next that is read
+-- the part with this number is the next to be read
 pub next_part : {B : Type 0} (read : List (List ℕ) → Result B LineFault) (all : List (List (Bor (List ℕ)))) (n : ℕ)
     (part : List (Bor (List ℕ)))
     → (n < length all) × (part ≡ get_or all n part)
@@ -82,12 +82,12 @@ pub no_part_left : {B : Type 0} (read : List (List ℕ) → Result B LineFault) 
     → read_each read (map texts (drop n all)) ≡ Ok []
 no_part_left read all n h = at_drop_all (λ (ps : List (List (Bor (List ℕ)))). read_each read (map texts ps)) all n h
 
--- one more of a kind
+-- one more element with the property
 pub all_pushed : {X : Type 0} (p : X → Bool) (xs : List X) (y : X) → list_all p xs ≡ true → p y ≡ true →
     list_all p (xs ++ y ∷ []) ≡ true
 all_pushed p xs y h g = list_all-append p xs (y ∷ []) ∙ rw (h, g) refl
 
--- each part has a word, and a word stands between two parts
+-- each part has a word, and there is a word between two parts
 pub short_step : {X Y : Type 0} (read : List Y) (y : Y) (words : ℕ) (done : Bool) (rest part after : List X)
     → MatchBool done (rest ≡ part) ((x : X) × (rest ≡ part ++ x ∷ after)) → 1 ≤ length part
     → 2 * length read + (length rest + 1) ≤ words + 1 → 2 * length (read ++ y ∷ []) + cond done 0

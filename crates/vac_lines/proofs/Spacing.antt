@@ -12,7 +12,7 @@ use Rattle.vac_lines.specs.LineTable.{is_bad_byte}
 use Rattle.vac_lines.specs.TaskText.{spaced, words_text}
 use Rattle.vac_lines.proofs.Decimals.{is_word_byte}
 
--- so is each of these
+-- every element has the property
 abbrev pub Each : {X : Type 0} → (X → Type 0) → List X → Type 0
 Each P [] = Unit {0}
 Each P (x ∷ xs) = P x × Each P xs
@@ -25,7 +25,7 @@ pub each_both : {X : Type 0} (P : X → Type 0) (xs ys : List X) → Each P xs �
 each_both P [] ys p q = q
 each_both P (x ∷ xs) ys p q = (p.0, each_both P xs ys p.1 q)
 
--- a word of bytes that may stand in one
+-- a word of bytes that may occur in a word
 abbrev pub IsPlain : List ℕ → Type 0
 IsPlain word = list_all is_word_byte word ≡ true
 
@@ -81,12 +81,12 @@ spaced_clean word (next ∷ words) p q =
       spaced_clean next words q.0 q.1,
     ) refl
 
--- the words of a text of plain words are those words
+-- a text of plain words is cut into those words
 pub words_cut : (words : List (List ℕ)) → 0 < length words → Each IsPlain words → words_of (words_text words) ≡ words
 words_cut [] some h = absurd (omega arith)
 words_cut (word ∷ words) some h = words_spaced word words h.0 h.1
 
--- no byte of such a text is a bad one
+-- no byte of the text of plain words is a bad one
 pub words_clean : (words : List (List ℕ)) → Each IsPlain words → list_any is_bad_byte (words_text words) ≡ false
 words_clean [] h = refl
 words_clean (word ∷ words) h = spaced_clean word words h.0 h.1

@@ -1,4 +1,4 @@
--- How a line is cut into words while it is read.
+-- Cutting a line into words, word by word.
 use Rattle.std.proofs.Common.{◌≡◌, ◌≢◌, ℕ, Bool, false, List, [], ◌∷◌, ◌++◌, ap, sym, ◌∙◌, append_assoc, Bor, ne_eqb}
 use Rattle.std.proofs.Common.{refl, eqb}
 use Rattle.std.specs.List.{All}
@@ -14,7 +14,7 @@ is_space b = eqb b 32
 no_space : (text : List ℕ) → HasNo 32 text → All (λ b. is_space b ≡ false) text
 no_space text h = All-weaker (λ b. b ≢ 32) (λ b. is_space b ≡ false) (λ b n. ne_eqb b 32 n) text h
 
--- one word more
+-- one more word
 pub word_cut : (line behind rest : List ℕ) (words : List (Bor (List ℕ))) (w : Bor (List ℕ)) →
     words_of line ≡ texts words ++ words_of rest
     → HasNo 32 w.now → rest ≡ w.now ++ 32 ∷ behind → words_of line ≡ texts (words ++ w ∷ []) ++ words_of behind

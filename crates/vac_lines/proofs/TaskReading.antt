@@ -43,7 +43,7 @@ small_amount n h = grind (arith, nat_tests, h)
 pub small_units : (n : ℕ) → is_unit_count n ≡ true → (1 ≤ n) × (n ≤ 100)
 small_units n h = (grind (arith, nat_tests, h), grind (arith, nat_tests, h))
 
--- each place is read as what was written there
+-- each word is read as the value that was written
 kind_read : (k : Kind) → at_kind (kind_word k) ≡ Ok k
 kind_read Car = refl
 kind_read Flight = refl
@@ -100,7 +100,7 @@ units_ordinary n h = units_case n (n == 1) h
 constant : (word : List ℕ) → IsPlain word → IsSeparated word → IsOrdinary word
 constant word p q = record { plain = p; apart = q }
 
--- the words of a command in its ranges are ordinary
+-- the words of a valid command are ordinary
 pub command_ordinary : (c : Command) → is_command c ≡ true → Each IsOrdinary (command_words c)
 command_ordinary (command.Add kind id num price) h =
     let p = both (is_id id && is_amount num) (is_optional_amount price) h in
@@ -198,7 +198,7 @@ units_cases customer kind id units true e h g f =
 units_cases customer kind id units false e h g f =
     rw (id_read customer h, kind_read kind, id_read id g, units_read units f) refl
 
--- the words of a command in its ranges are read as that command
+-- the words of a valid command are read as that command
 pub command_read : (c : Command) → is_command c ≡ true → words_task (command_words c) ≡ Ok (task.One c)
 command_read (command.Add kind id num price) h =
     let p = both (is_id id && is_amount num) (is_optional_amount price) h in
@@ -243,7 +243,7 @@ change_read (command.Reserve customer kind id units) k h = absurd (let e : false
 change_read (command.Cancel customer kind id) k h = absurd (let e : false ≡ true = k in cc)
 change_read command.Audit k h = absurd (let e : false ≡ true = k in cc)
 
--- a change in its ranges
+-- true for a valid change
 abbrev pub is_good_change : Command → Bool
 is_good_change c = is_change c && is_command c
 
@@ -263,7 +263,7 @@ pub plain_words : (ws : List (List ℕ)) → Each IsOrdinary ws → Each IsPlain
 plain_words [] h = tt
 plain_words (w ∷ ws) h = (h.0.plain, plain_words ws h.1)
 
--- words, and changes behind them, are cut at the separators
+-- words, and changes after them, are cut at the separators
 parts_cut : (ws : List (List ℕ)) (cs : List Command) → Each IsSeparated ws → list_all is_good_change cs ≡ true
     → cut_parts (ws ++ flat_map further_words cs) ≡ ws ∷ map command_words cs
 parts_cut ws [] h g = ap cut_parts (append-nil ws) ∙ slice_split_none is_separator ws (each_all IsSeparated ws h)
@@ -334,7 +334,7 @@ trip_read customer asks h =
       asks_read asks p.right,
     ) refl
 
--- the words of a task in its ranges are read as that task
+-- the words of a valid task are read as that task
 pub words_read : (t : Task) → is_task t ≡ true → words_task (task_words t) ≡ Ok t
 words_read (task.One c) h = command_read c h
 words_read (task.Trip customer asks) h = trip_read customer asks h
@@ -367,7 +367,7 @@ changes_plain (c ∷ cs) h =
     let q = both (is_change c) (is_command c) p.left in
     each_both IsPlain (command_words c) (flat_map further_words cs) (command_plain c q.right) (further_plain cs p.right)
 
--- the words of a task in its ranges are plain
+-- the words of a valid task are plain
 pub words_plain : (t : Task) → is_task t ≡ true → Each IsPlain (task_words t)
 words_plain (task.One c) h = command_plain c h
 words_plain (task.Trip customer asks) h =
@@ -378,7 +378,7 @@ words_plain (task.Leave customer) h = (refl, ((id_ordinary customer h).plain, tt
 words_plain (task.Update changes) h =
     (refl, changes_plain changes (both (is_list_length (length changes)) (list_all is_good_change changes) h).right)
 
--- there are words
+-- a task has at least one word
 pub task_some : (t : Task) → 0 < length (task_words t)
 task_some (task.One c) = some_words c
 task_some (task.Trip customer asks) = omega arith

@@ -13,7 +13,7 @@ are_asked pairs some even few =
     let same = length-map pairs (λ (w : Bor (List ℕ)). w.now) in
     grind (arith, nat_tests)
 
--- what a trip's line asks for
+-- the task of a trip's line
 pub trip_asked : (words : List (Bor (List ℕ))) (customer : Bor (List ℕ)) (pairs : List (Bor (List ℕ))) →
     words ≡ customer ∷ pairs
     → (length pairs == 0) ≡ false → length pairs % 2 ≡ 0 → length pairs / 2 ≤ 32

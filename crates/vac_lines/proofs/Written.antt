@@ -5,11 +5,11 @@ use Rattle.std.specs.Io.KnownBytes.{Appends, Keeps}
 use Rattle.std.proofs.KnownBytes.{Appends-kept}
 use Rattle.vac_lines.specs.Writing.{AppendsPrefix}
 
--- a whole text that was written is a prefix of it
+-- a text that was written in whole is a prefix of itself
 pub whole : (held holds : Option (List ℕ)) (text : List ℕ) → Appends held holds text → AppendsPrefix held holds text
 whole held holds text w = (length text, subst (Appends held holds) (sym (take_all (length text) text (omega arith))) w)
 
--- the same where the output stayed as it was
+-- as `whole`, if the output stayed as it was
 pub whole_kept : (held holds now : Option (List ℕ)) (text : List ℕ) → Appends held holds text → Keeps holds now →
     AppendsPrefix held now text
 whole_kept held holds now text w k = whole held now text (Appends-kept held holds now text w k)

@@ -1,10 +1,10 @@
--- The first words of lines.
+-- The names of lines, which are their first words.
 use Rattle.std.specs.Prelude.{ℕ, Option, Some, None, List, codes, if◌then◌else◌}
 use Rattle.std.specs.Str.{bytes_eq}
 use Rattle.vac_lines.specs.declared.names.LineName.{LineName}
 use Rattle.vac_lines.specs.declared.names.LineName.TheVariants.{Add, Del, NewCustomer, DropCustomer, Free, Price, Bill, Reserve, Cancel, Audit, Trip, Leave, Update}
 
--- the line that a first word names, where it is none of the first eight
+-- the line that a first word names, if it is none of the first eight names
 abbrev pub last_name : List ℕ → Option LineName
 last_name word =
     if bytes_eq word (codes "cancel") then Some Cancel
@@ -14,7 +14,7 @@ last_name word =
     else if bytes_eq word (codes "update") then Some Update
     else None
 
--- the line that a first word names, where it is none of the first four
+-- the line that a first word names, if it is none of the first four names
 abbrev pub later_name : List ℕ → Option LineName
 later_name word =
     if bytes_eq word (codes "free") then Some Free
@@ -23,7 +23,7 @@ later_name word =
     else if bytes_eq word (codes "reserve") then Some Reserve
     else last_name word
 
--- the line that a first word names
+-- the line that a first word names, if it names one
 abbrev pub line_name : List ℕ → Option LineName
 line_name word =
     if bytes_eq word (codes "add") then Some Add

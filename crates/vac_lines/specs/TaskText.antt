@@ -1,5 +1,5 @@
--- The line that makes a task, in its plain form: numbers without leading zeros, one unit of a
--- reservation not written, no price as a dash.
+-- The plain line of a task: numbers without leading zeros, no word for one unit of a reservation,
+-- and a dash for no price.
 use Rattle.std.specs.Prelude.{◌≡◌, ◌≤◌, ◌^◌, ℕ, ◌==◌, ◌&&◌, ◌||◌, Bool, true, false, nat_le}
 use Rattle.std.specs.Prelude.{nat_lt, Option, Some, None, Ok, List, [], ◌∷◌, ◌++◌, length, codes}
 use Rattle.std.specs.Prelude.{decimal, if◌then◌else◌}
@@ -14,22 +14,22 @@ use Rattle.vac_model.specs.Ranges.{is_task}
 use Rattle.vac_lines.specs.declared.line.TheConstants.{LINE_BYTES}
 use Rattle.vac_lines.specs.LineTable.{line_task}
 
--- the word of a kind
+-- the word for a kind
 abbrev pub kind_word : Kind → List ℕ
 kind_word Car = codes "car"
 kind_word Flight = codes "flight"
 kind_word Room = codes "room"
 
--- KIND ID
+-- the words `KIND ID` of an item
 abbrev pub item_words : Kind → ℕ → List (List ℕ)
 item_words kind id = kind_word kind ∷ decimal id ∷ []
 
--- PRICE, or a dash for none
+-- the word for a price, or a dash for none
 abbrev pub price_word : Option ℕ → List ℕ
 price_word None = codes "-"
 price_word (Some price) = decimal price
 
--- UNITS, where they are not one
+-- the word for a number of units; no word for one unit
 abbrev pub units_words : ℕ → List (List ℕ)
 units_words units = if units == 1 then [] else decimal units ∷ []
 
@@ -51,11 +51,11 @@ command_words (command.Cancel customer kind id) =
     codes "cancel" ∷ decimal customer ∷ item_words kind id
 command_words command.Audit = codes "audit" ∷ []
 
--- the words of a change after another one
+-- the words of a change that follows another one, with the separator in front
 abbrev pub further_words : Command → List (List ℕ)
 further_words change = codes ";" ∷ command_words change
 
--- the words of changes, with a separator between two
+-- the words of changes, with a separator between every two
 abbrev pub changes_words : List Command → List (List ℕ)
 changes_words [] = []
 changes_words (first ∷ rest) = command_words first ++ flat_map further_words rest
@@ -68,42 +68,43 @@ task_words (task.Trip customer asks) =
 task_words (task.Leave customer) = codes "leave" ∷ decimal customer ∷ []
 task_words (task.Update changes) = codes "update" ∷ changes_words changes
 
--- words, each after a space
+-- the words, each after a space
 abbrev pub spaced : List (List ℕ) → List ℕ
 spaced words = flat_map (λ word. codes " " ++ word) words
 
--- words, with a space between two
+-- the words, with a space between every two
 abbrev pub words_text : List (List ℕ) → List ℕ
 words_text [] = []
 words_text (first ∷ rest) = first ++ spaced rest
 
--- the line that makes a task, in its plain form
+-- the plain line of a task
 abbrev pub task_text : Task → List ℕ
 task_text task = words_text (task_words task)
 
--- the line of a task in its ranges is read as that task, where it is no longer than a line may be
+-- the plain line of a valid task is read as that task, if it is no longer than a line may be
 abbrev pub TaskTextsAreRead : Type 0
 TaskTextsAreRead = (t : Task) → is_task t ≡ true → length (task_text t) ≤ LINE_BYTES
     → line_task (task_text t) ≡ Ok t
 
--- an update of this number of changes fits into a line, whatever its numbers are
+-- the largest number of changes with which every update fits into a line, whatever its numbers are
 abbrev pub FITTING_CHANGES : ℕ
 FITTING_CHANGES = 25
 
--- the most digits of the numbers of an update that fits into a line, however many changes it has
+-- the largest number of digits of the numbers with which every update fits into a line, however
+-- many changes it has
 abbrev pub FITTING_DIGITS : ℕ
 FITTING_DIGITS = 5
 
--- the number has no more digits than that
+-- true if the number has at most that many digits
 abbrev pub is_short : ℕ → Bool
 is_short n = nat_lt n (10 ^ FITTING_DIGITS)
 
--- a price that is given has no more digits than that
+-- true if the price has at most that many digits, or there is none
 abbrev pub is_short_price : Option ℕ → Bool
 is_short_price None = true
 is_short_price (Some price) = is_short price
 
--- a change whose numbers have few digits
+-- true if the command is a change whose numbers have at most that many digits
 abbrev pub is_short_change : Command → Bool
 is_short_change (command.Add kind id num price) =
     is_short id && is_short num && is_short_price price
@@ -111,14 +112,14 @@ is_short_change (command.Delete kind id num) = is_short id && is_short num
 is_short_change (command.DropFlight id) = is_short id
 is_short_change _ = false
 
--- a task whose line fits: each does, but for an update of many changes, some of whose numbers are
--- long
+-- true for a task whose plain line fits into a line. Every task is one, except an update with many
+-- changes and some long numbers
 abbrev pub is_fitting : Task → Bool
 is_fitting (task.Update changes) =
     nat_le (length changes) FITTING_CHANGES || list_all is_short_change changes
 is_fitting _ = true
 
--- the line of such a task, in its ranges, is no longer than a line may be
+-- the plain line of a valid task that is fitting is no longer than a line may be
 abbrev pub TaskTextsFit : Type 0
 TaskTextsFit = (t : Task) → is_task t ≡ true → is_fitting t ≡ true
     → length (task_text t) ≤ LINE_BYTES

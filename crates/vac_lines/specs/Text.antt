@@ -1,4 +1,5 @@
--- The texts of replies and faults, without a line end; and when a reply is the one that was given.
+-- The texts of replies and faults, without a line end, and the comparison of a given text with a
+-- reply.
 use Rattle.std.specs.Prelude.{◌≡◌, ℕ, Bool, true, Option, Some, None, List, [], ◌∷◌, ◌++◌, length, take, codes, decimal}
 use Rattle.std.specs.List.{flat_map, zip}
 use Rattle.std.specs.Str.{bytes_eq}
@@ -31,12 +32,12 @@ why_name SoldOut = codes "sold-out"
 why_name NotBooked = codes "not-booked"
 why_name UnitLimit = codes "unit-limit"
 
--- what was done, or the name of its refusal
+-- the text of a change's result: `true`, or the name of its refusal
 abbrev pub done_text : Option Why → List ℕ
 done_text None = codes "true"
 done_text (Some why) = why_name why
 
--- a number, or -1 for none
+-- the text of a number, or -1 for none
 abbrev pub number_text : Option ℕ → List ℕ
 number_text None = codes "-1"
 number_text (Some n) = decimal n
@@ -45,54 +46,54 @@ number_text (Some n) = decimal n
 abbrev pub field_text : List ℕ → ℕ → List ℕ
 field_text name n = name ++ decimal n
 
--- the entries of the tables
+-- the text of the numbers of entries in the tables of items
 abbrev pub entries_text : Report → List ℕ
 entries_text r =
     field_text (codes "cars=") r.cars ++ field_text (codes " flights=") r.flights
     ++ field_text (codes " rooms=") r.rooms
 
--- the customers and what they have booked
+-- the text of the number of customers, the number of booked units, and the number of used units
 abbrev pub booked_text : Report → List ℕ
 booked_text r =
     field_text (codes " customers=") r.customers ++ field_text (codes " bookings=") r.bookings
     ++ field_text (codes " used=") r.used
 
--- the units and the bills
+-- the text of the free units, the total units and the bills
 abbrev pub sums_text : Report → List ℕ
 sums_text r =
     field_text (codes " free=") r.free ++ field_text (codes " total=") r.total
     ++ field_text (codes " billed=") r.billed
 
--- a report
+-- the text of a report
 abbrev pub report_text : Report → List ℕ
 report_text r = entries_text r ++ booked_text r ++ sums_text r
 
--- what became of the customer of a trip
+-- the text of the outcome for the customer of a trip
 abbrev pub joined_text : Joined → List ℕ
 joined_text NotAsked = codes "-"
 joined_text Added = codes "true"
 joined_text (Refused why) = why_name why
 
--- what a trip picked of one kind, and whether it was booked
+-- the text of a trip's pick of one kind, with its result
 abbrev pub pick_text : Option Pick → List ℕ
 pick_text None = codes "-"
 pick_text (Some pick) = decimal pick.id ++ codes ":" ++ done_text pick.refused
 
--- the picks of a trip, each after the name of its kind
+-- the texts of a trip's picks, each after the name of its kind
 abbrev pub picks_text : List (Option Pick) → List ℕ
 picks_text picks =
     flat_map (λ p. p.0 ++ pick_text p.1)
     (zip (codes " car=" ∷ codes " flight=" ∷ codes " room=" ∷ []) picks)
 
--- the reply of a trip: what became of its customer, then what it picked of each kind
+-- the text of the reply to a trip: the outcome for its customer, then its picks
 abbrev pub trip_text : TripReply → List ℕ
 trip_text trip = codes "trip cust=" ++ joined_text trip.joined ++ picks_text trip.picks
 
--- what became of a change, after a space
+-- the text of a change's result, after a space
 abbrev pub change_text : Option Why → List ℕ
 change_text refused = codes " " ++ done_text refused
 
--- what became of each change of an update
+-- the text of the reply to an update: the result of each change
 abbrev pub update_text : UpdateReply → List ℕ
 update_text update = codes "update" ++ flat_map change_text (take update.len update.refused)
 
@@ -105,16 +106,16 @@ reply_text (reply.No why) = codes "false " ++ why_name why
 reply_text (reply.Trip t) = trip_text t
 reply_text (reply.Update u) = update_text u
 
--- the text that was given, where there was one
+-- the given text, if one was given
 abbrev pub given_text : Option (Vec ℕ) → Option (List ℕ)
 given_text given = option_map (λ (text : Vec ℕ). text.items) given
 
--- the text of a reply is the expected one; where there was none, any is right
+-- true if the given text is the text of the expected reply, or no text was given
 abbrev pub is_right : Option (List ℕ) → Reply → Bool
 is_right None expected = true
 is_right (Some text) expected = bytes_eq text (reply_text expected)
 
--- the name of a line's fault; that memory was refused is no fault of a line
+-- the name of a line's fault. The refusal of memory has a name too, but is no fault of a line
 abbrev pub fault_name : LineFault → List ℕ
 fault_name fault.LongLine = codes "long-line"
 fault_name fault.BadByte = codes "bad-byte"
@@ -128,6 +129,6 @@ fault_name fault.Memory = codes "memory"
 abbrev pub fault_text : LineFault → List ℕ
 fault_text fault = codes "fault " ++ fault_name fault
 
--- new is old with something appended
+-- the new text is the old one with something appended
 abbrev pub Extends : List ℕ → List ℕ → Type 0
 Extends old new = take (length old) new ≡ old

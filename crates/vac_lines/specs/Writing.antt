@@ -1,4 +1,4 @@
--- What a text that is written leaves.
+-- The output after a text was written in part.
 use Rattle.std.specs.Prelude.{ℕ, Option, List, take}
 use Rattle.std.specs.Io.KnownBytes.{Appends}
 

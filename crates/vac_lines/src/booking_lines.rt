@@ -10,7 +10,7 @@ use crate::item_lines::read_id;
 use crate::words::{booking_at, units_at};
 use vac_model::Command;
 
-/// `newcust ID`
+/// Reads `newcust ID` after its name.
 pub(crate) fn read_new_customer(words: &[&[u8]]) -> Result<Command, LineFault>
     ensures command { result ≡ new_customer_line (texts words.now) }
     ensures in_range { IfOk result (λ command. is_command command ≡ true) }
@@ -19,7 +19,7 @@ pub(crate) fn read_new_customer(words: &[&[u8]]) -> Result<Command, LineFault>
     Ok(Command::NewCustomer { id })
 }
 
-/// `dropcust ID`
+/// Reads `dropcust ID` after its name.
 pub(crate) fn read_drop_customer(words: &[&[u8]]) -> Result<Command, LineFault>
     ensures command { result ≡ drop_customer_line (texts words.now) }
     ensures in_range { IfOk result (λ command. is_command command ≡ true) }
@@ -28,7 +28,7 @@ pub(crate) fn read_drop_customer(words: &[&[u8]]) -> Result<Command, LineFault>
     Ok(Command::DropCustomer { id })
 }
 
-/// `bill ID`
+/// Reads `bill ID` after its name.
 pub(crate) fn read_bill(words: &[&[u8]]) -> Result<Command, LineFault>
     ensures command { result ≡ bill_line (texts words.now) }
     ensures in_range { IfOk result (λ command. is_command command ≡ true) }
@@ -37,7 +37,7 @@ pub(crate) fn read_bill(words: &[&[u8]]) -> Result<Command, LineFault>
     Ok(Command::Bill { id })
 }
 
-/// `reserve ID KIND ID`, of one unit, and `reserve ID KIND ID UNITS`
+/// Reads `reserve ID KIND ID`, for one unit, or `reserve ID KIND ID UNITS`, after its name.
 pub(crate) fn read_reserve(words: &[&[u8]]) -> Result<Command, LineFault>
     ensures command { result ≡ reserve_line (texts words.now) }
     ensures in_range { IfOk result (λ command. is_command command ≡ true) }
@@ -56,7 +56,7 @@ pub(crate) fn read_reserve(words: &[&[u8]]) -> Result<Command, LineFault>
     })
 }
 
-/// `cancel ID KIND ID`
+/// Reads `cancel ID KIND ID` after its name.
 pub(crate) fn read_cancel(words: &[&[u8]]) -> Result<Command, LineFault>
     ensures command { result ≡ cancel_line (texts words.now) }
     ensures in_range { IfOk result (λ command. is_command command ≡ true) }
@@ -68,7 +68,7 @@ pub(crate) fn read_cancel(words: &[&[u8]]) -> Result<Command, LineFault>
     Ok(Command::Cancel { customer, kind, id })
 }
 
-/// `audit`
+/// Reads `audit` after its name.
 pub(crate) fn read_audit(words: &[&[u8]]) -> Result<Command, LineFault>
     ensures command { result ≡ audit_line (texts words.now) }
     ensures in_range { IfOk result (λ command. is_command command ≡ true) }

@@ -9,7 +9,8 @@ use std::alloc::{AllocError, Global};
 /// The words of a line. Lines of up to eight words need no allocation.
 pub(crate) type Words<'a> = SmallVec<&'a [u8], 8>;
 
-/// What is before the first such byte, and what is after it.
+/// Splits bytes at the first occurrence of a byte, and returns the bytes before and after it.
+/// Returns `None` if the byte does not occur.
 pub fn cut_at(byte: u8, bytes: &[u8]) -> Option<(&[u8], &[u8])>
     ensures { MatchOption result (HasNo byte bytes.now)
         (λ cut. HasNo byte cut.0.now × (bytes.now ≡ cut.0.now ++ byte ∷ cut.1.now)) }
@@ -18,7 +19,7 @@ pub fn cut_at(byte: u8, bytes: &[u8]) -> Option<(&[u8], &[u8])>
     Some((&bytes[..end], &bytes[end + 1..]))
 }
 
-/// Cuts a line at every space.
+/// Splits a line at every space.
 pub(crate) fn split_words<'a>(alloc: Global, line: &'a [u8]) -> Result<Words<'a>, AllocError>
     ensures words { IfOk result (λ words. texts words.items ≡ words_of line.now) }
     ensures inline { length (words_of line.now) ≤ 8 → IsOk result }

@@ -13,7 +13,7 @@ use crate::names::is_name;
 use crate::words::{amount_at, id_at, place_at, stock_at};
 use vac_model::{Command, Kind};
 
-/// `add KIND ID NUM PRICE`
+/// Reads `add KIND ID NUM PRICE` after its name.
 pub(crate) fn read_add(words: &[&[u8]]) -> Result<Command, LineFault>
     ensures command { result ≡ add_line (texts words.now) }
     ensures in_range { IfOk result (λ command. is_command command ≡ true) }
@@ -32,7 +32,7 @@ pub(crate) fn read_add(words: &[&[u8]]) -> Result<Command, LineFault>
     })
 }
 
-/// `del flight ID`, and of cars and rooms `del KIND ID NUM`
+/// Reads `del flight ID` or, for cars and rooms, `del KIND ID NUM`, after its name.
 pub(crate) fn read_del(words: &[&[u8]]) -> Result<Command, LineFault>
     ensures command { result ≡ del_line (texts words.now) }
     ensures in_range { IfOk result (λ command. is_command command ≡ true) }
@@ -48,7 +48,7 @@ pub(crate) fn read_del(words: &[&[u8]]) -> Result<Command, LineFault>
     read_delete(kind, rest)
 }
 
-/// `del KIND ID NUM`
+/// Reads `del KIND ID NUM`, from its kind and the words after the kind.
 fn read_delete(kind: &[u8], words: &[&[u8]]) -> Result<Command, LineFault>
     requires { bytes_eq kind.now (codes "flight") ≡ false }
     ensures command { result ≡ delete_line kind.now (texts words.now) }
@@ -63,7 +63,7 @@ fn read_delete(kind: &[u8], words: &[&[u8]]) -> Result<Command, LineFault>
     Ok(Command::Delete { kind, id, num })
 }
 
-/// `free KIND ID`
+/// Reads `free KIND ID` after its name.
 pub(crate) fn read_free(words: &[&[u8]]) -> Result<Command, LineFault>
     ensures command { result ≡ free_line (texts words.now) }
     ensures in_range { IfOk result (λ command. is_command command ≡ true) }
@@ -72,7 +72,7 @@ pub(crate) fn read_free(words: &[&[u8]]) -> Result<Command, LineFault>
     Ok(Command::Free { kind, id })
 }
 
-/// `price KIND ID`
+/// Reads `price KIND ID` after its name.
 pub(crate) fn read_price(words: &[&[u8]]) -> Result<Command, LineFault>
     ensures command { result ≡ price_line (texts words.now) }
     ensures in_range { IfOk result (λ command. is_command command ≡ true) }
@@ -81,7 +81,7 @@ pub(crate) fn read_price(words: &[&[u8]]) -> Result<Command, LineFault>
     Ok(Command::Price { kind, id })
 }
 
-/// `KIND ID`, alone
+/// Reads an item from the words `KIND ID`, if nothing follows.
 fn read_place(words: &[&[u8]]) -> Result<(Kind, u32), LineFault>
     ensures place { result ≡ place_alone (texts words.now) }
     ensures in_range { IfOk result (λ place. is_id place.1 ≡ true) }
@@ -92,7 +92,7 @@ fn read_place(words: &[&[u8]]) -> Result<(Kind, u32), LineFault>
     place_at(kind, id)
 }
 
-/// `ID`, alone
+/// Reads an id from the word `ID`, if nothing follows.
 pub(crate) fn read_id(words: &[&[u8]]) -> Result<u32, LineFault>
     ensures id { result ≡ id_alone (texts words.now) }
     ensures in_range { IfOk result (λ id. is_id id ≡ true) }

@@ -1,7 +1,7 @@
-//! The script language of the reservation system: lines of bytes as tasks, and replies as text;
-//! and the words of a memory as text.
+//! The script language of the reservation system: lines of bytes as tasks, replies as text, and
+//! the words of a memory as text.
 //!
-//! What a whole script writes, and the state that it leaves, is a definition of `specs/`.
+//! The definitions in `specs/` include the output of a whole script and the state that it leaves.
 #![tactic(auto)]
 
 mod booking_lines;

@@ -1,4 +1,4 @@
-//! Reading a line: the task that it asks for, or its first fault.
+//! Reading a line: its task, or its first fault.
 
 ghost use Rattle.std.specs.Prelude.{◌≡◌, ◌≢◌, ◌≤◌, true, length, IfOk, Err};
 ghost use Rattle.std.specs.List.{list_any};
@@ -17,11 +17,11 @@ use crate::names::{LineName, line_name};
 use std::alloc::Global;
 use vac_model::Task;
 
-/// The most bytes that a line has before its end.
+/// Largest number of bytes of a line, without its end.
 pub const LINE_BYTES: usize = 1024;
 
-/// Reads a line, which is given without its line end: the task that it asks for, or its first
-/// fault in the order of [`LineFault`].
+/// Reads a line, given without its line end, and returns its task or its first fault, in the order
+/// of [`LineFault`].
 ///
 /// A line of up to eight words takes no memory.
 pub fn read_line(alloc: Global, line: &[u8]) -> Result<Task, LineFault>
@@ -39,14 +39,14 @@ pub fn read_line(alloc: Global, line: &[u8]) -> Result<Task, LineFault>
     read_words(alloc, words.as_slice())
 }
 
-/// Whether a byte of the line is below 32 or above 126.
+/// Returns whether a byte of the line is below 32 or above 126.
 pub fn has_bad_byte(line: &[u8]) -> bool
     ensures { result ≡ list_any is_bad_byte line.now }
 {
     line.iter().any(|byte| *byte < 32 || *byte > 126)
 }
 
-/// The task of the words of a line.
+/// Reads the task of the words of a line.
 fn read_words(alloc: Global, words: &[&[u8]]) -> Result<Task, LineFault>
     ensures task { result ≢ Err LineFault.Memory → result ≡ words_task (texts words.now) }
     ensures inline { length words.now ≤ 8 → result ≡ words_task (texts words.now) }
@@ -61,7 +61,7 @@ fn read_words(alloc: Global, words: &[&[u8]]) -> Result<Task, LineFault>
     }
 }
 
-/// The task of a line with this name and these words after it.
+/// Reads the task of a line with this name and these words after the name.
 fn read_named(alloc: Global, name: LineName, words: &[&[u8]]) -> Result<Task, LineFault>
     ensures task { result ≢ Err LineFault.Memory → result ≡ task_named name (texts words.now) }
     ensures inline { length words.now ≤ 8 → result ≡ task_named name (texts words.now) }
@@ -85,7 +85,7 @@ fn read_named(alloc: Global, name: LineName, words: &[&[u8]]) -> Result<Task, Li
     Ok(Task::One(command))
 }
 
-/// `leave ID`
+/// Reads `leave ID` after its name.
 fn read_leave(words: &[&[u8]]) -> Result<Task, LineFault>
     ensures task { result ≡ leave_line (texts words.now) }
     ensures in_range { IfOk result (λ task. is_task task ≡ true) }

@@ -23,7 +23,7 @@ type Asks = ArrayVec<(Kind, u32), MOST_PARTS>;
 /// The changes of an update.
 type Changes = ArrayVec<Command, MOST_PARTS>;
 
-/// `trip ID KIND ID ..`, with 1 to 32 pairs `KIND ID`
+/// Reads `trip ID KIND ID ..`, with 1 to 32 pairs `KIND ID`, after its name.
 pub(crate) fn read_trip(alloc: Global, words: &[&[u8]]) -> Result<Task, LineFault>
     ensures task { result ≢ Err LineFault.Memory → result ≡ trip_line (texts words.now) }
     ensures inline { length words.now ≤ 17 → result ≡ trip_line (texts words.now) }
@@ -40,7 +40,7 @@ pub(crate) fn read_trip(alloc: Global, words: &[&[u8]]) -> Result<Task, LineFaul
     Task::trip(alloc, customer, asks.as_slice()).map_err(|_| LineFault::Memory)
 }
 
-/// The asks that pairs of words write.
+/// Reads the asks that pairs of words write.
 fn read_asks(pairs: &[&[u8]]) -> Result<Asks, LineFault>
     requires { length pairs.now ≤ 2 * MOST_PARTS }
     ensures ok { IfOk result (λ asks. asks_of (texts pairs.now) ≡ Ok asks.items) }
@@ -56,7 +56,7 @@ fn read_asks(pairs: &[&[u8]]) -> Result<Asks, LineFault>
     Ok(asks)
 }
 
-/// `update CHANGE ; CHANGE ..`, with 1 to 32 changes
+/// Reads `update CHANGE ; CHANGE ..`, with 1 to 32 changes, after its name.
 pub(crate) fn read_update(alloc: Global, words: &[&[u8]]) -> Result<Task, LineFault>
     ensures task { result ≢ Err LineFault.Memory → result ≡ update_line (texts words.now) }
     ensures inline { length words.now ≤ 8 → result ≡ update_line (texts words.now) }
@@ -69,7 +69,7 @@ pub(crate) fn read_update(alloc: Global, words: &[&[u8]]) -> Result<Task, LineFa
     Task::update(alloc, changes.as_slice()).map_err(|_| LineFault::Memory)
 }
 
-/// The number of parts of an update.
+/// Returns the number of parts of an update.
 fn count_parts(words: &[&[u8]]) -> usize
     ensures count { result ≡ length (cut_parts (texts words.now)) }
     ensures some { 1 ≤ result }
@@ -83,7 +83,7 @@ fn count_parts(words: &[&[u8]]) -> usize
     parts
 }
 
-/// The changes that the parts of an update write.
+/// Reads the changes that the parts of an update write.
 fn read_changes(words: &[&[u8]]) -> Result<Changes, LineFault>
     requires { length (cut_parts (texts words.now)) ≤ MOST_PARTS }
     ensures ok { IfOk result (λ changes. changes_of (texts words.now) ≡ Ok changes.items) }
@@ -101,14 +101,14 @@ fn read_changes(words: &[&[u8]]) -> Result<Changes, LineFault>
     Ok(changes)
 }
 
-/// Whether a word separates two parts of an update.
+/// Returns whether a word separates two parts of an update.
 fn is_separator(word: &[u8]) -> bool
     ensures { result ≡ spec.is_separator word.now }
 {
     is_name(word, b";")
 }
 
-/// A part of an update: an `add` or a `del` line.
+/// Reads a part of an update: an `add` or a `del` line.
 fn read_change(words: &[&[u8]]) -> Result<Command, LineFault>
     ensures change { result ≡ change_line (texts words.now) }
     ensures in_range { IfOk result (λ command. is_command command ≡ true) }

@@ -1,10 +1,10 @@
-//! The first word of a line.
+//! The names of lines, which are their first words.
 
 ghost use Rattle.std.specs.Prelude.{◌≡◌};
 ghost use Rattle.std.specs.Str.{bytes_eq};
 ghost use Rattle.vac_lines.specs.Names as spec;
 
-/// Which line it is, by its first word.
+/// The name of a line, which is its first word.
 #[derive(Clone, Copy)]
 pub(crate) enum LineName {
     /// `add KIND ID NUM PRICE`
@@ -35,14 +35,14 @@ pub(crate) enum LineName {
     Update,
 }
 
-/// Whether a word is this name.
+/// Returns whether a word is this name.
 pub(crate) fn is_name(word: &[u8], name: &[u8]) -> bool
     ensures { result ≡ bytes_eq word.now name.now }
 {
     word == name
 }
 
-/// The line that a first word names.
+/// Returns the line that a first word names, if it names one.
 pub(crate) fn line_name(word: &[u8]) -> Option<LineName>
     ensures { result ≡ spec.line_name word.now }
 {
@@ -59,7 +59,7 @@ pub(crate) fn line_name(word: &[u8]) -> Option<LineName>
     }
 }
 
-/// The line that a first word names, where it is none of the first four.
+/// Returns the line that a first word names, if it is none of the first four names.
 fn later_name(word: &[u8]) -> Option<LineName>
     ensures { result ≡ spec.later_name word.now }
 {
@@ -76,7 +76,7 @@ fn later_name(word: &[u8]) -> Option<LineName>
     }
 }
 
-/// The line that a first word names, where it is none of the first eight.
+/// Returns the line that a first word names, if it is none of the first eight names.
 fn last_name(word: &[u8]) -> Option<LineName>
     ensures { result ≡ spec.last_name word.now }
 {

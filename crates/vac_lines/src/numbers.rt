@@ -6,11 +6,11 @@ ghost use Rattle.std.specs.Char.{is_ascii_digit};
 ghost use Rattle.vac_lines.specs.Words as spec;
 ghost use Rattle.vac_lines.specs.Words.{number_between, memory_word_of};
 
-/// The most digits of a word of a memory.
+/// Largest number of digits of a memory word.
 pub(crate) const MOST_WORD_DIGITS: usize = 20;
 
-/// The number that a word of 1 to `most_digits` decimal digits writes, where it is one from
-/// `least` to `most`. Zeros in front are digits too.
+/// Returns the number that a word of 1 to `most_digits` decimal digits writes, if it is from
+/// `least` to `most`. Leading zeros count as digits.
 pub(crate) fn read_number(word: &[u8], most_digits: usize, least: u64, most: u64) -> Option<u64>
     ensures number { result ≡ number_between most_digits least most word.now }
     ensures in_range { IfSome result (λ number. (least ≤ number) × (number ≤ most)) }
@@ -25,7 +25,7 @@ pub(crate) fn read_number(word: &[u8], most_digits: usize, least: u64, most: u64
     Some(number)
 }
 
-/// The number that decimal digits write, where it has 64 bits.
+/// Returns the number that decimal digits write, if it fits 64 bits.
 fn decimal_value(digits: &[u8]) -> Option<u64>
     ensures { result ≡ (if list_all is_ascii_digit digits.now
         && nat_lt (spec.decimal_value digits.now) (2 ^ 64)
@@ -43,8 +43,8 @@ fn decimal_value(digits: &[u8]) -> Option<u64>
     Some(number)
 }
 
-/// The word of a memory that a line of 1 to 20 decimal digits writes, as `dump` writes it and
-/// `check` reads it; `None` for any other line.
+/// Returns the memory word that a line of 1 to 20 decimal digits writes, as `dump` writes it and
+/// `check` reads it. Returns `None` for any other line.
 pub fn read_memory_word(line: &[u8]) -> Option<u64>
     ensures { result ≡ memory_word_of line.now }
 {

@@ -1,4 +1,4 @@
-//! The texts of replies, of faults and of the words of a memory.
+//! The texts of replies, of faults and of memory words.
 
 ghost use Rattle.std.specs.Prelude.{◌≡◌, ◌++◌, IfOk, OnOk, OnErr, decimal, codes, take};
 ghost use Rattle.std.specs.List.{flat_map};
@@ -28,7 +28,7 @@ fn append_number(out: &mut Vec<u8>, number: u64) -> Result<(), AllocError>
     append(out, buffer.format(number).as_bytes())
 }
 
-/// Appends the text of a reply, without a line end. Where memory is refused, nothing is appended.
+/// Appends the text of a reply, without a line end. If memory is refused, nothing is appended.
 pub fn print_reply(reply: &Reply, out: &mut Vec<u8>) -> Result<(), AllocError>
     ensures ok { OnOk result (out.new.items ≡ out.old.items ++ reply_text reply.now) }
     ensures err { OnErr result (out.new.items ≡ out.old.items) }
@@ -38,9 +38,9 @@ pub fn print_reply(reply: &Reply, out: &mut Vec<u8>) -> Result<(), AllocError>
     keep_whole(out, start, printed)
 }
 
-/// Whether a text is that of a reply, which is written into the buffer over what it has.
+/// Returns whether a text is that of a reply. The text of the reply overwrites the buffer.
 ///
-/// Not said: what the buffer has then.
+/// Not said: the contents of the buffer afterwards.
 pub fn is_text_of(buffer: &mut Vec<u8>, reply: &Reply, text: &[u8]) -> Result<bool, AllocError>
     ensures { IfOk result (λ same. same ≡ bytes_eq text.now (reply_text reply.now)) }
 {
@@ -49,9 +49,9 @@ pub fn is_text_of(buffer: &mut Vec<u8>, reply: &Reply, text: &[u8]) -> Result<bo
     Ok(text == buffer.as_slice())
 }
 
-/// Whether a reply is the one that was given: any is right where none was given.
+/// Returns whether a reply is the given one; if none was given, every reply is correct.
 ///
-/// Not said: what the buffer has then.
+/// Not said: the contents of the buffer afterwards.
 pub fn is_right(
     buffer: &mut Vec<u8>,
     given: &Option<Vec<u8>>,
@@ -65,7 +65,7 @@ pub fn is_right(
     }
 }
 
-/// Appends the text of a line's fault. Where memory is refused, nothing is appended.
+/// Appends the text of a line's fault. If memory is refused, nothing is appended.
 pub fn print_fault(fault: LineFault, out: &mut Vec<u8>) -> Result<(), AllocError>
     ensures ok { OnOk result (out.new.items ≡ out.old.items ++ fault_text fault) }
     ensures err { OnErr result (out.new.items ≡ out.old.items) }
@@ -75,7 +75,7 @@ pub fn print_fault(fault: LineFault, out: &mut Vec<u8>) -> Result<(), AllocError
     keep_whole(out, start, printed)
 }
 
-/// Appends a word of a memory as a line: in decimal, and a line end. Where memory is refused,
+/// Appends a memory word as a line: the word in decimal, and a line end. If memory is refused,
 /// nothing is appended.
 pub fn print_word(word: u64, out: &mut Vec<u8>) -> Result<(), AllocError>
     ensures ok { OnOk result (out.new.items ≡ out.old.items ++ word_line word) }
@@ -86,7 +86,7 @@ pub fn print_word(word: u64, out: &mut Vec<u8>) -> Result<(), AllocError>
     keep_whole(out, start, printed)
 }
 
-/// Takes back what was appended after `start`, where not all of it could be.
+/// Truncates the buffer to `start` if the text after it could not be appended in whole.
 pub fn keep_whole(
     out: &mut Vec<u8>,
     start: usize,
@@ -117,7 +117,7 @@ fn append_reply(reply: &Reply, out: &mut Vec<u8>) -> Result<(), AllocError>
     }
 }
 
-/// The name of a refusal.
+/// Returns the name of a refusal.
 pub fn refusal_name(why: Why) -> &'static [u8]
     ensures { result.now ≡ why_name why }
 {
@@ -136,7 +136,7 @@ pub fn refusal_name(why: Why) -> &'static [u8]
     }
 }
 
-/// Appends what was done, or the name of its refusal.
+/// Appends `true`, or the name of a refusal.
 fn append_done(out: &mut Vec<u8>, refused: Option<Why>) -> Result<(), AllocError>
     ensures ok { OnOk result (out.new.items ≡ out.old.items ++ done_text refused) }
     ensures err { OnErr result (Extends out.old.items out.new.items) }
@@ -147,7 +147,8 @@ fn append_done(out: &mut Vec<u8>, refused: Option<Why>) -> Result<(), AllocError
     }
 }
 
-/// Appends a name and a number in decimal. Where memory is refused, a part of them may stand.
+/// Appends a name and a number in decimal. If memory is refused, a part of them may have been
+/// appended.
 pub fn append_field(out: &mut Vec<u8>, name: &[u8], number: u64) -> Result<(), AllocError>
     ensures ok { OnOk result (out.new.items ≡ out.old.items ++ field_text name.now number) }
     ensures err { OnErr result (Extends out.old.items out.new.items) }
@@ -174,7 +175,7 @@ fn append_report(out: &mut Vec<u8>, report: &Report) -> Result<(), AllocError>
     append_sums(out, report)
 }
 
-/// Appends the entries of the tables.
+/// Appends the numbers of entries in the tables of items.
 fn append_entries(out: &mut Vec<u8>, report: &Report) -> Result<(), AllocError>
     ensures ok { OnOk result (out.new.items ≡ out.old.items ++ entries_text report.now) }
     ensures err { OnErr result (Extends out.old.items out.new.items) }
@@ -184,7 +185,7 @@ fn append_entries(out: &mut Vec<u8>, report: &Report) -> Result<(), AllocError>
     append_field(out, b" rooms=", report.rooms)
 }
 
-/// Appends the customers and what they have booked.
+/// Appends the numbers of customers, of booked units and of used units.
 fn append_booked(out: &mut Vec<u8>, report: &Report) -> Result<(), AllocError>
     ensures ok { OnOk result (out.new.items ≡ out.old.items ++ booked_text report.now) }
     ensures err { OnErr result (Extends out.old.items out.new.items) }
@@ -194,7 +195,7 @@ fn append_booked(out: &mut Vec<u8>, report: &Report) -> Result<(), AllocError>
     append_field(out, b" used=", report.used)
 }
 
-/// Appends the units and the bills.
+/// Appends the free units, the total units and the bills.
 fn append_sums(out: &mut Vec<u8>, report: &Report) -> Result<(), AllocError>
     ensures ok { OnOk result (out.new.items ≡ out.old.items ++ sums_text report.now) }
     ensures err { OnErr result (Extends out.old.items out.new.items) }
@@ -214,7 +215,7 @@ fn append_trip(out: &mut Vec<u8>, trip: &TripReply) -> Result<(), AllocError>
     append_pick(out, b" room=", trip.picks[2])
 }
 
-/// Appends the head of a trip's reply: what became of its customer.
+/// Appends the head of a trip's reply: the outcome for its customer.
 fn append_joined(out: &mut Vec<u8>, joined: Joined) -> Result<(), AllocError>
     ensures ok { OnOk result (out.new.items
         ≡ out.old.items ++ (codes "trip cust=" ++ joined_text joined)) }
@@ -228,7 +229,7 @@ fn append_joined(out: &mut Vec<u8>, joined: Joined) -> Result<(), AllocError>
     append_pair(out, b"trip cust=", became)
 }
 
-/// Appends what a trip picked of one kind, after the name of the kind.
+/// Appends a trip's pick of one kind, after the name of the kind.
 fn append_pick(out: &mut Vec<u8>, name: &[u8], pick: Option<Pick>) -> Result<(), AllocError>
     ensures ok { OnOk result (out.new.items ≡ out.old.items ++ (name.now ++ pick_text pick)) }
     ensures err { OnErr result (Extends out.old.items out.new.items) }
@@ -253,7 +254,7 @@ fn append_update(out: &mut Vec<u8>, update: &UpdateReply) -> Result<(), AllocErr
     append_changes(out, &refused[..changes])
 }
 
-/// Appends what became of each of these changes.
+/// Appends the result of each of these changes.
 fn append_changes(out: &mut Vec<u8>, changes: &[Option<Why>]) -> Result<(), AllocError>
     ensures ok { OnOk result (out.new.items ≡ out.old.items ++ flat_map change_text changes.now) }
     ensures err { OnErr result (Extends out.old.items out.new.items) }
@@ -264,7 +265,7 @@ fn append_changes(out: &mut Vec<u8>, changes: &[Option<Why>]) -> Result<(), Allo
     Ok(())
 }
 
-/// Appends what became of a change, after a space.
+/// Appends the result of a change, after a space.
 fn append_change(out: &mut Vec<u8>, refused: Option<Why>) -> Result<(), AllocError>
     ensures ok { OnOk result (out.new.items ≡ out.old.items ++ change_text refused) }
     ensures err { OnErr result (Extends out.old.items out.new.items) }
@@ -282,7 +283,7 @@ fn append_word(out: &mut Vec<u8>, word: u64) -> Result<(), AllocError>
     append(out, b"\n")
 }
 
-/// The name of a line's fault.
+/// Returns the name of a line's fault.
 fn fault_name(fault: LineFault) -> &'static [u8]
     ensures { result.now ≡ fault_name fault }
 {

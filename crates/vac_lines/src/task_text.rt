@@ -1,4 +1,4 @@
-//! The lines that make tasks, in their plain form.
+//! The plain lines of tasks.
 
 ghost use Rattle.std.specs.Prelude.{◌≡◌, ◌++◌, ◌∷◌, [], OnOk, OnErr, decimal};
 ghost use Rattle.std.specs.List.{flat_map};
@@ -11,13 +11,12 @@ use crate::reply::{append, append_field, append_pair, keep_whole};
 use std::alloc::AllocError;
 use vac_model::{Command, Kind, Task};
 
-/// Appends the line of the table that makes this task, without a line end, in its plain form:
-/// numbers without leading zeros, one unit of a reservation not written, no price as `-`. Where
-/// memory is refused, nothing is appended.
+/// Appends the plain line of a task, without a line end: numbers without leading zeros, no word
+/// for one unit of a reservation, and `-` for no price. If memory is refused, nothing is appended.
 ///
-/// [`read_line`](crate::read_line) reads it as this task, where the task is in its ranges and the
-/// line is no longer than [`LINE_BYTES`](crate::LINE_BYTES) ([`task_texts_are_read`]). Only the
-/// line of an update of 26 changes or more can be longer ([`task_texts_fit`]).
+/// [`read_line`](crate::read_line) reads the line as this task, if the task is valid and the line
+/// is no longer than [`LINE_BYTES`](crate::LINE_BYTES) ([`task_texts_are_read`]). Only the line of
+/// an update of 26 changes or more can be longer ([`task_texts_fit`]).
 pub fn print_task(task: &Task, out: &mut Vec<u8>) -> Result<(), AllocError>
     ensures ok { OnOk result (out.new.items ≡ out.old.items ++ task_text task.now) }
     ensures err { OnErr result (out.new.items ≡ out.old.items) }
@@ -27,14 +26,14 @@ pub fn print_task(task: &Task, out: &mut Vec<u8>) -> Result<(), AllocError>
     keep_whole(out, start, printed)
 }
 
-/// The line of a task in its ranges is read as that task, where it is no longer than a line may
-/// be.
+/// States that the plain line of a valid task is read as that task, if it is no longer than a line
+/// may be.
 pub fn task_texts_are_read()
     ensures { TaskTextsAreRead }
 {}
 
-/// The line of a task in its ranges is no longer than a line may be, unless the task is an update
-/// of 26 changes or more, one of which has a number of six digits or more.
+/// States that the plain line of a valid task is no longer than a line may be, unless the task is
+/// an update of 26 changes or more, one of which has a number of six digits or more.
 pub fn task_texts_fit()
     ensures { TaskTextsFit }
 {}
@@ -84,7 +83,7 @@ fn append_command(out: &mut Vec<u8>, command: Command) -> Result<(), AllocError>
     }
 }
 
-/// The word of a kind.
+/// Returns the word for a kind.
 fn kind_word(kind: Kind) -> &'static [u8]
     ensures { result.now ≡ kind_word kind }
 {
@@ -123,7 +122,7 @@ fn append_price(out: &mut Vec<u8>, price: Option<u32>) -> Result<(), AllocError>
     }
 }
 
-/// Appends a name and a number.
+/// Appends the name of a line and a number.
 fn append_numbered(out: &mut Vec<u8>, name: &[u8], id: u32) -> Result<(), AllocError>
     ensures ok { OnOk result
         (out.new.items ≡ out.old.items ++ words_text (name.now ∷ decimal id ∷ [])) }
@@ -133,7 +132,7 @@ fn append_numbered(out: &mut Vec<u8>, name: &[u8], id: u32) -> Result<(), AllocE
     append_count(out, id)
 }
 
-/// Appends a name and an item.
+/// Appends the name of a line and an item.
 fn append_named(out: &mut Vec<u8>, name: &[u8], kind: Kind, id: u32) -> Result<(), AllocError>
     ensures ok { OnOk result
         (out.new.items ≡ out.old.items ++ words_text (name.now ∷ item_words kind id)) }
@@ -143,7 +142,7 @@ fn append_named(out: &mut Vec<u8>, name: &[u8], kind: Kind, id: u32) -> Result<(
     append_item(out, kind, id)
 }
 
-/// Appends a name, a customer and an item.
+/// Appends the name of a line, a customer and an item.
 fn append_booking(
     out: &mut Vec<u8>,
     name: &[u8],
@@ -199,7 +198,7 @@ fn append_reserve(
     append_units(out, units)
 }
 
-/// Appends units after a space, where they are not one.
+/// Appends the number of units after a space, or nothing for one unit.
 fn append_units(out: &mut Vec<u8>, units: u32) -> Result<(), AllocError>
     ensures ok { OnOk result (out.new.items ≡ out.old.items ++ spaced (units_words units)) }
     ensures err { OnErr result (Extends out.old.items out.new.items) }
@@ -219,7 +218,7 @@ fn append_trip(out: &mut Vec<u8>, customer: u32, asks: &[(Kind, u32)]) -> Result
     append_asks(out, asks)
 }
 
-/// Appends the items of these asks.
+/// Appends the items of these asks, each word after a space.
 fn append_asks(out: &mut Vec<u8>, asks: &[(Kind, u32)]) -> Result<(), AllocError>
     ensures ok { OnOk result (out.new.items ≡ out.old.items
         ++ spaced (flat_map (λ ask. item_words ask.0 ask.1) asks.now)) }

@@ -1,4 +1,4 @@
-//! What a place of a line may have: a kind, an id, a count, a price.
+//! The words of a line: a kind, an id, a count, a price.
 
 ghost use Rattle.std.specs.Prelude.{◌≡◌, ◌≤◌, IfOk, true};
 ghost use Rattle.vac_model.specs.Amounts.{is_id, is_amount, is_optional_amount, is_unit_count};
@@ -10,10 +10,10 @@ use crate::numbers::read_number;
 use vac_model::Kind;
 use vac_model::limits::{MOST_AMOUNT, MOST_ID, MOST_UNITS_AT_ONCE};
 
-/// The most digits that a number of a line has. Zeros in front count.
+/// Largest number of digits of a number in a line, leading zeros included.
 const MOST_DIGITS: usize = 10;
 
-/// The item that two words name.
+/// Reads the item that two words name.
 pub(crate) fn place_at(kind: &[u8], id: &[u8]) -> Result<(Kind, u32), LineFault>
     ensures place { result ≡ at_place kind.now id.now }
     ensures in_range { IfOk result (λ place. is_id place.1 ≡ true) }
@@ -22,7 +22,7 @@ pub(crate) fn place_at(kind: &[u8], id: &[u8]) -> Result<(Kind, u32), LineFault>
     Ok((kind, id_at(id)?))
 }
 
-/// The customer and the item that three words name.
+/// Reads the customer and the item that three words name.
 pub(crate) fn booking_at(
     customer: &[u8],
     kind: &[u8],
@@ -37,7 +37,7 @@ pub(crate) fn booking_at(
     Ok((customer, kind, id))
 }
 
-/// The count, and the price or none, that two words write.
+/// Reads the count, and the price or none, that two words write.
 pub(crate) fn stock_at(num: &[u8], price: &[u8]) -> Result<(u32, Option<u32>), LineFault>
     ensures stock { result ≡ at_stock num.now price.now }
     ensures num_in_range { IfOk result (λ stock. is_amount stock.0 ≡ true) }
@@ -47,7 +47,7 @@ pub(crate) fn stock_at(num: &[u8], price: &[u8]) -> Result<(u32, Option<u32>), L
     Ok((num, price_at(price)?))
 }
 
-/// The kind of item that a word names.
+/// Reads the kind of item that a word names.
 fn kind_at(word: &[u8]) -> Result<Kind, LineFault>
     ensures { result ≡ at_kind word.now }
 {
@@ -62,7 +62,7 @@ fn kind_at(word: &[u8]) -> Result<Kind, LineFault>
     }
 }
 
-/// The id that a word writes.
+/// Reads the id that a word writes.
 pub(crate) fn id_at(word: &[u8]) -> Result<u32, LineFault>
     ensures id { result ≡ at_id word.now }
     ensures in_range { IfOk result (λ id. is_id id ≡ true) }
@@ -70,7 +70,7 @@ pub(crate) fn id_at(word: &[u8]) -> Result<u32, LineFault>
     number_at(word, 1, MOST_ID)
 }
 
-/// The count or price that a word writes.
+/// Reads the count or price that a word writes.
 pub(crate) fn amount_at(word: &[u8]) -> Result<u32, LineFault>
     ensures amount { result ≡ at_amount word.now }
     ensures in_range { IfOk result (λ amount. is_amount amount ≡ true) }
@@ -78,7 +78,7 @@ pub(crate) fn amount_at(word: &[u8]) -> Result<u32, LineFault>
     number_at(word, 0, MOST_AMOUNT)
 }
 
-/// The number of units to reserve that a word writes.
+/// Reads the number of units to reserve that a word writes.
 pub(crate) fn units_at(word: &[u8]) -> Result<u32, LineFault>
     ensures units { result ≡ at_units word.now }
     ensures in_range { IfOk result (λ num. is_unit_count num ≡ true) }
@@ -86,7 +86,7 @@ pub(crate) fn units_at(word: &[u8]) -> Result<u32, LineFault>
     number_at(word, 1, MOST_UNITS_AT_ONCE)
 }
 
-/// The price that a word writes, or `None` for a dash.
+/// Reads the price that a word writes, or `None` for a dash.
 fn price_at(word: &[u8]) -> Result<Option<u32>, LineFault>
     ensures price { result ≡ at_price word.now }
     ensures in_range { IfOk result (λ price. is_optional_amount price ≡ true) }
@@ -97,7 +97,7 @@ fn price_at(word: &[u8]) -> Result<Option<u32>, LineFault>
     Ok(Some(amount_at(word)?))
 }
 
-/// The number between two bounds that a word writes.
+/// Reads the number that a word writes, if it is within the bounds.
 fn number_at(word: &[u8], least: u32, most: u32) -> Result<u32, LineFault>
     ensures number { result ≡ at_number least most word.now }
     ensures in_range { IfOk result (λ number. (least ≤ number) × (number ≤ most)) }

@@ -6,17 +6,17 @@ ghost use Rattle.vac_lines.specs.Writing.{AppendsPrefix};
 
 use std::io::{ErrorKind, Write};
 
-/// A write failed or took nothing, or the output could not be flushed.
+/// A failed write: a write failed or wrote no byte, or the output could not be flushed.
 #[derive(Clone, Copy, Debug, PartialEq, Eq)]
 pub struct NotWritten;
 
-/// Writes the text. A write that fails, and one that takes nothing, ends it; one that was
-/// interrupted is retried.
+/// Writes the whole text. Stops if a write fails or writes no byte; an interrupted write is
+/// retried. Bounded loop: the prover needs a measure; no run makes 2^64 - 1 writes.
 ///
 /// # Errors
-/// The output could not be written: a prefix of the text was.
+/// Returns an error if the output could not be written; a prefix of the text was written then.
 ///
-/// Not said: that it fails only where the output does.
+/// Not said: that the call fails only if the output does.
 pub fn write_all<W: Write>(output: &mut W, text: &[u8]) -> Result<(), NotWritten>
     ensures ok { OnOk result (Appends (W.contents output.old) (W.contents output.new) text.now) }
     ensures err { OnErr result
@@ -40,12 +40,13 @@ pub fn write_all<W: Write>(output: &mut W, text: &[u8]) -> Result<(), NotWritten
     Err(NotWritten)
 }
 
-/// Writes the text, and flushes the output.
+/// Writes the whole text, and flushes the output.
 ///
 /// # Errors
-/// The output could not be written or flushed: a prefix of the text was written.
+/// Returns an error if the output could not be written or flushed; a prefix of the text was
+/// written then.
 ///
-/// Not said: that the output is flushed, which no contract names; that it fails only where the
+/// Not said: that the output is flushed, which no contract names; that the call fails only if the
 /// output does.
 pub fn write_and_flush<W: Write>(output: &mut W, text: &[u8]) -> Result<(), NotWritten>
     ensures ok { OnOk result (Appends (W.contents output.old) (W.contents output.new) text.now) }

@@ -1,4 +1,4 @@
--- A manager with the one client that it has between two rounds.
+-- A manager with its one client between two rounds.
 use Rattle.std.specs.Prelude.{◌≡◌, ◌≤◌, ◌<◌, ◌+◌, ◌*◌, ◌++◌, ℕ, List}
 use Rattle.tx_memory.specs.Image.{In}
 use Rattle.stm_core.specs.Client.{Record}
@@ -9,8 +9,8 @@ use Rattle.vac_manager.specs.Legal.{AreVersioned}
 use Rattle.vac_draws.specs.declared.settings.Settings.{Settings}
 use Rattle.vac_asking.specs.Looping.{AreKnown}
 
--- after the records of earlier renewals, which have one writer a version and readers that wrote
--- nothing, come those of this one
+-- the records of earlier renewals, which have one writer a version and readers that wrote nothing,
+-- come before the records of this renewal
 pub record IsInRenewal (renewal : ℕ) (records : List Record) : Type 0 where
   pub past : List Record
   pub present : List Record
@@ -23,22 +23,22 @@ pub record IsInRenewal (renewal : ℕ) (records : List Record) : Type 0 where
 abbrev pub session_of : RegionShown → CallerShown → SessionShown
 session_of region client = record { manager = region; client = client }
 
--- the client is of this manager, has all its grants, and has records of its renewal and of earlier
--- ones
+-- the client is solo: it belongs to this manager and has all grants; its records are of the
+-- present renewal and of earlier ones
 pub record IsAloneInRenewal (y : SessionShown) : Type 0 where
   pub own : IsOwn y
   pub alone : HasAllGrants y.client.value
   pub era : IsInRenewal y.manager.renewal y.client.value.records
 
--- a round of a load with these settings can begin: what its clients will add comes behind all
--- records, and the clock has not gone beyond what an opening takes
+-- a round of a load with these settings can begin: the records that its clients will add come
+-- after all present records, and the client knows no version above the number of commands in the
+-- setup phase
 pub record IsReadyForRound (s : Settings) (y : SessionShown) : Type 0 where
   pub last : y.manager.last ≡ s.last
   pub known : AreKnown y.manager.renewal y.client.value.floor y.client.value.records
   pub early : y.client.value.floor ≤ 4 * s.items
 
--- the manager was renewed, with the records of its client, which is alone, and the next round can
--- begin
+-- the manager was renewed with the records of its solo client, and the next round can begin
 pub record IsRenewed (s : Settings) (y y' : SessionShown) : Type 0 where
   pub renewal : y'.manager.renewal ≡ y.manager.renewal + 1
   pub size : y'.manager.size ≡ y.manager.size

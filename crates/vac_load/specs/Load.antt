@@ -1,4 +1,4 @@
--- What a load promises.
+-- The contract of a load.
 use Rattle.std.specs.Prelude.{◌≡◌, ◌≤◌, ◌<◌, ◌+◌, ◌*◌, ◌⊎◌, ◌++◌, ◌&&◌, nat_eq, Bool, ℕ, List, [], ◌∷◌, length}
 use Rattle.std.specs.Prelude.{All, vec_len, Result, IfOk, IfErr}
 use Rattle.vac_model.specs.declared.tasks.Task.{Task}
@@ -37,15 +37,16 @@ use Rattle.vac_manager.specs.Legal.{IsLegal, AreVersioned}
 use Rattle.vac_draws.specs.Draws.{Drawn, times_over}
 use Rattle.vac_draws.specs.Tasks.{task_of, opening}
 
--- the clock has a version for each command of the opening, and, after them, one for each task of
+-- the clock has a version for each command of the setup phase and, after these, for each task of
 -- one client in a round
 abbrev pub HasTime : Settings → Type 0
 HasTime s = 4 * s.items + s.tasks ≤ s.last
 
--- the client of a seat ran its tasks of a round in the first session, with the settings' tries for
--- each; the second session and seat are what they left, and these counts how they ended: the
--- session went on, its client's value has what the loop made of it in its manager's renewal and,
--- where it is alone, by its manager's clock, and its keeper kept its answered calls
+-- the worker with this client slot ran its tasks of a round in session `y`, with the limit on
+-- attempts that the settings give; `z` and `left` are the session and the slot afterwards, and the
+-- counts are those of the tasks: the session went on, the loop had its effect on the client's
+-- value, the clock of a solo client advanced accordingly, and the recorder kept the completed
+-- calls
 pub record RanTasks {W D : Type 0} (leads : D → ℕ → D → Type 0) (shown_of : W → SeatShown D)
     (s : Settings) (y : SessionShown) (seat : W) (z : SessionShown) (left : W) (c : TaskCountsShown)
     : Type 0 where
@@ -57,43 +58,44 @@ pub record RanTasks {W D : Type 0} (leads : D → ℕ → D → Type 0) (shown_o
   pub tries : c.tries ≡ s.tries
   pub kept : HasKeptAdded y.client.value z.client.value (shown_of seat).kept (shown_of left).kept
 
--- a worker ran its tasks of a round and became that worker
+-- a worker ran its tasks of a round, and this is the worker afterwards
 abbrev pub DidWork : {W D : Type 0} → (D → ℕ → D → Type 0) → (W → SeatShown D) → Settings
     → Worker W → Worker W → Type 0
 DidWork leads shown_of s w d =
     RanTasks leads shown_of s w.session w.seat d.session d.seat d.tally
 
--- each worker of a crew ran its tasks of a round; the workers are in their order
+-- each worker of a crew ran its tasks of a round; the workers stay in their order
 pub record DidAllWork {W D : Type 0} (leads : D → ℕ → D → Type 0) (shown_of : W → SeatShown D)
     (s : Settings) (crew done : Crew W) : Type 0 where
   pub first : DidWork leads shown_of s crew.first done.first
   pub others : Paired (DidWork leads shown_of s) crew.others.items done.others.items
 
--- the promise is of the tasks of this worker by these settings
+-- the promise is about the tasks of this worker with these settings
 pub record IsPromise {W : Type 0} (s : Settings) (w : Worker W) (p : WorkOf W) : Type 0 where
   pub settings_is : p.settings ≡ s
   pub worker_is : p.worker.value ≡ w
 
--- the list has the records of all these and no others, each once, those of each in their order
+-- the list has exactly the records of all elements, each once, and those of each element in their
+-- order
 abbrev pub InterleavedAll : {X : Type 0} → (X → List Record) → List X → List Record → Type 0
 InterleavedAll records_of [] all = all ≡ []
 InterleavedAll records_of (x ∷ xs) all =
     (others : List Record) × Interleaved (records_of x) others all
     × InterleavedAll records_of xs others
 
--- the records of all these merged into the first ones, one after the other
+-- the records of all elements merged into the first records, one element after the other
 abbrev pub all_merged : {X : Type 0} → (X → List Record) → List Record → List X → List Record
 all_merged records_of first [] = first
 all_merged records_of first (x ∷ xs) = all_merged records_of (merged first (records_of x)) xs
 
--- clients were gathered: their records were merged, and their tallies added up
+-- the clients were gathered: their records were merged, and their counts added up
 pub record Gathered {X : Type 0} (records_of : X → List Record) (tally_of : X → Tally)
     (first : X) (others : List X) (all : List Record) (t : Tally) : Type 0 where
   pub records_are : all ≡ all_merged records_of (records_of first) others
   pub tallies : t ≡ added_up tally_of (first ∷ others)
 
--- a worker's session is one with this manager, and its client begins with these records and this
--- floor; and the worker has this seat
+-- the worker's session is with this manager, its client starts with these records and this floor,
+-- and the worker has this client slot
 pub record IsWorker {W : Type 0} (manager : RegionShown) (records : List Record) (floor : ℕ)
     (seat : W) (w : Worker W) : Type 0 where
   pub manager_is : w.session.manager ≡ manager
@@ -101,9 +103,10 @@ pub record IsWorker {W : Type 0} (manager : RegionShown) (records : List Record)
   pub knows : w.session.client.value.floor ≡ floor
   pub seat_is : w.seat ≡ seat
 
--- each seat got a session with the opening session's manager: the first that session, the others
--- sessions of clients without records. The first one holds the grants of them all. None of them has
--- counted a task, and each will ask for its tasks with so many tries
+-- each client slot got a session with the manager of the setup phase: the first slot got the
+-- session of the setup phase, the others sessions of clients without records. The first session
+-- holds all grants that are left. No worker has counted a task, and each task may make at most
+-- `tries` attempts
 pub record IsCrew {W : Type 0} (opener : SessionShown) (tries : ℕ) (seats : List W)
     (crew : Crew W) : Type 0 where
   pub seat : W
@@ -118,30 +121,30 @@ pub record IsCrew {W : Type 0} (opener : SessionShown) (tries : ℕ) (seats : Li
   pub tally : crew.first.tally ≡ uncounted tries
   pub others_tallies : All (λ w. w.tally ≡ uncounted tries) crew.others.items
 
--- the worker is one of those that the first one can take in: its session is with the same manager,
--- it has no grants, and its tally can be added
+-- the first worker can gather this one: its session is with the same manager, it has no grants,
+-- and its counts can be added
 pub record IsMember {W : Type 0} (first w : Worker W) : Type 0 where
   pub one : w.session.manager ≡ first.session.manager
   pub grants : w.session.client.value.grants ≡ 0
   pub tasks : total w.tally.tally ≤ MOST_TASKS
   pub tries : w.tally.tries ≡ first.tally.tries
 
--- the workers of a crew can be gathered: the first one holds the grants of them all
+-- the workers of a crew can be gathered: the first one holds all grants that are left
 pub record CanGather {W : Type 0} (crew : Crew W) : Type 0 where
   pub grants : crew.first.session.client.value.grants + vec_len crew.others ≡ MOST_GRANTS
   pub few : vec_len crew.others < MOST_CLIENTS
   pub tasks : total crew.first.tally.tally ≤ MOST_TASKS
   pub others : All (IsMember crew.first) crew.others.items
 
--- what one client did, in one round or in several: the records of its answered tasks, how its
--- tasks ended, and the state that its draws were left in
+-- the results of one client in one round or several: the records of its completed tasks, the
+-- counts of its tasks, and the state after its draws
 pub record Share (D : Type 0) : Type 0 where
   pub records : List Record
   pub tally : Tally
   pub left : D
 
--- a client drew n tasks, one after the other, from this state on. Those that were answered are a
--- part of them, in their order, and each has its record
+-- a client drew n tasks, one after the other, from this state on; the completed tasks are a
+-- sublist of the drawn ones, in their order, and each has its record
 pub record HasShare {D : Type 0} (leads : D → ℕ → D → Type 0) (s : Settings) (n : ℕ)
     (state : D) (x : Share D) : Type 0 where
   pub tasks : List Task
@@ -152,21 +155,21 @@ pub record HasShare {D : Type 0} (leads : D → ℕ → D → Type 0) (s : Setti
   pub are_of : AreOfTasks answered x.records
   pub all : total x.tally ≡ n
 
--- the share without what its keeper keeps
+-- the share without the recorded calls
 abbrev pub drawn_share : {D : Type 0} → Share (SeatShown D) → Share D
 drawn_share x = record { records = x.records; tally = x.tally; left = x.left.draws }
 
--- a client drew n tasks, one after the other, from this seat on, and its keeper kept the calls of
--- those that were answered
+-- a client drew n tasks, one after the other, starting from this slot, and its recorder kept the
+-- calls of the completed ones
 pub record HasKeptShare {D : Type 0} (leads : D → ℕ → D → Type 0) (s : Settings) (n : ℕ)
     (state : SeatShown D) (x : Share (SeatShown D)) : Type 0 where
   pub has : HasShare leads s n state.draws (drawn_share x)
   pub kept : AreKept x.records state.kept x.left.kept
 
--- all clients ran n tasks each, in one round or in several, and were gathered: the records of their
--- answered tasks, and no others, come after those from before, each client's in their order. The
--- seat of each client is left as its tasks left it. One client alone meets no conflict, and where
--- the clock has time, none of its tasks finds the clock at its end
+-- all clients ran n tasks each, in one round or several, and were gathered: exactly the records of
+-- the completed tasks come after the earlier records, those of each client in their order, and the
+-- slot of each client is as its tasks left it. A single client meets no conflict, and if the clock
+-- has time, none of its tasks finds the clock spent
 pub record RanAll {D P : Type 0} (leads : D → ℕ → D → Type 0) (s : Settings)
     (shown_of : P → SeatShown D) (n : ℕ) (before : List Record) (seats : List P)
     (after : List Record) (left : List P) (t : Tally) : Type 0 where
@@ -180,37 +183,37 @@ pub record RanAll {D P : Type 0} (leads : D → ℕ → D → Type 0) (s : Setti
   pub alone : length seats ≡ 1 → t.busy ≡ 0
   pub in_time : length seats ≡ 1 → HasTime s → t.spent ≡ 0
 
--- all clients ran n tasks each, in one round or in several, from the records of this session's
--- client and from these seats on; the round has what they left, and how these tasks ended
+-- all clients ran n tasks each, in one round or several, starting from the records of this
+-- session's client and from these slots; the round has the results
 abbrev pub RoundHasRun : {W D : Type 0} → (D → ℕ → D → Type 0) → (W → SeatShown D) → Settings → ℕ
     → SessionShown → List W → Round W → Type 0
 RoundHasRun leads shown_of s n y seats r = RanAll leads s shown_of n y.client.value.records seats
     r.client.value.records r.seats.items r.tally.tally
 
--- a round of a load with these settings: a seat for each client, the settings' tries, and a client
--- that is alone
+-- a round of a load with these settings has a slot for each client, the limit on attempts of the
+-- settings, and a solo client
 pub record IsRound {W : Type 0} (s : Settings) (r : Round W) : Type 0 where
   pub number : vec_len r.seats ≡ s.clients
   pub tries : r.tally.tries ≡ s.tries
   pub alone : IsAloneInRenewal (session_of r.manager r.client)
 
--- a load can be run with these settings and this many clients
+-- a load can be run with these settings and this number of clients
 abbrev pub is_load : Settings → ℕ → Bool
 is_load s clients = is_settings s && nat_eq clients s.clients
 
--- memory was refused, or a thread was not started
+-- the fault says that memory was refused, or that a thread could not be started
 abbrev pub IsLoadRefusal : LoadFault → Type 0
 IsLoadRefusal e = (e ≡ load.Memory) ⊎ (e ≡ load.Spawn)
 
--- each worker of a crew ran its tasks of a round, or that was refused
+-- each worker of a crew ran its tasks of a round, or running them was refused
 abbrev pub RunsCrew : {W D : Type 0} → (D → ℕ → D → Type 0) → (W → SeatShown D) → Settings
     → Crew W → Result (Crew W) LoadFault → Type 0
 RunsCrew leads shown_of s crew result =
     IfOk result (DidAllWork leads shown_of s crew) × IfErr result IsLoadRefusal
 
--- the manager of a load was made, and the opening was answered whole: from this state of its draws
--- on all its commands were drawn, and each of them was asked for and answered, by a clock that
--- ends at the settings' last version. What the client has then is a whole history of this manager
+-- the manager of a load was made with a clock that ends at the last version of the settings, and
+-- the setup phase completed: all its commands were drawn from this state on, and each of them was
+-- issued and completed. The records of the client are then a complete history of this manager
 pub record HasOpened {D : Type 0} (leads : D → ℕ → D → Type 0) (s : Settings) (state left : D)
     (y : SessionShown) : Type 0 where
   pub stripes : ℕ
@@ -219,22 +222,22 @@ pub record HasOpened {D : Type 0} (leads : D → ℕ → D → Type 0) (s : Sett
   pub ran : RanDrawn leads y.manager.renewal (opening s) opener.value y.client.value state left
   pub answered : IsAnswered y.manager y.client.value
 
--- some manager was made so, and its client answered the opening whole
--- Not said: that it was the manager of this load.
+-- some manager was made in this way, and its client completed the setup phase
+-- Not said: that this manager was the manager of this load.
 abbrev pub WasOpened : {D : Type 0} → (D → ℕ → D → Type 0) → Settings → D → D → Type 0
 WasOpened leads s state left = (y : SessionShown) × HasOpened leads s state left y
 
--- where the clock is found at its end, that is the last version of the settings, and less than the
--- number of the opening's commands
+-- the fault is refused memory, or a spent clock whose version is the last one of the settings and
+-- smaller than the number of commands in the setup phase
 abbrev pub IsTooShort : Settings → Fault → Type 0
 IsTooShort s fault.Arguments = ⊥
 IsTooShort s fault.Memory = Unit {0}
 IsTooShort s (fault.Busy conflict) = ⊥
 IsTooShort s (fault.Spent version) = (version ≡ s.last) × (s.last < 4 * s.items)
 
--- the manager of a load was made, and the opening stopped with this fault: its commands were
--- answered up to one that was refused, or whose keeper had no room
--- Not said: that it was the manager of this load: some region and client are named.
+-- the manager of a load was made, and the setup phase stopped with this fault: its commands
+-- completed up to one that was refused, or for which the recorder had no room
+-- Not said: that this manager was the manager of this load. Only some region and client are named.
 pub record WasStopped {D : Type 0} (leads : D → ℕ → D → Type 0) (s : Settings) (e : Fault)
     (state left : D) : Type 0 where
   pub stripes : ℕ
@@ -245,13 +248,13 @@ pub record WasStopped {D : Type 0} (leads : D → ℕ → D → Type 0) (s : Set
   pub stopped : Stopped leads region.renewal s.last (opening s) e opener.value after state left
   pub short : IsTooShort s e
 
--- why a load that could be run stopped, with the opening's draws before and after it. For refused
--- memory: before the first word was drawn, or when the whole opening was answered. For a thread:
--- when it was. For the opening: since one of its commands was refused so
--- Not said: of memory that is refused once the opening was answered, whether it was that of a
--- thread's place, of a renewal or of the closing; that a thread could not be started.
--- Not said: that the opening which was drawn was this load's, so that with a clock that has time
--- each of the three can be told for any settings in range.
+-- the reason for which a load that could be run stopped, with the draws of the setup phase before
+-- and after. For refused memory: no word was drawn, or the setup phase completed. For a thread:
+-- the setup phase completed. For the setup phase: one of its commands was refused with this fault
+-- Not said: if memory is refused after the setup phase, which memory: for the handle of a thread,
+-- for a renewal or for closing; that a thread really could not be started.
+-- Not said: that the setup phase was the one of this load. So if the clock has time, the contract
+-- allows each of the three faults for any settings in range.
 abbrev pub IsStopOfLoad : {D : Type 0} → (D → ℕ → D → Type 0) → Settings → D → D → LoadFault
     → Type 0
 IsStopOfLoad leads s state left load.Arguments = ⊥
@@ -259,27 +262,26 @@ IsStopOfLoad leads s state left load.Memory = (left ≡ state) ⊎ WasOpened lea
 IsStopOfLoad leads s state left load.Spawn = WasOpened leads s state left
 IsStopOfLoad leads s state left (load.Opening e) = WasStopped leads s e state left
 
--- why a load was not run to its end: for its arguments, or since it stopped when the opening's
--- draws were in some state
--- Not said: when memory was refused, since such a load gives back no draws.
+-- the reason why a load did not run to its end: its arguments, or a stop with the draws of the
+-- setup phase in some state
+-- Not said: when memory was refused, because such a load returns no draws.
 abbrev pub IsLoadFault : {D : Type 0} → (D → ℕ → D → Type 0) → Settings → D → LoadFault → Type 0
 IsLoadFault {D} leads s state e =
     (e ≡ load.Arguments) ⊎ ((left : D) × IsStopOfLoad leads s state left e)
 
--- what a load did: there is a history, legal from the empty state on, whose last state has the
--- report. First come the commands of the opening, and then the tasks that were answered, and no
--- others, in the order of renewals and versions. A client's tasks are drawn in turn over all
--- rounds, and those of them that were answered are in the history in their order. Each version has
--- at most one writer, and a reader wrote nothing. The tally counts all tasks of all clients in all
--- rounds; no task of one client alone is busy, and where the clock has time none finds it at its
--- end
--- Not said: of several clients, that a task counted as busy or spent was asked for; of any number,
--- that one counted under memory was refused it. Tests count the answers.
--- Not said: in which round a task was answered; that the manager is renewed between two rounds;
+-- the result of a load: there is a history, legal from the empty state, whose final state has the
+-- report. The commands of the setup phase come first, followed by exactly the completed tasks, in
+-- the order of renewals and versions. The tasks of a client are drawn in turn over all rounds, and
+-- the completed ones are in the history in their order. Each version has at most one writer, and a
+-- reader wrote nothing. The counts cover all tasks of all clients in all rounds; with a single
+-- client no task is busy, and if the clock has time, none finds the clock spent
+-- Not said: with several clients, that a task counted as busy or spent was issued; that a task
+-- counted under memory was really refused memory. Tests count the completed calls.
+-- Not said: the round in which a task completed; that the manager is renewed between two rounds;
 -- that gates go on from round to round, or stay with their clients.
--- Not said: that threads run at once; that a thread is refused only where it could not be started.
--- Not said: that the history is one of a manager's clients: it is any legal history with these
--- tasks, and `tests/history` has the histories of loads judged.
+-- Not said: that threads run at once; that a thread is refused only if it could not be started.
+-- Not said: that the history is that of a manager's clients. It is any legal history with these
+-- tasks; `tests/history` has the histories of loads judged.
 pub record HasLoaded {D P : Type 0} (leads : D → ℕ → D → Type 0) (s : Settings) (draws_of : P → D)
     (state : D) (pairs : List P) (t : Tally) (r : Report) : Type 0 where
   pub history : List Record
@@ -303,12 +305,13 @@ pub record HasLoaded {D P : Type 0} (leads : D → ℕ → D → Type 0) (s : Se
   pub alone : s.clients ≡ 1 → t.busy ≡ 0
   pub in_time : s.clients ≡ 1 → HasTime s → t.spent ≡ 0
 
--- a load whose keepers kept the answered calls: the opening's keeper those of the opening, and the
--- keeper of each client those of its client's tasks, each call once, in the order of its records
--- Not said: what the keepers of a load keep that is refused; that a lack of room for a call is told
--- apart from other refusals of memory.
--- Not said: that a keeper is asked for room before its call begins, and is handed the call before
--- anything else is told of it.
+-- a load with recorders of completed calls: the recorder of the setup phase kept the calls of the
+-- setup phase, and the recorder of each client those of its client's tasks, each call once, in the
+-- order of its records
+-- Not said: which calls the recorders keep if a load is refused; that a lack of room for a call
+-- can be told from other refusals of memory.
+-- Not said: that a recorder is asked for room before its call begins, and receives the call before
+-- the call is reported to the gate.
 pub record LoadedKept {D P : Type 0} (leads : D → ℕ → D → Type 0) (s : Settings)
     (draws_of : P → D) (state : D) (pairs : List P) (t : Tally) (r : Report)
     (before after : KeptNotes) (befores afters : List KeptNotes) : Type 0 where

@@ -1,4 +1,4 @@
--- What a load by the generators of a seed promises.
+-- The contract of a load that draws its words from the generators of a seed.
 use Rattle.std.specs.Prelude.{map}
 use Rattle.vac_model.specs.declared.replies.Report.{Report}
 use Rattle.vac_draws.specs.declared.settings.Settings.{Settings}
@@ -8,14 +8,14 @@ use Rattle.vac_load.specs.declared.seats.Keepers.{Keepers}
 use Rattle.vac_asking.specs.Keeping.{KeptNotes}
 use Rattle.vac_load.specs.Load.{HasLoaded, LoadedKept}
 
--- the load of a seed: the opening draws from stream 0, and each client from the stream of its
+-- the load of a seed: the setup phase draws from stream 0, and each client from the stream of its
 -- number
 abbrev pub LoadedBySeed : Settings → Tally → Report → Type 0
 LoadedBySeed s t r =
     HasLoaded gives s (λ stream. stream) (stream_of s.seed 0) (streams_of s.seed s.clients) t r
 
--- the load of a seed whose keepers kept the answered calls: the opening's keeper those of the
--- opening, and the keeper of each client those of its client
+-- the load of a seed with recorders: the recorder of the setup phase kept the calls of the setup
+-- phase, and the recorder of each client those of its client
 abbrev pub KeptBySeed : {K : Type 0} → (K → KeptNotes) → Settings → Tally → Report
     → Keepers K → Keepers K → Type 0
 KeptBySeed notes s t r before after =

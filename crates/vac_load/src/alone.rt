@@ -1,4 +1,4 @@
-//! A load's manager and its one client between two rounds: renewal and closing.
+//! Renewal and closing of a load's manager, between rounds and at the end.
 
 ghost use Rattle.std.specs.Prelude.{◌≡◌, ◌<◌, true, IfOk, IfErr};
 ghost use Rattle.vac_manager.specs.Legal.{AreVersioned};
@@ -12,7 +12,7 @@ use stm_region::RegionFault;
 use vac_draws::Settings;
 use vac_manager::{Client, Manager, RenewFault};
 
-/// Renews the clock. It fails only where memory is refused.
+/// Renews the clock. Fails only if memory is refused.
 pub(crate) fn renewed(
     manager: Manager,
     client: Client,
@@ -35,7 +35,7 @@ pub(crate) fn renewed(
     }
 }
 
-/// Ends the manager with its client, and returns its words. It fails only where memory is refused.
+/// Closes the manager with its client, and returns its words. Fails only if memory is refused.
 pub(crate) fn close(manager: Manager, client: Client) -> Result<Vec<u64>, LoadFault>
     requires alone { IsAloneInRenewal (session_of manager client) }
     ensures closes { IfOk result (λ words. ClosesSomewhere manager client.value words.items) }

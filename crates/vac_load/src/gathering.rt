@@ -1,4 +1,4 @@
-//! Sessions that are split off for a round, and gathered after it.
+//! Sessions that are split off for a round and gathered after it.
 
 ghost use Rattle.std.specs.Prelude.{◌≡◌, ◌≤◌, ◌<◌, ◌+◌, ◌∷◌, [], vec_len, vec_capacity, IfOk, IfErr};
 ghost use Rattle.vac_manager.specs.Called.{HasAllGrants};
@@ -13,8 +13,9 @@ use std::alloc::Global;
 use vac_asking::TaskCounts;
 use vac_manager::{Client, Session};
 
-/// Gathers the workers' clients into that of the first one, in their order, hands their seats back,
-/// and adds up how their tasks ended.
+/// Gathers the clients of all workers into that of the first, in their order, returns their slots,
+/// and adds up their counts. `seats` is an empty vector with reserved room for the slots, so that
+/// gathering cannot fail.
 pub(crate) fn gather_all<W: Drop>(
     crew: Crew<'_, W>,
     mut seats: Vec<W>,
@@ -51,8 +52,8 @@ pub(crate) fn gather_all<W: Drop>(
     (session.into_client(), seats, tally)
 }
 
-/// Splits off a session for each seat but the first one, which the opening session gets. None of
-/// the workers has run a task.
+/// Splits off a session for each client slot but the first, which gets the session of the setup
+/// phase. No worker has run a task yet.
 pub(crate) fn split_crew<'m, W: Drop>(
     alloc: Global,
     mut session: Session<'m>,

@@ -1,4 +1,4 @@
-//! A load.
+//! Running a load.
 
 ghost use Rattle.std.specs.Prelude.{◌≡◌, ◌↔◌, true, false, vec_len, IfOk, IfErr, IsErrOf};
 ghost use Rattle.vac_draws.specs.Setting.{is_settings};
@@ -23,33 +23,33 @@ use vac_asking::{Efforts, Tally, open_kept};
 use vac_draws::{Draws, PcgDraws, Settings};
 use vac_manager::{Client, Fault, Keep, Manager, Report, Session, Unkept, report_of};
 
-/// What a load leaves: how its tasks ended, over all rounds, and the report of the words after all
-/// clients were gathered for the last time.
+/// The result of a load: the counts of its tasks over all rounds, and the report of the words
+/// after all clients were gathered for the last time.
 #[derive(Clone, Copy, Debug, PartialEq, Eq)]
 pub struct LoadReport {
     pub tally: Tally,
     pub report: Report,
 }
 
-/// Why a load was not run to its end.
+/// The reason why a load did not run to its end.
 #[derive(Clone, Copy, Debug, PartialEq, Eq, Error)]
 pub enum LoadFault {
-    /// A setting is out of its range, or there are not as many clients as the settings say.
+    /// A setting is out of its range, or the number of clients differs from that of the settings.
     #[error("a setting is out of its range")]
     Arguments,
     /// Memory was refused.
     #[error("out of memory")]
     Memory,
-    /// A thread could not be started. Those that were started were joined first.
+    /// A thread could not be started. The threads that had been started were joined first.
     #[error("a thread could not be started")]
     Spawn,
-    /// A command of the opening was refused: because memory was refused, or because the clock was
-    /// at the settings' last version.
+    /// A command of the setup phase was refused, because memory was refused or because the clock
+    /// was at the last version of the settings.
     #[error("the opening stopped: {0}")]
     Opening(Fault),
 }
 
-/// Makes the manager of a load and answers the opening, with this keeper of its calls.
+/// Makes the manager of a load and runs the setup phase, with this recorder of its calls.
 fn open_load<D: Draws, K: Keep>(
     alloc: Global,
     settings: &Settings,
@@ -76,8 +76,8 @@ fn open_load<D: Draws, K: Keep>(
     Ok((manager, client))
 }
 
-/// Runs a load whose arguments are in their ranges, with this keeper of the opening, and hands the
-/// seats back.
+/// Runs a load whose arguments are in their ranges, with this recorder of the setup phase, and
+/// returns the slots.
 fn run_in_range<R: Threads + Wait, D: Draws + Sent, G: Gate + Sent, K: Keep + Sent>(
     rt: &R,
     alloc: Global,
@@ -116,17 +116,17 @@ where
     Ok((LoadReport { tally, report }, efforts, seats))
 }
 
-/// Whether a load can be run with these settings and `clients` clients.
+/// Returns whether a load can be run with these settings and this number of clients.
 fn can_run(settings: &Settings, clients: usize) -> bool
     ensures { result ≡ is_load settings.now clients }
 {
     settings.is_in_range() && clients == settings.clients as usize
 }
 
-/// Runs a load: the opening by the first client, with the words that are drawn for it; then, in
-/// each round, all clients at once, each in a thread of its own with its draws and its gate, which
-/// go on from round to round. They are gathered into the first after each round. Between two
-/// rounds the manager is renewed, and after the last one it is closed.
+/// Runs a load. The first client runs the setup phase, with the words that are drawn for it. In
+/// each round all clients run at once, each in a thread of its own, with its draws and its gate,
+/// which go on from round to round. After each round the clients are gathered into the first.
+/// Between two rounds the manager is renewed, and after the last one it is closed.
 pub fn run_load_with<
     R: Threads + Wait + AllocGlobal,
     D: Draws + Send + Drop,
@@ -155,8 +155,8 @@ pub fn run_load_with<
     }
 }
 
-/// Runs a load with the words of a generator: the opening with those of stream 0, the k-th client
-/// with those of stream k.
+/// Runs a load with the words of a generator: the setup phase draws from stream 0, and client k
+/// from stream k.
 pub fn run_load<R: Threads + Wait + AllocGlobal>(
     rt: &R,
     settings: &Settings,
@@ -179,14 +179,15 @@ pub fn run_load<R: Threads + Wait + AllocGlobal>(
     }
 }
 
-/// Runs a load as `run_load` does, each client with a copy of the gate, and with keepers of the
-/// answered calls: one of the opening's, and one of each client's, which goes on from round to
-/// round. Besides the report, returns what the calls of all clients in all rounds took. Each client
-/// tells its gate when it is ready and when it is done, in each round. Each keeper is asked for
-/// room before a call and is handed the call once it is answered; where it has no room the call is
-/// not made, and the task counts under memory, or the opening stops with the fault of refused
-/// memory. The keepers are handed back in their order. (What a keeper lends stays in its client's
-/// thread; that it is `Send` is asked for the proof.)
+/// Runs a load as `run_load` does, with a copy of the gate for each client and with recorders of
+/// the completed calls: one for the setup phase, and one for each client, which goes on from round
+/// to round. Besides the report, returns the attempt statistics of the calls of all clients in all
+/// rounds. In each round each client reports to its gate when it is ready and when it is done.
+/// Each recorder is asked for room before a call, and receives the call once it has completed. If
+/// a recorder has no room, the call is not issued: the task counts under memory, or the setup
+/// phase stops with the fault of refused memory. The recorders are returned in their order. (The
+/// tracer that a recorder lends stays in its client's thread; the proof requires that the tracer
+/// is `Send`.)
 pub fn run_load_kept<
     R: Threads + Wait + AllocGlobal,
     G: Gate + Copy + Send + Drop,

@@ -1,4 +1,4 @@
-//! What the clients of a load are to do.
+//! The plan that each thread of a load gets.
 
 ghost use Rattle.std.specs.Prelude.{◌≡◌, true};
 ghost use Rattle.vac_draws.specs.Setting.{is_settings};
@@ -6,8 +6,8 @@ ghost use Rattle.vac_draws.specs.Setting.{is_settings};
 use std::alloc::{AllocError, Global};
 use vac_draws::Settings;
 
-/// What the clients of a load are to do, of which each thread gets a copy: the settings, which are
-/// in their ranges. The tasks are built in this memory.
+/// The plan of a load, copied to each thread: the settings, which are in their ranges, and the
+/// allocator of the tasks.
 #[derive(Drop)]
 pub(crate) struct Plan {
     pub(crate) alloc: Global,
@@ -15,7 +15,7 @@ pub(crate) struct Plan {
     ghost in_range: { is_settings settings ≡ true },
 }
 
-/// By hand, since a struct with a ghost field has no derive of it.
+/// Implemented by hand, because a struct with a ghost field cannot derive `Clone`.
 impl Clone for Plan {
     ghost is_clone = { λ x y. y ≡ x };
 

@@ -15,8 +15,8 @@ use std::thread::Threads;
 use vac_asking::TaskCounts;
 use vac_manager::{Client, Manager, Session};
 
-/// What a round left, or several of a load: the manager with the client that took in all others,
-/// the seats of the clients in their order, and how the tasks of these rounds ended.
+/// The result of one round or of several: the manager with the client that gathered all others,
+/// the slots of the clients in their order, and the counts of the tasks.
 #[derive(Drop)]
 pub(crate) struct Round<W> {
     pub(crate) manager: Manager,
@@ -26,8 +26,8 @@ pub(crate) struct Round<W> {
 }
 
 impl Plan {
-    /// One round: splits off a session for each seat, has them all run their tasks in threads of
-    /// their own, and gathers their clients into the first.
+    /// Runs one round: splits off a session for each slot, lets all of them run their tasks in
+    /// threads of their own, and gathers their clients into the first.
     fn run_round<R: Threads + Wait, W: RunTasks + Sent>(
         self,
         rt: &R,
@@ -59,8 +59,7 @@ impl Plan {
         })
     }
 
-    /// Runs all rounds of a load, in which the seats go on. Between two of them the manager is
-    /// renewed.
+    /// Runs all rounds of a load with the same slots. Between two rounds the manager is renewed.
     pub(crate) fn run_rounds<R: Threads + Wait, W: RunTasks + Sent>(
         self,
         rt: &R,

@@ -1,4 +1,4 @@
-//! What runs the tasks of a client in a round.
+//! Running the tasks of a client in a round.
 
 ghost use Rattle.std.specs.Prelude.{◌≡◌, ℕ, true};
 ghost use Rattle.vac_draws.specs.Setting.{is_settings};
@@ -12,19 +12,19 @@ use vac_asking::{TaskCounts, count_loop};
 use vac_draws::{Draws, Settings};
 use vac_manager::{Keep, Session};
 
-/// Runs a client's tasks, round after round. What starts threads and gathers clients knows no more
-/// of a seat.
+/// A client slot that runs its client's tasks, round after round. The code that starts threads and
+/// gathers clients uses nothing else of a slot.
 pub(crate) trait RunTasks {
-    /// What the words of the tasks are drawn from.
+    /// The state that the words of the tasks are drawn from.
     ghost State: { Type 0 };
 
-    /// By which words one state leads to another.
+    /// The step of the state: a drawn word leads from one state to the next.
     ghost leads: { State → ℕ → State → Type 0 };
 
-    /// The seat, as contracts see it.
+    /// The slot, as contracts see it.
     ghost shown: { Self → SeatShown State };
 
-    /// Runs the client's tasks of a round in its session. They are built in this memory.
+    /// Runs the client's tasks of a round in its session. The tasks are built with this allocator.
     fn run_tasks(
         &mut self,
         alloc: Global,
@@ -43,7 +43,8 @@ impl<D: Draws, G: Gate, K: Keep> RunTasks for Seat<D, G, K> {
 
     ghost shown = { shown K.notes };
 
-    /// Tells the gate that the client is ready, runs its tasks, and tells the gate that it is done.
+    /// Reports to the gate that the client is ready, runs its tasks, and reports that the client
+    /// is done.
     fn run_tasks(
         &mut self,
         alloc: Global,

@@ -1,4 +1,4 @@
-//! What clients go on with from round to round, and what keeps their answered calls.
+//! Client slots, which go on from round to round, and the recorders of completed calls.
 
 ghost use Rattle.std.specs.Prelude.{◌≡◌, ◌≤◌, map, [], vec_len, vec_capacity, IfOk};
 ghost use Rattle.vac_draws.specs.Streams.{streams_of};
@@ -7,21 +7,21 @@ use std::alloc::{AllocError, Global};
 use vac_draws::PcgDraws;
 use vac_manager::Unkept;
 
-/// What goes from thread to thread: a seat, and so what it holds.
+/// Values that may go from thread to thread; a slot is such a value, with all it holds.
 pub(crate) trait Sent: Send + Drop {}
 
 impl<T: Send + Drop> Sent for T {}
 
-/// What keeps the answered calls of a load: those of its opening, and those of each client, in the
-/// order of the clients.
+/// The recorders of a load: that of the setup phase, and that of each client, in the order of the
+/// clients.
 #[derive(Drop)]
 pub struct Keepers<K> {
     pub opening: K,
     pub clients: Vec<K>,
 }
 
-/// What a client goes on with from round to round: what its words are drawn from, its gate, and
-/// what keeps its answered calls.
+/// A client slot of a load: the draws, the gate and the recorder of one client, kept from round to
+/// round.
 #[derive(Drop)]
 pub(crate) struct Seat<D, G, K> {
     pub(crate) draws: D,
@@ -29,7 +29,7 @@ pub(crate) struct Seat<D, G, K> {
     pub(crate) keep: K,
 }
 
-/// The keepers of a load of `count` clients whose calls nobody wants: each keeps nothing.
+/// Returns recorders that record nothing, for a load of `count` clients.
 pub fn no_keepers(alloc: Global, count: u32) -> Result<Keepers<Unkept>, AllocError>
     ensures { IfOk result (λ keepers. vec_len keepers.clients ≡ count) }
 {
@@ -43,7 +43,7 @@ pub fn no_keepers(alloc: Global, count: u32) -> Result<Keepers<Unkept>, AllocErr
     })
 }
 
-/// Seats whose keepers keep nothing.
+/// Returns slots without recorders.
 pub(crate) fn seats_unkept<D: Drop, G: Drop>(
     alloc: Global,
     clients: Vec<(D, G)>,
@@ -60,7 +60,8 @@ pub(crate) fn seats_unkept<D: Drop, G: Drop>(
     Ok(seats)
 }
 
-/// The seat of each client: draws from a stream of its own, its copy of the gate, and its keeper.
+/// Returns the slot of each client: draws from a stream of its own, a copy of the gate, and its
+/// recorder.
 pub(crate) fn seats_by_seed<G: Copy + Drop, K: Drop>(
     alloc: Global,
     seed: u64,
@@ -80,7 +81,8 @@ pub(crate) fn seats_by_seed<G: Copy + Drop, K: Drop>(
     Ok(seats)
 }
 
-/// The keepers of the seats, in their order.
+/// Returns the recorders of the slots, in their order. `keepers` is an empty vector with reserved
+/// room, so that this cannot fail.
 pub(crate) fn keepers_of<D: Drop, G: Drop, K: Drop>(
     seats: Vec<Seat<D, G, K>>,
     mut keepers: Vec<K>,

@@ -16,8 +16,8 @@ use vac_asking::TaskCounts;
 use vac_draws::Settings;
 use vac_manager::Session;
 
-/// A client in a session with its manager, its seat, and how the tasks ended that it ran in this
-/// round.
+/// A worker: a client in a session with its manager, its slot, and the counts of the tasks that it
+/// ran in this round.
 #[derive(Drop)]
 pub(crate) struct Worker<'m, W> {
     pub(crate) session: Session<'m>,
@@ -25,7 +25,7 @@ pub(crate) struct Worker<'m, W> {
     pub(crate) tally: TaskCounts,
 }
 
-/// The promise of a worker's thread: that the worker ran its tasks.
+/// The promise of a worker's thread: the worker ran its tasks.
 #[derive(Drop)]
 struct WorkOf<'m, W> {
     settings: Settings,
@@ -39,14 +39,15 @@ impl<'m, W: RunTasks> Promise<Worker<'m, W>> for WorkOf<'m, W> {
 /// The thread of a worker.
 type Handle<'m, W> = PromisedHandle<Worker<'m, W>, WorkOf<'m, W>>;
 
-/// Workers that are to run their tasks, or that ran them, the first one apart.
+/// The workers of a round, before or after their tasks; the first worker stands apart.
 #[derive(Drop)]
 pub(crate) struct Crew<'m, W> {
     pub(crate) first: Worker<'m, W>,
     pub(crate) others: Vec<Worker<'m, W>>,
 }
 
-/// Joins the threads in their order.
+/// Joins the threads in their order. `done` is an empty vector with reserved room, so that joining
+/// cannot fail.
 fn join_all<'m, R: Threads, W: RunTasks + Drop>(
     rt: &R,
     handles: Vec<Handle<'m, W>>,
@@ -65,7 +66,7 @@ fn join_all<'m, R: Threads, W: RunTasks + Drop>(
 }
 
 impl Plan {
-    /// Has a worker run its tasks.
+    /// Lets a worker run its tasks.
     fn work<'m, W: RunTasks>(self, worker: Worker<'m, W>) -> Worker<'m, W>
         ensures { DidWork W.leads W.shown self.settings worker.entry result }
     {
@@ -105,7 +106,8 @@ impl Plan {
         }
     }
 
-    /// Starts a thread for each worker, and keeps those that were started.
+    /// Starts a thread for each worker, and adds the threads that were started to `handles`. The
+    /// vector is empty and has reserved room, so that no started thread can be lost.
     fn start_all<'s, 'm: 's, E, W: RunTasks + Sent + 's>(
         self,
         scope: &Scope<'s, E>,
@@ -127,8 +129,8 @@ impl Plan {
         Ok(())
     }
 
-    /// Starts a thread for each worker and joins them all, in the order of the workers. Their
-    /// places are made first.
+    /// Starts a thread for each worker and joins them all, in the order of the workers. Memory for
+    /// the handles is allocated before the first thread starts.
     fn run_in<'s, 'm: 's, E, R: Threads, W: RunTasks + Sent + 's>(
         self,
         scope: &Scope<'s, E>,
@@ -152,8 +154,8 @@ impl Plan {
         Ok(Crew { first, others })
     }
 
-    /// Has each worker run its tasks in a thread of its own, all at once, and returns the workers
-    /// in their order. Where a thread cannot be started, those that were started are joined first.
+    /// Lets each worker run its tasks in a thread of its own, all at once, and returns the workers
+    /// in their order. If a thread cannot be started, those that were started are joined first.
     pub(crate) fn run_all<'m, R: Threads + Wait, W: RunTasks + Sent>(
         self,
         rt: &R,

@@ -1,4 +1,4 @@
--- What a call of the manager does, from what a call of an object does.
+-- Calls of the manager, derived from calls of an object.
 use Rattle.std.proofs.Common.{◌≡◌, inr, ℕ, ◌+◌, ◌≤◌, true, false, not, Bool, Result, Ok, Err, IfOk, IfErr, refl, sym}
 use Rattle.std.proofs.Common.{ap}
 use Rattle.std.proofs.Common.{◌∙◌, arith, Option, List, [], append-nil, nat_le, ◌&&◌}

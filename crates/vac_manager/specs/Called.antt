@@ -1,4 +1,4 @@
--- What a call of a manager does to its client's value, and why it may not be made.
+-- The effect of a manager's call on the value of its client, and the reasons for a fault.
 use Rattle.std.specs.Prelude.{◌≡◌, ℕ, ◌+◌, ◌*◌, ◌%◌, ◌<◌, ◌≤◌, ◌⊎◌, Bool, false, ◌&&◌, nat_le}
 use Rattle.std.specs.Prelude.{List, [], ◌∷◌, ◌++◌, Result, Ok, Err, ◌≢◌, ◌↔◌, IfOk, IfErr, IsErrOf}
 use Rattle.std.specs.Prelude.{true, is_some, is_none, ◌||◌, ◌==◌}
@@ -34,8 +34,8 @@ use Rattle.vac_model.specs.declared.limits.TheConstants.{MOST_TRIES}
 use Rattle.vac_manager.specs.Law.{Shows, IsLawful}
 use Rattle.vac_manager.specs.Legal.{capacity_of, IsHistoryTo, WasLegal}
 
--- a client of a manager: of which region it is, its value, and the free lists that its new entries
--- and the next client split off begin with
+-- a client of a manager as contracts see the client: the region, the value, the free list that its
+-- new entries start with, and the free list for the next client that it splits off
 pub record CallerShown : Type 0 where
   pub table : TableId
   pub value : Client
@@ -48,20 +48,20 @@ pub record IsOpened (region : RegionShown) : Type 0 where
   pub small : region.size ≤ MOST_WORDS
   pub shown : Shows region.first (empty_state (capacity_of region))
 
--- the client has all grants of its region: no other client is out, so it is alone
+-- the client has all grants of its region; no other client is out, so the client is solo
 abbrev pub HasAllGrants : Client → Type 0
 HasAllGrants v = v.grants ≡ MOST_GRANTS
 
--- this many tries may be asked for
+-- the number of attempts that a call may make at most is in range: 1 to 1,048,576
 abbrev pub is_try_count : ℕ → Bool
 is_try_count tries = nat_le 1 tries && nat_le tries MOST_TRIES
 
--- the task can be asked for, with this many tries
+-- the task can be issued, with this limit on its attempts
 abbrev pub is_call : Task → ℕ → Bool
 is_call t tries = is_task t && is_try_count tries
 
--- the command has nothing to change in any state: a question, an Add of no units without a price, a
--- Delete of no units
+-- the command changes nothing in any state: it is a question, an Add of no units without a price,
+-- or a Delete of no units
 abbrev pub has_no_change : Command → Bool
 has_no_change (command.Add kind id num price) = num == 0 && is_none price
 has_no_change (command.Delete kind id num) = num == 0
@@ -75,29 +75,31 @@ has_no_change (command.Reserve customer kind id num) = false
 has_no_change (command.Cancel customer kind id) = false
 has_no_change command.Audit = true
 
--- the task is a single command, which was refused or has nothing to change
+-- the task is a single command that was refused or that changes nothing in any state
 abbrev pub changes_nothing : Task → Reply → Bool
 changes_nothing (task.One c) reply = is_some (refusal_of reply) || has_no_change c
 changes_nothing (task.Trip customer asks) reply = false
 changes_nothing (task.Leave customer) reply = false
 changes_nothing (task.Update changes) reply = false
 
--- exactly one record was added, as the last one, and it is a reader's: it wrote nothing
+-- exactly one record was added, as the last one; it is the record of a reader and wrote nothing
 pub record AddsReader (v v' : Client) : Type 0 where
   pub added : Record
   pub reader : added.writer ≡ false
   pub wrote : added.writes ≡ []
   pub records : v'.records ≡ v.records ++ (added ∷ [])
 
--- a command that is refused, or has nothing to change, adds a reader's record
--- Not said: that an Add which gives an item the price that it has writes nothing: it writes the
--- price.
+-- if the call returns a reply to a single command that was refused or that changes nothing in any
+-- state, a reader's record was added
+-- Not said: that an Add which sets the price that the item already has writes nothing. Such an Add
+-- writes the price.
 abbrev pub Spares : {E : Type 0} → Task → Result Reply E → Client → Client → Type 0
 Spares t (Ok reply) v v' = changes_nothing t reply ≡ true → AddsReader v v'
 Spares t (Err e) v v' = Unit {0}
 
--- exactly one record was added, as the last one, with this tag, by the last attempt: of this
--- renewal and of no version below the floor, and after the writer of that version
+-- exactly one record was added, as the last one: with this tag, by the client's last attempt, in
+-- this renewal, of a version from the client's earlier floor to its present one, and after the
+-- writer of the earlier floor
 pub record Adds (renewal : ℕ) (tag : List ℕ) (v v' : Client) : Type 0 where
   pub added : Record
   pub tag_is : added.tag ≡ tag
@@ -109,19 +111,21 @@ pub record Adds (renewal : ℕ) (tag : List ℕ) (v v' : Client) : Type 0 where
   pub known : added.version ≤ v'.floor
   pub records : v'.records ≡ v.records ++ (added ∷ [])
 
--- at an answer the record of the task and this reply was added, at a refusal none
+-- if the call returns a reply, the record of the task and the reply was added; after a fault, no
+-- record was added
 abbrev pub Records : {E : Type 0} → RegionShown → Task → Result Reply E → Client → Client → Type 0
 Records region t (Ok reply) v v' = Adds region.renewal (code t reply) v v'
 Records region t (Err e) v v' = v'.records ≡ v.records
 
--- the records, which were a history that leads to the state s, are one that leads on to the state
--- after the task, and the answer is its reply
+-- the client's records are a history that reaches the state after the task ran in state s, and the
+-- reply is the reply of that run
 pub record LeadsOn (region : RegionShown) (t : Task) (reply : Reply) (s : State) (v' : Client) :
     Type 0 where
   pub reply_is : reply ≡ (run s t).1
   pub history : IsHistoryTo region v'.records (run s t).0
 
--- what a call makes of a history: at an answer it leads on, at a refusal to the same state
+-- if the client's records are a history that reaches a state s, then after a reply they are a
+-- history that reaches the state after the task; after a fault they still reach s
 abbrev pub Continues : {E : Type 0} → RegionShown → Task → Result Reply E → Client → Client
     → Type 0
 Continues region t (Ok reply) v v' =
@@ -129,25 +133,25 @@ Continues region t (Ok reply) v v' =
 Continues region t (Err e) v v' =
     (s : State) → IsHistoryTo region v.records s → IsHistoryTo region v'.records s
 
--- the records of a client that is alone are a whole history
+-- the records of a solo client are a complete history
 abbrev pub HasWholeHistory : RegionShown → Client → Type 0
 HasWholeHistory region v = (last : State) × IsHistoryTo region v.records last
 
--- the client's last step showed the conflict: in a read, or in a commit
+-- the client's last step showed the conflict, in a read or in a commit
 abbrev pub WasShown : RegionShown → Conflict → Client → Type 0
 WasShown region conflict v =
     ∥ ((address : ℕ) × IsReadConflict (stripe_of region.stripes) address conflict v) ∥₁
     ⊎ ((log : LogValue) × IsCommitConflict (stripe_of region.stripes) log conflict v)
 
--- the client's last step, a give back apart, showed no conflict
+-- the client's last step, apart from giving back locks, showed no conflict
 abbrev pub ShowsNone : RegionShown → Client → Type 0
 ShowsNone region v = (conflict : Conflict) → WasShown region conflict v → ⊥
 
--- the client's attempt of the task was to write something: the record of the task and some reply,
--- with what the attempt has read and these writes, would have been lawful; and it is no command
--- that is refused so, or has nothing to change
--- Not said: of a task that is no single command, that a write which changes nothing is never made:
--- a word written with the value that it has is lawful too.
+-- the client's attempt of the task was about to write something: for some reply, the record of the
+-- task with the attempt's reads and some writes would have been lawful, and the task is no command
+-- that is refused with that reply or that changes nothing in any state
+-- Not said: that a task which is not a single command never makes a write that changes nothing. A
+-- write of the value that the word already has is lawful too.
 pub record WouldWrite (t : Task) (v : Client) : Type 0 where
   pub reply : Reply
   pub writes : List (ℕ × ℕ)
@@ -155,9 +159,9 @@ pub record WouldWrite (t : Task) (v : Client) : Type 0 where
   pub changing : changes_nothing t reply ≡ false
   pub lawful : IsLawful (code t reply) v.attempt.reads writes
 
--- the clock was found at the last version, and there was something to write. The locks had been
--- taken, and were given back: the last step but that won one, or is the tick that lost to that
--- version.
+-- the clock was found at its last version while the attempt had something to write; the locks had
+-- been taken and were given back, and the last step before the locks were given back won a lock,
+-- or is the tick that lost to this version
 pub record IsSpent (region : RegionShown) (t : Task) (version : ℕ) (v : Client) : Type 0 where
   pub version_is : version ≡ region.last
   pub from : v.attempt.next_from ≡ region.last
@@ -165,10 +169,10 @@ pub record IsSpent (region : RegionShown) (t : Task) (version : ℕ) (v : Client
   pub found : HasWonLock v ⊎ HasLostTick version v
   pub written : WouldWrite t v
 
--- how many attempts a call made: at most as many as tries, all of them where it returns Busy, none
--- where it returns Arguments
--- Not said: of a client that is not alone, that refused memory and a spent clock end the call at
--- once: `TookEffort` of `trace_call` says it, by its counts.
+-- the number of attempts that a call made: at most the limit, exactly the limit if the call
+-- returns Busy, none if the call returns Arguments
+-- Not said: that refused memory and a spent clock end the call of a client that is not solo at
+-- once. `TookEffort` of `trace_call` says so by its counts.
 abbrev pub Attempts : ℕ → ℕ → ℕ → Result Reply Fault → Type 0
 Attempts tries before now (Ok reply) = (before < now) × (now ≤ before + tries)
 Attempts tries before now (Err fault.Arguments) = now ≡ before
@@ -176,7 +180,9 @@ Attempts tries before now (Err fault.Memory) = (before < now) × (now ≤ before
 Attempts tries before now (Err (fault.Busy conflict)) = now ≡ before + tries
 Attempts tries before now (Err (fault.Spent version)) = (before < now) × (now ≤ before + tries)
 
--- what a call leaves of the version that its client knows, where that client is alone
+-- the effect of a solo client's call on the version that the client knows: a reply raises the
+-- version by at most one, refused arguments and refused memory leave it, Busy is impossible, and a
+-- spent clock means that the client knew the last version
 abbrev pub IsNext : ℕ → ℕ → ℕ → Result Reply Fault → Type 0
 IsNext last before now (Ok reply) = now ≤ before + 1
 IsNext last before now (Err fault.Arguments) = now ≡ before
@@ -184,9 +190,10 @@ IsNext last before now (Err fault.Memory) = now ≡ before
 IsNext last before now (Err (fault.Busy conflict)) = ⊥
 IsNext last before now (Err (fault.Spent version)) = before ≡ last
 
--- why a call of a task was not answered: its numbers, a conflict that the last attempt showed, or,
--- where the task may write, refused memory after a step that showed no conflict, or a spent clock
--- Not said: which growth of a log was refused; that a try wins.
+-- the reason for a fault: arguments out of range, a conflict that the last attempt showed, or,
+-- only if the task may write, refused memory after a step that showed no conflict, or a spent
+-- clock
+-- Not said: which growth of a log was refused; that some attempt succeeds.
 abbrev pub IsFault : RegionShown → Task → ℕ → Fault → Client → Client → Type 0
 IsFault region t tries fault.Arguments v v' = (is_call t tries ≡ false) × (v' ≡ v)
 IsFault region t tries fault.Memory v v' = (only_reads t ≡ false) × ShowsNone region v'
@@ -194,15 +201,16 @@ IsFault region t tries (fault.Busy conflict) v v' = WasShown region conflict v'
 IsFault region t tries (fault.Spent version) v v' =
     (only_reads t ≡ false) × IsSpent region t version v'
 
--- the fault is another one than a conflict
+-- the fault is not a conflict
 abbrev pub IsNotBusy : Fault → Type 0
 IsNotBusy fault.Arguments = Unit {0}
 IsNotBusy fault.Memory = Unit {0}
 IsNotBusy (fault.Busy conflict) = ⊥
 IsNotBusy (fault.Spent version) = Unit {0}
 
--- what a call of a task does: what its client is after it, what was recorded, how many attempts it
--- took, why it was not answered, and, of a client that is alone, which history there is
+-- the effect of a call of a task: the client's value afterwards, the records that were added, the
+-- number of attempts, the reason for a fault, and, for a solo client, the history that its records
+-- are
 pub record HasCalled (region : RegionShown) (t : Task) (tries : ℕ) (result : Result Reply Fault)
     (c c' : CallerShown) : Type 0 where
   pub client : c' ≡ record c { value = c'.value }
@@ -222,7 +230,7 @@ pub record HasCalled (region : RegionShown) (t : Task) (tries : ℕ) (result : R
   pub fault : IfErr result (λ why. IsFault region t tries why c.value c'.value)
   pub alone : HasAllGrants c.value → IfErr result (λ why. IsNotBusy why)
 
--- a client was split off, which cost a grant: its new entries begin with the next free list
+-- a client was split off for one grant; the new client's entries start with the next free list
 pub record Splits (before after other : CallerShown) : Type 0 where
   pub some : 0 < before.value.grants
   pub mine : after ≡ record before { value = giving before.value; next = (before.next + 1) % LISTS }
@@ -232,12 +240,12 @@ pub record Splits (before after other : CallerShown) : Type 0 where
     next = (before.next + 1) % LISTS;
   }
 
--- no client could be split off, since no grant was left
+-- no client could be split off, because no grant was left
 pub record SplitsNot (fault : RegionFault) (before after : CallerShown) : Type 0 where
   pub fault_is : fault ≡ Clients
   pub none : before.value.grants ≡ 0
   pub same : after ≡ before
 
--- the records of the client that took the other one in have nothing but what the two clients had
+-- each record of the client after the gather is a record of one of the two clients
 abbrev pub OnlyOf : Client → Client → Client → Type 0
 OnlyOf v w after = (r : Record) → In r after.records → In r v.records ⊎ In r w.records

@@ -1,4 +1,4 @@
--- How a call ended.
+-- The result of a call, from the result of its last attempt.
 use Rattle.std.specs.Prelude.{Result, Ok, Err}
 use Rattle.stm_attempt.specs.declared.conflict.Stop.{Stop}
 use Rattle.stm_object.specs.declared.place.Place.{Place}
@@ -7,12 +7,12 @@ use Rattle.vac_manager.specs.declared.fault.Fault.{Fault}
 use Rattle.vac_manager.specs.declared.placed.Placed.{Placed}
 use Rattle.vac_manager.specs.Faults.{fault_of}
 
--- without the place of its record
+-- the result of a call without the commit position of its record
 abbrev pub reply_in : Result (Reply × Place) Stop → Result Reply Fault
 reply_in (Ok a) = Ok a.0
 reply_in (Err stop) = Err (fault_of stop)
 
--- with it
+-- the result of a call with the commit position of its record
 abbrev pub placed_in : Result (Reply × Place) Stop → Result Placed Fault
 placed_in (Ok a) = Ok (record { reply = a.0; place = a.1 })
 placed_in (Err stop) = Err (fault_of stop)

@@ -1,4 +1,4 @@
--- Calls that are kept.
+-- Recorded calls.
 use Rattle.std.specs.Prelude.{◌≡◌, ◌⊎◌, List, [], ◌∷◌, ◌++◌, Option, Some, None, IfSome}
 use Rattle.stm_core.specs.Client.{Record}
 use Rattle.vac_model.specs.declared.tasks.Task.{Task}
@@ -8,13 +8,14 @@ use Rattle.vac_manager.specs.Placed.{place_of}
 use Rattle.vac_manager.specs.declared.note.Note.{Note}
 use Rattle.vac_manager.specs.Tracing.{Trace, trace_of, IsLastTraced, IsTraceOf}
 
--- these calls after those that are kept; nothing where nothing is kept
+-- the recorded calls with these calls appended; None if nothing is recorded
 abbrev pub notes_behind : Option (List Note) → List Note → Option (List Note)
 notes_behind None more = None
 notes_behind (Some notes) more = Some (notes ++ more)
 
--- a call of this task, which was answered so when these attempts were traced, was kept after the
--- others; where its attempt is noted, that is the last of these
+-- a completed call of this task was appended to the recorded calls, with the reply and commit
+-- position that the call returned; if the note has an attempt, that attempt is the last of the
+-- traced ones
 pub record HasKept (t : Task) (p : Placed) (traced : Option (List Trace))
     (before after : Option (List Note)) : Type 0 where
   pub note : Note
@@ -24,15 +25,16 @@ pub record HasKept (t : Task) (p : Placed) (traced : Option (List Trace))
   pub attempt : IfSome note.attempt (λ a. IsLastTraced traced (trace_of a.value))
   pub kept : after ≡ notes_behind before (note ∷ [])
 
--- at most the last of the attempts that were traced was taken out; where not all of them are known
--- any more, nothing is said
--- Not said: that what was taken out is the attempt that the note has.
+-- at most the last traced attempt was taken out; nothing is said if the list of traced attempts is
+-- not known afterwards
+-- Not said: that the attempt taken out is the attempt in the note.
 abbrev pub HasTakenOut : Option (List Trace) → Option (List Trace) → Type 0
 HasTakenOut before after = (all : List Trace) → after ≡ Some all →
     (before ≡ Some all) ⊎ ((last : Trace) × (before ≡ Some (all ++ (last ∷ []))))
 
--- the record is that of the call: of its task and its reply, and at its place; where the attempt
--- that answered it is noted, it made this record
+-- the record belongs to the noted call: its tag is the code of the call's task and reply, and the
+-- note has the record's commit position; if the note has an attempt, the record is that of the
+-- attempt
 pub record IsNoted (n : Note) (r : Record) : Type 0 where
   pub tag : r.tag ≡ code n.task n.reply
   pub place : n.place ≡ place_of r

@@ -1,4 +1,4 @@
--- Histories of tasks: when a list of records is what running tasks one after the other gives.
+-- Legal histories of tasks: the records agree with running their tasks one after the other.
 use Rattle.std.specs.Prelude.{◌≡◌, ℕ, ◌-◌, ◌/◌, List, [], ◌∷◌, ◌++◌, true, false}
 use Rattle.tx_memory.specs.Image.{In}
 use Rattle.stm_core.specs.Client.{Client, Record}
@@ -14,8 +14,8 @@ use Rattle.vac_model.specs.Ranges.{is_task}
 use Rattle.vac_model.specs.Code.{code}
 use Rattle.vac_manager.specs.Law.{Shows, IsFitting, IsLawful}
 
--- from the state s the record's task gives the record's reply and the state s', which is s where
--- the record wrote nothing
+-- run in state s, the record's task gives the record's reply and the state s'; the two states are
+-- equal if the record wrote nothing
 pub record RecordRuns (r : Record) (s s' : State) : Type 0 where
   pub task : Task
   pub reply : Reply
@@ -24,48 +24,49 @@ pub record RecordRuns (r : Record) (s s' : State) : Type 0 where
   pub runs : run s task ≡ (s', reply)
   pub steady : r.writes ≡ [] → s' ≡ s
 
--- run from s, each record's task gives its reply, and the last state is this one
+-- run one after the other from state s, each record's task gives its reply, and the final state is
+-- `last`
 abbrev pub IsLegal : State → List Record → State → Type 0
 IsLegal s [] last = s ≡ last
 IsLegal s (r ∷ rs) last = (s' : State) × RecordRuns r s s' × IsLegal s' rs last
 
 -- lawful records that are serial from an image of a balanced state are legal from that state, and
--- the last state is the one that the last image shows
+-- the image after them represents the final state
 abbrev pub SerialIsLegal : Type 0
 SerialIsLegal = (image : List ℕ) (s : State) (rs : List Record) → Shows image s → Serial image rs
     → ((r : Record) → In r rs → IsLawful r.tag r.reads r.writes)
     → (last : State) × (IsLegal s rs last × Shows (image_after image rs) last)
 
--- they are not two writers of one version
+-- the two records are not two writers of one version in one renewal
 abbrev pub AreNoRivals : Record → Record → Type 0
 AreNoRivals x r = x.renewal ≡ r.renewal → x.version ≡ r.version → x.writer ≡ true →
     r.writer ≡ true → ⊥
 
--- each version has at most one writer
+-- each version of a renewal has at most one writer
 abbrev pub HaveOneWriter : List Record → Type 0
 HaveOneWriter [] = Unit {0}
 HaveOneWriter (x ∷ xs) = ((r : Record) → In r xs → AreNoRivals x r) × HaveOneWriter xs
 
--- each version has at most one writer, and a reader wrote nothing
+-- each version of a renewal has at most one writer, and the record of a reader wrote nothing
 pub record AreVersioned (rs : List Record) : Type 0 where
   pub writers : HaveOneWriter rs
   pub readers : (r : Record) → In r rs → r.writer ≡ false → r.writes ≡ []
 
--- how many entries there is room for in a manager's region
+-- the capacity of a manager's region, in entries
 abbrev pub capacity_of : RegionShown → ℕ
 capacity_of region = (region.size - FIRST_BLOCK) / BLOCK_WORDS
 
--- the records are a whole history of a manager's region: legal from the empty state, and leading
--- to this one
+-- the records are a complete history of a manager's region: legal from the empty state, with this
+-- final state
 abbrev pub IsHistoryTo : RegionShown → List Record → State → Type 0
 IsHistoryTo region records last = IsLegal (empty_state (capacity_of region)) records last
 
--- when a client that now has this value decided its last record, in the core state of its region
--- right after that step, the records of all clients were a history, and its own were among them,
--- each once and in their order
--- Not said: which other clients there are.
+-- the history was legal when a client with this value decided its last record: in the core state
+-- of its region right after that step, the records of all clients were a history, and the client's
+-- own records were among them, each once and in their order
+-- Not said: which other clients were out.
 pub record WasLegal (region : RegionShown) (v : Client) : Type 0 where
-  -- the record that the deciding step made is the client's last one
+  -- the record that the deciding step made is the client's last record
   pub made : Record
   pub earlier : List Record
   pub newest : v.records ≡ earlier ++ (made ∷ [])

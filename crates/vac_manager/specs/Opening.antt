@@ -1,4 +1,4 @@
--- How a manager begins and ends.
+-- The opening and the closing of a manager.
 use Rattle.std.specs.Prelude.{◌≡◌, ℕ, Bool, ◌&&◌, nat_le, nat_lt, List}
 use Rattle.stm_core.specs.Client.{Client, of_renewal}
 use Rattle.stm_core.specs.Event.{opener}
@@ -13,22 +13,22 @@ use Rattle.vac_manager.specs.Law.{Shows, IsLawful}
 use Rattle.vac_manager.specs.Legal.{IsLegal, AreVersioned, capacity_of}
 use Rattle.vac_manager.specs.Called.{CallerShown}
 
--- the clock may end at this version
+-- the number may be the last version of a clock: 1 to 2^62 - 1
 abbrev pub is_last_version : ℕ → Bool
 is_last_version last = nat_le 1 last && nat_lt last VERSION_LIMIT
 
--- there may be this many lock words
+-- the number of lock words is in range: 1 to 1,048,576
 abbrev pub is_stripe_count : ℕ → Bool
 is_stripe_count stripes = nat_le 1 stripes && nat_le stripes MOST_STRIPES
 
--- a manager may be opened with these numbers
+-- a manager may be opened with this number of blocks, last version and number of lock words
 abbrev pub is_opening : ℕ → ℕ → ℕ → Bool
 is_opening blocks last stripes =
     is_block_count blocks && (is_last_version last && is_stripe_count stripes)
 
--- a manager's region was opened with this many blocks and lock words, this last version, and words
--- that represent the empty state, and was never renewed; its first client has all grants and no
--- record
+-- a manager's region was opened with this number of blocks and of lock words, with this last
+-- version, and with words that represent the empty state; the region was never renewed, and its
+-- first client has all grants and no record
 pub record Opens (blocks last stripes : ℕ) (region : RegionShown) (client : CallerShown) :
     Type 0 where
   pub size : region.size ≡ heap_words blocks
@@ -41,9 +41,9 @@ pub record Opens (blocks last stripes : ℕ) (region : RegionShown) (client : Ca
   pub shown : Shows region.opening (empty_state blocks)
   pub client_is : client ≡ record { table = region.table; value = opener; start = 0; next = 1 }
 
--- the words and the version are the last ones of the region; the closing client's records are
--- legal from the empty state, and the words represent their last state; those of this renewal have
--- one writer a version, and readers that wrote nothing
+-- a region was closed with these words and this version: the closing client's records are legal
+-- from the empty state, the words represent their final state, and the records of the present
+-- renewal have one writer a version and readers that wrote nothing
 pub record ClosesInState (region : RegionShown) (v : Client) (words : List ℕ) (version : ℕ)
     : Type 0 where
   pub ends : Ends (λ (tag : List ℕ) reads writes. IsLawful tag reads writes) region v words version

@@ -1,4 +1,4 @@
--- The place of a call's record, and what the call took.
+-- The commit position of a call's record, and the statistics of the call's attempts.
 use Rattle.std.specs.Prelude.{◌≡◌, ℕ, ◌+◌, List, [], ◌∷◌, length, Option, Some, None, Result, Ok, Err, IfErr}
 use Rattle.std.specs.Prelude.{nat_lt, if◌then◌else◌}
 use Rattle.stm_core.specs.Client.{Client}
@@ -20,24 +20,25 @@ use Rattle.vac_manager.specs.Sites.{site_of}
 use Rattle.vac_model.specs.declared.limits.TheConstants.{MOST_TRIES}
 use Rattle.vac_manager.specs.Called.{Adds, CallerShown, HasCalled, WasShown}
 
--- exactly one record was added, with this tag, and this is its place
+-- exactly one record was added, with this tag and this commit position
 pub record AddsAt (renewal : ℕ) (tag : List ℕ) (place : Place) (v v' : Client) : Type 0 where
   pub adds : Adds renewal tag v v'
   pub place_is : place ≡ place_of adds.added
 
--- the replies without their places
+-- the result of a call without the commit position
 abbrev pub replied : {E : Type 0} → Result Placed E → Result Reply E
 replied (Ok placed) = Ok placed.reply
 replied (Err e) = Err e
 
--- at an answer the record of the task and its reply was added, at the place that is returned
+-- if the call returns a reply, the record of the task and the reply was added, with the commit
+-- position that the call returns; after a fault, no record was added
 abbrev pub IsAddedAtPlace : {E : Type 0} → RegionShown → Task → Result Placed E → Client
     → Client → Type 0
 IsAddedAtPlace region t (Ok placed) v v' =
     AddsAt region.renewal (code t placed.reply) placed.place v v'
 IsAddedAtPlace region t (Err e) v v' = v'.records ≡ v.records
 
--- no attempt
+-- the attempt statistics of no attempt
 abbrev pub nothing_done : Effort
 nothing_done = record {
   attempts = 0;
@@ -53,19 +54,19 @@ nothing_done = record {
   stocks = 0;
 }
 
--- how many attempts aborted on a conflict
+-- the number of attempts that aborted on a conflict
 abbrev pub conflicts_of : Effort → ℕ
 conflicts_of e = e.held + e.newer + e.moved + e.lost_lock + e.lost_tick
 
--- how many of these conflicts were over a lock, by the kind of word that it guards
+-- the number of conflicts over a lock, summed over the kinds of words that a lock guards
 abbrev pub locks_of : Effort → ℕ
 locks_of e = e.roots + e.heads + e.nodes + e.uses + e.stocks
 
--- one more attempt
+-- the statistics with one more attempt
 abbrev pub one_more : Effort → Effort
 one_more e = record e { attempts = e.attempts + 1 }
 
--- one more conflict over the lock of such a word
+-- the statistics with one more conflict over the lock of a word of this kind
 abbrev pub one_more_over : Site → Effort → Effort
 one_more_over Root e = record e { roots = e.roots + 1 }
 one_more_over Head e = record e { heads = e.heads + 1 }
@@ -73,8 +74,8 @@ one_more_over Node e = record e { nodes = e.nodes + 1 }
 one_more_over Use e = record e { uses = e.uses + 1 }
 one_more_over Stock e = record e { stocks = e.stocks + 1 }
 
--- one more attempt, which aborted on this conflict: it is counted by its kind, and by its lock's
--- word
+-- the statistics with one more attempt that aborted on this conflict, counted by the kind of the
+-- conflict and, unless a tick was lost, by the word that the lock guards
 abbrev pub conflicted : Conflict → Effort → Effort
 conflicted (Held lock word) e =
     one_more_over (site_of lock) (record (one_more e) { held = e.held + 1 })
@@ -86,20 +87,21 @@ conflicted (LostLock lock found) e =
     one_more_over (site_of lock) (record (one_more e) { lost_lock = e.lost_lock + 1 })
 conflicted (LostTick found) e = record (one_more e) { lost_tick = e.lost_tick + 1 }
 
--- one more attempt, which ended with this conflict, if with any; there is room for 1,048,576
+-- the statistics with one more attempt, which ended with this conflict if there is one; nothing is
+-- counted beyond 1,048,576 attempts
 abbrev pub counted : Option Conflict → Effort → Effort
 counted None e = if nat_lt e.attempts MOST_TRIES then one_more e else e
 counted (Some conflict) e = if nat_lt e.attempts MOST_TRIES then conflicted conflict e else e
 
--- attempts that aborted on these conflicts, the newest first
+-- the statistics of attempts that aborted on these conflicts, the newest first
 abbrev pub effort_of : List Conflict → Effort
 effort_of [] = nothing_done
 effort_of (conflict ∷ earlier) = conflicted conflict (effort_of earlier)
 
--- an attempt of this client, `behind` attempts after its present one, ended with this conflict
--- shown, and changed neither its records nor its grants
--- Not said: of which kind the conflicts of earlier tries were: the witness is any value that has
--- the client's records and grants and that attempt's number, and shows it.
+-- an attempt of this client, `behind` attempts after its present one, ended by showing this
+-- conflict, and changed neither the client's records nor its grants
+-- Not said: the kind of the conflicts of earlier attempts. The witness is any value that has the
+-- client's records and grants and the number of that attempt, and that shows the conflict.
 pub record HasShown (region : RegionShown) (v : Client) (behind : ℕ) (conflict : Conflict) :
     Type 0 where
   pub client : Client
@@ -108,19 +110,20 @@ pub record HasShown (region : RegionShown) (v : Client) (behind : ℕ) (conflict
   pub grants : client.grants ≡ v.grants
   pub shown : WasShown region conflict client
 
--- the client's next attempts, one after the other, ended with these conflicts shown, each with its
--- own, the newest first
+-- the client's next attempts, one for each of these conflicts, each ended by showing its conflict;
+-- the list has the newest conflict first
 abbrev pub HaveShown : RegionShown → Client → List Conflict → Type 0
 HaveShown region v [] = Unit {0}
 HaveShown region v (conflict ∷ earlier) =
     HasShown region v (length (conflict ∷ earlier)) conflict × HaveShown region v earlier
 
--- the newest of these conflicts, the first one
+-- the newest of these conflicts, which is the first of the list
 abbrev pub newest : List Conflict → Option Conflict
 newest [] = None
 newest (conflict ∷ earlier) = Some conflict
 
--- one more attempt of a call, unless the call made none, or that one met a conflict too
+-- the statistics with one more attempt for the end of the call, unless the call made no attempt or
+-- its last attempt met a conflict that is already counted
 abbrev pub closed_by : {R : Type 0} → Result R Fault → Effort → Effort
 closed_by (Ok reply) e = one_more e
 closed_by (Err fault.Arguments) e = e
@@ -135,8 +138,9 @@ ClosesWith fault.Memory conflicts = Unit {0}
 ClosesWith (fault.Busy conflict) conflicts = newest conflicts ≡ Some conflict
 ClosesWith (fault.Spent version) conflicts = Unit {0}
 
--- this is what a call took: each attempt that was begun is counted; all but the last one, and that
--- one too where the call returns Busy, are counted by the conflict that they ended with
+-- the statistics of a call are exact: each attempt that was begun is counted, and each attempt but
+-- the last is counted by the conflict that it ended with, as is the last one if the call returns
+-- Busy
 pub record TookEffort {R : Type 0} (region : RegionShown) (v v' : Client) (result : Result R Fault)
     (e : Effort) : Type 0 where
   pub conflicts : List Conflict
@@ -145,7 +149,8 @@ pub record TookEffort {R : Type 0} (region : RegionShown) (v v' : Client) (resul
   pub effort : e ≡ closed_by result (effort_of conflicts)
   pub begun : v.attempt.number + e.attempts ≡ v'.attempt.number
 
--- what a call does that also returns the place of its record and what it took
+-- the effect of a call that also returns the commit position of its record and the statistics of
+-- its attempts
 pub record HasCalledPlaced (region : RegionShown) (t : Task) (tries : ℕ)
     (result : Result Placed Fault) (e : Effort) (c c' : CallerShown) : Type 0 where
   pub call : HasCalled region t tries (replied result) c c'

@@ -1,4 +1,4 @@
--- What a renewal of a manager leaves.
+-- The result of a manager's renewal.
 use Rattle.std.specs.Prelude.{◌≡◌, ◌+◌, ℕ, List}
 use Rattle.stm_core.specs.Client.{Client}
 use Rattle.stm_core.specs.Event.{renewing}
@@ -9,13 +9,13 @@ use Rattle.vac_manager.specs.Opening.{ClosesInState}
 use Rattle.vac_manager.specs.declared.renew.RenewFault.{RenewFault}
 use Rattle.vac_manager.specs.declared.renew.RenewFault.TheVariants.{Kept, Closed}
 
--- the manager ended with these words, at some version
+-- the manager was closed with these words, at some version
 abbrev pub ClosesSomewhere : RegionShown → Client → List ℕ → Type 0
 ClosesSomewhere region v words = (version : ℕ) × ClosesInState region v words version
 
--- a manager was renewed, on a clock that ends at this last version: it is the same one with one
--- renewal more, and so is its client, whose value is as a renewal leaves it; the words that it goes
--- on with are those with which it ended
+-- a manager was renewed with a clock that ends at this last version: the manager is the same
+-- except for one more renewal, the client has its value after a renewal, and the manager goes on
+-- with the words with which it was closed
 pub record Renews (last : ℕ) (region : RegionShown) (c : CallerShown) (region' : RegionShown)
     (c' : CallerShown) : Type 0 where
   pub manager : region' ≡ record region {
@@ -29,8 +29,8 @@ pub record Renews (last : ℕ) (region : RegionShown) (c : CallerShown) (region'
   pub words : ClosesSomewhere region c.value region'.opening
   pub ranges : MayRenew region.renewal last c.value.grants
 
--- when a manager is not renewed: it and its client are as they were, with the reason; or it ended
--- with these words at this version
+-- a manager was not renewed: either the manager and its client are as they were, with the reason,
+-- or the manager was closed with these words at this version
 abbrev pub StaysUnrenewed : RegionShown → CallerShown → ℕ → RenewFault → Type 0
 StaysUnrenewed region client last (Kept manager c fault) = (manager ≡ region) × (c ≡ client)
     × RenewsNot region.renewal last client.value.grants fault

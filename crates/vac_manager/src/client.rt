@@ -5,17 +5,17 @@ use std::marker::Model;
 use stm_object::User;
 use tx_alloc::FreeList;
 
-/// A client of a manager: the right to call it, from one thread at a time. Between calls it holds
-/// no lock. Contracts see which region it is of, its value, and its two free lists.
+/// A client of a manager: the right to call the manager, from one thread at a time. Between calls
+/// a client holds no lock. Contracts see the client's region, its value, and its two free lists.
 ///
-/// A client that is dropped and not gathered is out for good: its manager can then be neither
-/// closed nor renewed.
+/// A client that is dropped without being gathered stays out for good. Its manager can then be
+/// neither closed nor renewed.
 #[derive(Drop)]
 pub struct Client {
     pub(crate) user: User<Vacation>,
-    /// The free list that its new entries take their blocks from.
+    /// The free list that the client's new entries take their blocks from.
     pub(crate) start: FreeList,
-    /// The free list that new entries of the next client that it splits off take their blocks from.
+    /// The free list for the new entries of the next client that is split off from this one.
     pub(crate) next: FreeList,
 }
 

@@ -1,4 +1,4 @@
-//! Why a call of the manager was not answered.
+//! The reasons why a call of the manager returns no reply.
 ghost use Rattle.std.specs.Prelude.{◌≡◌};
 ghost use Rattle.vac_manager.specs.Faults.{fault_of};
 
@@ -6,20 +6,20 @@ use stm_attempt::{Conflict, Stop};
 use stm_words::Version;
 use thiserror::Error;
 
-/// Why a call was not answered. Whatever the fault, the call has left no trace: it added no record,
-/// stored nothing and holds no lock.
+/// The reason why a call returned no reply. After any fault the call has left no trace: the call
+/// added no record, stored nothing and holds no lock.
 #[derive(Clone, Copy, Debug, PartialEq, Eq, Error)]
 pub enum Fault {
-    /// A number is out of its range.
+    /// A number of the task, or the limit on attempts, is out of its range.
     #[error("a number is out of its range")]
     Arguments,
     /// Memory was refused.
     #[error("out of memory")]
     Memory,
-    /// The last try met this conflict with another client.
+    /// The last allowed attempt met this conflict with another client.
     #[error("the last try met a conflict")]
     Busy(Conflict),
-    /// The clock is at its last version, so that nothing more can be written.
+    /// The clock is at its last version, so nothing more can be written.
     #[error("the clock is at its last version")]
     Spent { version: Version },
 }

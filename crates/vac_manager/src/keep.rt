@@ -1,4 +1,4 @@
-//! What keeps the answered calls of a client.
+//! Recorders of a client's completed calls.
 
 ghost use Rattle.std.specs.Prelude.{◌≡◌, List, Option, None, OnOk};
 ghost use Rattle.vac_manager.specs.declared.note.Note.{Note};
@@ -10,49 +10,50 @@ use std::alloc::AllocError;
 use stm_object::{Tracer, Untraced};
 use vac_model::Task;
 
-/// What keeps the answered calls of a client, or does not.
+/// A recorder of a client's completed calls, which may also record nothing.
 pub trait Keep {
-    /// What traces the attempts of its calls.
+    /// The tracer of the attempts of the client's calls.
     type Tracing: Tracer + Drop;
 
-    /// The calls that it keeps, in their order; none where it keeps nothing.
+    /// The recorded calls in their order; None if nothing is recorded.
     ghost notes: { Self → Option (List Note) };
 
-    /// The attempts that are traced; none where none are, or where there was no room for all.
+    /// The traced attempts; None if no attempts are traced, or if there was no room for all of
+    /// them.
     ghost traced: { Self → Option (List Trace) };
 
-    /// It has room for one more call.
+    /// The recorder has room for one more call.
     ghost ready: { Self → Type 0 };
 
-    /// Makes room for a call that is about to begin.
+    /// Reserves room for a call that is about to begin.
     ///
-    /// Not said: when a keeper has no room.
+    /// Not said: in which cases a recorder has no room.
     fn begin(&mut self) -> Result<(), AllocError>
         ensures same { notes self.new ≡ notes self.old }
         ensures traced { traced self.new ≡ traced self.old }
         ensures room { OnOk result (ready self.new) };
 
-    /// Lends what traces the attempts of the call that is about to begin.
+    /// Lends the tracer for the attempts of the call that is about to begin.
     fn lend(&mut self) -> Self::Tracing
         ensures same { notes self.new ≡ notes self.old }
         ensures traced { Self.Tracing.ended result ≡ traced self.old }
         ensures room { ready self.old → ready self.new };
 
-    /// Takes that back when the call has ended.
+    /// Takes the tracer back after the call has ended.
     fn take_back(&mut self, tracer: Self::Tracing)
         ensures same { notes self.new ≡ notes self.old }
         ensures traced { traced self.new ≡ Self.Tracing.ended tracer }
         ensures room { ready self.old → ready self.new };
 
-    /// Keeps a call that was answered, after the others. Its attempt is the last that was traced;
-    /// the others stay.
+    /// Appends a completed call to the recorded calls. The call's attempt is the last one that was
+    /// traced; the other traced attempts stay.
     fn keep(&mut self, task: Task, placed: Placed)
         requires { ready self.old }
         ensures kept { HasKept task placed (traced self.old) (notes self.old) (notes self.new) }
         ensures taken { HasTakenOut (traced self.old) (traced self.new) };
 }
 
-/// Keeps nothing.
+/// A recorder that records nothing.
 #[derive(Clone, Copy, Drop)]
 pub struct Unkept;
 

@@ -1,12 +1,13 @@
-//! The manager as an object, and what follows from its law.
+//! The manager as a sequential object, and a consequence of its law.
 
 ghost use Rattle.vac_manager.specs.Legal.{SerialIsLegal};
 
 use stm_object::Object;
 use vac_model::{Reply, Task};
 
-/// The manager as an object: an image fits where it represents a balanced state, and a record is
-/// lawful where its task gives its reply, whatever fitting image it was made on.
+/// The manager as a sequential object. An image fits if it represents a balanced state. A record
+/// is lawful if, on every fitting image that agrees with its reads, its task gives its reply and
+/// its writes make the state after the task.
 pub struct Vacation;
 
 impl Object for Vacation {
@@ -29,8 +30,8 @@ impl Object for Vacation {
         ap (λ t. (t, e.1)) both.0 ∙ ap (λ r. (e'.0, r)) both.1 };
 }
 
-/// Lawful records that are serial from an image of a balanced state are legal from that state, and
-/// the last state is the one that the last image represents.
+/// States that lawful records, if they are serial from an image of a balanced state, are legal
+/// from that state, and that the image after them represents the final state.
 pub fn serial_records_are_legal()
     ensures { SerialIsLegal }
 {}

@@ -1,8 +1,8 @@
-//! The manager of reservations, which many clients call at once: each call runs its task as one
+//! The manager of reservations, called by many clients at once. Each call runs its task as one
 //! transaction over a region.
 //!
-//! The rules are those of the program Vacation of the STAMP benchmarks (Cao Minh, Chung, Kozyrakis,
-//! Olukotun, IISWC 2008); their definitions are in `vac_model`.
+//! The rules are those of the program Vacation of the STAMP benchmarks (Cao Minh, Chung,
+//! Kozyrakis, Olukotun, IISWC 2008). Their definitions are in `vac_model`.
 #![tactic(auto)]
 
 mod client;

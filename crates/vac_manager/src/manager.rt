@@ -1,4 +1,4 @@
-//! The manager over a region, which many clients call at once.
+//! The manager over a region, called by many clients at once.
 
 ghost use Rattle.std.specs.Prelude.{◌≡◌, ◌↔◌, ◌+◌, ◌*◌, ◌⊎◌, min, false, IfOk, IfErr, IsErrOf};
 ghost use Rattle.stm_core.specs.declared.limits.TheConstants.{MOST_STRIPES};
@@ -32,7 +32,7 @@ use vac_model::{Reply, Task};
 /// A manager that was not closed, with its client and the reason.
 type Kept = (Manager, Client, RegionFault);
 
-/// A manager of reservations, which many clients call at once. Contracts see its region.
+/// A manager of reservations, called by many clients at once. Contracts see its region.
 #[derive(Drop)]
 pub struct Manager {
     pub(crate) shared: Shared<Vacation>,
@@ -49,14 +49,14 @@ impl Model for Manager {
     ghost invariant = { λ m. IsOpened m.shared };
 }
 
-/// Returns whether the task can be issued, with this many tries.
+/// Returns whether the task can be issued with this limit on its attempts.
 fn can_ask(task: &Task, tries: u32) -> bool
     ensures { result ≡ is_call task.now tries }
 {
     task.is_in_range() && 1 <= tries && tries <= MOST_TRIES
 }
 
-/// The end of a call, without the place of its record.
+/// Returns the result of a call without the commit position of its record.
 #[inline]
 fn reply_of(answer: Result<(Reply, Place), Stop>) -> Result<Reply, Fault>
     ensures { result ≡ reply_in answer }
@@ -67,7 +67,7 @@ fn reply_of(answer: Result<(Reply, Place), Stop>) -> Result<Reply, Fault>
     }
 }
 
-/// The end of a call, with the place of its record.
+/// Returns the result of a call with the commit position of its record.
 fn placed_of(answer: Result<(Reply, Place), Stop>) -> Result<Placed, Fault>
     ensures { result ≡ placed_in answer }
 {
@@ -78,9 +78,9 @@ fn placed_of(answer: Result<(Reply, Place), Stop>) -> Result<Placed, Fault>
 }
 
 impl Manager {
-    /// A manager without entries, with room for this many, 1 to 262,144, and its first client. The
-    /// version clock ends at `last`, 1 to 2^62 - 1. Each word has a lock word, as far as the limit
-    /// of 1,048,576 goes.
+    /// Returns a manager without entries, and its first client. The manager has room for `blocks`
+    /// entries, 1 to 262,144. The version clock ends at `last`, 1 to 2^62 - 1. Each word has a
+    /// lock word of its own, up to 1,048,576 lock words.
     pub fn new(alloc: Global, blocks: u32, last: u64) -> Result<(Manager, Client), Fault>
         ensures ok { IfOk result (λ r. Opens blocks last
             (min (heap_words blocks) MOST_STRIPES) r.0 r.1) }
@@ -95,7 +95,7 @@ impl Manager {
         Self::with_stripes(alloc, blocks, last, words.min(MOST_STRIPES))
     }
 
-    /// A manager as `new` opens it, with this many lock words, 1 to 1,048,576.
+    /// Returns a manager as `new` does, with this number of lock words, 1 to 1,048,576.
     pub fn with_stripes(
         alloc: Global,
         blocks: u32,
@@ -124,9 +124,9 @@ impl Manager {
         Ok((Manager { shared }, Client { user, start, next }))
     }
 
-    /// Runs a task as a transaction, by at most this many attempts, 1 to 1,048,576, and returns its
-    /// reply. After any fault the client may call again. A client that has all grants is alone, and
-    /// meets no conflict: it makes one attempt.
+    /// Runs a task as a transaction, in at most `tries` attempts, 1 to 1,048,576, and returns the
+    /// reply. After any fault the client may call again. A solo client meets no conflict, so its
+    /// call makes one attempt.
     pub fn call(&self, client: &mut Client, task: &Task, tries: u32) -> Result<Reply, Fault>
         requires own { client.old.table ≡ self.now.table }
         ensures called { HasCalled self.now task.now tries result client.old client.new }
@@ -134,11 +134,11 @@ impl Manager {
         self.call_gated(client, task, tries, &mut NoGate)
     }
 
-    /// Runs a task as `call` does, and each attempt tells the gate how far its commit is. One that
-    /// only reads tells it when its reads are done.
+    /// Runs a task as `call` does, and reports to the gate how far the commit of each attempt is.
+    /// An attempt that only reads reports to the gate when its reads are done.
     ///
-    /// Not said: of a gate, which has what its maker gave it, that it does not wait; that a call
-    /// comes to its end.
+    /// Not said: that a gate, which may hold anything its maker gave it, never waits; that a call
+    /// terminates.
     pub fn call_gated<G: Gate>(
         &self,
         client: &mut Client,
@@ -157,8 +157,8 @@ impl Manager {
         reply_of(self.shared.call(user, &work, tries, gate, &mut Untraced))
     }
 
-    /// Runs a task as `call_gated` does, and also returns the place of the call's record and what
-    /// the call took. A tracer traces its attempts.
+    /// Runs a task as `call_gated` does, and also returns the commit position of the call's record
+    /// and the statistics of the call's attempts. The tracer traces the attempts.
     pub fn trace_call<G: Gate, T: Tracer>(
         &self,
         client: &mut Client,
@@ -185,8 +185,8 @@ impl Manager {
         (placed_of(answer), effort)
     }
 
-    /// Splits off a new client, which costs a grant: 63 times in all. Its new entries begin with
-    /// another free list.
+    /// Splits off a new client for one grant; a region has 63 grants. The new client's entries
+    /// start with another free list.
     pub fn split(&self, client: &mut Client) -> Result<Client, RegionFault>
         requires { client.old.table ≡ self.now.table }
         ensures ok { IfOk result (λ other. Splits client.old client.new other) }
@@ -202,7 +202,7 @@ impl Manager {
         })
     }
 
-    /// Takes in another client: its records, its grants and one more grant.
+    /// Gathers another client: takes over its records and its grants, and gets one more grant.
     pub fn gather(&self, client: &mut Client, other: Client)
         requires { (client.old.table ≡ self.now.table) × (other.table ≡ self.now.table) }
         ensures client { client.new
@@ -219,8 +219,9 @@ impl Manager {
         self.shared.gather(&mut client.user, user);
     }
 
-    /// Ends the manager: its words and its clock, once every other client was gathered. Where that
-    /// is refused, the manager and the client are given back as they were.
+    /// Closes the manager once every other client was gathered, and returns its words and its
+    /// clock. If closing is refused, returns the manager and the client as they were, with the
+    /// reason.
     pub fn close(self, client: Client) -> Result<(Vec<u64>, Version), Kept>
         requires { client.table ≡ self.table }
         ensures closes { IfOk result (λ r. ClosesInState self client.value r.0.items r.1) }

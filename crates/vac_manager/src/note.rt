@@ -1,36 +1,36 @@
-//! A call that was answered, and an attempt that was traced.
+//! Completed calls and traced attempts, as a recorder notes them.
 
 use stm_object::Place;
 use tx_observed::Access;
 use vac_model::{Reply, Task};
 
-/// An attempt that was traced.
+/// A traced attempt.
 #[derive(Drop)]
 pub struct AttemptNote {
-    /// When it began: nanoseconds of a clock that all clients share.
+    /// Begin of the attempt, in nanoseconds of a clock that all clients share.
     pub begin: u64,
-    /// When it had ended, by that clock.
+    /// End of the attempt, by the same clock.
     pub end: u64,
-    /// Whether it committed.
+    /// True if the attempt committed.
     pub commits: bool,
-    /// Where its record stands. One that was given up has none: it has the place of a record that
-    /// read the version which it read.
+    /// Commit position of the attempt's record. An aborted attempt has no record; its position is
+    /// that of a reader's record at its read version.
     pub place: Place,
-    /// What it read and wrote, in this order.
+    /// Reads and writes of the attempt, in this order.
     pub accesses: Vec<Access>,
 }
 
-/// A call that was answered.
+/// A completed call.
 #[derive(Drop)]
 pub struct Note {
-    /// When it began: nanoseconds of a clock that all clients share.
+    /// Begin of the call, in nanoseconds of a clock that all clients share.
     pub begin: u64,
-    /// When it was answered, by that clock.
+    /// Time at which the call returned, by the same clock.
     pub end: u64,
     pub task: Task,
     pub reply: Reply,
-    /// The place of its record.
+    /// Commit position of the call's record.
     pub place: Place,
-    /// The attempt that answered it, where attempts are traced and there was room for it.
+    /// The attempt that committed, if attempts are traced and there was room for this one.
     pub attempt: Option<Box<AttemptNote>>,
 }

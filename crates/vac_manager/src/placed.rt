@@ -1,4 +1,4 @@
-//! The place of a call's record, and what the call took.
+//! The commit position of a call's record, and the statistics of the call's attempts.
 
 ghost use Rattle.std.specs.Prelude.{◌≡◌, ◌≤◌, ◌<◌, None};
 ghost use Rattle.stm_object.specs.Tracing.{conflict_of};
@@ -13,50 +13,50 @@ use stm_object::Place;
 use vac_model::Reply;
 use vac_model::limits::MOST_TRIES;
 
-/// A reply, and the place of its call's record.
+/// A reply, with the commit position of the call's record.
 #[derive(Debug, PartialEq, Eq)]
 pub struct Placed {
     pub reply: Reply,
     pub place: Place,
 }
 
-/// What a call took: how many attempts, how many of them aborted on a conflict of each kind, and
-/// how many of the conflicts were over the lock of which word.
+/// Attempt statistics of one call: the number of attempts, the number that aborted on each kind of
+/// conflict, and the number of conflicts over the lock of each kind of word.
 #[derive(Clone, Copy, Debug, PartialEq, Eq, Default)]
 pub struct Effort {
-    /// How many attempts were begun.
+    /// Attempts begun.
     pub attempts: u32,
-    /// How many found a lock word held by another client.
+    /// Attempts that found a lock word held by another client.
     pub held: u32,
-    /// How many found a version above their read version.
+    /// Attempts that found a version above their read version.
     pub newer: u32,
-    /// How many saw a lock word change while they read.
+    /// Attempts that saw a lock word change during a read.
     pub moved: u32,
-    /// How many lost the exchange that takes a lock.
+    /// Attempts that lost the exchange that takes a lock.
     pub lost_lock: u32,
-    /// How many lost the last tick that is tried.
+    /// Attempts that lost the last exchange that a tick tries.
     pub lost_tick: u32,
-    /// How many were over the lock of a root.
+    /// Conflicts over the lock of a root.
     pub roots: u32,
-    /// How many were over that of a head of a free list.
+    /// Conflicts over the lock of a free-list head.
     pub heads: u32,
-    /// How many were over that of one of the first four words of a block.
+    /// Conflicts over the lock of a tree node: one of the first four words of a block.
     pub nodes: u32,
-    /// How many were over that of its fifth word.
+    /// Conflicts over the lock of a usage counter: the fifth word of a block.
     pub uses: u32,
-    /// How many were over that of one of its last three words.
+    /// Conflicts over the lock of a stock counter: one of the last three words of a block.
     pub stocks: u32,
 }
 
 impl Effort {
-    /// No attempt.
+    /// Returns the statistics of no attempt.
     pub fn new() -> Effort
         ensures { result ≡ nothing_done }
     {
         Effort::default()
     }
 
-    /// Counts a conflict by the word of its lock.
+    /// Counts a conflict by the kind of word that its lock guards.
     fn count_over(&mut self, lock: u32)
         requires few { locks_of self.old < MOST_TRIES }
         ensures { self.new ≡ one_more_over (site_of lock) self.old }
@@ -70,7 +70,8 @@ impl Effort {
         }
     }
 
-    /// Counts an attempt that aborted on a conflict, by its kind and by the word of its lock.
+    /// Counts an attempt that aborted on a conflict, by the kind of the conflict and by the kind
+    /// of word that its lock guards.
     fn count_conflict(&mut self, conflict: Conflict)
         requires few { self.old.attempts < MOST_TRIES }
         requires conflicts { conflicts_of self.old ≤ self.old.attempts }
@@ -94,7 +95,7 @@ impl Effort {
         }
     }
 
-    /// Counts an attempt that was answered.
+    /// Counts an attempt that committed and returned a reply.
     pub(crate) fn count_answer(&mut self)
         requires conflicts { conflicts_of self.old ≤ self.old.attempts }
         requires locks { locks_of self.old ≤ self.old.attempts }
@@ -107,7 +108,7 @@ impl Effort {
         }
     }
 
-    /// Counts an attempt that stopped, by the conflict that it met, if it met one.
+    /// Counts an attempt that stopped, and its conflict if the attempt met one.
     pub(crate) fn count_stop(&mut self, stop: &Stop)
         requires conflicts { conflicts_of self.old ≤ self.old.attempts }
         requires locks { locks_of self.old ≤ self.old.attempts }

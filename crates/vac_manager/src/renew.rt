@@ -9,19 +9,20 @@ use stm_object::RenewFault as ObjectRenewFault;
 use stm_region::RegionFault;
 use stm_words::Version;
 
-/// Why a manager was not renewed.
+/// The reason why a manager was not renewed.
 #[derive(Drop)]
 pub enum RenewFault {
-    /// The manager and its client are as they were.
+    /// The renewal was refused for this reason; the manager and its client are as they were.
     Kept(Manager, Client, RegionFault),
-    /// Memory for the new words was refused after the old ones had been taken out: the manager is
+    /// Memory for the new words was refused after the old words had been taken out. The manager is
     /// closed, and these are its words and its clock.
     Closed(Vec<u64>, Version),
 }
 
 impl Manager {
-    /// Goes on with its entries on a new version clock, which may reach this last version, once
-    /// every other client was gathered. The client keeps its records, its grants and its lists.
+    /// Renews the manager once every other client was gathered: keeps its entries and starts a new
+    /// version clock, which ends at `last`. The client keeps its records, its grants and its free
+    /// lists.
     pub fn renew(self, client: Client, last: u64) -> Result<(Manager, Client), RenewFault>
         requires { client.table ≡ self.table }
         ensures renewed { IfOk result (λ r. Renews last self client r.0 r.1) }

@@ -1,4 +1,4 @@
-//! The report of the words that a manager left.
+//! The report of the words of a closed manager.
 
 ghost use Rattle.std.specs.Prelude.{◌≡◌};
 ghost use Rattle.vac_model.specs.State.{State, report};
@@ -7,7 +7,7 @@ ghost use Rattle.vac_manager.specs.Law.{Shows, IsFitting};
 use tx_memory::Flat;
 use vac_model::Report;
 
-/// The report of the state that the words of a closed manager represent.
+/// Returns the report of the state that the words of a closed manager represent.
 pub fn report_of(words: Vec<u64>) -> Report
     requires { IsFitting words.items }
     ensures { (s : State) → Shows words.items s → report s ≡ result }

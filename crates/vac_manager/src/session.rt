@@ -18,8 +18,8 @@ use stm_object::Tracer;
 use stm_region::RegionFault;
 use vac_model::{Reply, Task};
 
-/// A client together with the manager that it calls. That they belong together is the type's
-/// invariant, so that no call asks for it. Contracts see both. A session that is dropped and not
+/// A client together with the manager that it calls. The type's invariant says that the two belong
+/// together, so no method requires it. Contracts see both. A session that is dropped without being
 /// gathered leaves its client out for good.
 #[derive(Drop)]
 pub struct Session<'a> {
@@ -38,7 +38,7 @@ impl<'a> Model for Session<'a> {
 }
 
 impl<'a> Session<'a> {
-    /// The session of a client with its manager.
+    /// Returns the session of a client with its manager.
     pub fn of(manager: &'a Manager, client: Client) -> Session<'a>
         requires own { client.table ≡ manager.now.table }
         ensures { result ≡ record { manager = manager.now; client = client } }
@@ -96,8 +96,8 @@ impl<'a> Session<'a> {
             .trace_call(&mut self.client, task, tries, gate, tracer)
     }
 
-    /// Splits off a session of a new client of the same manager, which costs a grant: 63 times in
-    /// all.
+    /// Splits off a session of a new client of the same manager, for one grant; a region has 63
+    /// grants.
     pub fn split(&mut self) -> Result<Session<'a>, RegionFault>
         ensures manager { self.new.manager ≡ self.old.manager }
         ensures ok { IfOk result (λ other. Splits self.old.client self.new.client other.client) }
@@ -111,8 +111,8 @@ impl<'a> Session<'a> {
         })
     }
 
-    /// Takes in the client of another session of the same manager: its records, its grants and one
-    /// more grant.
+    /// Gathers the client of another session of the same manager: takes over its records and its
+    /// grants, and gets one more grant.
     pub fn gather(&mut self, other: Session<'_>)
         requires own { other.manager.table ≡ self.old.manager.table }
         ensures session { self.new ≡ record self.old {

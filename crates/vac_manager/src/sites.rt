@@ -1,31 +1,32 @@
-//! Which word a lock is of.
+//! The kind of word that a lock guards.
 
 ghost use Rattle.std.specs.Prelude.{◌≡◌};
 ghost use Rattle.vac_manager.specs.Sites.{site_of};
 
 use tx_alloc::place::{BLOCK_WORDS, FIRST_BLOCK, FIRST_HEAD};
 
-/// The place of a block's fifth word.
+/// Offset of a block's fifth word.
 const FIFTH: u32 = 4;
 
-/// What a word is for, as far as its address tells.
+/// The kind of a word, as far as its address shows it.
 #[derive(Clone, Copy, Debug, PartialEq, Eq)]
 pub enum Site {
-    /// It leads to a table.
+    /// A root of a table.
     Root,
-    /// It is the head of a free list.
+    /// A head of a free list.
     Head,
-    /// It is one of the first four words of a block: an entry's key, children and colour in its
-    /// table, or a booking's kind, id, sum and next.
+    /// A tree node: one of the first four words of a block. They are an entry's key, children and
+    /// colour in its table, or a booking's kind, id, sum and next booking.
     Node,
-    /// It is the fifth word of a block: how many units of an item are booked, a customer's
-    /// bookings, or how many units a booking has.
+    /// A usage counter: the fifth word of a block. It is the number of booked units of an item, a
+    /// customer's bookings, or the number of units of a booking.
     Use,
-    /// It is one of the last three words of a block: an item's free units, its units and its price.
+    /// A stock counter: one of the last three words of a block. They are an item's free units, its
+    /// units and its price.
     Stock,
 }
 
-/// Which word the lock with this number is of: the first one that it guards.
+/// Returns the kind of the first word that the lock with this number guards.
 pub(crate) fn site_of(lock: u32) -> Site
     ensures { result ≡ site_of lock }
 {

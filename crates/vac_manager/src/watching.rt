@@ -1,4 +1,4 @@
-//! The counting of what a call takes.
+//! The attempt statistics of a call, counted while the call runs.
 
 ghost use Rattle.std.specs.Prelude.{◌≤◌};
 ghost use Rattle.vac_manager.specs.Placed.{conflicts_of, locks_of};
@@ -9,7 +9,7 @@ use stm_object::{Body, Object, Place, Tracer};
 use stm_words::Version;
 use tx_memory::{TxMem, TxRead};
 
-/// Counts what a call takes, and lets a tracer trace its attempts.
+/// A tracer that counts the attempts of a call and passes each step on to another tracer.
 pub(crate) struct Counting<'a, T: Tracer> {
     pub(crate) effort: Effort,
     pub(crate) tracer: &'a mut T,

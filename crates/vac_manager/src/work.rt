@@ -10,8 +10,8 @@ use tx_memory::{TxMem, TxRead};
 use vac_model::{Reply, Task};
 use vac_tasks::{only_reads, read_task, run_task};
 
-/// A task that can be asked for, as the body of a transaction. New entries take their blocks from
-/// free list `start` on.
+/// A task that can be issued, as the body of a transaction. New entries take their blocks from
+/// free list `start` first.
 #[derive(Drop)]
 pub(crate) struct Work<'a> {
     pub(crate) task: &'a Task,

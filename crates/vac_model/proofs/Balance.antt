@@ -22,7 +22,7 @@ use Rattle.vac_model.proofs.States.{table_of-with_table, size-with_table, other_
 pub some_same : {X : Type 0} (x y : X) → Some x ≡ Some y → x ≡ y
 some_same x y e = ap (λ o. unwrap_or o x) e
 
--- an item after one was put, at its place and at another
+-- an item after one was put, for the same item and for another
 pub item_here : (s : State) (kind : Kind) (id : ℕ) (item : Item) →
     item_of (with_item s kind id item) kind id ≡ Some item
 item_here s kind id item =
@@ -41,7 +41,7 @@ item_elsewhere s kind id item k i apart = elim (other_table s kind (insert (tabl
   | inr other ↦ ap (λ (t : ItemTable). get t i) other
 ]
 
--- what is found after an item was put was put, or was there before
+-- an item that is found after one was put is the one put or was there before
 pub found_after : (s : State) (kind : Kind) (id : ℕ) (item : Item) (k : Kind) (i : ℕ) (x : Item) →
     item_of (with_item s kind id item) k i ≡ Some x
     → ((◌≡◌ {A = Place} (k, i) (kind, id)) × (x ≡ item)) ⊎ ((◌≢◌ {A = Place} (k, i) (kind, id)) ×
@@ -55,7 +55,7 @@ found_after s kind id item k i x h = elim (either_key place_cmp_total place_cmp-
   | inr apart ↦ inr (apart, sym (item_elsewhere s kind id item k i apart) ∙ h)
 ]
 
--- an item that was there is there still, with its numbers or others
+-- an existing item still exists, with the same numbers or others
 pub there_after : (s : State) (kind : Kind) (id : ℕ) (item : Item) (k : Kind) (i : ℕ) → IsSome (item_of s k i) →
     IsSome (item_of (with_item s kind id item) k i)
 there_after s kind id item k i h = elim (either_key place_cmp_total place_cmp-IsAntisymmetric (k, i) (kind, id)) [
@@ -64,7 +64,7 @@ there_after s kind id item k i h = elim (either_key place_cmp_total place_cmp-Is
   | inr apart ↦ subst IsSome (sym (item_elsewhere s kind id item k i apart)) h
 ]
 
--- what customers hold does not depend on the tables
+-- the units that customers hold do not depend on the tables
 pub held-with_item : (s : State) (kind : Kind) (id : ℕ) (item : Item) (place : Place) →
     units_held (with_item s kind id item) place ≡ units_held s place
 held-with_item s kind id item place =
@@ -76,7 +76,7 @@ pub bookings-with_item : (s : State) (kind : Kind) (id : ℕ) (item : Item) (c :
 bookings-with_item s kind id item c = ap (λ cs. get cs c) (customers-with_table s kind
     (insert (table_of s kind) id item))
 
--- the size after an item was put where there is one, and where there is none
+-- the size after an item was put, if the item existed and if it did not
 pub size_replaced : (s : State) (kind : Kind) (id : ℕ) (item old : Item) → item_of s kind id ≡ Some old →
     size (with_item s kind id item) ≡ size s
 size_replaced s kind id item old h =
@@ -159,7 +159,7 @@ size-without_customer s c b h =
       len_removed nat_cmp_total nat_cmp-IsAntisymmetric s.customers c b h,
     )
 
--- what is held after a customer's bookings changed
+-- the units held after a customer's bookings changed
 pub held-with_bookings : (s : State) (c : ℕ) (b b' : Bookings) (place : Place) → bookings_of s c ≡ Some b
     → units_held (with_bookings s c b') place + units_of b place ≡ units_held s place + units_of b' place
 held-with_bookings s c b b' place h =
@@ -306,7 +306,7 @@ module _ (s : State) (c : ℕ) (kind : Kind) (id : ℕ) (b b' : Bookings) (item 
             ];
       }
 
--- nobody has booked what is not there
+-- no customer has booked an item that does not exist
 pub held_missing : (s : State) (kind : Kind) (id : ℕ) → IsBalanced s → item_of s kind id ≡ None →
     units_held s (kind, id) ≡ 0
 held_missing s kind id balanced none =
@@ -338,7 +338,7 @@ balanced-new_item s kind id num price balanced ids some few cheap none room =
     })
     (omega (arith, size_more s kind id (record { used = 0; free = num; total = num; price = price }) none, room))
 
--- other numbers of an item that is there
+-- other numbers of an existing item
 pub balanced-replaced : (s : State) (kind : Kind) (id : ℕ) (item old : Item) → IsBalanced s →
     item_of s kind id ≡ Some old → item.used ≡ old.used → 1 ≤ item.total
     → item.total ≤ total_limit → item.price ≤ 1000000 → item.used + item.free ≡ item.total →
@@ -356,7 +356,7 @@ balanced-replaced s kind id item old balanced there used some few cheap counts =
     })
     (omega (arith, size_replaced s kind id item old there, balanced.room))
 
--- a customer without bookings comes
+-- a new customer without bookings
 pub balanced-new_customer : (s : State) (c : ℕ) → IsBalanced s → is_id c ≡ true → bookings_of s c ≡ None →
     size s + 1 ≤ s.capacity → IsBalanced (with_bookings s c empty)
 balanced-new_customer s c balanced ids none room = record {

@@ -1,4 +1,4 @@
--- What a trip chooses was asked for.
+-- The choices of a trip are among its asks.
 use Rattle.std.proofs.Common.{◌≡◌, ℕ, true, false, List, [], ◌∷◌}
 use Rattle.std.specs.Prelude.{◌≡◌, Option, Some, None, IfSome, fold, nat_lt, ◌==◌, if◌then◌else◌, true}
 use Rattle.std.specs.List.{list_all}

@@ -21,7 +21,7 @@ use Rattle.vac_model.specs.Coded.{kind_of_number, kind_back}
 use Rattle.vac_model.specs.Code.{option_code, list_code, number_code, ask_code, command_code, task_code, why_code}
 use Rattle.vac_model.specs.Code.{joined_code, pick_code, reply_code, code}
 
--- a value read from the front of a list, and what is left
+-- a value read from the front of a list, and the rest of the list
 abbrev Read : Type 0 → Type 0
 Read X = X × List ℕ
 
@@ -33,7 +33,7 @@ abbrev tail : List ℕ → List ℕ
 tail [] = []
 tail (x ∷ xs) = xs
 
--- a reader reads back what a code wrote
+-- a reader reads back the values that a code wrote
 abbrev ReadsBack : {X : Type 0} → (X → List ℕ) → (List ℕ → Read X) → Type 0
 ReadsBack {X} write read = (x : X) (rest : List ℕ) → read (write x ++ rest) ≡ (x, rest)
 
@@ -79,7 +79,7 @@ read_ask l = ((kind_of_number (head l), head (tail l)), tail (tail l))
 ask_back : ReadsBack ask_code read_ask
 ask_back ask rest = ap (λ (k : Kind). ((k, ask.1), rest)) (kind_back ask.0)
 
--- the fields of a command, after its place
+-- the fields of a command, after its index
 abbrev read_command : List ℕ → Read Command
 read_command l =
     let kind = kind_of_number (head (tail l)) in

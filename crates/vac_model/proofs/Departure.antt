@@ -24,7 +24,7 @@ use Rattle.vac_model.proofs.Holdings.{units-used, units_of-used}
 use Rattle.vac_model.proofs.Balance.{some_same, item_here, item_elsewhere, size_replaced, size-without_customer}
 use Rattle.vac_model.proofs.Balance.{held-without_customer}
 
--- an item after one was taken out, at its place and at another
+-- an item after one was removed, for the same item and for another
 gone_here : (s : State) (kind : Kind) (id : ℕ) → item_of (without_item s kind id) kind id ≡ None
 gone_here s kind id =
     ap (λ (t : ItemTable). get t id) (table_of-with_table s kind (remove (table_of s kind) id)) ∙
@@ -147,7 +147,7 @@ given_back_twice x a b =
     let free : x.free + a + b ≡ x.free + (a + b) = omega arith in
     λ i. record { used = used i; free = free i; total = x.total; price = x.price }
 
--- an item after so many units were given back, if it is there
+-- an item after this many units were given back, if it exists
 abbrev pub lowered : Option Item → ℕ → Option Item
 lowered o n = option_map (λ x. given_back x n) o
 
@@ -202,7 +202,7 @@ item_of-give_back_all s (e ∷ es) k i =
     ∙ ap (λ o. lowered o (units_among es (k, i))) (item_of-give_back s e.0 e.1.units k i)
     ∙ lowered_twice (item_of s k i) (cond (eq_by_cmp place_cmp (k, i) e.0) e.1.units 0) (units_among es (k, i))
 
--- what giving back leaves alone
+-- the parts of a state that giving back does not change
 pub record Leaves (s s' : State) : Type 0 where
   pub customers : s'.customers ≡ s.customers
   pub capacity : s'.capacity ≡ s.capacity
@@ -236,7 +236,7 @@ item_of-departed s c b k i =
     ∙ ap (λ o. lowered o (units_among (entries b) (k, i))) (item_of-without_customer s c k i)
     ∙ ap (lowered (item_of s k i)) (units_in-entries b (k, i))
 
--- an item that is there after some were lowered was there before
+-- an item that exists after some were lowered existed before
 raised : (o : Option Item) (n : ℕ) (x : Item) → lowered o n ≡ Some x →
     (y : Item) × ((o ≡ Some y) × (x ≡ given_back y n))
 raised None n x e = absurd (let never : None ≡ Some x = e in cc)
@@ -335,7 +335,7 @@ can_depart s c b balanced h = record {
       (sym (item_of-without_customer s c k i) ∙ e));
 }
 
--- nothing changes where a customer is removed that is not there
+-- removing a customer that does not exist changes nothing
 pub without_missing : (s : State) (c : ℕ) → bookings_of s c ≡ None → without_customer s c ≡ s
 without_missing s c none = ap (λ cs. record s { customers = cs })
     (remove_missing nat_cmp_total nat_cmp-IsAntisymmetric s.customers c none)

@@ -1,4 +1,4 @@
--- What the customers of a balanced state hold of its items.
+-- The units that the customers of a balanced state hold of its items.
 use Rattle.std.proofs.Common.{◌≡◌, ℕ, ◌≤◌, ap, arith}
 use Rattle.std.specs.Prelude.{Some}
 use Rattle.std.specs.Option.{option_map_or}
@@ -21,13 +21,13 @@ units_of-held s customer bookings place h =
           (λ b. units_of b place) s.customers customer bookings h,
     )
 
--- so no more than is used of it
+-- so a customer holds no more of an item than is used of it
 pub units_of-used : (s : State) (customer : ℕ) (bookings : Bookings) (kind : Kind) (id : ℕ) (item : Item) → IsBalanced s
     → bookings_of s customer ≡ Some bookings → item_of s kind id ≡ Some item → units_of bookings (kind, id) ≤ item.used
 units_of-used s customer bookings kind id item balanced h there =
     omega (arith, units_of-held s customer bookings (kind, id) h, (balanced.items kind id item there).held)
 
--- the same of one booking
+-- as `units_of-used`, for one booking
 pub units-used : (s : State) (customer : ℕ) (bookings : Bookings) (kind : Kind) (id : ℕ) (item : Item) (b : Booking) →
     IsBalanced s
     → bookings_of s customer ≡ Some bookings → item_of s kind id ≡ Some item → get bookings (kind, id) ≡ Some b →

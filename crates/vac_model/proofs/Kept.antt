@@ -36,7 +36,7 @@ pub record Follows (s : State) (o : Outcome) : Type 0 where
   pub balanced : IsBalanced o.0
   pub capacity : o.0.capacity ≡ s.capacity
 
--- both sides of a look-up and of a test, each with what it found
+-- both branches of a look-up and of a test, each with its finding
 pub found_both : {X : Type 0} (P : Outcome → Type 0) (o : Option X) (missing : Outcome) (found : X → Outcome)
     → (o ≡ None → P missing) → ((x : X) → o ≡ Some x → P (found x)) → P (when_found o missing found)
 found_both P None missing found miss hit = miss refl

@@ -9,7 +9,7 @@ use Rattle.vac_model.specs.State.{State}
 use Rattle.vac_model.specs.Step.{step}
 use Rattle.vac_model.specs.Run.{steps, refusal_of}
 
--- one change more
+-- one more change
 pub steps_push : (s : State) (cs : List Command) (c : Command)
     → steps s (cs ++ c ∷ []) ≡ ((step (steps s cs).0 c).0, (steps s cs).1 ++ refusal_of (step (steps s cs).0 c).1 ∷ [])
 steps_push s [] c = refl
@@ -17,12 +17,12 @@ steps_push s (x ∷ cs) c =
     let rest = steps_push (step s x).0 cs c in
     λ i. ((rest i).0, refusal_of (step s x).1 ∷ (rest i).1)
 
--- each change has its place
+-- each change has its entry
 pub length-steps : (s : State) (cs : List Command) → length (steps s cs).1 ≡ length cs
 length-steps s [] = refl
 length-steps s (c ∷ cs) = ap suc (length-steps (step s c).0 cs)
 
--- the first place that nothing was noted in
+-- the first entry without a note
 set_after : {A : Type 0} (xs ys : List A) (y z : A) → slice_set (xs ++ y ∷ ys) (length xs) z ≡ xs ++ z ∷ ys
 set_after [] ys y z = refl
 set_after (x ∷ xs) ys y z = ap (λ r. x ∷ r) (set_after xs ys y z)
@@ -35,7 +35,7 @@ one_fewer : (n : ℕ) → 0 < n → replicate n no_why ≡ no_why ∷ replicate 
 one_fewer zero h = absurd (omega arith)
 one_fewer (suc n) h = let same : suc n - 1 ≡ n = omega arith in ap (λ m. no_why ∷ replicate m no_why) (sym same)
 
--- a refusal is noted in its place
+-- a refusal is noted in its entry
 pub noted : (whys : List (Option Why)) (i : ℕ) (w : Option Why) → length whys ≡ i → i < 32
     → slice_set (whys ++ replicate (32 - i) None) i w ≡ (whys ++ w ∷ []) ++ replicate (32 - (i + 1)) None
 noted whys i w e h =
@@ -47,7 +47,7 @@ noted whys i w e h =
     ∙ set_after whys (replicate (32 - (i + 1)) no_why) no_why w
     ∙ sym (append_assoc whys (w ∷ []) (replicate (32 - (i + 1)) no_why))
 
--- the changes so far and one more
+-- the changes so far, and one more
 pub steps_more : (s t t' : State) (cs ds : List Command) (c : Command) (r : Reply) → (steps s cs).0 ≡ t →
     ds ≡ cs ++ c ∷ [] → step t c ≡ (t', r)
     → steps s ds ≡ (t', (steps s cs).1 ++ refusal_of r ∷ [])

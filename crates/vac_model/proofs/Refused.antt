@@ -1,4 +1,5 @@
--- Refusals: a refused command changes nothing, and Full is answered exactly where an entry is needed and none is left.
+-- Refusals: a refused command changes nothing, and Full is returned exactly if an entry is needed
+-- and none is left.
 use Rattle.std.proofs.Common.{◌≡◌, ℕ, ◌+◌, ◌-◌, ◌≤◌, Bool, true, false, cond, refl, arith}
 use Rattle.std.specs.Prelude.{Option, Some, None, is_some, ◌||◌, [], ◌∷◌, nat_lt, ◌==◌}
 use Rattle.std.specs.FinMap.{get}
@@ -22,7 +23,7 @@ use Rattle.vac_model.specs.Laws.{NeedsEntry, IsOne}
 use Rattle.vac_model.specs.Balanced.{IsBalanced}
 use Rattle.vac_model.proofs.Kept.{found_both, if_both, le_true, eq_false, lt_false}
 
--- an outcome that left the state where it refused
+-- an outcome that left the state as it was if it refused
 abbrev Untouched : State → Outcome → Type 0
 Untouched s o = (why : Why) → o.1 ≡ reply.No why → o.0 ≡ s
 
@@ -69,7 +70,7 @@ step_untouched s (command.Cancel customer kind id) =
     found_both (Untouched s) (get b (kind, id)) _ _ (λ _ why e. refl) (λ x _ why e. never_done why e)))
 step_untouched s command.Audit = λ why e. refl
 
--- where Full was answered an entry was needed and none was left
+-- if Full was returned, an entry was needed and none was left
 abbrev FullNeeds : State → Command → Outcome → Type 0
 FullNeeds s c o = o.1 ≡ reply.No Full → NeedsEntry s c × (size s ≡ s.capacity)
 
@@ -161,7 +162,7 @@ step_full s (command.Cancel customer kind id) balanced =
 step_full s command.Audit balanced = λ e. absurd (let never : ◌≡◌ {A = Reply} (step s command.Audit).1 (reply.No Full) =
     e in cc)
 
--- and where an entry is needed and none is left, Full is answered
+-- if an entry is needed and none is left, Full is returned
 no_space : (s : State) → size s ≡ s.capacity → is_full s ≡ true
 no_space s e = grind (arith, nat_tests)
 

@@ -1,4 +1,4 @@
--- What is given back is what was booked, and a bill is the sum of the prices kept.
+-- The units given back are the booked ones, and a bill is the sum of the prices kept.
 use Rattle.std.proofs.Common.{◌≡◌, ℕ, ◌+◌, ◌*◌, refl, ap, sym, subst, ◌∙◌, arith}
 use Rattle.std.specs.Prelude.{Option, Some, None, nat_lt, if◌then◌else◌, ◌==◌}
 use Rattle.std.specs.Option.{option_map, option_map_or}
@@ -41,7 +41,7 @@ dropped s c bookings kind id h =
     ap (λ (o : Outcome). item_of o.0 kind id) is ∙ item_of-departed s c bookings kind id
 
 module _ (s : State) (c : ℕ) (kind : Kind) (id num : ℕ) (bookings : Bookings) (item : Item) where
-  -- an outcome that is done has the bill
+  -- an outcome that took effect has the bill
   abbrev Bills : Outcome → Type 0
   Bills o = o.1 ≡ reply.Done → IsBilled bookings o.0 c num item.price
 
@@ -74,7 +74,7 @@ module _ (s : State) (c : ℕ) (kind : Kind) (id num : ℕ) (bookings : Bookings
       ap (λ o. option_map_or {T = Booking} (λ x. x.sum) o 0) found in
       put_bill (extended b num item.price) (omega (arith, old)))
 
-  -- the outcome once the customer and the item were found
+  -- the outcome after the customer and the item were found
   abbrev found_outcome : Outcome
   found_outcome =
       if nat_lt item.free num then refused s SoldOut
@@ -93,7 +93,7 @@ module _ (s : State) (c : ℕ) (kind : Kind) (id num : ℕ) (bookings : Bookings
       let whole : step s (command.Reserve c kind id num) ≡ found_outcome = rw (h, there) refl in
       subst Bills (sym whole) found_bills
 
--- an outcome that leaves what customers have booked
+-- an outcome that leaves the bookings of all customers as they are
 abbrev SameBookings : State → Outcome → Type 0
 SameBookings s o = (c : ℕ) → bookings_of o.0 c ≡ bookings_of s c
 

@@ -1,4 +1,4 @@
--- What each change of a state does to its parts.
+-- The effect of each change of a state on its parts.
 use Rattle.std.proofs.Common.{◌≡◌, ◌⊎◌, inl, inr, ℕ, ◌+◌, refl, arith}
 use Rattle.std.specs.FinMap.{len}
 use Rattle.vac_model.specs.declared.items.Kind.{Kind}

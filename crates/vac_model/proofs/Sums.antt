@@ -40,7 +40,7 @@ or_zero f None = refl
 or_zero f (Some x) = refl
 
 module _ {K X : Type 0} (R : K → K → Ordering) where
-  -- the key is below those of the list
+  -- the key is below all keys of the list
   abbrev pub below_all : K → List (K × X) → Bool
   below_all x [] = true
   below_all x (e ∷ es) = is_lt (R x e.0) && below_all x es
@@ -77,7 +77,7 @@ module _ {K : Type 0} {R : K → K → Ordering} (o : IsTotalOrder R) (same : Is
   ] refl
 
 module _ {K X : Type 0} {R : K → K → Ordering} (o : IsTotalOrder R) (same : IsAntisymmetric R) where
-  -- a look-up after an insertion, at the key and at another
+  -- a look-up after an insertion, at the same key and at another
   pub get_here : (m : FinMap R X) (k : K) (v : X) → get (insert m k v) k ≡ Some v
   get_here m k v = map.get-insert o m k v k ∙ ap (λ r. cond (is_eq r) (Some v) (get m k)) (tied_itself o k)
 
@@ -93,7 +93,7 @@ module _ {K X : Type 0} {R : K → K → Ordering} (o : IsTotalOrder R) (same : 
       more (from_entries es) e.0 e.1 (map.get-from_entries o es e.0 ∙ find_below R e.0 es (first _ _ h))
       (made_up P none more es (second _ _ h))
 
-  -- what holds of the empty map, and of each map with one more entry, holds of all maps
+  -- a property that holds of the empty map, and of each map with one more entry, holds of all maps
   pub by_entries : (P : FinMap R X → Type 0) → P empty
       → ((m : FinMap R X) (k : K) (v : X) → get m k ≡ None → P m → P (insert m k v)) → (m : FinMap R X) → P m
   by_entries P none more m = subst P (made m) (made_up P none more (entries m) (map.entries_sorted m))
@@ -112,7 +112,7 @@ module _ {K X : Type 0} {R : K → K → Ordering} (o : IsTotalOrder R) (same : 
       ap (λ e. option_map_or f e 0) looked ∙ sym (or_zero f (lookup (is_at (R k)) (entries m))) in
       rw (left, old) laws
 
-  -- putting back what was removed gives the map again
+  -- putting a removed entry back gives the map again
   pub insert-remove : (m : FinMap R X) (k : K) (v : X) → get m k ≡ Some v → insert (remove m k) k v ≡ m
   insert-remove m k v h = map.same_map o same _ _ (λ q.
       map.get-insert o (remove m k) k v q
@@ -143,7 +143,7 @@ module _ {K X : Type 0} {R : K → K → Ordering} (o : IsTotalOrder R) (same : 
       ap (λ n. sum_by f (values n)) (insert-remove m k v h) in
       omega (arith, put_back, nothing, again)
 
-  -- putting what is there changes nothing
+  -- putting an entry that exists changes nothing
   pub insert_same : (m : FinMap R X) (k : K) (v : X) → get m k ≡ Some v → insert m k v ≡ m
   insert_same m k v h = map.same_map o same _ _ (λ q.
       map.get-insert o m k v q
@@ -170,7 +170,7 @@ module _ {K X : Type 0} {R : K → K → Ordering} (o : IsTotalOrder R) (same : 
   pub removed_elsewhere : (m : FinMap R X) (k q : K) → q ≢ k → get (remove m k) q ≡ get m q
   removed_elsewhere m k q apart = map.get-remove o m k q ∙ ap (λ b. cond b None (get m q)) (apart_test o same q k apart)
 
-  -- a sum of small numbers
+  -- a sum of bounded numbers
   pub sum_le : (f : X → ℕ) (b : ℕ) (m : FinMap R X) → ((k : K) (v : X) → get m k ≡ Some v → f v ≤ b) →
       sum_by f (values m) ≤ len m * b
   sum_le f b = by_entries (λ m. ((k : K) (v : X) → get m k ≡ Some v → f v ≤ b) → sum_by f (values m) ≤ len m * b)
@@ -186,7 +186,7 @@ module _ {K X : Type 0} {R : K → K → Ordering} (o : IsTotalOrder R) (same : 
       let product : (len m + 1) * b ≡ len m * b + b = grind arith in
       rw longer (omega (arith, rest, one, sums, nothing, product)))
 
-  -- a sum of numbers, each at most so many times another
+  -- a sum of numbers, each of which is bounded by a multiple of another
   pub sum_le_by : (f g : X → ℕ) (b : ℕ) (m : FinMap R X) → ((k : K) (v : X) → get m k ≡ Some v → f v ≤ g v * b) →
       sum_by f (values m) ≤ sum_by g (values m) * b
   sum_le_by f g b = by_entries (λ m. ((k : K) (v : X) → get m k ≡ Some v → f v ≤ g v * b) →

@@ -18,7 +18,7 @@ use Rattle.vac_model.proofs.Ids.{both_true}
 use Rattle.vac_model.proofs.Kept.{step_follows, found_both, Follows}
 use Rattle.vac_model.proofs.Choices.{HasId, choice_id}
 
--- a state that comes of another: balanced, with the same capacity
+-- a state that follows another: balanced, with the same capacity
 pub record Keeps (s t : State) : Type 0 where
   pub balanced : IsBalanced t
   pub capacity : t.capacity ≡ s.capacity
@@ -79,7 +79,7 @@ steps_keep s (c ∷ cs) balanced e =
     let first = step_keeps s c balanced this.1 in
     then_keeps s (step s c).0 _ first (steps_keep (step s c).0 cs first.balanced both.1)
 
--- every task that can be asked for keeps a state balanced, and its capacity
+-- every valid task keeps a state balanced, and its capacity
 pub run_keeps : (s : State) (t : Task) → IsBalanced s → is_task t ≡ true → Keeps s (run s t).0
 run_keeps s (task.One c) balanced e = step_keeps s c balanced e
 run_keeps s (task.Trip customer asks) balanced e =

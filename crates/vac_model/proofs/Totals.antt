@@ -1,4 +1,4 @@
--- In a balanced state as many units are used as are booked.
+-- In a balanced state, the used units are the booked units.
 use Rattle.std.proofs.Common.{◌≡◌, ◌≢◌, ℕ, ◌+◌, cond, List, [], ◌∷◌, refl, ap, sym, ◌∙◌, arith, inl, inr}
 use Rattle.std.specs.Prelude.{Some, None, IsSome, is_some, sum_by}
 use Rattle.std.specs.Option.{option_map_or}
@@ -59,7 +59,7 @@ module _ {K X : Type 0} {R : K → K → Ordering} (o : IsTotalOrder R) (same : 
   no_sum : (f : K × X → ℕ) → sum_by f (entries (empty {X = X} {R = R})) ≡ 0
   no_sum f = ap (sum_by f) (entries-empty R)
 
-  -- the values' sum is one over the keys, where each value's number is its key's
+  -- the sum over the values is a sum over the keys, if each value's number is its key's
   by_keys : (f : X → ℕ) (h : K → ℕ) (m : FinMap R X) → ((k : K) (v : X) → get m k ≡ Some v → f v ≡ h k) →
       sum_by f (values m) ≡ key_sum h m
   by_keys f h = by_entries o same (λ m. ((k : K) (v : X) → get m k ≡ Some v → f v ≡ h k) →
@@ -208,7 +208,7 @@ one_place s h Room id n here others there =
           (λ i. others (Flight, i) (λ e. let never : Flight ≡ Room = ap (λ (p : Place). p.0) e in cc)) s.flights,
     )
 
--- the units of one customer, each counted at the item that it is of
+-- the units of one customer, each counted at its item
 customer_units : (s : State) (b : Bookings) → ((p : Place) (x : Booking) → get b p ≡ Some x →
     IsSome (item_of s p.0 p.1)) → place_sum s (units_of b) ≡ units_booked b
 customer_units s = by_entries place_cmp_total place_cmp-IsAntisymmetric
@@ -289,7 +289,7 @@ all_units s = by_entries nat_cmp_total nat_cmp-IsAntisymmetric
         let nothing : option_map_or f (get cs c) 0 ≡ 0 = ap (λ o. option_map_or f o 0) new in
         omega (arith, sums, nothing)
 
--- the units used are those booked
+-- the used units are the booked units
 pub used_booked : (s : State) → IsBalanced s → (report s).used ≡ (report s).bookings
 used_booked s balanced =
     let cars = by_keys nat_cmp_total nat_cmp-IsAntisymmetric (λ (x : Item). x.used) (λ i. units_held s (Car, i)) s.cars

@@ -15,7 +15,7 @@ use Rattle.std.specs.FinMap.{FinMap, IsAntisymmetric, find, put, from_entries, e
 use Rattle.std.specs.FinMap.{values}
 use Rattle.std.proofs.lemmas.Map.Keys.{sorted_head, sorted_tail}
 
--- an entry is not there and missing at once
+-- an entry cannot exist and be missing at once
 pub not_some : {X : Type 0} (o : Option X) → o ≡ None → IsSome o → ⊥
 not_some o e h = let same : false ≡ true = subst IsSome e h in cc
 
@@ -30,7 +30,7 @@ module _ {K X : Type 0} (R : K → K → Ordering) where
   find-lookup q [] = refl
   find-lookup q (e ∷ es) = ap (cond (is_eq (R q e.0)) (Some e.1)) (find-lookup q es)
 
-  -- both ways to put an entry in its place
+  -- both ways to insert an entry agree
   pub put-insert_entry : (k : K) (v : X) (es : List (K × X)) → put R k v es ≡ insert_entry R es k v
   put-insert_entry k v [] = refl
   put-insert_entry k v (e ∷ es) =
@@ -55,7 +55,7 @@ pub entries-empty : {K X : Type 0} (R : K → K → Ordering) → entries (map.e
 entries-empty {K} {X} R = no_length _ (sym (map.len-entries (map.empty {X = X} {R = R})) ∙ map.len-empty R X)
 
 module _ {K X : Type 0} {R : K → K → Ordering} (o : IsTotalOrder R) where
-  -- a list in order is the entries of its map
+  -- a sorted list is the list of entries of its map
   pub entries_of_sorted : (es : List (K × X)) → IsStrictlySortedBy R (keys_of es) →
       entries (from_entries {R = R} es) ≡ es
   entries_of_sorted [] h = entries-empty R
@@ -99,19 +99,19 @@ module _ {K X : Type 0} {R : K → K → Ordering} (o : IsTotalOrder R) where
         ∙ ap (cond (eq_by_cmp R q k) None) (sym (get-tree m q))
         ∙ sym (map.get-remove o (from_entries m.entries) k q))
 
-    -- n is m after w was written at a key that m has
+    -- n is m after w was written at a key of m
     pub write-tree : (m n : BTreeMap K X) (k : K) (w old : X) → tree.WritesThrough R (R k) m w n →
         tree.get R m k ≡ Some old
         → from_entries {R = R} n.entries ≡ insert (from_entries m.entries) k w
     write-tree m n k w old h there = insert-tree m n k w (h.3 (ap is_some there))
 
-    -- the same of a map that is seen as v
+    -- as `write-tree`, for a map that is seen as v
     pub write_seen : (m n : BTreeMap K X) (v : FinMap R X) (k : K) (w old : X) → from_entries m.entries ≡ v →
         tree.WritesThrough R (R k) m w n
         → tree.get R m k ≡ Some old → from_entries {R = R} n.entries ≡ insert v k w
     write_seen m n v k w old e h there = write-tree m n k w old h there ∙ ap (λ u. insert u k w) e
 
-  -- what both look-ups found
+  -- both look-ups find the same
   pub same_found : (m : BTreeMap K X) (v : FinMap R X) (k : K) (x old : X) → from_entries m.entries ≡ v →
       get v k ≡ Some x → tree.get R m k ≡ Some old → old ≡ x
   same_found m v k x old e h there = ap (λ f. unwrap_or f x) (sym there ∙ sym (get_seen m v k e) ∙ h)

@@ -12,7 +12,7 @@ is_id n = nat_le 1 n && nat_lt n (2 ^ 32)
 abbrev pub is_amount : ℕ → Bool
 is_amount n = nat_le n MOST_AMOUNT
 
--- a price that is given is 0 to 1,000,000
+-- a price is 0 to 1,000,000, if it is given
 abbrev pub is_optional_amount : Option ℕ → Bool
 is_optional_amount None = true
 is_optional_amount (Some n) = is_amount n
@@ -21,12 +21,13 @@ is_optional_amount (Some n) = is_amount n
 abbrev pub is_unit_count : ℕ → Bool
 is_unit_count n = nat_le 1 n && nat_le n MOST_UNITS_AT_ONCE
 
--- units can be deleted of cars and rooms; a flight is dropped as a whole
+-- true if units of this kind can be deleted: those of cars and rooms. A flight is dropped as a
+-- whole
 abbrev pub has_deletable_units : Kind → Bool
 has_deletable_units Car = true
 has_deletable_units Flight = false
 has_deletable_units Room = true
 
--- a trip has 1 to 32 asks, an update 1 to 32 changes
+-- a trip has 1 to 32 asks, and an update 1 to 32 changes
 abbrev pub is_list_length : ℕ → Bool
 is_list_length n = nat_le 1 n && nat_le n MOST_PARTS

@@ -1,4 +1,4 @@
--- What the laws of commands and tasks speak of.
+-- Statements on commands and tasks, of which the laws speak.
 use Rattle.std.specs.Prelude.{◌≡◌, ℕ, ◌≤◌, ◌+◌, ◌*◌, Option, Some, None, is_some, true}
 use Rattle.std.specs.FinMap.{get}
 use Rattle.vac_model.specs.declared.items.Kind.{Kind}
@@ -9,13 +9,13 @@ use Rattle.vac_model.specs.State.{State, Bookings, item_of, bookings_of, bill_of
 use Rattle.vac_model.specs.declared.tasks.Task.{Task}
 use Rattle.vac_model.specs.declared.tasks.Task.TheVariants as task
 
--- an Add needs an entry: its item is missing, and it has a count and a price
+-- an Add needs an entry: its item is missing, and the command has a count and a price
 pub record AddNeedsEntry (s : State) (kind : Kind) (id num : ℕ) (given : Option ℕ) : Type 0 where
   pub missing : item_of s kind id ≡ None
   pub price : is_some given ≡ true
   pub count : 1 ≤ num
 
--- a Reserve needs an entry: its customer is there and has no booking of the item, which has enough
+-- a Reserve needs an entry: its customer exists and has no booking of the item, which has enough
 -- free units
 pub record ReserveNeedsEntry (s : State) (c : ℕ) (kind : Kind) (id num : ℕ) : Type 0 where
   pub bookings : Bookings
@@ -25,7 +25,7 @@ pub record ReserveNeedsEntry (s : State) (c : ℕ) (kind : Kind) (id num : ℕ) 
   pub free : num ≤ item.free
   pub missing : get bookings (kind, id) ≡ None
 
--- no refusal that comes before Full applies, and the command makes an entry
+-- the command needs a new entry, and no refusal that comes before Full applies
 abbrev pub NeedsEntry : State → Command → Type 0
 NeedsEntry s (command.Add kind id num price) = AddNeedsEntry s kind id num price
 NeedsEntry s (command.Delete kind id num) = ⊥
@@ -39,14 +39,14 @@ NeedsEntry s (command.Reserve customer kind id num) = ReserveNeedsEntry s custom
 NeedsEntry s (command.Cancel customer kind id) = ⊥
 NeedsEntry s command.Audit = ⊥
 
--- a task that is one command
+-- the task is a single command
 abbrev pub IsOne : Task → Type 0
 IsOne (task.One c) = Unit {0}
 IsOne (task.Trip customer asks) = ⊥
 IsOne (task.Leave customer) = ⊥
 IsOne (task.Update changes) = ⊥
 
--- after a reservation the customer's bill has grown by the present price for each unit
+-- after the reservation, the customer's bill has grown by the present price for each unit
 pub record IsBilled (before : Bookings) (after : State) (customer num price : ℕ) : Type 0 where
   pub bookings : Bookings
   pub there : bookings_of after customer ≡ Some bookings

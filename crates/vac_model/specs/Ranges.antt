@@ -1,4 +1,4 @@
--- Whether a command, a task or a system of n blocks can be asked for.
+-- The valid commands, tasks and numbers of blocks.
 use Rattle.std.specs.Prelude.{ℕ, Bool, true, false, ◌&&◌, length, nat_le}
 use Rattle.std.specs.List.{list_all}
 use Rattle.vac_model.specs.Amounts.{is_id, is_amount, is_optional_amount, is_unit_count, has_deletable_units, is_list_length}
@@ -8,7 +8,7 @@ use Rattle.vac_model.specs.declared.limits.TheConstants.{MOST_BLOCKS}
 use Rattle.vac_model.specs.declared.tasks.Task.{Task}
 use Rattle.vac_model.specs.declared.tasks.Task.TheVariants as task
 
--- whether a command's numbers are in their ranges
+-- true if the command is valid: its numbers are in their ranges, and it is no Delete of a flight
 abbrev pub is_command : Command → Bool
 is_command (command.Add kind id num price) = is_id id && is_amount num && is_optional_amount price
 is_command (command.Delete kind id num) = has_deletable_units kind && is_id id && is_amount num
@@ -22,7 +22,7 @@ is_command (command.Reserve customer kind id num) = is_id customer && is_id id &
 is_command (command.Cancel customer kind id) = is_id customer && is_id id
 is_command command.Audit = true
 
--- whether a command is a change of the tables, as an update has them
+-- true if the command may be part of an update: an Add, a Delete or a DropFlight
 abbrev pub is_change : Command → Bool
 is_change (command.Add kind id num price) = true
 is_change (command.Delete kind id num) = true
@@ -36,7 +36,7 @@ is_change (command.Reserve customer kind id num) = false
 is_change (command.Cancel customer kind id) = false
 is_change command.Audit = false
 
--- whether a task can be asked for: its numbers are in their ranges and its lists are not too long
+-- true if the task is valid: its numbers are in their ranges and its lists are not too long
 abbrev pub is_task : Task → Bool
 is_task (task.One c) = is_command c
 is_task (task.Trip customer asks) =

@@ -1,5 +1,5 @@
--- What each command does to a state, and the reply to it. The commands and their refusals are those
--- of STAMP's Vacation, but for the refusals TotalLimit, Full, UnitLimit and NoCustomer of
+-- The outcome of each command: the next state and the reply. The commands and their refusals are
+-- those of STAMP's Vacation, except the refusals TotalLimit, Full, UnitLimit and NoCustomer of
 -- DropCustomer, the limits, and the report, which are this product's own.
 use Rattle.std.specs.Prelude.{ℕ, ◌+◌, ◌-◌, ◌*◌, Option, Some, None, List, unwrap_or, fold, nat_lt, ◌==◌, if◌then◌else◌}
 use Rattle.std.specs.Option.{option_map}
@@ -16,40 +16,40 @@ use Rattle.vac_model.specs.declared.replies.Reply.{Reply}
 use Rattle.vac_model.specs.declared.replies.Reply.TheVariants as reply
 use Rattle.vac_model.specs.State.{State, Booking, Bookings, Place, item_of, with_item, without_item, bookings_of, with_bookings, without_customer, is_full, bill_of, report}
 
--- the greatest total of an item
+-- the largest total of an item
 abbrev pub total_limit : ℕ
 total_limit = MOST_TOTAL
 
--- the most units that one booking has
+-- the largest number of units of one booking
 abbrev pub unit_limit : ℕ
 unit_limit = MOST_UNITS
 
--- the state after a command, and the reply
+-- the outcome of a command: the state after it, and the reply
 abbrev pub Outcome : Type 0
 Outcome = State × Reply
 
--- a refused command changes nothing
+-- the outcome of a refused command, which changes nothing
 abbrev pub refused : State → Why → Outcome
 refused s why = (s, reply.No why)
 
--- a command that took effect
+-- the outcome of a command that took effect
 abbrev pub done : State → Outcome
 done s = (s, reply.Done)
 
--- a number that was asked for
+-- the outcome of a question for a number
 abbrev pub number_answered : State → Option ℕ → Outcome
 number_answered s n = (s, reply.Number n)
 
--- goes on with an entry that is there, and has the other outcome where it is not
+-- continues with an entry if it exists, and else has the other outcome
 abbrev pub when_found : {X : Type 0} → Option X → Outcome → (X → Outcome) → Outcome
 when_found None missing found = missing
 when_found (Some x) missing found = found x
 
--- an item of which nothing is booked
+-- an item with all its units free
 abbrev pub new_item : ℕ → ℕ → Item
 new_item num price = record { used = 0; free = num; total = num; price = price }
 
--- an item with more units, and another price where one is given
+-- the item with more units, and with another price if one is given
 abbrev pub added : Item → ℕ → Option ℕ → Item
 added item num price = record {
   used = item.used;
@@ -58,7 +58,7 @@ added item num price = record {
   price = unwrap_or price item.price;
 }
 
--- an item with fewer free units
+-- the item with fewer free units
 abbrev pub deleted : Item → ℕ → Item
 deleted item num = record {
   used = item.used;
@@ -67,7 +67,7 @@ deleted item num = record {
   price = item.price;
 }
 
--- an item of which num more units are booked
+-- the item with num more units booked
 abbrev pub taken : Item → ℕ → Item
 taken item num = record {
   used = item.used + num;
@@ -76,7 +76,7 @@ taken item num = record {
   price = item.price;
 }
 
--- an item of which num units are booked no longer
+-- the item with num fewer units booked
 abbrev pub given_back : Item → ℕ → Item
 given_back item num = record {
   used = item.used - num;
@@ -85,16 +85,16 @@ given_back item num = record {
   price = item.price;
 }
 
--- a booking of units at a price
+-- a booking of num units at a price
 abbrev pub new_booking : ℕ → ℕ → Booking
 new_booking num price = record { units = num; sum = num * price }
 
--- a booking with more units, at the present price; the older units keep their prices
+-- the booking with more units at the present price; the older units keep their prices
 abbrev pub extended : Booking → ℕ → ℕ → Booking
 extended b num price = record { units = b.units + num; sum = b.sum + num * price }
 
--- Add of an item that is missing makes it, and needs a count and a price. Its total cannot pass the
--- limit.
+-- Add of a missing item creates it, and needs a count and a price. The total is not tested: a
+-- valid count is below the limit of the total
 abbrev pub add_new : State → Kind → ℕ → ℕ → Option ℕ → Outcome
 add_new s kind id num None = refused s NeedsCountAndPrice
 add_new s kind id num (Some price) =
@@ -102,18 +102,18 @@ add_new s kind id num (Some price) =
     else if is_full s then refused s Full
     else done (with_item s kind id (new_item num price))
 
--- Add to an item that is there adds units to it, and replaces its price where one is given
+-- Add to an existing item adds units to it, and replaces its price if one is given
 abbrev pub add_more : State → Kind → ℕ → ℕ → Option ℕ → Item → Outcome
 add_more s kind id num price item =
     if nat_lt total_limit (item.total + num) then refused s TotalLimit
     else done (with_item s kind id (added item num price))
 
--- Add makes the item, or changes the one that is there
+-- Add creates the item, or changes the existing one
 abbrev pub add : State → Kind → ℕ → ℕ → Option ℕ → Outcome
 add s kind id num price =
     when_found (item_of s kind id) (add_new s kind id num price) (add_more s kind id num price)
 
--- Delete takes free units away; an item with no unit left is removed
+-- Delete removes free units; an item without units is removed
 abbrev pub delete : State → Kind → ℕ → ℕ → Outcome
 delete s kind id num =
     when_found (item_of s kind id) (refused s NoItem) (λ item.
@@ -128,19 +128,19 @@ drop_flight s id =
     if nat_lt 0 item.used then refused s InUse
     else done (without_item s Flight id))
 
--- NewCustomer makes a customer without bookings
+-- NewCustomer creates a customer without bookings
 abbrev pub new_customer : State → ℕ → Outcome
 new_customer s id =
     when_found (bookings_of s id)
     (if is_full s then refused s Full else done (with_bookings s id empty))
     (λ _. refused s Exists)
 
--- the state after this number of units of an item is given back
+-- the state after units of an item were given back
 abbrev pub give_back : State → Place → ℕ → Option Item → State
 give_back s place units None = s
 give_back s place units (Some item) = with_item s place.0 place.1 (given_back item units)
 
--- the state after all units of these bookings are given back
+-- the state after all units of these bookings were given back
 abbrev pub give_back_all : State → List (Place × Booking) → State
 give_back_all s bookings =
     fold (λ s b. give_back s b.0 b.1.units (item_of s b.0.0 b.0.1)) s bookings
@@ -151,7 +151,7 @@ drop_customer s id =
     when_found (bookings_of s id) (refused s NoCustomer) (λ bookings.
     done (give_back_all (without_customer s id) (entries bookings)))
 
--- a new booking needs an entry
+-- Reserve without a booking of the item creates a booking, which needs an entry
 abbrev pub book_new : State → ℕ → Kind → ℕ → ℕ → Bookings → Item → Outcome
 book_new s customer kind id num bookings item =
     if is_full s then refused s Full
@@ -159,7 +159,7 @@ book_new s customer kind id num bookings item =
     (with_bookings s customer (insert bookings (kind, id) (new_booking num item.price)))
     kind id (taken item num))
 
--- a booking that is there takes more units, and no entry
+-- Reserve with a booking of the item adds units to the booking, which needs no entry
 abbrev pub book_more : State → ℕ → Kind → ℕ → ℕ → Bookings → Item → Booking → Outcome
 book_more s customer kind id num bookings item b =
     if nat_lt unit_limit (b.units + num) then refused s UnitLimit
@@ -186,7 +186,7 @@ cancel s customer kind id =
     done (with_item (with_bookings s customer (remove bookings (kind, id)))
     kind id (given_back item b.units)))))
 
--- the price of an item, if it is there
+-- the price of an item, if the item exists
 abbrev pub price_of : State → Kind → ℕ → Option ℕ
 price_of s kind id = option_map (λ item. item.price) (item_of s kind id)
 

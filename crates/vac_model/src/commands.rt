@@ -1,4 +1,4 @@
-//! Commands, and the reasons to refuse one.
+//! Commands, and the reasons for which a command is refused.
 
 ghost use Rattle.std.specs.Prelude.{◌≡◌};
 ghost use Rattle.vac_model.specs.Ranges as Ranges;
@@ -7,20 +7,20 @@ ghost use Rattle.vac_model.specs.Amounts as amounts;
 use crate::items::Kind;
 use crate::limits::{MOST_AMOUNT, MOST_UNITS_AT_ONCE};
 
-/// One step of the manager of reservations.
+/// One step of the reservation manager.
 ///
-/// Ids are 1 to 4,294,967,295; counts and prices 0 to 1,000,000; a `Reserve` is for 1 to 100 units.
-/// A command with a number out of its range, or a `Delete` of a flight, cannot be asked for.
+/// Ids are 1 to 4,294,967,295; counts and prices 0 to 1,000,000; a `Reserve` is for 1 to 100
+/// units. A command with a number out of its range, and a `Delete` of a flight, are not valid.
 #[derive(Clone, Copy, Debug, PartialEq, Eq, Default)]
 pub enum Command {
-    /// Makes the item, or adds `num` units to it and replaces its price where one is given.
+    /// Creates the item, or adds `num` units to it and replaces its price if one is given.
     Add {
         kind: Kind,
         id: u32,
         num: u32,
         price: Option<u32>,
     },
-    /// Takes `num` free units from a car or a room; one with no unit left is removed.
+    /// Removes `num` free units of a car or a room; an item without units is removed.
     Delete {
         kind: Kind,
         id: u32,
@@ -30,25 +30,25 @@ pub enum Command {
     DropFlight {
         id: u32,
     },
-    /// Makes a customer without bookings.
+    /// Creates a customer without bookings.
     NewCustomer {
         id: u32,
     },
-    /// Gives back all that the customer has booked, and removes the customer.
+    /// Gives back all units that the customer has booked, and removes the customer.
     DropCustomer {
         id: u32,
     },
-    /// Asks how many units of the item are free.
+    /// Returns the number of free units of the item.
     Free {
         kind: Kind,
         id: u32,
     },
-    /// Asks for the price of the item.
+    /// Returns the price of the item.
     Price {
         kind: Kind,
         id: u32,
     },
-    /// Asks for the sum of the prices at which the customer's units were booked.
+    /// Returns the sum of the prices at which the customer's units were booked.
     Bill {
         id: u32,
     },
@@ -65,13 +65,13 @@ pub enum Command {
         kind: Kind,
         id: u32,
     },
-    /// Asks for the report of the whole state.
+    /// Returns the report of the whole state.
     #[default]
     Audit,
 }
 
 impl Command {
-    /// Whether the command can be asked for: its numbers are in their ranges, and it is no
+    /// Returns whether the command is valid: its numbers are in their ranges, and it is no
     /// `Delete` of a flight.
     pub fn is_in_range(&self) -> bool
         ensures { result ≡ Ranges.is_command self.now }
@@ -100,8 +100,7 @@ impl Command {
         }
     }
 
-    /// Whether the command is one of those that an update is made of: `Add`, `Delete` and
-    /// `DropFlight`.
+    /// Returns whether the command may be part of an update: `Add`, `Delete` and `DropFlight` may.
     pub fn is_change(&self) -> bool
         ensures { result ≡ Ranges.is_change self.now }
     {
@@ -148,8 +147,8 @@ fn has_deletable_units(kind: Kind) -> bool
     }
 }
 
-/// Why a command was refused. Nothing reads the numbers: the program writes names, and the code of
-/// a record has the refusal's place among these.
+/// The reason why a command was refused. No code reads the numbers: the program writes names, and
+/// the code of a record has the refusal's index.
 #[derive(Clone, Copy, Debug, PartialEq, Eq)]
 pub enum Why {
     NeedsCountAndPrice = 1,

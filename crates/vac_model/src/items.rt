@@ -1,11 +1,11 @@
-//! What can be booked.
+//! Items that can be booked, and bookings.
 
 ghost use Rattle.std.specs.Prelude.{◌≡◌, ◌<◌};
 ghost use Rattle.vac_model.specs.declared.limits.TheConstants.{KINDS};
 ghost use Rattle.vac_model.specs.State.{kind_number};
 ghost use Rattle.vac_model.specs.Coded.{kind_of_number};
 
-/// The kind of an item. Kinds are in this order.
+/// The kind of an item, in the order of kinds.
 #[derive(Clone, Copy, Debug, PartialEq, Eq, PartialOrd, Ord, Default)]
 pub enum Kind {
     #[default]
@@ -15,7 +15,7 @@ pub enum Kind {
 }
 
 impl Kind {
-    /// The number of the kind: 0 for cars, 1 for flights, 2 for rooms.
+    /// Returns the number of the kind: 0 for cars, 1 for flights, 2 for rooms.
     #[inline]
     pub fn number(self) -> u64
         ensures number { result ≡ kind_number self }
@@ -28,7 +28,7 @@ impl Kind {
         }
     }
 
-    /// The kind of a number. Each number from 2 on stands for rooms.
+    /// Returns the kind of a number. Each number from 2 on stands for rooms.
     #[inline]
     pub fn from_number(number: u64) -> Kind
         ensures kind { result ≡ kind_of_number number }
@@ -42,8 +42,8 @@ impl Kind {
     }
 }
 
-/// One entry of a table of cars, flights or rooms: how many units are booked, how many can still
-/// be booked, both together, and the price of a unit that is booked from now on.
+/// An entry of a table of cars, flights or rooms: the used units, the free units, the total of
+/// both, and the price of a unit that is booked from now on.
 #[derive(Clone, Copy, Debug, PartialEq, Eq)]
 pub struct Item {
     pub used: u64,
@@ -52,7 +52,7 @@ pub struct Item {
     pub price: u64,
 }
 
-/// What a customer has booked of one item: how many units, and the sum of their prices, each as it
+/// A customer's booking of one item: the number of units, and the sum of their prices, each as it
 /// was when the unit was booked.
 #[derive(Clone, Copy, Debug, PartialEq, Eq)]
 pub struct Booking {

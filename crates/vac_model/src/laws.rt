@@ -1,4 +1,4 @@
-//! Laws of commands and tasks. Each is the contract of a function that does nothing.
+//! Laws of commands and tasks: functions with empty bodies whose contracts are the statements.
 
 ghost use Rattle.std.specs.Prelude.{◌≡◌, ℕ, ◌≤◌, ◌++◌, ◌∷◌, [], Option, Some, None, replicate, true};
 ghost use Rattle.std.specs.Option.{option_map};
@@ -23,8 +23,8 @@ ghost use Rattle.vac_model.specs.Balanced.{IsBalanced};
 ghost use Rattle.vac_model.specs.Code.{code};
 ghost use Rattle.vac_model.specs.Laws.{NeedsEntry, IsOne, IsBilled};
 
-/// The state with no entries is balanced, and every task that can be asked for keeps a state
-/// balanced, and within its capacity.
+/// States that the state without entries is balanced, and that every valid task keeps a state
+/// balanced and within its capacity.
 pub fn states_stay_balanced()
     ensures empty { (n : ℕ) → IsBalanced (empty_state n) }
     ensures balanced { (s : State) (t : Task) → IsBalanced s → is_task t ≡ true
@@ -35,14 +35,14 @@ pub fn states_stay_balanced()
         → size (run s t).0 ≤ s.capacity }
 {}
 
-/// A refused command changes nothing.
+/// States that a refused command changes nothing.
 pub fn refused_commands_change_nothing()
     ensures { (s : State) (c : Command) (why : Why)
         → (step s c).1 ≡ reply.No why → (step s c).0 ≡ s }
 {}
 
-/// `Full` is returned exactly where no earlier refusal applies, an entry is needed and the size is
-/// the capacity.
+/// States that `Full` is returned exactly if no earlier refusal applies, an entry is needed and
+/// the size is the capacity.
 pub fn full_where_no_entry_is_left()
     ensures only { (s : State) (c : Command) → IsBalanced s → (step s c).1 ≡ reply.No Full
         → NeedsEntry s c × (size s ≡ s.capacity) }
@@ -50,12 +50,12 @@ pub fn full_where_no_entry_is_left()
         → (step s c).1 ≡ reply.No Full }
 {}
 
-/// A trip, a leave and an update are never refused as a whole.
+/// States that a trip, a leave and an update are never refused as a whole.
 pub fn only_commands_are_refused()
     ensures { (s : State) (t : Task) (why : Why) → (run s t).1 ≡ reply.No why → IsOne t }
 {}
 
-/// What a `Cancel` or a deleted customer gives back is what was booked.
+/// States that a `Cancel` and a `DropCustomer` give back exactly the units that were booked.
 pub fn bookings_are_given_back()
     ensures cancelled { (s : State) (c : ℕ) (kind : Kind) (id : ℕ)
         (bookings : Bookings) (b : Booking) (item : Item)
@@ -68,8 +68,8 @@ pub fn bookings_are_given_back()
         ≡ option_map (λ item. given_back item (units_of bookings (kind, id))) (item_of s kind id) }
 {}
 
-/// A reservation adds the present price to the customer's bill for each unit, and the prices of
-/// older units stay; a price that an `Add` replaces changes no booking.
+/// States that a reservation adds the present price to the customer's bill for each unit. The
+/// prices of older units stay; a price that an `Add` replaces changes no booking.
 pub fn bills_keep_prices()
     ensures reserved { (s : State) (c : ℕ) (kind : Kind) (id num : ℕ)
         (bookings : Bookings) (item : Item)
@@ -80,17 +80,17 @@ pub fn bills_keep_prices()
         → bookings_of (step s (command.Add kind id num price)).0 c ≡ bookings_of s c }
 {}
 
-/// As many units are used as are booked.
+/// States that in a balanced state the used units of all items are the units of all bookings.
 pub fn used_units_are_booked()
     ensures { (s : State) → IsBalanced s → (report s).used ≡ (report s).bookings }
 {}
 
-/// The code of a task and a reply determines both.
+/// States that the code of a task and a reply determines both.
 pub fn codes_determine_tasks_and_replies()
     ensures { (t u : Task) (r q : Reply) → code t r ≡ code u q → (t ≡ u) × (r ≡ q) }
 {}
 
-/// Codes of the commands that change entries, and of their replies, worked out by hand.
+/// States the codes of the commands that change entries, and of their replies, worked out by hand.
 pub fn codes_of_commands()
     ensures add { code (task.One (command.Add Car 7 100 (Some 50))) reply.Done
         ≡ 0 ∷ 0 ∷ 0 ∷ 7 ∷ 100 ∷ 1 ∷ 50 ∷ 0 ∷ [] }
@@ -113,7 +113,7 @@ pub fn codes_of_commands()
         ≡ 0 ∷ 9 ∷ 3 ∷ 2 ∷ 9 ∷ 3 ∷ 9 ∷ [] }
 {}
 
-/// Codes of the commands that only ask, and of their replies, worked out by hand.
+/// States the codes of the commands that only ask, and of their replies, worked out by hand.
 pub fn codes_of_questions()
     ensures free { code (task.One (command.Free Flight 2)) (reply.Number (Some 5))
         ≡ 0 ∷ 5 ∷ 1 ∷ 2 ∷ 1 ∷ 1 ∷ 5 ∷ [] }
@@ -135,7 +135,7 @@ pub fn codes_of_questions()
         ≡ 0 ∷ 10 ∷ 2 ∷ 1 ∷ 2 ∷ 3 ∷ 4 ∷ 5 ∷ 6 ∷ 7 ∷ 13 ∷ 90 ∷ [] }
 {}
 
-/// Codes of the other tasks and their replies, worked out by hand.
+/// States the codes of the other tasks and their replies, worked out by hand.
 pub fn codes_of_tasks()
     ensures trip { code (task.Trip 3 ((Car, 1) ∷ (Room, 9) ∷ []))
         (reply.Trip (record {

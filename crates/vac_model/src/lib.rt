@@ -1,8 +1,9 @@
 //! The rules of the reservation system, after the program Vacation of the STAMP benchmarks
 //! (Cao Minh, Chung, Kozyrakis, Olukotun, IISWC 2008).
 //!
-//! The types of commands, tasks and replies are here, with the definitions of what they mean
-//! (`specs/`), below all other crates. The plain program that computes them is `vac_sequential`.
+//! The crate has the types of commands, tasks and replies, and the definitions of their meaning
+//! (`specs/`); it lies below all other crates. `vac_sequential` is the plain program that computes
+//! them.
 #![tactic(auto)]
 
 mod commands;

@@ -1,30 +1,30 @@
-//! The limits of the reservation system. Each number is here alone, but `MOST_BLOCKS`, which
-//! `tx_alloc` has too, and `KINDS`, which `tx_list` has. Code, contracts and definitions cite each
-//! by its name.
+//! The limits of the reservation system. Each number stands here alone, except `MOST_BLOCKS`,
+//! which `tx_alloc` has too, and `KINDS`, which `tx_list` has. Code, contracts and definitions
+//! cite each by its name.
 
-/// How many kinds of items there are.
+/// Number of kinds of items.
 pub const KINDS: u32 = 3;
 
-/// The most blocks that a manager has, which is the most entries of a state.
+/// Largest number of blocks of a manager, which is the largest number of entries of a state.
 pub const MOST_BLOCKS: u32 = 262_144;
 
-/// The greatest id of an item or of a customer.
+/// Largest id of an item or of a customer.
 pub const MOST_ID: u32 = u32::MAX;
 
-/// The most of a count or of a price in a command.
+/// Largest count or price in a command.
 pub const MOST_AMOUNT: u32 = 1_000_000;
 
-/// The most units of one reservation.
+/// Largest number of units of one reservation.
 pub const MOST_UNITS_AT_ONCE: u32 = 100;
 
-/// The most units of one booking.
+/// Largest number of units of one booking.
 pub const MOST_UNITS: u64 = 10_000;
 
-/// The most units of an item, free and used together.
+/// Largest number of units of an item, free and used together.
 pub const MOST_TOTAL: u64 = 1_000_000_000;
 
-/// The most asks of a trip, and the most changes of an update.
+/// Largest number of asks of a trip, and of changes of an update.
 pub const MOST_PARTS: usize = 32;
 
-/// The most tries that a call of a manager may be given.
+/// Largest number of attempts that a call of a manager may be given.
 pub const MOST_TRIES: u32 = 1_048_576;

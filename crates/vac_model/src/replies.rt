@@ -1,4 +1,4 @@
-//! What a task returns. Every reply has a fixed size.
+//! The replies to tasks. Every reply has a fixed size.
 
 use crate::commands::Why;
 use crate::limits::MOST_PARTS;
@@ -8,19 +8,20 @@ use crate::limits::MOST_PARTS;
 pub enum Reply {
     /// The command took effect, or had nothing to change.
     Done,
-    /// The number that was asked for, or `None` where the item or the customer is missing.
+    /// The answer to a question for a number, or `None` if the item or the customer is missing.
     Number(Option<u64>),
     /// The report of the whole state.
     Report(Report),
     /// The command was refused and changed nothing.
     No(Why),
-    /// What a trip did.
+    /// The outcome of a trip.
     Trip(TripReply),
-    /// What an update did.
+    /// The outcome of an update.
     Update(UpdateReply),
 }
 
-/// The entries of each table, the units booked, the sums over all items, and the sum of all bills.
+/// A report: the number of entries of each table, the units booked, the sums over all items, and
+/// the sum of all bills.
 #[derive(Clone, Copy, Debug, PartialEq, Eq)]
 pub struct Report {
     pub cars: u64,
@@ -34,18 +35,18 @@ pub struct Report {
     pub billed: u64,
 }
 
-/// The reply to a trip: one place for each kind, in the order of kinds, which is `None` where
-/// none of the asks for that kind was found.
+/// The reply to a trip: one pick for each kind, in the order of kinds. A pick is `None` if no item
+/// of that kind among the asks was found.
 #[derive(Clone, Copy, Debug, PartialEq, Eq)]
 pub struct TripReply {
     pub joined: Joined,
     pub picks: [Option<Pick>; 3],
 }
 
-/// What became of the customer of a trip.
+/// The outcome for the customer of a trip.
 #[derive(Clone, Copy, Debug, PartialEq, Eq)]
 pub enum Joined {
-    /// Nothing was picked, so no customer was asked for.
+    /// Nothing was picked, so no customer was created.
     NotAsked,
     /// The customer is new.
     Added,
@@ -53,7 +54,7 @@ pub enum Joined {
     Refused(Why),
 }
 
-/// The item that a trip picked of one kind, its price, and why it could not be booked.
+/// The item that a trip picked of one kind, its price, and the reason if it could not be booked.
 #[derive(Clone, Copy, Debug, PartialEq, Eq)]
 pub struct Pick {
     pub id: u32,
@@ -61,7 +62,8 @@ pub struct Pick {
     pub refused: Option<Why>,
 }
 
-/// The reply to an update: why each of its `len` changes was refused, `None` from `len` on.
+/// The reply to an update: for each of its `len` changes the reason of its refusal, if it was
+/// refused; `None` from `len` on.
 #[derive(Clone, Copy, Debug, PartialEq, Eq)]
 pub struct UpdateReply {
     pub len: u8,

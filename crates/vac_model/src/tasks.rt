@@ -1,4 +1,4 @@
-//! Tasks: what a client asks for at once.
+//! Tasks, which clients submit.
 
 ghost use Rattle.std.specs.Prelude.{◌≡◌, ◌≤◌, ◌&&◌, IfOk, IsOk, length};
 ghost use Rattle.std.specs.List.{list_all};
@@ -12,13 +12,13 @@ use smallvec::SmallVec;
 use std::alloc::{AllocError, Global};
 use std::marker::Model;
 
-/// The most asks that are kept without an allocation.
+/// Largest number of asks that are stored without an allocation.
 pub const INLINE_ASKS: usize = 8;
 
-/// The most changes that are kept without an allocation.
+/// Largest number of changes that are stored without an allocation.
 pub const INLINE_CHANGES: usize = 4;
 
-/// The asks of a trip, in their order.
+/// The asks of a trip, in order.
 #[derive(Drop)]
 pub struct Asks {
     items: SmallVec<(Kind, u32), INLINE_ASKS>,
@@ -34,7 +34,7 @@ impl Model for Asks {
 }
 
 impl Asks {
-    /// The asks as a slice.
+    /// Returns the asks as a slice.
     pub fn as_slice(&self) -> &[(Kind, u32)]
         ensures { result.now ≡ self.now }
     {
@@ -42,7 +42,7 @@ impl Asks {
     }
 }
 
-/// The changes of an update, in their order.
+/// The changes of an update, in order.
 #[derive(Drop)]
 pub struct Changes {
     commands: SmallVec<Command, INLINE_CHANGES>,
@@ -58,7 +58,7 @@ impl Model for Changes {
 }
 
 impl Changes {
-    /// The changes as a slice.
+    /// Returns the changes as a slice.
     pub fn as_slice(&self) -> &[Command]
         ensures { result.now ≡ self.now }
     {
@@ -66,21 +66,21 @@ impl Changes {
     }
 }
 
-/// What a client asks for at once: all of it happens, or nothing.
+/// A task, which a client submits: all of it happens, or nothing.
 #[derive(Drop)]
 pub enum Task {
     /// One command.
     One(Command),
-    /// Of each kind the dearest item among the asks, one unit of each, for this customer.
+    /// Books one unit of the dearest item of each kind among the asks, for this customer.
     Trip { customer: u32, asks: Asks },
-    /// The bill of the customer, who is then deleted.
+    /// Returns the bill of the customer and deletes the customer.
     Leave { customer: u32 },
-    /// Changes of the tables, one after the other.
+    /// Changes the tables, one change after the other.
     Update { changes: Changes },
 }
 
 impl Task {
-    /// Whether the task can be asked for: its numbers are in their ranges, and an update has only
+    /// Returns whether the task is valid: its numbers are in their ranges, and an update has only
     /// changes of the tables. A trip has 1 to 32 asks, an update 1 to 32 changes.
     pub fn is_in_range(&self) -> bool
         ensures { result ≡ is_task self.now }
@@ -99,8 +99,8 @@ impl Task {
         }
     }
 
-    /// The trip with these asks. It fails only where memory is refused, and none is asked for up to
-    /// eight asks.
+    /// Returns a trip with these asks. Fails only if memory is refused; up to eight asks need no
+    /// memory.
     pub fn trip(alloc: Global, customer: u32, asks: &[(Kind, u32)]) -> Result<Task, AllocError>
         ensures ok { IfOk result (λ task. task ≡ Task.Trip customer asks.now) }
         ensures inline { length asks.now ≤ INLINE_ASKS → IsOk result }
@@ -112,8 +112,8 @@ impl Task {
         })
     }
 
-    /// The update with these changes. It fails only where memory is refused, and none is asked for
-    /// up to four changes.
+    /// Returns an update with these changes. Fails only if memory is refused; up to four changes
+    /// need no memory.
     pub fn update(alloc: Global, changes: &[Command]) -> Result<Task, AllocError>
         ensures ok { IfOk result (λ task. task ≡ Task.Update changes.now) }
         ensures inline { length changes.now ≤ INLINE_CHANGES → IsOk result }

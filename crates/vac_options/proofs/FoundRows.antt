@@ -1,4 +1,4 @@
--- The rows of what clap finds: where no step fails, each has a value that its rule accepts.
+-- The rows that clap finds: if no step fails, each row has a value that its rule accepts.
 use Rattle.std.proofs.Common.{◌≡◌, ◌<◌, ◌++◌, ◌||◌, ◌&&◌, ◌∙◌, ℕ, Bool, cond, true, false, List, [], ◌∷◌, length, Some}
 use Rattle.std.proofs.Common.{None, Option, ◌↔◌, refl, sym, ap, ap₂, subst, nat_lt, arith}
 use Rattle.std.specs.Prelude.{⊤, find, slice_get, option_map, IfSome, IsSome}
@@ -36,7 +36,7 @@ same_some x y e = cc
 pub no_some : {X : Type 0} (x : X) → None ≡ Some x → ⊥
 no_some x e = cc
 
--- the rows of a subcommand that is looked for by its name
+-- the rows of a subcommand that is looked up by its name
 pub named_some : {X M : Type 0} (sub : Option X) (name_of : X → Text) (rows_of : X → List Row) (o : Option M)
     (rows : M → List Row) (name : Text) → (IsSome o ↔ (option_map name_of sub ≡ Some name)) →
     IfSome o (λ m. option_map (λ (p : Text × List Row). p.1) (option_map {U = Text × List Row}
@@ -48,14 +48,14 @@ named_some (Some b) name_of rows_of (Some m) rows name h k =
     ap₂ (λ (n : Text) (r : List Row). let q : Text × List Row = (n, r) in
     Some q) (same_some _ _ (h.0 refl)) (same_some _ _ k)
 
--- one of that name is found
+-- a subcommand of that name is found
 pub named_found : {X M : Type 0} (sub : Option X) (name_of : X → Text) (rows_of : X → List Row) (o : Option M)
     (name : Text) (rows : List Row) → (IsSome o ↔ (option_map name_of sub ≡ Some name)) →
     option_map {U = Text × List Row} (λ b. (name_of b, rows_of b)) sub ≡ Some (name, rows) → IsSome o
 named_found None name_of rows_of o name rows h e = absurd (no_some _ e)
 named_found (Some b) name_of rows_of o name rows h e = h.1 (ap (λ (p : Text × List Row). Some p.0) (same_some _ _ e))
 
--- what a search finds has the property
+-- an element that a search finds has the property
 pub found_each : {X : Type 0} (P : X → Type 0) (test : X → Bool) (xs : List X) (x : X) → Each P xs →
     find test xs ≡ Some x → P x
 found_each P test [] x each found = absurd (no_some x found)
@@ -85,7 +85,7 @@ both_none (k ∷ ks) b e = absurd (no_fault k ks e)
 
 -- ---- values
 
--- the first value passes, and is read as the rule says
+-- the first value is accepted, and is read as the rule says
 pub record IsGood (a : Rule) (r : Row) : Type 0 where
   pub first : Text
   pub at : slice_get r.values 0 ≡ Some first
@@ -107,7 +107,7 @@ pub record IsFit (c : List Rule) (a : Rule) : Type 0 where
   pub valued : (is_request (action_of a) || (nat_lt 0 (unwrap_or_range a.range).start_inclusive || nat_lt 0
       (length a.missing))) ≡ true
 
--- the values that a use has: the first of them passes
+-- the first of the values of a use is accepted
 pub record FirstPasses (a : Rule) (values : List Text) : Type 0 where
   pub first : Text
   pub at : slice_get values 0 ≡ Some first

@@ -1,4 +1,5 @@
--- What clap finds where no step fails: an option with a default has a value that its rule accepts.
+-- The values that clap finds if no step fails: an option with a default has a value that its rule
+-- accepts.
 use Rattle.std.proofs.Common.{◌≡◌, ◌<◌, ◌++◌, ◌||◌, ◌∙◌, Bool, cond, true, false, List, [], ◌∷◌, length, Option, Some}
 use Rattle.std.proofs.Common.{None, is_some, refl, sym, ap, subst, arith}
 use Rattle.std.specs.Prelude.{find, fold, option_map, option_and_then}
@@ -50,7 +51,7 @@ defaults_fit c (a ∷ xs) rows fit e each =
     let parts = both_none _ _ e in
     defaults_fit c xs (with_default rows a) fit.1 parts.1 (default_fits c a rows fit.0 parts.0 each)
 
--- ---- which rows there are
+-- ---- the rows
 
 or_right : (a b : Bool) → b ≡ true → (a || b) ≡ true
 or_right true b e = refl
@@ -158,7 +159,7 @@ row_of_id P id (r ∷ rs) each e = go (bytes_eq r.id id) (λ rest. row_of_id P i
 
 -- ---- a level of a parse
 
--- the text that an option has: its rule accepts it
+-- the text of an option is accepted by its rule
 pub record IsGiven (a : Rule) (rows : List Row) : Type 0 where
   pub text : Text
   pub one : one_of a.id rows ≡ Some (read_as (reading_by a) text)
@@ -191,7 +192,7 @@ level_gives s words a all e own some =
 
 -- ---- the subcommand that the words name
 
--- the words behind the name of a subcommand, which its level of the parse takes without a fault
+-- the words after the name of a subcommand, which its level of the parse accepts without a fault
 pub record IsEntered (s : Shape) (rows : List Row) : Type 0 where
   pub words : List Text
   pub passes : level_fault s [] nothing_held words false [] ≡ []
@@ -234,7 +235,7 @@ subcommand_entered P a words name rows each fault found =
     let stop = stop_after (built a).top.rules (names_of (built a)) (argument_words a words) in
     entered_at P (built a) stop name rows each (both_none _ _ (both_none _ _ fault).1).0 found
 
--- what passes at the top of a command line that has no fault
+-- the parts of a command line without a fault that the top level accepts
 pub record TopPasses (a : App) (words : List Text) : Type 0 where
   pub walked : walk_fault (built a).top (names_of (built a)) (walk_from nothing_held) (argument_words a words) ≡ []
   pub checked : check_fault (built a).top (finished (built a).top.rules

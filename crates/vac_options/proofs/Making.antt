@@ -1,4 +1,4 @@
--- Commands with options more.
+-- Commands with options added.
 use Rattle.std.proofs.Common.{◌≡◌, ◌∙◌, ◌++◌, ℕ, List, [], ◌∷◌, Bool, Some, true, false, refl, sym, ap, ap₂}
 use Rattle.std.specs.Prelude.{◌||◌, Option, Result, Ok, Err, IfOk, IsOkAnd}
 use Rattle.std.specs.declared.alloc.AllocError.{AllocError}
@@ -74,7 +74,7 @@ pub no_option : (given : Result Command AllocError) → GetsOptions given [] giv
 no_option (Ok c) = record { app = refl; own = refl }
 no_option (Err e) = tt
 
--- an option was added behind others
+-- an option was added after others
 pub option_more : (given middle result : Result Command AllocError) (a : Arg) (options : List Rule) (option : Rule) →
     GetsOptions given options middle
     → IfOk result (λ after. IsOkAnd middle (λ before. AddsArg before a after)) → IsOption a option →
@@ -85,7 +85,7 @@ option_more (Err e) (Ok before) (Ok after) a options option s h is = absurd s
 option_more (Ok first) (Ok before) (Ok after) a options option s h is =
     one_more first before after a options option s h is
 
--- a command with one option more
+-- a command with one more option
 pub command_and : (given result : Result Command AllocError) (a : Arg) (name : Text) (options : List Rule)
     (option : Rule)
     → IfOk given (λ c. IsCommand c (with_options name options)) →
@@ -98,7 +98,7 @@ command_and (Ok before) (Ok after) a name options option c h is = record {
   own = h.globals ∙ or_false _ a.global is.own ∙ c.own;
 }
 
--- a command that got options, as what it is then
+-- a command that got options, with all its options
 pub command_gets : (given result : Result Command AllocError) (first s : Shape) (more : List Rule) →
     with_rules (record { top = first; subs = [] }) more ≡ record { top = s; subs = [] }
     → IfOk given (λ c. IsCommand c first) → GetsOptions given more result → IfOk result (λ c. IsCommand c s)
@@ -109,7 +109,7 @@ command_gets (Ok before) (Ok after) first s more same is gets = record {
   own = gets.own ∙ is.own;
 }
 
--- a command that got options in three turns
+-- a command that got options in three steps
 pub load_gets : (given first second result : Result Command AllocError) → GetsOptions given client_options first →
     GetsOptions first task_options second → GetsOptions second telling_options result →
     GetsOptions given load_options result
@@ -168,7 +168,7 @@ pub no_command : (given : Result Command AllocError) → GetsCommands given [] g
 no_command (Ok c) = record { app = refl }
 no_command (Err e) = tt
 
--- a subcommand was added behind others
+-- a subcommand was added after others
 pub command_more : (given middle sub result : Result Command AllocError) (subs : List Shape) (s : Shape) →
     GetsCommands given subs middle
     → IfOk result (λ after. IsOkAnd middle (λ before. IsOkAnd sub (λ added. AddsSubcommand before added after))) →
@@ -181,7 +181,7 @@ command_more (Err e) (Ok before) (Ok added) (Ok after) subs s c h is = absurd c
 command_more (Ok first) (Ok before) (Ok added) (Ok after) subs s c h is =
     one_command_more first before added after subs s c h is
 
--- the app of a command to which subcommands were added in three turns
+-- the app of a command to which subcommands were added in three steps
 pub all_commands : (top : Command) (first second third : Result Command AllocError) (a : App) (x y z : List Shape) →
     app_of top ≡ a → GetsCommands (Ok top) x first → GetsCommands first y second
     → GetsCommands second z third → IfOk third (λ c. app_of c ≡ with_commands (with_commands (with_commands a x) y) z)

@@ -1,4 +1,4 @@
--- What the words of a command line of the program name.
+-- The requests that the words of a command line make.
 use Rattle.std.proofs.Common.{◌≡◌, ◌<◌, ◌≤◌, ◌⊎◌, ◌||◌, ◌&&◌, ◌==◌, ◌^◌, ◌∙◌, ℕ, Bool, cond, true, false, List, [], ◌∷◌}
 use Rattle.std.proofs.Common.{length, drop, Option, Some, None, is_some, refl, sym, ap, subst, codes, inl, inr, arith}
 use Rattle.std.specs.Prelude.{find, option_map, unwrap_or, pos}
@@ -91,7 +91,7 @@ signed_writes low high t passed = subst (Writes low high) (sym (without_minus-co
         let numeral = rw minus at passed.0 in
         record { numeral = numeral; least = omega (arith, ints); most = omega (arith, ints) }
 
--- an option of a number gives one in its range
+-- an option for a number gives a number in its range
 number_given : (rows : List Row) (a : Rule) (least most : ℕ) → a.parser ≡ Some (vp.Signed (pos least) (pos most)) →
     IsGiven a rows → GivesIn rows a.id least most
 number_given rows a least most parser g =
@@ -111,7 +111,7 @@ number_given rows a least most parser g =
       high = writes.most;
     }
 
--- the same of a number that is read as it is written
+-- as `number_given`, for a number that is read as it is written
 seed_given : (rows : List Row) (a : Rule) (most : ℕ) → a.parser ≡ Some (vp.Unsigned 0 most) → IsGiven a rows →
     GivesIn rows a.id 0 most
 seed_given rows a most parser g =
@@ -228,7 +228,7 @@ settings_fit name = (
   ),
 )
 
--- ---- what the words give
+-- ---- the values that the words give
 
 settings_number : (of : Text) (rows : List Row) → IsEntered (with_settings of) rows → (a : Rule) (least most : ℕ) →
     a.parser ≡ Some (vp.Signed (pos least) (pos most))
@@ -278,7 +278,7 @@ blocks_given of rows e = number_given rows (filled blocks_option) 1 MOST_BLOCKS 
     (subst (IsGiven (filled blocks_option)) e.rows_are (level_gives (with_blocks of) e.words (filled blocks_option)
     (blocks_fit of) e.passes refl (omega arith)))
 
--- what an option with a default has, of a subcommand that was entered
+-- the value of an option with a default, in a subcommand that was entered
 option_given : (s : Shape) (rows : List Row) → AllFit s.rules → IsEntered s rows → (a : Rule) →
     arg_by_id s.rules a.id ≡ Some a → 0 < length a.defaults → IsGiven a rows
 option_given s rows all e a own some = subst (IsGiven a) e.rows_are (level_gives s e.words a all e.passes own some)
@@ -505,7 +505,7 @@ tasks_alone = (
   ),
 )
 
--- what a subcommand's options give
+-- the values that a subcommand's options give
 pub run_blocks : (words : List Text) (rows : List Row) → fault_of vacation words ≡ [] → Names words (codes "run") rows →
     GivesIn rows (codes "blocks") 1 MOST_BLOCKS
 run_blocks words rows fault names = blocks_given _ rows (enters _ _ words rows run_alone fault names)
@@ -613,7 +613,7 @@ stopped_at a (Some p) name rows each other found = go (find (λ s. answers_to p.
         (found_passes (λ t. answers_to p.0 (label_of t)) a.subs s is) in
         subst (λ (t : Text). bytes_eq t (codes "help") ≡ false) (sym word_is ∙ name_is) other
 
--- the words that clap takes name one of the subcommands
+-- words that clap accepts name one of the subcommands
 abbrev pub IsNamed : List Text → List Row → Type 0
 IsNamed words rows =
     Names words (codes "run") rows ⊎ (Names words (codes "dump") rows ⊎
@@ -658,7 +658,7 @@ one_is_named words fault =
     which s (inr (inr (inr (inr (inr (inr (inr (inr is)))))))) at other =
         absurd (let bad : true ≡ false = subst (λ (t : Shape). bytes_eq t.name (codes "help") ≡ false) is other in cc)
 
--- ---- what the getters of clap read
+-- ---- the values that clap's getters return
 
 pub number_read : (E : Type 0) (G : List ℕ → Result ℕ E → Type 0) (k : ℕ) (f : Found) (option : Text) (least most : ℕ)
     (r : Option ℕ)
@@ -716,7 +716,7 @@ is_none : {X : Type 0} (o : Option X) → false ≡ is_some o → o ≡ None
 is_none None e = refl
 is_none (Some x) e = absurd (let bad : false ≡ true = e in cc)
 
--- where a look for each of the subcommands found none
+-- no subcommand is named if a search for each of them found none
 pub none_is_named : {X : Type 0} (words : List Text) (rows : List Row) (found : Option (Text × List Row))
     (run dump check judge order opaque tasks load : Option X) → found ≡ subcommand_of vacation words
     → ((r : List Row) → found ≡ Some (codes "run", r) → IsSome run)

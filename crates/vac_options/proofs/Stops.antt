@@ -1,4 +1,4 @@
--- Where the walk of clap stops: at a subcommand other than `help`, where no step fails.
+-- The word at which clap's walk stops: if no step fails, it is a subcommand other than `help`.
 use Rattle.std.proofs.Common.{◌≡◌, ◌&&◌, ℕ, Bool, cond, true, false, List, [], ◌∷◌, Option, Some, None, is_some, refl}
 use Rattle.std.proofs.Common.{sym, subst, codes}
 use Rattle.std.specs.Prelude.{⊤, fold}

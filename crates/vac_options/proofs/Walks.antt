@@ -1,4 +1,4 @@
--- The walk of clap over the words of a command line: where no step fails, what is held fits.
+-- Clap's walk over the words of a command line: if no step fails, the values that it holds fit.
 use Rattle.std.proofs.Common.{◌≡◌, ◌&&◌, ℕ, zero, suc, Bool, cond, true, false, List, [], ◌∷◌, length, Option, Some}
 use Rattle.std.proofs.Common.{None, is_some, refl}
 use Rattle.std.specs.Prelude.{slice_get, drop, encode_utf8, fold}

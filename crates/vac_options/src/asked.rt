@@ -1,4 +1,4 @@
-//! What a command line asks for.
+//! The request that a command line makes.
 
 ghost use Rattle.std.specs.Prelude.{◌≡◌, ◌<◌, ◌≤◌, ◌^◌, ℕ, true, Some, List, map};
 ghost use Rattle.std.specs.Prelude.{string_bytes, codes, IfOk, IfSome, IsSome};
@@ -17,67 +17,68 @@ use std::alloc::Global;
 use stm_words::VERSION_LIMIT;
 use vac_draws::Settings;
 
-/// The greatest number that an option of any number gives: the seed of a load, or the steps of a
-/// search.
+/// Largest value of an option for any 64-bit number: the seed of a load, or the steps of a search.
 pub const MOST_NUMBER: u64 = u64::MAX;
 
-/// What a load is to write of itself, besides its two lines.
+/// The output of a load besides its two lines.
 #[derive(Clone, Copy)]
 pub struct How {
-    /// Whether to write how far it is.
+    /// True if the load reports its progress.
     pub progress: bool,
-    /// Whether to write how long it took, and how often it tried.
+    /// True if the load reports its running time and the number of its attempts.
     pub stats: bool,
-    /// Whether to write the history of its calls to the output, and its two lines to the errors.
+    /// True if the load writes the history of its calls to standard output, and its two lines to
+    /// standard error.
     pub history: bool,
-    /// Whether to write the attempts of its calls so.
+    /// True if the load writes the attempts of its calls to standard output, and its two lines to
+    /// standard error.
     pub attempts: bool,
 }
 
-/// The most words of a memory of which attempts are judged.
+/// Largest number of words of a memory whose attempts are judged.
 pub const MOST_WORDS: u32 = 4_194_304;
 
-/// How an order of calls is searched for.
+/// The settings of a search for a linearization.
 #[derive(Clone, Copy)]
 pub struct Search {
-    /// The most steps.
+    /// Largest number of steps.
     pub steps: u64,
-    /// Whether to write how far it is.
+    /// True if the search reports its progress.
     pub progress: bool,
 }
 
-/// How a history is judged.
+/// The settings of a judge of a history.
 #[derive(Clone, Copy)]
 pub struct Judging<'a> {
-    /// The file of the tasks that it is held against.
+    /// The file of the tasks against which the history is checked.
     pub tasks: Option<&'a str>,
-    /// Whether to look for an order, and to judge in that.
+    /// True if the judge searches for a linearization instead of trusting the order of the lines.
     pub any_order: bool,
-    /// How one is searched for.
+    /// The settings of that search.
     pub search: Search,
 }
 
-/// What a command line asks for.
+/// The request that a command line makes.
 pub enum Asked<'a> {
-    /// To run a script for a system of this many blocks.
+    /// Runs a script on a system of this many blocks.
     Run(u32),
-    /// To dump the memory that the script leaves.
+    /// Runs a script on a system of this many blocks and dumps the memory that the script leaves.
     Dump(u32),
-    /// To audit the words of a memory.
+    /// Audits the words of a memory.
     Check,
-    /// To judge a history over a system of this many blocks.
+    /// Judges a history of a system of this many blocks.
     Judge(u32, Judging<'a>),
-    /// To find an order of a history's calls over a system of this many blocks.
+    /// Finds a linearization of a history of a system of this many blocks.
     Order(u32, Search),
-    /// To judge attempts over this many words.
+    /// Judges attempts on a memory of this many words.
     Opaque(u32),
-    /// To run a load, and what it is to write of itself.
+    /// Runs a load, with this output.
     Load(Settings, How),
-    /// To write the tasks of a load.
+    /// Writes the tasks of a load.
     Tasks(Settings),
 }
 
-/// What clap finds in a command line.
+/// Parses a command line with clap.
 fn read_words<'a>(alloc: Global, words: &'a [String]) -> Result<ArgMatches<'a>, Error>
     ensures fails { FailsBy (fault_of vacation (map string_bytes words.now)) result }
     ensures found { IfOk result (λ m.
@@ -86,7 +87,7 @@ fn read_words<'a>(alloc: Global, words: &'a [String]) -> Result<ArgMatches<'a>, 
     command_line(alloc)?.try_get_matches_from(words)
 }
 
-/// What clap found for the options of this subcommand, if the command line names it.
+/// Returns the matches of this subcommand if the command line names it.
 fn named<'b, 'a>(matches: &'b ArgMatches<'a>, name: &str) -> Option<&'b ArgMatches<'a>>
     ensures some { IfSome result (λ m.
         subcommand_rows_of matches.now ≡ Some (name.now, rows_of (found_of m.now))) }
@@ -96,7 +97,8 @@ fn named<'b, 'a>(matches: &'b ArgMatches<'a>, name: &str) -> Option<&'b ArgMatch
     matches.subcommand_matches(name)
 }
 
-/// The number that an option gives, or its default.
+/// Returns the number that an option gives, or its default. Every such option has a default, so
+/// that clap always gives a number.
 fn number_of(matches: &ArgMatches, option: &str) -> u32
     requires { (least : ℕ) × (most : ℕ) × (most < 2 ^ 32)
         × GivesIn (rows_of (found_of matches.now)) option.now least most }
@@ -108,7 +110,8 @@ fn number_of(matches: &ArgMatches, option: &str) -> u32
     }
 }
 
-/// The number of 64 bits that an option gives, or its default.
+/// Returns the 64-bit number that an option gives, or its default. Every such option has a
+/// default, so that clap always gives a number.
 fn any_number_of(matches: &ArgMatches, option: &str) -> u64
     requires { GivesIn (rows_of (found_of matches.now)) option.now 0 MOST_NUMBER }
     ensures { Gives (rows_of (found_of matches.now)) option.now result }
@@ -119,7 +122,7 @@ fn any_number_of(matches: &ArgMatches, option: &str) -> u64
     }
 }
 
-/// Whether a flag is set.
+/// Returns whether a flag is set.
 fn flag_of(matches: &ArgMatches, name: &str) -> bool
     requires { IsFlag (rows_of (found_of matches.now)) name.now }
     ensures { Says (rows_of (found_of matches.now)) name.now result }
@@ -127,7 +130,7 @@ fn flag_of(matches: &ArgMatches, name: &str) -> bool
     matches.get_flag(name)
 }
 
-/// What a load is to write of itself.
+/// Returns the output settings of a load.
 fn how_of(matches: &ArgMatches) -> How
     requires { HasFlags (rows_of (found_of matches.now)) }
     ensures { IsTold (rows_of (found_of matches.now)) result }
@@ -140,7 +143,7 @@ fn how_of(matches: &ArgMatches) -> How
     }
 }
 
-/// The number of blocks that a subcommand gives, or the default.
+/// Returns the number of blocks that a subcommand gives, or the default.
 fn blocks_of(matches: &ArgMatches) -> u32
     requires { GivesIn (rows_of (found_of matches.now)) (codes "blocks") 1 MOST_BLOCKS }
     ensures given { Gives (rows_of (found_of matches.now)) (codes "blocks") result }
@@ -149,14 +152,14 @@ fn blocks_of(matches: &ArgMatches) -> u32
     number_of(matches, "blocks")
 }
 
-/// The file of tasks that a judge names.
+/// Returns the file of tasks that a judge names, if it names one.
 fn file_of<'a>(matches: &ArgMatches<'a>) -> Option<&'a str>
     ensures { NamesFile (rows_of (found_of matches.now)) (codes "tasks") result }
 {
     matches.get_str("tasks")
 }
 
-/// How an order is searched for.
+/// Returns the settings of a search.
 fn search_of(matches: &ArgMatches) -> Search
     requires { HasSearch (rows_of (found_of matches.now)) }
     ensures { IsSearchOfRows (rows_of (found_of matches.now)) result }
@@ -167,7 +170,7 @@ fn search_of(matches: &ArgMatches) -> Search
     }
 }
 
-/// How a history is judged.
+/// Returns the settings of a judge of a history.
 fn judging_of<'a>(matches: &ArgMatches<'a>) -> Judging<'a>
     requires { HasJudging (rows_of (found_of matches.now)) }
     ensures { IsJudging (rows_of (found_of matches.now)) result }
@@ -179,7 +182,7 @@ fn judging_of<'a>(matches: &ArgMatches<'a>) -> Judging<'a>
     }
 }
 
-/// The number of words that a judge of attempts gives, or the default.
+/// Returns the number of words that a judge of attempts gives, or the default.
 fn words_of(matches: &ArgMatches) -> u32
     requires { GivesIn (rows_of (found_of matches.now)) (codes "words") 1 MOST_WORDS }
     ensures given { Gives (rows_of (found_of matches.now)) (codes "words") result }
@@ -189,7 +192,7 @@ fn words_of(matches: &ArgMatches) -> u32
     number_of(matches, "words")
 }
 
-/// The settings of a load that its options give, or the defaults.
+/// Returns the settings of a load: the values of its options, or their defaults.
 fn settings_of(matches: &ArgMatches) -> Settings
     requires { HasSettings (rows_of (found_of matches.now)) }
     ensures { AreGiven (rows_of (found_of matches.now)) result }
@@ -209,7 +212,7 @@ fn settings_of(matches: &ArgMatches) -> Settings
     }
 }
 
-/// What the words ask for in which clap found this.
+/// Returns the request in words that clap has parsed.
 fn asked_of<'a>(matches: &ArgMatches<'a>) -> Asked<'a>
     requires { (words : List Text) × IsFoundIn words matches.now }
     ensures { (words : List Text) → IsFoundIn words matches.now → AsksFor words result }
@@ -241,9 +244,10 @@ fn asked_of<'a>(matches: &ArgMatches<'a>) -> Asked<'a>
     }
 }
 
-/// What a command line asks for. An error is the help that it asks for, or why it is refused.
+/// Returns the request that a command line makes. An error is the help that the words ask for, or
+/// the reason why they are refused.
 ///
-/// Not said: where clap could name two faults, which of them.
+/// Not said: if clap could name two faults, which of them it names.
 pub fn read_asked<'a>(alloc: Global, words: &'a [String]) -> Result<Asked<'a>, Error>
     ensures fails { FailsBy (fault_of vacation (map string_bytes words.now)) result }
     ensures asked { IfOk result (λ asked. AsksFor (map string_bytes words.now) asked) }

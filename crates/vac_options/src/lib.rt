@@ -1,4 +1,5 @@
-//! The command line: its subcommands and options as clap reads them, and what its words ask for.
+//! The command line: its subcommands and options as clap reads them, and the request that its
+//! words make.
 #![tactic(auto)]
 
 mod asked;

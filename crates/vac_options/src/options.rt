@@ -18,31 +18,31 @@ use std::alloc::{AllocError, Global};
 use vac_draws::{MOST_CLIENTS, MOST_ITEMS, MOST_ROUNDS, MOST_TASKS, PERCENT};
 use vac_model::limits::{MOST_BLOCKS, MOST_PARTS, MOST_TRIES};
 
-/// What `--version` writes: the program and its version, and the toolchain that proved and built
-/// it, as `rt version` names it.
-pub const VERSION: &str = "vacation 0.1.0\nrattle-kit-13f logic dac8208d650f15bf\n";
+/// The output of `--version`: the program and its version, and the toolchain that proved and built
+/// the program, as `rt version` names it.
+pub const VERSION: &str = "vacation 0.1.0\nrattle-kit-13b logic dac8208d650f15bf\n";
 
-/// How many blocks a system has where the command line does not say.
+/// Default number of blocks of a system.
 const DEFAULT_BLOCKS: &str = "1024";
 
-/// A command that is being made, unless memory was refused.
+/// A command under construction, or an error if memory was refused.
 type Made<'a> = Result<Command<'a>, AllocError>;
 
-/// An option that takes a value.
+/// Returns an option that takes a value.
 fn valued_option<'a>(alloc: Global, name: &'a str) -> Arg<'a>
     ensures { IsOption result (valued_option name.now) }
 {
     Arg::new(alloc, name).long(name).value_name("N")
 }
 
-/// What reads a number in a range.
+/// Returns the parser of a number in a range.
 fn number_parser<'a>(least: u32, most: u32) -> ValueParser<'a>
     ensures { result ≡ number_parser least most }
 {
     value_parser!(u32).range(i64::from(least)..=i64::from(most))
 }
 
-/// An option that takes a number in a range.
+/// Returns an option that takes a number in a range.
 fn number_option<'a>(
     alloc: Global,
     name: &'a str,
@@ -57,7 +57,7 @@ fn number_option<'a>(
         .default_value(default)
 }
 
-/// An option that takes any number of 64 bits.
+/// Returns an option that takes any 64-bit number.
 fn any_number_option<'a>(alloc: Global, name: &'a str, default: &'a str) -> Arg<'a>
     ensures { IsOption result (any_number_option name.now default.now) }
 {
@@ -66,26 +66,26 @@ fn any_number_option<'a>(alloc: Global, name: &'a str, default: &'a str) -> Arg<
         .default_value(default)
 }
 
-/// The option that says how many blocks a system has.
+/// Returns the option for the number of blocks of a system.
 fn blocks_option<'a>(alloc: Global) -> Arg<'a>
     ensures { IsOption result blocks_option }
 {
     number_option(alloc, "blocks", 1, MOST_BLOCKS, DEFAULT_BLOCKS).help(
-        "How many items, customers and bookings there is room for",
+        "Capacity: items, customers and bookings together",
     )
 }
 
-/// The option that names a file of tasks.
+/// Returns the option that names a file of tasks.
 fn file_option<'a>(alloc: Global) -> Arg<'a>
     ensures { IsOption result file_option }
 {
     Arg::new(alloc, "tasks")
         .long("tasks")
         .value_name("FILE")
-        .help("A file of the tasks that were handed out, as tasks writes them: all must be done")
+        .help("Checks the history against the workload in this file, as tasks writes it")
 }
 
-/// A flag, which the help shows or not.
+/// Returns a flag, which the help shows if `is_shown`.
 fn flag<'a>(alloc: Global, name: &'a str, is_shown: bool) -> Arg<'a>
     ensures { IsOption result (flag name.now) }
 {
@@ -95,7 +95,7 @@ fn flag<'a>(alloc: Global, name: &'a str, is_shown: bool) -> Arg<'a>
         .action(ArgAction::SetTrue)
 }
 
-/// Adds an option.
+/// Adds an option to a command.
 fn add_option<'a>(command: Made<'a>, option: Arg<'a>) -> Made<'a>
     ensures { IfOk result (λ after. IsOkAnd command.entry
         (λ before. AddsArg before option.entry after)) }
@@ -103,72 +103,71 @@ fn add_option<'a>(command: Made<'a>, option: Arg<'a>) -> Made<'a>
     command?.arg(option)
 }
 
-/// Adds the options that say how many clients of a load ask how often.
+/// Adds the options of a load for its clients, tasks, rounds and attempts.
 fn add_client_options<'a>(alloc: Global, command: Made<'a>) -> Made<'a>
     ensures { GetsOptions command.entry client_options result }
 {
     let clients = number_option(alloc, "clients", 1, MOST_CLIENTS, "4")
         .short('c')
-        .help("How many clients call the system, each in a thread of its own");
+        .help("Clients, each in a thread of its own");
     let tasks = number_option(alloc, "tasks", 1, MOST_TASKS, "100")
         .short('t')
-        .help("How many tasks each client asks for in each round");
+        .help("Tasks per client and round");
     let rounds = number_option(alloc, "rounds", 1, MOST_ROUNDS, "1").help(
-        "How many rounds there are, each on a new clock",
+        "Rounds, each with a new version clock",
     );
-    let tries = number_option(alloc, "tries", 1, MOST_TRIES, "64").help(
-        "How many attempts a task may take",
-    );
+    let tries = number_option(alloc, "tries", 1, MOST_TRIES, "64").help("Most attempts of a task");
     let command = add_option(add_option(command, clients), tasks);
     add_option(add_option(command, rounds), tries)
 }
 
-/// Adds the options that say what the tasks of a load are.
+/// Adds the options that determine the tasks of a load.
 fn add_task_options<'a>(alloc: Global, command: Made<'a>) -> Made<'a>
     ensures { GetsOptions command.entry task_options result }
 {
     let items = number_option(alloc, "items", 1, MOST_ITEMS, "16")
         .short('r')
-        .help("How many items of each kind there are; the blocks must be four times as many");
+        .help("Items of each kind, and customers; at most a fourth of the blocks");
     let asks = number_option(alloc, "asks", 1, MOST_PARTS as u32, "4")
         .short('n')
-        .help("The most items that a task names");
+        .help("Most items of a trip, most changes of an update");
     let reads = number_option(alloc, "reads", 0, PERCENT, "0").help(
-        "How many of a hundred tasks are questions, which change nothing",
+        "Chance in percent that a task is a question",
     );
     let user = number_option(alloc, "user", 0, PERCENT, "80")
         .short('u')
-        .help("How many of a hundred tasks are trips");
+        .help("Chance in percent that a task which is no question is a trip");
     let seed = any_number_option(alloc, "seed", "1")
         .short('s')
-        .help("What the tasks are drawn from");
+        .help("Seed of the pseudo-random generator");
     let command = add_option(add_option(command, items), asks);
     let command = add_option(add_option(command, reads), user);
     add_option(add_option(command, seed), blocks_option(alloc))
 }
 
-/// Adds the flags that say what a load writes of itself. Where no load is run they change nothing,
-/// and the help does not show them.
+/// Adds the flags for the output of a load. If no load is run, the flags change nothing and the
+/// help does not show them.
 fn add_telling_options<'a>(alloc: Global, command: Made<'a>, is_run: bool) -> Made<'a>
     ensures { GetsOptions command.entry telling_options result }
 {
     let progress = flag(alloc, "progress", is_run).help(
-        "Tells on standard error how many tasks were answered, at most twice a second",
+        "Reports completed tasks on standard error, at most twice a second",
     );
     let stats = flag(alloc, "stats", is_run).help(
-        "Tells on standard error how long the clients took, and how often they tried",
+        "Reports time, attempts and conflicts on standard error",
     );
     let history = flag(alloc, "history", is_run).help(
-        "Writes its calls as a history for judge, the two lines on standard error",
+        "Writes the completed calls for judge; the two lines go to standard error",
     );
     let attempts = flag(alloc, "attempts", is_run).help(
-        "Writes its attempts for opaque, the two lines on standard error",
+        "Writes the attempts for opaque; the two lines go to standard error",
     );
     let command = add_option(add_option(command, progress), stats);
     add_option(add_option(command, history), attempts)
 }
 
-/// Adds the options of a load, which is run or not.
+/// Adds all options of a load, for the subcommand that runs the load or for the one that writes
+/// its tasks.
 fn add_load_options<'a>(alloc: Global, command: Made<'a>, is_run: bool) -> Made<'a>
     ensures { GetsOptions command.entry load_options result }
 {
@@ -176,55 +175,55 @@ fn add_load_options<'a>(alloc: Global, command: Made<'a>, is_run: bool) -> Made<
     add_telling_options(alloc, add_task_options(alloc, command), is_run)
 }
 
-/// Adds the options of a search for an order.
+/// Adds the options of a search for a linearization.
 fn add_searching_options<'a>(alloc: Global, command: Made<'a>) -> Made<'a>
     ensures { GetsOptions command.entry searching_options result }
 {
     let steps = any_number_option(alloc, "steps", "10000000").help(
-        "How many steps the search for an order makes at most",
+        "Most steps of each of the two searches",
     );
     let progress = flag(alloc, "progress", true).help(
-        "Tells on standard error how far the search is, at most twice a second",
+        "Reports the progress of the search on standard error, at most twice a second",
     );
     add_option(add_option(command, steps), progress)
 }
 
-/// The subcommand that finds an order.
+/// Returns the subcommand that finds a linearization.
 fn order_command<'a>(alloc: Global) -> Made<'a>
     ensures { IfOk result (λ c.
         IsCommand c (with_options (codes "order") (blocks_option ∷ searching_options))) }
 {
     let command = Command::new(alloc, "order")
-        .about("Finds an order in which the calls of the history on standard input are right")
+        .about(
+            "Finds a linearization of the history on standard input, or shows that there is none",
+        )
         .after_help("Example:\n  echo '1 0 5 newcust 3 -> true' | vacation order")
         .arg(blocks_option(alloc));
     add_searching_options(alloc, command)
 }
 
-/// The subcommand that judges attempts.
+/// Returns the subcommand that judges attempts.
 fn opaque_command<'a>(alloc: Global) -> Made<'a>
     ensures { IfOk result (λ c. IsCommand c (with_options (codes "opaque") (words_option ∷ []))) }
 {
     let words = number_option(alloc, "words", 1, MOST_WORDS, "65536").help(
-        "How many words the memory has, all 0 at the beginning",
+        "Number of words of the memory, all 0 at the beginning",
     );
     Command::new(alloc, "opaque")
-        .about(
-            "Judges the attempts on standard input: whether each reads what those before it left",
-        )
+        .about("Judges the attempts on standard input: whether their order shows opacity")
         .after_help("Example:\n  echo '1 0 5 commit r 7 0 w 7 1' | vacation opaque")
         .arg(words)
 }
 
-/// The subcommand that judges a history.
+/// Returns the subcommand that judges a history.
 fn judge_command<'a>(alloc: Global) -> Made<'a>
     ensures { IfOk result (λ c. IsCommand c (with_options (codes "judge") judging_options)) }
 {
     let any_order = flag(alloc, "any-order", true).help(
-        "Takes the calls in whatever order they are right, if there is one",
+        "Searches for a linearization instead of trusting the order of the lines",
     );
     let command = Command::new(alloc, "judge")
-        .about("Judges the history on standard input: whether its calls, in their order, are right")
+        .about("Judges whether the lines of the history on standard input are a linearization")
         .after_help("Example:\n  echo '1 0 5 newcust 3 -> true' | vacation judge")
         .arg(blocks_option(alloc));
     let command = add_option(add_option(command, file_option(alloc)), any_order);
@@ -244,33 +243,31 @@ fn add_script_commands<'a>(alloc: Global, top: Made<'a>) -> Made<'a>
     ensures { GetsCommands top.entry script_commands result }
 {
     let run = Command::new(alloc, "run")
-        .about("Runs the commands on standard input")
+        .about("Runs the commands on standard input and writes their replies")
         .after_help("Example:\n  printf 'add car 7 100 50\\nfree car 7\\n' | vacation run")
         .arg(blocks_option(alloc));
     let dump = Command::new(alloc, "dump")
-        .about("Runs the commands on standard input and writes the memory that they leave")
+        .about("Runs the commands on standard input, then writes the words of the memory")
         .after_help("Example:\n  echo 'add car 7 100 50' | vacation dump --blocks 1")
         .arg(blocks_option(alloc));
     add_command(add_command(top, run), dump)
 }
 
-/// Adds the subcommands that run loads and write their tasks.
+/// Adds the subcommands that run a load or write its tasks.
 fn add_load_commands<'a>(alloc: Global, top: Made<'a>) -> Made<'a>
     ensures { GetsCommands top.entry load_commands result }
 {
     let load = Command::new(alloc, "load")
-        .about(
-            "Lets clients call the system with tasks drawn at random, and reports what they left",
-        )
+        .about("Runs client threads that issue drawn tasks, and reports the state that they leave")
         .after_help("Example:\n  vacation load --clients 2 --tasks 1000");
     let tasks = Command::new(alloc, "tasks")
-        .about("Writes the tasks of a load, a line each, and runs nothing")
+        .about("Writes the tasks that a load of these options draws, one a line, and runs nothing")
         .after_help("Example:\n  vacation tasks --clients 2 --tasks 3");
     let top = add_command(top, add_load_options(alloc, Ok(load), true));
     add_command(top, add_load_options(alloc, Ok(tasks), false))
 }
 
-/// Adds the subcommands that judge what others did.
+/// Adds the subcommands that judge memories, histories and attempts.
 fn add_judging_commands<'a>(alloc: Global, top: Made<'a>) -> Made<'a>
     ensures { GetsCommands top.entry judging_commands result }
 {
@@ -284,17 +281,17 @@ fn add_judging_commands<'a>(alloc: Global, top: Made<'a>) -> Made<'a>
     )
 }
 
-/// The program without its subcommands.
+/// Returns the program before its subcommands are added.
 fn top_command<'a>(alloc: Global) -> Command<'a>
     ensures { app_of result ≡ top_command }
 {
     Command::new(alloc, "vacation")
         .version(VERSION)
-        .about("A reservation system")
+        .about("A proved travel reservation system, and proved judges of histories")
         .subcommand_required(true)
 }
 
-/// The command line that the program takes.
+/// Returns the command line that the program takes.
 pub(crate) fn command_line<'a>(alloc: Global) -> Made<'a>
     ensures { IfOk result (λ c. app_of c ≡ vacation) }
 {

@@ -25,7 +25,7 @@ use Rattle.vac_plain.specs.PlainState.{IsStateOf}
 use Rattle.vac_records.specs.InMemory.{HoldsState, OnlyRead}
 use Rattle.vac_records.specs.Steps.{stood}
 
--- the memory that plain memory means, over any image of its size
+-- the words of plain memory over any image of its size
 flat_at : (xs image : List ℕ) (a : ℕ) → length image ≡ length xs → memory image (numbered 0 xs) a ≡ slice_index xs a
 flat_at xs image a e = elim (cases_lt a (length xs)) [
   | inl inside ↦ ap (λ (o : Option ℕ). unwrap_or o (slice_index image a)) (get_at xs a inside)
@@ -55,7 +55,7 @@ holds_empty words heap blocks few empty pool e = subst (λ w. IsStateOf w (empty
   small = empty-small blocks few;
 })
 
--- what a task did
+-- the outcome of a task
 outcome : (xs ys : List ℕ) (t : Task) (r : Reply) (s : State) (ran : RanTask (flat_view xs) (flat_view ys) t r) →
     IsStateOf xs s
     → IsOutcome (mem (flat_view ys) (flat_seen ys).0) (length (flat_seen ys).0) (run s t) r
@@ -113,13 +113,13 @@ held_task s s' t r ran h = record {
 some_same : {x y : ℕ} → Some x ≡ Some y → x ≡ y
 some_same e = (let k = e in cc)
 
--- the same writes are those of the same words
+-- words with the same writes are the same words
 pub same_words : (xs ys : List ℕ) → length ys ≡ length xs → numbered 0 ys ≡ numbered 0 xs → ys ≡ xs
 same_words xs ys size same = ext_get_or 0 ys xs size (λ a less.
     let here = get_at ys a less in
     let there = get_at xs a (omega (arith, less, size)) in
     some_same (sym here ∙ ap (λ (w : Words). get w a) same ∙ there))
 
--- where nothing was written, the words are as they were
+-- if nothing was written, the words are as they were
 pub words_stay : (xs ys : List ℕ) → OnlyRead (flat_view xs) (flat_view ys) → ys ≡ xs
 words_stay xs ys only = same_words xs ys only.kept.size only.writes

@@ -1,4 +1,4 @@
--- When the words of plain memory are those of a state.
+-- The states that the words of plain memory represent.
 use Rattle.std.specs.Prelude.{ℕ, List, length, slice_index}
 use Rattle.vac_model.specs.State.{State}
 use Rattle.vac_records.specs.Represents.{IsState}

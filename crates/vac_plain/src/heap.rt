@@ -37,7 +37,7 @@ impl Model for Heap {
 }
 
 impl Heap {
-    /// The memory of the state with no entries, with room for `blocks` of them.
+    /// Returns the memory of the state without entries, with room for `blocks` of them.
     pub fn new(alloc: Global, blocks: u32) -> Result<Heap, AllocError>
         requires some { 1 ≤ blocks }
         requires most { blocks ≤ MOST_BLOCKS }
@@ -48,7 +48,7 @@ impl Heap {
         Ok(Heap { memory })
     }
 
-    /// The memory that has these words, which hold a state.
+    /// Returns the memory with these words, which hold a state.
     pub fn of_words(words: Vec<u64>) -> Heap
         requires { HoldsState (flat_view words.items) }
         ensures { result ≡ words.items }
@@ -57,7 +57,8 @@ impl Heap {
         Heap { memory }
     }
 
-    /// Runs a task, and returns its reply. New entries take their blocks from free list `start` on.
+    /// Runs a task, and returns its reply. New entries take their blocks from the free list
+    /// `start` on.
     pub fn run(&mut self, task: &Task, start: FreeList) -> Reply
         requires { is_task task.now ≡ true }
         ensures state { (s : State) → IsStateOf self.old s
@@ -68,7 +69,7 @@ impl Heap {
         reply
     }
 
-    /// The reply to a task that only reads.
+    /// Returns the reply to a task that only reads.
     pub fn read(&mut self, task: &Task) -> Reply
         requires { reading.only_reads task.now ≡ true }
         ensures words { self.new ≡ self.old }
@@ -80,7 +81,7 @@ impl Heap {
         reply
     }
 
-    /// The report of the state.
+    /// Returns the report of the state.
     pub fn report(&mut self) -> Report
         ensures words { self.new ≡ self.old }
         ensures report { (s : State) → IsStateOf self.old s → report_of s ≡ result }
@@ -89,7 +90,7 @@ impl Heap {
         found
     }
 
-    /// The words, which hold the state.
+    /// Returns the words, which hold the state.
     pub fn words(self) -> Vec<u64>
         ensures words { result.items ≡ self }
         ensures state { HoldsState (flat_view result.items) }

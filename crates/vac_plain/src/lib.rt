@@ -1,5 +1,5 @@
-//! The reservation system over plain memory, one task after the other: the same bodies of tasks
-//! that a manager runs as transactions, with no clients, no versions and no conflicts.
+//! The reservation system over plain memory, one task after the other. The bodies of tasks are the
+//! same that a manager runs as transactions, without clients, versions and conflicts.
 #![tactic(auto)]
 
 mod heap;

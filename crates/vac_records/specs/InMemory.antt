@@ -1,11 +1,11 @@
--- Memories that hold a state, whatever image they rest on.
+-- Memories that hold a state under every possible image.
 use Rattle.std.specs.Prelude.{◌≡◌, ℕ, ◌≤◌, ◌^◌, List, length}
 use Rattle.tx_memory.specs.View.{View, RestsOn, Kept}
 use Rattle.vac_model.specs.State.{State}
 use Rattle.vac_records.specs.Items.{mem}
 use Rattle.vac_records.specs.Represents.{IsState}
 
--- under each image of the memory's size that there may be, the memory represents a balanced state.
+-- under each possible image of the memory's size, the memory represents a balanced state.
 -- Addresses fit 32 bits.
 pub record HoldsState (s : View) : Type 0 where
   pub inside : 16 ≤ s.size

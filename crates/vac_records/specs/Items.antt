@@ -16,18 +16,19 @@ item_in m node = record {
   price = m (node + PRICE);
 }
 
--- the eight words from node on are words of the memory, and each address fits 32 bits
+-- the eight words from node on are inside the memory, and each address fits 32 bits
 pub record IsNode (s : View) (node : ℕ) : Type 0 where
   pub inside : node + BLOCK_WORDS ≤ s.size
   pub small : s.size ≤ 2 ^ 32
 
--- under each image of the memory's size num units can be added to the item's counts and fit a
--- word
+-- under each possible image of the memory's size, num units can be added to the item's free units
+-- and to its total, and both fit 64 bits
 pub record HasRoomForUnits (s : View) (node num : ℕ) : Type 0 where
   pub free : (image : List ℕ) → RestsOn s image → mem s image (node + FREE) + num < 2 ^ 64
   pub total : (image : List ℕ) → RestsOn s image → mem s image (node + TOTAL) + num < 2 ^ 64
 
--- the block became an item of which nothing is used; its links and all words outside are as before
+-- the block is now an item without used units; its links and all words outside the block are as
+-- before
 pub record IsNewItem (m m' : ℕ → ℕ) (node key num price : ℕ) : Type 0 where
   pub key_is : m' node ≡ key
   pub used_is : m' (node + USED) ≡ 0
@@ -42,83 +43,85 @@ pub record HasMore (m m' : ℕ → ℕ) (node num : ℕ) : Type 0 where
   pub total_is : m' (node + TOTAL) ≡ m (node + TOTAL) + num
   pub others : (x : ℕ) → x ≢ node + FREE → x ≢ node + TOTAL → m' x ≡ m x
 
--- under each image the block became a new item
--- Not said: what a refused call leaves of the block.
+-- under each possible image the block is now a new item
+-- Not said: the effect of a refused call on the block.
 pub record ItemMade (s s' : View) (node key num price : ℕ) : Type 0 where
   pub kept : Kept s s'
   pub made : (image : List ℕ) → Sees s' image →
       IsNewItem (mem s image) (mem s' image) node key num price
 
--- under each image num units were added
--- Not said: what a refused call leaves of the item.
+-- under each possible image num units were added to the item
+-- Not said: the effect of a refused call on the item.
 pub record UnitsAdded (s s' : View) (node num : ℕ) : Type 0 where
   pub kept : Kept s s'
   pub added : (image : List ℕ) → Sees s' image → HasMore (mem s image) (mem s' image) node num
 
--- only reads were made, and under each image this is the item of the block
+-- only reads were made, and under each possible image the result is the item of the block
 pub record ItemRead (s s' : View) (node : ℕ) (item : Item) : Type 0 where
   pub kept : Kept s s'
   pub writes : s'.writes ≡ s.writes
   pub answer : (image : List ℕ) → Sees s' image → item_in (mem s image) node ≡ item
 
--- under each image of the memory's size the word has room for this much more
+-- under each possible image of the memory's size, the word can grow by this number and fits 64
+-- bits
 pub record RoomAt (s : View) (a by : ℕ) : Type 0 where
   pub fits : (image : List ℕ) → RestsOn s image → mem s image a + by < 2 ^ 64
 
--- under each image of the memory's size the word is this much or more
+-- under each possible image of the memory's size, the word is at least this number
 pub record EnoughAt (s : View) (a by : ℕ) : Type 0 where
   pub enough : (image : List ℕ) → RestsOn s image → by ≤ mem s image a
 
--- the word is one of the memory, and has room for this much more
+-- the word is inside the memory, and can grow by this number
 pub record CanRaise (s : View) (a by : ℕ) : Type 0 where
   pub inside : a < s.size
   pub room : RoomAt s a by
 
--- the word is one of the memory, and is this much or more
+-- the word is inside the memory, and is at least this number
 pub record CanLower (s : View) (a by : ℕ) : Type 0 where
   pub inside : a < s.size
   pub enough : EnoughAt s a by
 
--- under each image the word was changed by f, and no other word was
+-- under each possible image the word was changed by f, and no other word was changed
 pub record Shifted (s s' : View) (a : ℕ) (f : ℕ → ℕ) : Type 0 where
   pub kept : Kept s s'
   pub shifted : (image : List ℕ) → Sees s' image →
       IsWrite (mem s image) (mem s' image) a (f (mem s image a))
 
--- under each image num units are free
+-- under each possible image at least num units are free, and the total is at least num
 pub record HasFree (s : View) (node num : ℕ) : Type 0 where
   pub free : EnoughAt s (node + FREE) num
   pub total : EnoughAt s (node + TOTAL) num
 
--- under each image num units are free, and fit the used ones
+-- under each possible image at least num units are free, and the used units can grow by num
 pub record CanMake (s : View) (node num : ℕ) : Type 0 where
   pub free : EnoughAt s (node + FREE) num
   pub used : RoomAt s (node + USED) num
 
--- under each image this number of units is free, num of them are, and fit the used ones
+-- under each possible image this number of units is free, num is at most that number, and the used
+-- units can grow by num
 pub record CanMakeOf (s : View) (node num free : ℕ) : Type 0 where
   pub free_is : (image : List ℕ) → RestsOn s image → mem s image (node + FREE) ≡ free
   pub enough : num ≤ free
   pub used : RoomAt s (node + USED) num
 
--- under each image num units are used, and fit the free ones
+-- under each possible image at least num units are used, and the free units can grow by num
 pub record CanCancel (s : View) (node num : ℕ) : Type 0 where
   pub used : EnoughAt s (node + USED) num
   pub free : RoomAt s (node + FREE) num
 
--- the block's item is this one now, and all words but those of the item are as before
+-- the block's item now has this value, and all words except those of the item are as before
 pub record IsItemNow (m m' : ℕ → ℕ) (node : ℕ) (item : Item) : Type 0 where
   pub is : item_in m' node ≡ item
   pub others : (x : ℕ) → (x < node + USED) ⊎ (node + BLOCK_WORDS ≤ x) → m' x ≡ m x
 
--- under each image the item became what f makes of it
--- Not said: what a refused call leaves of the item.
+-- under each possible image the item was changed by f
+-- Not said: the effect of a refused call on the item.
 pub record ItemChanged (s s' : View) (node : ℕ) (f : Item → Item) : Type 0 where
   pub kept : Kept s s'
   pub changed : (image : List ℕ) → Sees s' image →
       IsItemNow (mem s image) (mem s' image) node (f (item_in (mem s image) node))
 
--- under each image on which this number of units was free the item became what f makes of it
+-- under each possible image on which this number of units was free, the item was changed by f
 pub record ItemChangedOf (s s' : View) (node free : ℕ) (f : Item → Item) : Type 0 where
   pub kept : Kept s s'
   pub changed : (image : List ℕ) → Sees s' image → mem s image (node + FREE) ≡ free →

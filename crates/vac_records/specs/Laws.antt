@@ -1,5 +1,5 @@
--- What an image says of the one state that it represents, and what each change of a memory makes
--- of that state.
+-- The entries of the one state that an image represents, and the effect of each change of a memory
+-- on that state.
 use Rattle.std.specs.Prelude.{◌≡◌, ◌≢◌, ◌⊎◌, ℕ, ◌+◌, ◌^◌, ◌<◌, ◌≤◌, List, [], ◌∷◌, Some, None, length, slice_index}
 use Rattle.std.specs.FinMap.{empty, get, insert, remove, entries}
 use Rattle.vac_model.specs.declared.items.Kind.{Kind}
@@ -44,7 +44,7 @@ pub record IsItemAt {m : ℕ → ℕ} {n : ℕ} {out : List ℕ} {s : State} (h 
   pub at : block_at (h.parts.tables (kind_number kind)) id ≡ b
   pub some : b ≢ 0
 
--- c is the block of the customer of an id, who has these bookings
+-- c is the block of the customer with an id, and the customer has these bookings
 pub record IsCustomerAt {m : ℕ → ℕ} {n : ℕ} {out : List ℕ} {s : State} (h : Represents m n out s)
     (id c : ℕ) (bookings : Bookings) : Type 0 where
   pub at : block_at (h.parts.tables 3) id ≡ c
@@ -58,20 +58,21 @@ pub record IsBookingAt {m : ℕ → ℕ} {n : ℕ} {out : List ℕ} {s : State} 
   pub at : block_at (h.parts.lists c) (place_key place) ≡ b
   pub some : b ≢ 0
 
--- the bookings of the customer in block c, and their entries
+-- the state has a customer with this id, and the entries of the customer's bookings are those of
+-- these rows
 pub record HasBookings (m : ℕ → ℕ) (rows : Rows) (s : State) (id : ℕ) : Type 0 where
   pub bookings : Bookings
   pub there : bookings_of s id ≡ Some bookings
   pub entries_are : entries bookings ≡ bookings_in m rows
 
--- the memory m' represents the state s', with the tables that h has
+-- the memory m' represents the state s', with the tables of h
 pub record Stays {m : ℕ → ℕ} {n : ℕ} {out : List ℕ} {s : State} (h : Represents m n out s)
     (m' : ℕ → ℕ) (out' : List ℕ) (s' : State) : Type 0 where
   pub after : Represents m' n out' s'
   pub tables : (i : ℕ) → i < 4 → after.parts.tables i ≡ h.parts.tables i
 
--- the memory m' represents the state s', with the tables that h has, but for the j-th table, which
--- has these rows
+-- the memory m' represents the state s', with the tables of h, except that the j-th table has
+-- these rows
 pub record StaysBut {m : ℕ → ℕ} {n : ℕ} {out : List ℕ} {s : State} (h : Represents m n out s)
     (j : ℕ) (rows : Rows) (m' : ℕ → ℕ) (out' : List ℕ) (s' : State) : Type 0 where
   pub after : Represents m' n out' s'
@@ -84,57 +85,58 @@ OneState =
     (m : ℕ → ℕ) (n : ℕ) (out out' : List ℕ) (s s' : State) →
     Represents m n out s → Represents m n out' s' → s ≡ s'
 
--- where a memory represents a state its tables have the same rows, however it does
+-- if a memory represents states in two ways, its tables have the same rows
 abbrev pub OneShape : Type 0
 OneShape =
     (m : ℕ → ℕ) (n : ℕ) (out out' : List ℕ) (s s' : State) (h : Represents m n out s)
     (h' : Represents m n out' s') (i : ℕ) → i < 4 → h'.parts.tables i ≡ h.parts.tables i
 
--- of a memory of n words, no word after the first n matters
+-- words after the first n do not matter for a memory of n words
 abbrev pub SameWords : Type 0
 SameWords =
     (m m' : ℕ → ℕ) (n : ℕ) (out : List ℕ) (s : State) → Represents m n out s →
     ((x : ℕ) → x < n → m' x ≡ m x) → Represents m' n out s
 
--- the words of an empty heap represent the state with no entries
+-- the words of an empty heap represent the state without entries
 abbrev pub FreshState : Type 0
 FreshState =
     (words : List ℕ) (blocks : ℕ) → IsEmptyHeap words blocks →
     IsPool (λ (a : ℕ). slice_index words a) (length words) (fresh_lists blocks) (λ (x : ℕ). 0) 0 →
     Represents (λ (a : ℕ). slice_index words a) (length words) [] (empty_state blocks)
 
--- and so do the words of an empty heap whose lists have a piece of it each
+-- the words of an empty partitioned heap represent the state without entries
 abbrev pub SpreadState : Type 0
 SpreadState =
     (words : List ℕ) (blocks : ℕ) → IsSpreadHeap words blocks →
     IsPool (λ (a : ℕ). slice_index words a) (length words) (spread_lists blocks) (λ (x : ℕ). 0) 0 →
     Represents (λ (a : ℕ). slice_index words a) (length words) [] (empty_state blocks)
 
--- an item that is there, by its block
+-- an item whose key leads to a block has the value of that block
 abbrev pub ItemFound : Type 0
 ItemFound =
     (m : ℕ → ℕ) (n : ℕ) (out : List ℕ) (s : State) (h : Represents m n out s) (kind : Kind)
     (id b : ℕ) → IsItemAt h kind id b → item_of s kind id ≡ Some (item_in m b)
 
--- an item that no block has is not there
+-- an item whose key leads to no block is not in the state
 abbrev pub ItemMissing : Type 0
 ItemMissing =
     (m : ℕ → ℕ) (n : ℕ) (out : List ℕ) (s : State) (h : Represents m n out s) (kind : Kind)
     (id : ℕ) → block_at (h.parts.tables (kind_number kind)) id ≡ 0 → item_of s kind id ≡ None
 
--- a customer that is there, by its block
+-- a customer whose key leads to a block is in the state, with the bookings of the list of that
+-- block
 abbrev pub CustomerFound : Type 0
 CustomerFound =
     (m : ℕ → ℕ) (n : ℕ) (out : List ℕ) (s : State) (h : Represents m n out s) (id c : ℕ) →
     block_at (h.parts.tables 3) id ≡ c → c ≢ 0 → HasBookings m (h.parts.lists c) s id
 
--- a customer that no block has is not there
+-- a customer whose key leads to no block is not in the state
 abbrev pub CustomerMissing : Type 0
 CustomerMissing =
     (m : ℕ → ℕ) (n : ℕ) (out : List ℕ) (s : State) (h : Represents m n out s) (id : ℕ) →
     block_at (h.parts.tables 3) id ≡ 0 → bookings_of s id ≡ None
 
--- a booking that is there, by its block
+-- a booking whose key leads to a block has the value of that block
 abbrev pub BookingFound : Type 0
 BookingFound =
     (m : ℕ → ℕ) (n : ℕ) (out : List ℕ) (s : State) (h : Represents m n out s) (id c : ℕ)
@@ -142,7 +144,7 @@ BookingFound =
     IsCustomerAt h id c bookings → IsBookingAt h c place b →
     get bookings place ≡ Some (booking_in m b)
 
--- a booking that no block of the list has is not there
+-- a booking whose key leads to no block of the list is not in the state
 abbrev pub BookingMissing : Type 0
 BookingMissing =
     (m : ℕ → ℕ) (n : ℕ) (out : List ℕ) (s : State) (h : Represents m n out s) (id c : ℕ)
@@ -150,32 +152,33 @@ BookingMissing =
     IsCustomerAt h id c bookings → block_at (h.parts.lists c) (place_key place) ≡ 0 →
     get bookings place ≡ None
 
--- where no list has a free block and none is in hand, the state has as many entries as it can have
+-- if all lists are exhausted and no block is in hand, the state has as many entries as its
+-- capacity
 abbrev pub NoneLeft : Type 0
 NoneLeft =
     (m : ℕ → ℕ) (n : ℕ) (s : State) (h : Represents m n [] s) →
     ((i : ℕ) → i < 8 → h.parts.free i ≡ []) → size s ≡ s.capacity
 
--- where a block is in hand, it has fewer
+-- if a block is in hand, the state has fewer entries than its capacity
 abbrev pub SomeLeft : Type 0
 SomeLeft =
     (m : ℕ → ℕ) (n b : ℕ) (s : State) → Represents m n (b ∷ []) s → size s < s.capacity
 
--- a block is taken
+-- taking a block does not change the state
 abbrev pub BlockTaken : Type 0
 BlockTaken =
     (m m' : ℕ → ℕ) (n start b : ℕ) (out : List ℕ) (s : State) (h : Represents m n out s) →
     IsTaking m m' n h.parts.free (used_in h.parts) (count_in h.parts) start b →
     Stays h m' (b ∷ out) s
 
--- a block is taken, and others may move to the list that was asked for it
+-- taking a block with a batch refill does not change the state
 abbrev pub BlockDrawn : Type 0
 BlockDrawn =
     (m m' : ℕ → ℕ) (n start b : ℕ) (out : List ℕ) (s : State) (h : Represents m n out s) →
     IsDrawing m m' n h.parts.free (used_in h.parts) (count_in h.parts) start b →
     Stays h m' (b ∷ out) s
 
--- a block in hand is given back
+-- giving back a block in hand does not change the state
 abbrev pub BlockGiven : Type 0
 BlockGiven =
     (m m' : ℕ → ℕ) (n start b : ℕ) (out : List ℕ) (s : State) → start < 8 → IsBlock n b →
@@ -183,14 +186,14 @@ BlockGiven =
     ((used : ℕ → ℕ) (count : ℕ) → IsUsed m n h.parts.free used count b →
     IsGiving m m' n h.parts.free used count start b) → Stays h m' out s
 
--- words of a block in hand are written
+-- writing words of a block in hand does not change the state
 abbrev pub BlockWritten : Type 0
 BlockWritten =
     (m m' : ℕ → ℕ) (n b : ℕ) (out : List ℕ) (s : State) → IsBlock n b →
     (h : Represents m n (b ∷ out) s) → ((x : ℕ) → (x < b) ⊎ (b + 8 ≤ x) → m' x ≡ m x) →
     Stays h m' (b ∷ out) s
 
--- a block in hand becomes an item
+-- inserting a block in hand into a table of items adds that item to the state
 abbrev pub ItemInserted : Type 0
 ItemInserted =
     (m m' : ℕ → ℕ) (n b : ℕ) (out : List ℕ) (s : State) (kind : Kind) (id : ℕ) → IsBlock n b →
@@ -199,7 +202,7 @@ ItemInserted =
     StaysBut h (kind_number kind) (put_row (h.parts.tables (kind_number kind)) id b) m' out
     (with_item s kind id (item_in m b))
 
--- the words of an item after its links are written
+-- writing the words of an item, except key and links, changes that item of the state
 abbrev pub ItemReplaced : Type 0
 ItemReplaced =
     (m m' : ℕ → ℕ) (n : ℕ) (out : List ℕ) (s : State) (kind : Kind) (id b : ℕ)
@@ -207,7 +210,7 @@ ItemReplaced =
     ((x : ℕ) → (x < b + 4) ⊎ (b + 8 ≤ x) → m' x ≡ m x) →
     Stays h m' out (with_item s kind id (item_in m' b))
 
--- an item is removed, and its block is in hand
+-- removing an item from its table removes the item from the state, and its block is then in hand
 abbrev pub ItemRemoved : Type 0
 ItemRemoved =
     (m m' : ℕ → ℕ) (n : ℕ) (out : List ℕ) (s : State) (kind : Kind) (id b : ℕ)
@@ -216,7 +219,8 @@ ItemRemoved =
     StaysBut h (kind_number kind) (cut_row (h.parts.tables (kind_number kind)) id) m' (b ∷ out)
     (without_item s kind id)
 
--- a block in hand becomes a customer
+-- inserting a block in hand into the table of customers adds a customer without bookings to the
+-- state
 abbrev pub CustomerInserted : Type 0
 CustomerInserted =
     (m m' : ℕ → ℕ) (n b : ℕ) (out : List ℕ) (s : State) (id : ℕ) → IsBlock n b →
@@ -224,14 +228,15 @@ CustomerInserted =
     TableGrown m m' n 3 (h.parts.tables 3) id b →
     StaysBut h 3 (put_row (h.parts.tables 3) id b) m' out (with_bookings s id empty)
 
--- a customer without bookings is removed, and the block is in hand
+-- removing a customer without bookings from its table removes the customer from the state, and its
+-- block is then in hand
 abbrev pub CustomerRemoved : Type 0
 CustomerRemoved =
     (m m' : ℕ → ℕ) (n : ℕ) (out : List ℕ) (s : State) (id c : ℕ) (h : Represents m n out s) →
     IsCustomerAt h id c empty → TableCut m m' n 3 (h.parts.tables 3) id →
     StaysBut h 3 (cut_row (h.parts.tables 3) id) m' (c ∷ out) (without_customer s id)
 
--- a block in hand becomes a booking
+-- inserting a block in hand into a customer's list adds that booking to the state
 abbrev pub BookingInserted : Type 0
 BookingInserted =
     (m m' : ℕ → ℕ) (n b : ℕ) (out : List ℕ) (s : State) (id c : ℕ) (bookings : Bookings)
@@ -241,7 +246,7 @@ BookingInserted =
     ListGrown m m' n c (h.parts.lists c) (place_key place) b →
     Stays h m' out (with_bookings s id (insert bookings place (booking_in m b)))
 
--- the units and the sum of a booking are written
+-- writing the units and the sum of a booking changes that booking of the state
 abbrev pub BookingReplaced : Type 0
 BookingReplaced =
     (m m' : ℕ → ℕ) (n : ℕ) (out : List ℕ) (s : State) (id c : ℕ) (bookings : Bookings)
@@ -249,7 +254,8 @@ BookingReplaced =
     IsBookingAt h c place b → ((x : ℕ) → x ≢ b + 2 → x ≢ b + 4 → m' x ≡ m x) →
     Stays h m' out (with_bookings s id (insert bookings place (booking_in m' b)))
 
--- a booking is removed, and its block is in hand
+-- removing a booking from its list removes the booking from the state, and its block is then in
+-- hand
 abbrev pub BookingRemoved : Type 0
 BookingRemoved =
     (m m' : ℕ → ℕ) (n : ℕ) (out : List ℕ) (s : State) (id c : ℕ) (bookings : Bookings)
@@ -257,13 +263,13 @@ BookingRemoved =
     IsBookingAt h c place b → ListCut m m' n c (h.parts.lists c) (place_key place) →
     Stays h m' (b ∷ out) (with_bookings s id (remove bookings place))
 
--- the blocks are free or taken
+-- the blocks of a memory that represents a state are a pool
 abbrev pub PoolThere : Type 0
 PoolThere =
     (m : ℕ → ℕ) (n : ℕ) (out : List ℕ) (s : State) (h : Represents m n out s) →
     IsPool m n h.parts.free (used_in h.parts) (count_in h.parts)
 
--- a block in hand is taken
+-- a block in hand is a taken block
 abbrev pub HandThere : Type 0
 HandThere =
     (m : ℕ → ℕ) (n b : ℕ) (out : List ℕ) (s : State) → IsBlock n b →
@@ -271,13 +277,13 @@ HandThere =
     IsUsed m n h.parts.free (used_in (record h.parts { out = out }))
     (count_in (record h.parts { out = out })) b
 
--- a word from 1 to 4 leads to its table
+-- each word from 1 to 4 leads to its table
 abbrev pub TableThere : Type 0
 TableThere =
     (m : ℕ → ℕ) (n : ℕ) (out : List ℕ) (s : State) (i : ℕ) (h : Represents m n out s) →
     s.capacity ≤ MOST_BLOCKS → i < 4 → Table m n (1 + i) (h.parts.tables i)
 
--- a customer's head word leads to the list of bookings
+-- a customer's head word leads to the customer's list of bookings
 abbrev pub ListThere : Type 0
 ListThere =
     (m : ℕ → ℕ) (n : ℕ) (out : List ℕ) (s : State) (id c : ℕ) (bookings : Bookings)

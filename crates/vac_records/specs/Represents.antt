@@ -1,4 +1,4 @@
--- When a memory represents a state of the reservation system.
+-- The representation of a state of the reservation system by a memory.
 use Rattle.std.specs.Prelude.{◌≡◌, ℕ, List, [], map}
 use Rattle.std.specs.FinMap.{entries}
 use Rattle.vac_model.specs.declared.items.Kind.{Kind}
@@ -24,12 +24,12 @@ bookings_in m rows = map (λ r. (place_in m r.1, booking_in m r.1)) rows
 abbrev pub customers_in : (ℕ → ℕ) → (ℕ → Rows) → Rows → List (ℕ × List (Place × Booking))
 customers_in m lists rows = map (λ r. (r.0, bookings_in m (lists r.1))) rows
 
--- the customers of a state with their bookings' entries
+-- the customers of a state with the entries of their bookings
 abbrev pub opened_bookings : List (ℕ × Bookings) → List (ℕ × List (Place × Booking))
 opened_bookings customers = map (λ c. (c.0, entries c.1)) customers
 
--- a memory of n words represents a state, while these blocks are in hand: each block is an entry of
--- one structure, free or in hand, and the structures have the state's entries
+-- a memory of n words represents a state while these blocks are in hand. Each block is an entry of
+-- one structure, free or in hand, and the structures have the entries of the state
 pub record Represents (m : ℕ → ℕ) (n : ℕ) (out : List ℕ) (s : State) : Type 0 where
   pub size : n ≡ heap_words s.capacity
   pub parts : Parts

@@ -14,7 +14,7 @@ use tx_list::{Key, place};
 use tx_memory::{TxMem, TxRead, load, store};
 use vac_model::{Booking, Kind};
 
-/// The key of the bookings of an item, in a customer's list.
+/// Returns the key of the bookings of an item in customers' lists.
 #[inline]
 pub fn key_of(kind: Kind, id: u32) -> Key
     ensures kind { result.kind ≡ kind_number kind }
@@ -26,8 +26,8 @@ pub fn key_of(kind: Kind, id: u32) -> Key
     }
 }
 
-/// Makes the block a booking of `num` units of an item, each at this price. The word that links the
-/// block into a list is left to the list; the spare words are 0.
+/// Makes the block a booking of `num` units of an item, each at this price. The link into a list
+/// is left to the list; the spare words become 0.
 pub(crate) fn init_booking<M: TxMem>(
     memory: &mut M,
     node: Block,
@@ -50,7 +50,7 @@ pub(crate) fn init_booking<M: TxMem>(
     Ok(())
 }
 
-/// The booking of the block.
+/// Returns the booking of the block.
 pub fn booking_at<M: TxRead>(memory: &mut M, node: Block) -> Result<Booking, M::Stop>
     requires { IsNode (M.view memory.old) node }
     ensures origin { M.origin memory.new ≡ M.origin memory.old }
@@ -62,8 +62,8 @@ pub fn booking_at<M: TxRead>(memory: &mut M, node: Block) -> Result<Booking, M::
     Ok(Booking { units, sum })
 }
 
-/// How many units the booking has.
-#[inline]
+/// Returns the number of units of the booking.
+#[inline(always)]
 pub fn units_at<M: TxRead>(memory: &mut M, node: Block) -> Result<u64, M::Stop>
     requires { IsNode (M.view memory.old) node }
     ensures origin { M.origin memory.new ≡ M.origin memory.old }
@@ -74,8 +74,8 @@ pub fn units_at<M: TxRead>(memory: &mut M, node: Block) -> Result<u64, M::Stop>
     load(memory, node.word(place::UNITS))
 }
 
-/// The prices of the booking's units, each as it was when the unit was booked, added up.
-#[inline]
+/// Returns the sum of the prices of the booking's units, each as it was when the unit was booked.
+#[inline(always)]
 pub fn sum_at<M: TxRead>(memory: &mut M, node: Block) -> Result<u64, M::Stop>
     requires { IsNode (M.view memory.old) node }
     ensures origin { M.origin memory.new ≡ M.origin memory.old }
@@ -86,7 +86,7 @@ pub fn sum_at<M: TxRead>(memory: &mut M, node: Block) -> Result<u64, M::Stop>
     load(memory, node.word(place::SUM))
 }
 
-/// Adds units at the present price to a booking. The units that it has keep their prices.
+/// Adds units at the present price to a booking. The units already booked keep their prices.
 pub fn book_more<M: TxMem>(memory: &mut M, node: Block, num: u32, price: u64) -> Result<(), M::Stop>
     requires node { IsNode (M.view memory.old) node }
     requires sum { num * price < 2 ^ 64 }

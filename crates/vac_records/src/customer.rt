@@ -17,8 +17,8 @@ use tx_list::{Spot, insert_at, remove_at, seek};
 use tx_memory::{TxMem, TxRead, store};
 use vac_model::Kind;
 
-/// Makes the block a customer with this key and without bookings. The words that link the block
-/// into a table are left to the table; the spare words are 0.
+/// Makes the block a customer with this key and without bookings. The links into a table are left
+/// to the table; the spare words become 0.
 pub fn init_customer<M: TxMem>(memory: &mut M, node: Block, key: u32) -> Result<(), M::Stop>
     requires { IsNode (M.view memory.old) node }
     ensures origin { M.origin memory.new ≡ M.origin memory.old }
@@ -31,7 +31,7 @@ pub fn init_customer<M: TxMem>(memory: &mut M, node: Block, key: u32) -> Result<
     Ok(())
 }
 
-/// The block of the customer's booking of an item.
+/// Returns the block of the customer's booking of an item, if there is one.
 pub fn booking_of<M: TxRead>(
     memory: &mut M,
     customer: Block,
@@ -48,7 +48,8 @@ pub fn booking_of<M: TxRead>(
     Ok(found)
 }
 
-/// The spot of the booking of an item in the customer's list, or the spot where it would be.
+/// Returns the spot of an item in the customer's list: where the item's booking is or would be.
+#[inline(always)]
 pub fn spot_of<M: TxRead>(
     memory: &mut M,
     customer: Block,
@@ -65,8 +66,8 @@ pub fn spot_of<M: TxRead>(
     Ok(spot)
 }
 
-/// Books units of an item for a customer who has no booking of it, each at this price. The block is
-/// in no structure, and becomes the booking.
+/// Books units of an item for a customer without a booking of the item, each at this price. The
+/// block must be in no structure, and becomes the booking.
 pub fn book<M: TxMem>(
     memory: &mut M,
     customer: Block,
@@ -90,8 +91,8 @@ pub fn book<M: TxMem>(
     Ok(())
 }
 
-/// Books units as `book` does, at the spot of the booking in the customer's list, which is not
-/// walked again.
+/// Books units as `book` does, at the spot of the booking in the customer's list, so that the list
+/// is not walked again.
 pub fn book_at<M: TxMem>(
     memory: &mut M,
     spot: Spot,
@@ -113,8 +114,8 @@ pub fn book_at<M: TxMem>(
     Ok(())
 }
 
-/// Takes the booking of an item out of a customer's list, and returns its block and how many units
-/// it has. `None` says that there is none.
+/// Removes the booking of an item from a customer's list, and returns its block and its number of
+/// units. Returns `None` if there is no such booking.
 pub fn unbook<M: TxMem>(
     memory: &mut M,
     customer: Block,
@@ -132,8 +133,8 @@ pub fn unbook<M: TxMem>(
     Ok(taken)
 }
 
-/// Takes a booking out as `unbook` does, at the booking's spot in the customer's list, which is not
-/// walked again.
+/// Removes a booking as `unbook` does, at the spot of the booking in the customer's list, so that
+/// the list is not walked again.
 pub fn unbook_at<M: TxMem>(memory: &mut M, spot: Spot) -> Result<Option<(Block, u64)>, M::Stop>
     requires small { (M.view memory.old).size ≤ 2 ^ 32 }
     requires link { spot.link.0 < (M.view memory.old).size }
@@ -151,7 +152,8 @@ pub fn unbook_at<M: TxMem>(memory: &mut M, spot: Spot) -> Result<Option<(Block, 
     }
 }
 
-/// The customer's bill: the sums of all bookings, added up.
+/// Returns the customer's bill: the total of the sums of all bookings. Bounded loop: the prover
+/// needs a measure; a customer has at most 262,144 bookings.
 pub fn bill<M: TxRead>(memory: &mut M, customer: Block) -> Result<u64, M::Stop>
     requires { CanBill (M.view memory.old) customer }
     ensures origin { M.origin memory.new ≡ M.origin memory.old }

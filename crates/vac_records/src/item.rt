@@ -12,8 +12,8 @@ use tx_alloc::Block;
 use tx_memory::{TxMem, TxRead, load, store};
 use vac_model::Item;
 
-/// Makes the block an item with this key, of which `num` units are free at this price and none is
-/// used. The words that link the block into a table are left to the table.
+/// Makes the block an item with this key and this price, with `num` free units and no used ones.
+/// The links into a table are left to the table.
 pub fn init_item<M: TxMem>(
     memory: &mut M,
     node: Block,
@@ -34,7 +34,7 @@ pub fn init_item<M: TxMem>(
     Ok(())
 }
 
-/// The item of the block.
+/// Returns the item of the block.
 pub fn item_at<M: TxRead>(memory: &mut M, node: Block) -> Result<Item, M::Stop>
     requires { IsNode (M.view memory.old) node }
     ensures origin { M.origin memory.new ≡ M.origin memory.old }
@@ -53,8 +53,8 @@ pub fn item_at<M: TxRead>(memory: &mut M, node: Block) -> Result<Item, M::Stop>
     })
 }
 
-/// How many units of the item are booked.
-#[inline]
+/// Returns the number of booked units of the item.
+#[inline(always)]
 pub fn used_at<M: TxRead>(memory: &mut M, node: Block) -> Result<u64, M::Stop>
     requires { IsNode (M.view memory.old) node }
     ensures origin { M.origin memory.new ≡ M.origin memory.old }
@@ -65,8 +65,8 @@ pub fn used_at<M: TxRead>(memory: &mut M, node: Block) -> Result<u64, M::Stop>
     load(memory, node.word(place::USED))
 }
 
-/// How many units of the item can be booked.
-#[inline]
+/// Returns the number of units of the item that can be booked.
+#[inline(always)]
 pub fn free_at<M: TxRead>(memory: &mut M, node: Block) -> Result<u64, M::Stop>
     requires { IsNode (M.view memory.old) node }
     ensures origin { M.origin memory.new ≡ M.origin memory.old }
@@ -77,8 +77,8 @@ pub fn free_at<M: TxRead>(memory: &mut M, node: Block) -> Result<u64, M::Stop>
     load(memory, node.word(place::FREE))
 }
 
-/// How many units of the item there are, booked or not.
-#[inline]
+/// Returns the number of units of the item, booked or not.
+#[inline(always)]
 pub fn total_at<M: TxRead>(memory: &mut M, node: Block) -> Result<u64, M::Stop>
     requires { IsNode (M.view memory.old) node }
     ensures origin { M.origin memory.new ≡ M.origin memory.old }
@@ -89,8 +89,8 @@ pub fn total_at<M: TxRead>(memory: &mut M, node: Block) -> Result<u64, M::Stop>
     load(memory, node.word(place::TOTAL))
 }
 
-/// The price of a unit of the item.
-#[inline]
+/// Returns the price of a unit of the item.
+#[inline(always)]
 pub fn price_at<M: TxRead>(memory: &mut M, node: Block) -> Result<u64, M::Stop>
     requires { IsNode (M.view memory.old) node }
     ensures origin { M.origin memory.new ≡ M.origin memory.old }
@@ -114,8 +114,8 @@ pub fn add_total<M: TxMem>(memory: &mut M, node: Block, num: u32) -> Result<(), 
     Ok(())
 }
 
-/// Takes free units away from the item. The caller ensures that `num` are free; the price stays,
-/// even where no unit is left.
+/// Takes free units away from the item. The caller ensures that `num` units are free. The price
+/// stays, even if no unit is left.
 pub fn sub_total<M: TxMem>(memory: &mut M, node: Block, num: u32) -> Result<(), M::Stop>
     requires node { IsNode (M.view memory.old) node }
     requires free { HasFree (M.view memory.old) node num }
@@ -128,7 +128,7 @@ pub fn sub_total<M: TxMem>(memory: &mut M, node: Block, num: u32) -> Result<(), 
     Ok(())
 }
 
-/// Gives the item another price. Units that are booked keep theirs.
+/// Sets the price of the item. Booked units keep their price.
 #[inline]
 pub fn set_price<M: TxMem>(memory: &mut M, node: Block, price: u32) -> Result<(), M::Stop>
     requires { IsNode (M.view memory.old) node }
@@ -140,8 +140,8 @@ pub fn set_price<M: TxMem>(memory: &mut M, node: Block, price: u32) -> Result<()
     store(memory, word, price as u64)
 }
 
-/// Makes a reservation of `num` units: free units become used ones. The caller ensures that `num`
-/// are free.
+/// Reserves `num` units: free units become used ones. The caller ensures that `num` units are
+/// free.
 pub fn make<M: TxMem>(memory: &mut M, node: Block, num: u32) -> Result<(), M::Stop>
     requires node { IsNode (M.view memory.old) node }
     requires units { CanMake (M.view memory.old) node num }
@@ -154,7 +154,8 @@ pub fn make<M: TxMem>(memory: &mut M, node: Block, num: u32) -> Result<(), M::St
     Ok(())
 }
 
-/// Makes a reservation as `make` does, where the caller has read how many units are free.
+/// Reserves units as `make` does, if the caller has already read the number of free units.
+#[inline(always)]
 pub fn make_of<M: TxMem>(memory: &mut M, node: Block, num: u32, free: u64) -> Result<(), M::Stop>
     requires node { IsNode (M.view memory.old) node }
     requires units { CanMakeOf (M.view memory.old) node num free }
@@ -167,8 +168,8 @@ pub fn make_of<M: TxMem>(memory: &mut M, node: Block, num: u32, free: u64) -> Re
     Ok(())
 }
 
-/// Cancels a reservation of `num` units: used units become free ones. The caller ensures that `num`
-/// are used.
+/// Cancels a reservation of `num` units: used units become free ones. The caller ensures that
+/// `num` units are used.
 pub fn cancel<M: TxMem>(memory: &mut M, node: Block, num: u64) -> Result<(), M::Stop>
     requires node { IsNode (M.view memory.old) node }
     requires units { CanCancel (M.view memory.old) node num }

@@ -1,10 +1,10 @@
 //! The items, customers and bookings of the reservation system, in blocks of eight words of a
-//! transactional memory, and which state of the system a memory represents.
+//! transactional memory, and the state that a memory represents.
 //!
-//! The words of an item's block are its key, three words that link it into its table, and then
-//! how many units are used, how many are free, how many there are in all, and the price of one.
-//! Those of a customer's block are the key, the same three links, and the head of the list of
-//! bookings; those of a booking's block are `tx_list`'s.
+//! The words of an item's block are its key, three words that link the block into its table, the
+//! numbers of used, free and all units, and the price of a unit. The words of a customer's block
+//! are the key, the same three words, and the head of the list of bookings. `tx_list` defines the
+//! words of a booking's block.
 #![tactic(auto)]
 
 mod booking;

@@ -1,16 +1,16 @@
-//! Where the words of an item and of a customer are in their blocks. The words between the key and
-//! these link the block into its table.
+//! The places of the words of an item and of a customer in their blocks. The words between the key
+//! and these words link the block into its table.
 
 /// The key, which is the item's id.
 pub const KEY: u32 = tx_tree::place::KEY;
 
-/// How many units are booked.
+/// Number of booked units.
 pub const USED: u32 = 4;
 
-/// How many units can be booked.
+/// Number of units that can be booked.
 pub const FREE: u32 = 5;
 
-/// How many units there are.
+/// Number of units, booked or not.
 pub const TOTAL: u32 = 6;
 
 /// The price of a unit that is booked from now on.

@@ -18,7 +18,7 @@ pub const ROOMS: Addr = Addr(3);
 /// The word that leads to the table of customers.
 pub const CUSTOMERS: Addr = Addr(4);
 
-/// The word that leads to the table of a kind.
+/// Returns the word that leads to the table of a kind.
 #[inline]
 pub fn root_of(kind: Kind) -> Addr
     ensures { result.0 ≡ 1 + kind_number kind }

@@ -7,11 +7,11 @@ ghost use Rattle.vac_records.specs.Spare.{WordCleared, SpareCleared};
 use tx_alloc::Block;
 use tx_memory::{Addr, TxMem, load, store};
 
-/// The first of the three spare words of a booking's block and of a customer's.
+/// The first of the three spare words of a booking's or a customer's block.
 const FIRST_SPARE: u32 = 5;
 
 /// Adds a number to a word.
-#[inline]
+#[inline(always)]
 pub(crate) fn raise<M: TxMem>(memory: &mut M, word: Addr, by: u64) -> Result<(), M::Stop>
     requires { CanRaise (M.view memory.old) word.0 by }
     ensures origin { M.origin memory.new ≡ M.origin memory.old }
@@ -23,8 +23,8 @@ pub(crate) fn raise<M: TxMem>(memory: &mut M, word: Addr, by: u64) -> Result<(),
     Ok(())
 }
 
-/// Takes a number away from a word.
-#[inline]
+/// Subtracts a number from a word.
+#[inline(always)]
 pub(crate) fn lower<M: TxMem>(memory: &mut M, word: Addr, by: u64) -> Result<(), M::Stop>
     requires { CanLower (M.view memory.old) word.0 by }
     ensures origin { M.origin memory.new ≡ M.origin memory.old }
@@ -36,9 +36,9 @@ pub(crate) fn lower<M: TxMem>(memory: &mut M, word: Addr, by: u64) -> Result<(),
     Ok(())
 }
 
-/// Sets a word to 0. A word that is 0 already is read and not written: a read costs less than a
+/// Sets a word to 0. A word that is already 0 is read and not written: a read costs less than a
 /// lock, a store and a release.
-#[inline]
+#[inline(always)]
 fn clear<M: TxMem>(memory: &mut M, word: Addr) -> Result<(), M::Stop>
     requires { word.0 < (M.view memory.old).size }
     ensures origin { M.origin memory.new ≡ M.origin memory.old }
@@ -52,7 +52,7 @@ fn clear<M: TxMem>(memory: &mut M, word: Addr) -> Result<(), M::Stop>
     Ok(())
 }
 
-/// Sets the three spare words of a booking's block or of a customer's to 0.
+/// Sets the three spare words of a booking's or a customer's block to 0.
 pub(crate) fn clear_spare<M: TxMem>(memory: &mut M, node: Block) -> Result<(), M::Stop>
     requires { IsNode (M.view memory.old) node }
     ensures origin { M.origin memory.new ≡ M.origin memory.old }

@@ -1,4 +1,4 @@
--- What holds of all elements of a list, and of one behind them.
+-- Properties of all elements of a list, and of one more element.
 use Rattle.std.proofs.Common.{◌≡◌, All, ℕ, zero, suc, ◌<◌, length, List, [], ◌∷◌, ◌++◌, slice_index_or, sym, subst}
 use Rattle.std.proofs.Common.{arith}
 
@@ -12,6 +12,6 @@ all_last P [] x h p = all_cons P x [] p h
 all_last P (y ∷ xs) x h p = all_cons P y (xs ++ (x ∷ [])) (h 0 y (omega arith))
     (all_last P xs x (λ k d l. h (suc k) d (omega (arith, l))) p)
 
--- one element more
+-- one more element
 pub all_more : {A : Type 0} (P : A → Type 0) (xs ys : List A) (x : A) → ys ≡ xs ++ (x ∷ []) → All P xs → P x → All P ys
 all_more P xs ys x e h p = subst (λ (l : List _). All P l) (sym e) (all_last P xs x h p)

@@ -1,4 +1,4 @@
-//! Clients in threads, and one that audits at the same time.
+//! Clients in threads, and one client that audits at the same time.
 ghost use Rattle.std.specs.Prelude.{◌≡◌};
 
 use crate::draws::{BLOCKS, draw_task};
@@ -14,16 +14,17 @@ use vac_audit::audit_words;
 use vac_manager::{Client, Manager, Session};
 use vac_model::{Command, Reply, Report, Task};
 
-/// How many random tasks each client runs, and how many reports the other one asks for.
+/// Number of random tasks of each client, and number of reports that the auditing client requests.
 const TASKS: u32 = 2_000;
 
-/// By how many tries each call is made.
+/// Largest number of attempts of each call.
 const TRIES: u32 = 1_000;
 
-/// The reports that were answered.
+/// Counts of the reports that calls returned.
 #[derive(Clone, Copy, Debug, PartialEq, Eq)]
 struct Reports {
-    /// Those in which the units used are those booked, and used and free units are all.
+    /// Reports in which the used units are the booked ones, and used and free units make the
+    /// total.
     sound: u32,
     others: u32,
 }
@@ -47,7 +48,7 @@ fn run_tasks(alloc: Global, manager: &Manager, client: Client, seed: u64) -> Cli
     session.into_client()
 }
 
-/// Asks for reports.
+/// Requests reports, and counts those that are sound.
 fn audit(manager: &Manager, client: Client) -> (Client, Reports)
     requires { client.table ≡ manager.now.table }
     ensures { result.0.table ≡ manager.now.table }
@@ -69,7 +70,7 @@ fn audit(manager: &Manager, client: Client) -> (Client, Reports)
     (session.into_client(), reports)
 }
 
-/// Two clients run random tasks.
+/// Runs random tasks of two clients, each in a thread.
 fn two_clients<R: Threads + Sync>(
     rt: &R,
     alloc: Global,
@@ -95,7 +96,7 @@ fn two_clients<R: Threads + Sync>(
     )
 }
 
-/// Two clients run random tasks, while another one asks for reports.
+/// Runs random tasks of two clients, while another client requests reports.
 fn two_and_another<R: Threads + Sync>(
     rt: &R,
     alloc: Global,
@@ -125,8 +126,8 @@ fn two_and_another<R: Threads + Sync>(
     )
 }
 
-/// Four clients run random tasks, while a fifth one asks for reports. Returns the first one, which
-/// took in the others, and the reports.
+/// Runs random tasks of four clients, while a fifth client requests reports. Returns the first
+/// client, which gathered the others, and the counts of the reports.
 fn four_and_another<R: Threads + Sync + Abort>(
     rt: &R,
     alloc: Global,

@@ -1,4 +1,4 @@
-//! The calls of a script by a session.
+//! Scripts as calls of a session.
 ghost use Rattle.std.specs.Prelude.{◌≡◌};
 
 use crate::scripts::{Line, task_of};
@@ -9,10 +9,10 @@ use vac_model::Reply;
 
 pub(crate) type Answer = Result<Reply, Fault>;
 
-/// A line of a script, and the answer to it.
+/// A line of a script, and its expected answer.
 pub(crate) type Called = (Line<'static>, Answer);
 
-/// Calls the task of each line, by `tries` tries, and compares the answers.
+/// Calls the task of each line with at most `tries` attempts, and compares the answers.
 pub(crate) fn expect(
     rt: &impl Abort,
     alloc: Global,

@@ -17,7 +17,7 @@ use vac_model::Kind::{Car, Flight, Room};
 use vac_model::Reply::{Done, No};
 use vac_model::Why::Full;
 
-/// Enters a customer, and returns the client that did.
+/// Creates a customer, and returns the client that did so.
 fn enter(rt: &impl Abort, alloc: Global, manager: &Manager, client: Client, id: u32) -> Client
     requires { client.table ≡ manager.now.table }
     ensures { result.table ≡ manager.now.table }
@@ -27,7 +27,7 @@ fn enter(rt: &impl Abort, alloc: Global, manager: &Manager, client: Client, id: 
     session.into_client()
 }
 
-/// Splits off as many clients as there can be, and each enters a customer of its own.
+/// Splits off as many clients as there can be, each of which creates a customer of its own.
 fn crowd(rt: &impl Abort, alloc: Global, manager: &Manager, client: &mut Client) -> Vec<Client>
     requires { client.old.table ≡ manager.now.table }
     ensures mine { client.new.table ≡ manager.now.table }
@@ -42,7 +42,7 @@ fn crowd(rt: &impl Abort, alloc: Global, manager: &Manager, client: &mut Client)
     others
 }
 
-/// Takes in the other clients.
+/// Gathers the other clients.
 fn gather_all(manager: &Manager, client: &mut Client, others: Vec<Client>)
     requires mine { client.old.table ≡ manager.now.table }
     requires others { All (λ other. other.table ≡ manager.now.table) others.items }
@@ -80,8 +80,8 @@ fn sixty_four_clients(rt: HostRuntime) {
     holds(&rt, manager.close(client).is_ok());
 }
 
-/// Closes a manager while a client is out, and again once that client was taken in. Returns the
-/// words and the version.
+/// Closes a manager while a client is out, which is refused, and again once that client was
+/// gathered. Returns the words and the version.
 fn close_late(rt: &impl Abort, manager: Manager, client: Client, other: Client) -> (Vec<u64>, u64)
     requires { (client.table ≡ manager.table) × (other.table ≡ manager.table) }
 {
@@ -104,7 +104,7 @@ const ONE_BLOCK_OF_THE_OTHER: [Called; 3] = [
 
 const ONE_BLOCK_OF_THE_FIRST: [Called; 1] = [(new_customer!(4), Ok(Done))];
 
-/// The one block is in the list of the first client, and serves both.
+/// The one block is in the list of the first client, and serves both clients.
 #[test]
 fn one_block_and_two_clients(rt: HostRuntime) {
     let alloc = rt.alloc();
@@ -122,7 +122,7 @@ fn one_block_and_two_clients(rt: HostRuntime) {
     same(&rt, &version, &3);
 }
 
-/// Words of a manager that its one client closes.
+/// Returns the words of a manager that its only client closes.
 fn closed_words(rt: &impl Abort, manager: Manager, client: Client) -> Vec<u64>
     requires { client.table ≡ manager.table }
 {
@@ -147,8 +147,8 @@ const BY_THE_SECOND: [Called; 10] = [
 
 const BY_THE_FIRST: [Called; 1] = [(new_customer!(7), Ok(Done))];
 
-/// Calls by the second of two clients of a new manager of sixteen blocks, and then by the first.
-/// Returns the words.
+/// Plays calls of the second of two clients of a new manager with sixteen blocks, and then calls
+/// of the first. Returns the words.
 fn words_after(rt: &impl Abort, alloc: Global, second: &[Called], first: &[Called]) -> Vec<u64> {
     let (manager, client) = open(rt, alloc, 16, LAST);
     let mut a = Session::of(&manager, client);
@@ -160,10 +160,11 @@ fn words_after(rt: &impl Abort, alloc: Global, second: &[Called], first: &[Calle
     closed_words(rt, manager, client)
 }
 
-/// The second client's entries take their blocks from the second list, blocks 2 and 3, and then
-/// from the next one, which begins with block 4: what comes after it, block 5, is then the second
-/// list. All that it frees goes there, a flight's block too, so that in the end the list is blocks
-/// 3, 2, 4 and 5. Block 0, of the first list, is the first client's.
+/// The second client's entries take their blocks from the second list, blocks 2 and 3. The next
+/// block comes from the next list, which begins with block 4; the block after it, block 5, then
+/// becomes the second list. All blocks that the client frees go to the second list, the block of a
+/// flight too, so that in the end the list is blocks 3, 2, 4 and 5. Block 0, of the first list, is
+/// the first client's.
 #[test]
 fn each_client_has_a_list_of_its_own(rt: HostRuntime) {
     let words = words_after(&rt, rt.alloc(), &BY_THE_SECOND, &BY_THE_FIRST);
@@ -193,10 +194,9 @@ const TASKS_OF_THE_SECOND: [Called; 5] = [
 ];
 
 /// Tasks of several commands keep to the list of their client, too: an update, a trip and a leave
-/// of the second client. What it asks for takes blocks 2 to 8. Blocks 2, 3 and 4 are a car, a
-/// flight and a room, and in the end the list is blocks 5, 8, 7, 6 and 9, since the leave gives the
-/// bookings back in the order of their kinds, and then the customer. The first list still has its
-/// two blocks.
+/// of the second client. Its tasks take blocks 2 to 8. Blocks 2, 3 and 4 are a car, a flight and a
+/// room. In the end the list is blocks 5, 8, 7, 6 and 9, since the leave gives the bookings back
+/// in the order of their kinds, and then the customer. The first list still has its two blocks.
 #[test]
 fn tasks_keep_to_the_list_of_their_client(rt: HostRuntime) {
     let words = words_after(&rt, rt.alloc(), &TASKS_OF_THE_SECOND, &[]);
@@ -206,7 +206,7 @@ fn tasks_keep_to_the_list_of_their_client(rt: HostRuntime) {
     same(&rt, &found, &expected.map(Some));
 }
 
-/// A client that is taken in gives a grant back, to the one that takes it in.
+/// A client that is gathered gives a grant back, to the client that gathers it.
 #[test]
 fn grants_go_with_clients(rt: HostRuntime) {
     let (manager, client) = open(&rt, rt.alloc(), 8, LAST);

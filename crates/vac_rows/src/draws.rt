@@ -6,13 +6,13 @@ use std::alloc::{AllocError, Global};
 use vac_model::limits::KINDS;
 use vac_model::{Command, Kind, Task};
 
-/// How many tasks each test runs.
+/// Number of tasks that each test runs.
 pub(crate) const TASKS: u32 = 3_000;
 
-/// How many blocks there are: few, so that some commands find none left.
+/// Number of blocks: few, so that some commands find none left.
 pub(crate) const BLOCKS: u32 = 24;
 
-/// One of five ids.
+/// Draws one of five ids.
 fn draw_id(draws: &mut Pcg32) -> u32 {
     1 + draws.next_u32() % 5
 }
@@ -21,7 +21,7 @@ fn draw_kind(draws: &mut Pcg32) -> Kind {
     Kind::from_number((draws.next_u32() % KINDS) as u64)
 }
 
-/// Up to three units, or none, with a price or without.
+/// Draws an Add of up to three units, with a price or without.
 fn draw_add(draws: &mut Pcg32) -> Command {
     let num = draws.next_u32() % 4;
     let tens = draws.next_u32() % 5;
@@ -33,7 +33,7 @@ fn draw_add(draws: &mut Pcg32) -> Command {
     }
 }
 
-/// A Delete, or a DropFlight.
+/// Draws a Delete or a DropFlight.
 fn draw_removal(draws: &mut Pcg32) -> Command {
     let id = draw_id(draws);
     let num = draws.next_u32() % 4;
@@ -43,7 +43,7 @@ fn draw_removal(draws: &mut Pcg32) -> Command {
     }
 }
 
-/// An Add, a Delete or a DropFlight.
+/// Draws an Add, a Delete or a DropFlight.
 fn draw_change(draws: &mut Pcg32) -> Command {
     match draws.next_u32() % 3 {
         0 | 1 => draw_add(draws),
@@ -51,7 +51,7 @@ fn draw_change(draws: &mut Pcg32) -> Command {
     }
 }
 
-/// A command of a customer and an item.
+/// Draws a command on a customer and an item.
 fn draw_booking(draws: &mut Pcg32) -> Command {
     let customer = draw_id(draws);
     let kind = draw_kind(draws);
@@ -67,7 +67,7 @@ fn draw_booking(draws: &mut Pcg32) -> Command {
     }
 }
 
-/// A command that only reads.
+/// Draws a command that only reads.
 fn draw_question(draws: &mut Pcg32) -> Command {
     let kind = draw_kind(draws);
     let id = draw_id(draws);

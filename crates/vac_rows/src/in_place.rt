@@ -1,4 +1,4 @@
-//! Random tasks that change the plain manager in place, and such a manager of which a copy is kept.
+//! Random tasks that change the plain manager in place, with and without a copy that is kept.
 
 use crate::draws::{BLOCKS, TASKS, draw_task};
 use crate::same::{holds, same};
@@ -8,10 +8,10 @@ use std::process::Abort;
 use vac_model::{Reply, Report, Task};
 use vac_sequential::Sequential;
 
-/// How many seeds random tasks are drawn from.
+/// Number of seeds from which random tasks are drawn.
 const SEEDS: u64 = 4;
 
-/// How many tasks a copy is kept for.
+/// Number of tasks for which a copy is kept.
 const KEPT: u32 = 25;
 
 fn open(rt: &impl Abort, alloc: Global) -> Sequential {
@@ -26,26 +26,26 @@ fn draw(rt: &impl Abort, alloc: Global, draws: &mut Pcg32) -> Task {
     draw_task(alloc, draws).expect(rt, "there is memory")
 }
 
-/// Gives the manager a task, which copies what it changes.
+/// Runs a task of the manager, which copies what it changes.
 fn run(rt: &impl Abort, manager: &mut Sequential, task: &Task) -> Reply {
     manager.run(task).expect(rt, "the task is in range")
 }
 
-/// Gives the manager a task in place, and compares the reply.
+/// Runs a task of the manager in place, and compares the reply.
 fn change(rt: &impl Abort, manager: Sequential, task: &Task, wanted: Reply) -> Sequential {
     let (manager, reply) = manager.after(task).expect(rt, "the task is in range");
     same(rt, &reply, &wanted);
     manager
 }
 
-/// Two managers have one state, one report and one hash.
+/// Asserts that two managers have one state, one report and one hash.
 fn same_states(rt: &impl Abort, one: &Sequential, other: &Sequential) {
     same(rt, &one.report(), &other.report());
     same(rt, &one.hash(), &other.hash());
     holds(rt, one.is_same(other));
 }
 
-/// A copy, the report of that time, and another manager's copy of the same state.
+/// A copy, the report at the time of the copy, and another manager's copy of the same state.
 #[derive(Drop)]
 struct Kept {
     copy: Sequential,
@@ -62,19 +62,20 @@ impl Kept {
         }
     }
 
-    /// Whether the copy is what it was.
+    /// Returns whether the copy is as it was.
     fn is_unchanged(&self) -> bool {
         self.copy.report() == self.report && self.copy.is_same(&self.other)
     }
 }
 
-/// One task of both managers, the one of which is changed in place.
+/// Runs a task of both managers, the first of which is changed in place.
 fn both(rt: &impl Abort, manager: Sequential, plain: &mut Sequential, task: &Task) -> Sequential {
     let wanted = run(rt, plain, task);
     change(rt, manager, task, wanted)
 }
 
-/// Random tasks of a manager that no copy shares, beside one that copies what it changes.
+/// Runs random tasks of a manager that shares nothing with a copy, beside a manager that copies
+/// what it changes.
 fn alone(rt: &impl Abort, alloc: Global, seed: u64) {
     let mut draws = Pcg32::new(seed, 4);
     let mut plain = open(rt, alloc);
@@ -86,7 +87,7 @@ fn alone(rt: &impl Abort, alloc: Global, seed: u64) {
     same_states(rt, &manager, &plain);
 }
 
-/// Some tasks beside a copy, which stays as it was.
+/// Runs some tasks beside a copy, which stays as it was.
 fn with_copy(
     rt: &impl Abort,
     alloc: Global,
@@ -104,7 +105,8 @@ fn with_copy(
     manager
 }
 
-/// Random tasks of a manager of which a copy is kept, beside one that copies what it changes.
+/// Runs random tasks of a manager of which a copy is kept, beside a manager that copies what it
+/// changes.
 fn beside_copies(rt: &impl Abort, alloc: Global, seed: u64) {
     let mut draws = Pcg32::new(seed, 4);
     let mut plain = open(rt, alloc);

@@ -1,7 +1,7 @@
-//! Tests of the reservation tower: scripts whose replies were worked out by hand from the rules
-//! (`docs/RULES.md`), clients over a region that meet, come and go and call from threads, and
-//! random tasks compared with the plain manager. The plain manager is proved to do what its
-//! definition says: these tests say that the definition is the one that was meant.
+//! Tests of the reservation crates: scripts with worked replies, clients over a region, and random
+//! tasks beside the plain manager. The replies of scripts were worked out by hand from the rules
+//! (`docs/RULES.md`). The clients conflict, come and go, and call from threads. The plain manager
+//! is proved to satisfy its definition; these tests show that the definition is the intended one.
 #![tactic(auto)]
 
 #[cfg(test)]

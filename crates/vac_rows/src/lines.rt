@@ -1,4 +1,4 @@
-//! The lines that tasks are printed as.
+//! The printed lines of tasks.
 ghost use Rattle.std.specs.Prelude.{◌≤◌};
 
 use crate::same::{holds, same};
@@ -8,14 +8,14 @@ use std::process::Abort;
 use vac_lines::{LINE_BYTES, LineFault, print_task, read_line};
 use vac_model::{Kind, Task};
 
-/// The line of a task.
+/// Returns the line of a task.
 fn line_of(rt: &impl Abort, alloc: Global, task: &Task) -> Vec<u8> {
     let mut line = Vec::new(alloc);
     print_task(task, &mut line).expect(rt, "there is memory");
     line
 }
 
-/// Lines, and what their tasks are printed as.
+/// Lines, and the printed lines of their tasks.
 const PRINTED: &[(&str, &str)] = &[
     ("add car 1 100 -", "add car 1 100 -"),
     ("add flight 0000000007 0005 007", "add flight 7 5 7"),
@@ -58,8 +58,9 @@ fn tasks_are_printed_plainly(rt: HostRuntime) {
     }
 }
 
-/// The number of bytes of the line of an update that adds a flight with these numbers `changes`
-/// times. The line is read as the same update where it is no longer than a line may be.
+/// Returns the number of bytes of the line of an update that adds a flight with these numbers
+/// `changes` times. Asserts that the line is read as the same update, unless it is longer than a
+/// line may be.
 fn flights_added(rt: &impl Abort, alloc: Global, changes: usize, id: u32, num: u32) -> usize
     requires { changes ≤ 32 }
 {

@@ -1,4 +1,4 @@
-//! Two clients whose calls meet over a region: one stops at a point of its commit, of which its
+//! Two clients whose calls conflict over a region: one stops at a point of its commit, which its
 //! gate is told, while the other one calls.
 ghost use Rattle.std.specs.Prelude.{◌≡◌};
 
@@ -31,14 +31,14 @@ const fn reserve_car(customer: u32) -> Task {
     })
 }
 
-/// The answer to the client that called meanwhile.
+/// The answers to the client that called meanwhile.
 #[derive(Clone, Copy, Debug, PartialEq, Eq)]
 struct Answers {
     room: Outcome,
     car: Outcome,
 }
 
-/// Has another client ask for a room and reserve a car, once, when it is told the point.
+/// A gate at which another client asks for a room and reserves a car, once, at one point.
 #[derive(Drop)]
 struct Meanwhile<'a> {
     when: Point,
@@ -56,7 +56,8 @@ impl<'a> Gate for Meanwhile<'a> {
     }
 }
 
-/// The answers to two clients whose reservations met, and how many cars are free afterwards.
+/// The answers to two clients with conflicting reservations, and the number of free cars
+/// afterwards.
 #[derive(Clone, Copy, Debug, PartialEq, Eq)]
 struct Met {
     mine: Outcome,
@@ -64,7 +65,7 @@ struct Met {
     free: Outcome,
 }
 
-/// Enters cars and two customers.
+/// Creates cars and two customers.
 fn fill(session: &mut Session<'_>, cars: u32) {
     let car = Task::One(add_command!(Car, 7, cars, Some(50)));
     let _ = session.call(&car, 1);
@@ -72,7 +73,8 @@ fn fill(session: &mut Session<'_>, cars: u32) {
     let _ = session.call(&enter(4), 1);
 }
 
-/// The client reserves a car by at most `tries` tries, and at this point the other client does.
+/// Reserves a car with at most `tries` attempts, while the other client reserves a car at this
+/// point.
 fn meet<'a>(
     session: &mut Session<'_>,
     other: Session<'a>,
@@ -94,7 +96,7 @@ fn meet<'a>(
     (Met { mine, told, free }, other)
 }
 
-/// Two clients reserve the last car, the first by at most `tries` tries.
+/// Lets two clients reserve the last car, the first with at most `tries` attempts.
 fn last_car(rt: &impl Abort, manager: &Manager, client: Client, tries: u32) -> Met
     requires { client.table ≡ manager.now.table }
 {
@@ -105,7 +107,8 @@ fn last_car(rt: &impl Abort, manager: &Manager, client: Client, tries: u32) -> M
     met
 }
 
-/// The other client had the last car, and this is the answer to the first.
+/// Returns the outcome if the other client had the last car: its answers, and this answer to the
+/// first client.
 fn lost_it(mine: Outcome) -> Met {
     let told = Answers {
         room: Outcome::Replied(Number(None)),
@@ -146,7 +149,7 @@ fn the_last_car_takes_the_last_version(rt: HostRuntime) {
     same(&rt, &met, &lost_it(Outcome::Spent(4)));
 }
 
-/// Two clients reserve one of two cars each, and the one that was busy calls again.
+/// Lets two clients reserve one of two cars each; the client that was busy calls again.
 fn two_cars(rt: &impl Abort, manager: &Manager, client: Client, when: Point) -> (Met, Outcome)
     requires { client.table ≡ manager.now.table }
 {
@@ -162,7 +165,8 @@ fn two_cars(rt: &impl Abort, manager: &Manager, client: Client, when: Point) -> 
     (met, Outcome::of(again))
 }
 
-/// A point, the answer to the first client, and that to the other one about the car.
+/// Points, each with the answer to the first client, and the answer to the other client about the
+/// car.
 const POINTS: [(Point, Outcome, Outcome); 5] = [
     (Point::ReadsDone, Outcome::Newer { version: 4, rv: 3 }, DONE),
     (Point::Locked, DONE, Outcome::Held),

@@ -1,4 +1,4 @@
-//! Numbers out of their range, over a region.
+//! Arguments out of their range, over a region.
 
 use crate::calls::{Answer, Called, expect};
 use crate::managers::open;
@@ -31,14 +31,15 @@ fn calls_out_of_range(rt: HostRuntime) {
     expect(&rt, alloc, &mut session, 1_048_576, &IN_RANGE);
 }
 
-/// Why a manager does not open.
+/// Returns the reason why a manager does not open, if it does not.
 fn refusal(alloc: Global, blocks: u32, last: u64, stripes: u32) -> Option<Fault> {
     Manager::with_stripes(alloc, blocks, last, stripes).err()
 }
 
 const ARGUMENTS: Option<Fault> = Some(Fault::Arguments);
 
-/// Blocks, the last version, lock words, and why a manager does not open.
+/// Blocks, last version and lock words, with the reason why a manager does not open, if it does
+/// not.
 const OPENINGS: [(u32, u64, u32, Option<Fault>); 8] = [
     (0, 2, 1, ARGUMENTS),
     (262_145, 2, 1, ARGUMENTS),
@@ -50,7 +51,7 @@ const OPENINGS: [(u32, u64, u32, Option<Fault>); 8] = [
     (8, LAST, 1_048_576, None),
 ];
 
-/// Blocks and the last version, with which a manager does not open.
+/// Blocks and last versions with which a manager does not open.
 const REFUSED_OPENINGS: [(u32, u64); 4] = [(0, 2), (262_145, 2), (8, 0), (8, LAST + 1)];
 
 #[test]

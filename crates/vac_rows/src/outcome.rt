@@ -1,11 +1,11 @@
-//! The answer to a call, as far as a worked row says it.
+//! The answer to a call, as far as a worked example states it.
 
 use crate::calls::Answer;
 use stm_attempt::Conflict;
 use vac_manager::Fault;
 use vac_model::Reply;
 
-/// The answer to a call. Numbers of locks and held words are left open.
+/// The answer to a call. Numbers of locks and of held words are left out.
 #[derive(Clone, Copy, Debug, PartialEq, Eq)]
 pub(crate) enum Outcome {
     Replied(Reply),
@@ -13,11 +13,11 @@ pub(crate) enum Outcome {
     Memory,
     /// A lock was held.
     Held,
-    /// A word was of this version, with which the read version is compared.
+    /// A word had this version, which is above the read version.
     Newer { version: u64, rv: u64 },
     /// Another conflict.
     Lost,
-    /// The clock is at this last version.
+    /// The clock is spent: it has reached this last version.
     Spent(u64),
 }
 

@@ -14,10 +14,10 @@ use vac_plain::Heap;
 use vac_sequential::Sequential;
 use vac_tasks::only_reads;
 
-/// How many seeds random tasks are drawn from.
+/// Number of seeds from which random tasks are drawn.
 const SEEDS: u64 = 4;
 
-/// The reply to a task, or `None` where it cannot be asked for.
+/// Runs a task and returns its reply, or `None` if the task is not valid.
 fn answer(heap: &mut Heap, task: &Task, start: FreeList) -> Option<Reply> {
     if !task.is_in_range() {
         return None;
@@ -25,7 +25,7 @@ fn answer(heap: &mut Heap, task: &Task, start: FreeList) -> Option<Reply> {
     Some(heap.run(task, start))
 }
 
-/// The reply to a task that only reads, or `None` to any other.
+/// Returns the reply to a task that only reads, or `None` for any other task.
 fn look(heap: &mut Heap, task: &Task) -> Option<Reply> {
     if !only_reads(task) {
         return None;
@@ -33,7 +33,8 @@ fn look(heap: &mut Heap, task: &Task) -> Option<Reply> {
     Some(heap.read(task))
 }
 
-/// Random tasks drawn from a seed. New entries take their blocks from a list that is drawn, too.
+/// Compares random tasks drawn from a seed. New entries take their blocks from a list that is
+/// drawn, too.
 fn compare(rt: &impl Abort, alloc: Global, seed: u64) {
     let mut draws = Pcg32::new(seed, 3);
     let mut plain = Sequential::new(alloc, BLOCKS).expect(rt, "the blocks are in range");

@@ -1,4 +1,4 @@
-//! What the gate of a call is told of.
+//! The points that the gate of a call is told.
 ghost use Rattle.std.specs.Prelude.{◌≡◌};
 
 use crate::calls::Answer;
@@ -14,10 +14,10 @@ use stm_attempt::{Gate, Point};
 use vac_manager::Session;
 use vac_model::Kind::{Car, Room};
 
-/// How many points are kept; later ones are only counted.
+/// Number of points that are kept; later ones are only counted.
 const KEPT: usize = 12;
 
-/// The points that a gate was told of, in their order.
+/// The points that a gate was told, in their order.
 #[derive(Clone, Copy, Debug, PartialEq, Eq)]
 pub(crate) struct Points {
     kept: [Option<Point>; KEPT],
@@ -34,7 +34,7 @@ impl Gate for Points {
 }
 
 impl Points {
-    /// The points of a gate that was told of none.
+    /// Returns the points of a gate that was told none.
     pub(crate) fn none() -> Points {
         Points {
             kept: [None; KEPT],
@@ -42,7 +42,7 @@ impl Points {
         }
     }
 
-    /// The points of a gate that was told of these.
+    /// Returns the points of a gate that was told these.
     pub(crate) fn of(points: &[Point]) -> Points {
         let mut kept = Points::none();
         for point in points {
@@ -52,7 +52,8 @@ impl Points {
     }
 }
 
-/// The answer to a call by at most `tries` tries, and what its gate was told of.
+/// Calls a task with at most `tries` attempts. Returns the answer and the points that its gate was
+/// told.
 pub(crate) fn call_with_points(
     rt: &impl Abort,
     alloc: Global,
@@ -68,10 +69,10 @@ pub(crate) fn call_with_points(
     (answer, points)
 }
 
-/// A call that writes nothing tells that its reads are done.
+/// Points of a call that writes nothing: its reads are done.
 const READ: [Point; 1] = [Point::ReadsDone];
 
-/// A call that writes tells each point of its commit.
+/// Points of a call that writes: each point of its commit.
 const WRITTEN: [Point; 5] = [
     Point::ReadsDone,
     Point::Locked,
@@ -80,8 +81,8 @@ const WRITTEN: [Point; 5] = [
     Point::Written,
 ];
 
-/// Calls the task of each line by one try, and compares what the gate was told of. All of them are
-/// answered.
+/// Calls the task of each line with one attempt, and compares the points that the gate was told.
+/// Asserts that all calls return replies.
 fn expect_points(
     rt: &impl Abort,
     alloc: Global,
@@ -141,7 +142,7 @@ fn other_calls_tell_each_point_where_they_write(rt: HostRuntime) {
     expect_points(&rt, alloc, &mut Session::of(&manager, client), OTHER_CALLS);
 }
 
-/// How many tries there are for a line.
+/// Lines with their number of attempts; none of these calls is made.
 const NOT_MADE: [(u32, Line<'static>); 3] = [
     (0, free!(Car, 7)),
     (0, new_customer!(3)),

@@ -12,7 +12,7 @@ use std::process::Abort;
 use vac_manager::Session;
 use vac_sequential::Sequential;
 
-/// What draws the tasks, and the plain manager that runs them.
+/// The generator of the tasks, and the plain manager that runs them.
 #[derive(Drop)]
 struct Plain {
     draws: Pcg32,
@@ -27,7 +27,7 @@ impl Plain {
         }
     }
 
-    /// Draws a task, and compares the client's reply with that of the plain manager.
+    /// Draws a task, and compares the client's reply with the plain manager's.
     fn compare(&mut self, rt: &impl Abort, alloc: Global, session: &mut Session<'_>)
         ensures { session.new.manager ≡ session.old.manager }
     {
@@ -36,7 +36,7 @@ impl Plain {
         same(rt, &session.call(&task, 1), &Ok(wanted));
     }
 
-    /// Compares a reply to the client whose turn it is.
+    /// Draws a task, and compares the reply to the client whose turn it is.
     fn compare_one(
         &mut self,
         rt: &impl Abort,
@@ -58,7 +58,8 @@ impl Plain {
     }
 }
 
-/// Random tasks of one client, which is alone: each call is answered by its one try.
+/// Compares random tasks of one client, which is alone: each call returns a reply in its one
+/// attempt.
 fn alone(rt: &impl Abort, alloc: Global, session: &mut Session<'_>) {
     let mut plain = Plain::new(rt, alloc, 7);
     for _ in 0..TASKS {
@@ -73,7 +74,7 @@ fn random_tasks_of_one_client(rt: HostRuntime) {
     alone(&rt, alloc, &mut Session::of(&manager, client));
 }
 
-/// Each lock word guards fifty-two words.
+/// Each lock word covers fifty-two words.
 #[test]
 fn random_tasks_of_one_client_with_four_lock_words(rt: HostRuntime) {
     let alloc = rt.alloc();
@@ -81,7 +82,7 @@ fn random_tasks_of_one_client_with_four_lock_words(rt: HostRuntime) {
     alone(&rt, alloc, &mut Session::of(&manager, client));
 }
 
-/// Random tasks of three clients that take turns.
+/// Compares random tasks of three clients that take turns.
 fn in_turns(
     rt: &impl Abort,
     alloc: Global,

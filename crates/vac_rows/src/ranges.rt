@@ -1,4 +1,4 @@
-//! What cannot be asked for.
+//! Commands that are not valid.
 
 use crate::same::holds;
 use crate::scripts::{add_command, delete_command, reserve_command};

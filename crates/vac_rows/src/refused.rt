@@ -1,8 +1,8 @@
-//! Memory that is refused to a call: the state is as before, and the call that is made again is
-//! answered as it should be. The script `tests/refused_calls` runs this test with each allocation
-//! refused in turn, and reads the lines that it prints; in any other run none is refused. Another
-//! client is out while the calls are made, and each has two tries: one that is refused memory makes
-//! none of the second.
+//! Memory refused to a call: the state is as before, and the repeated call returns its proper
+//! reply. The script `tests/refused_calls` runs this test with each allocation refused in turn,
+//! and reads the lines that it prints; in any other run no memory is refused. Another client is
+//! out while the calls are made, and each call has two attempts: a call that is refused memory
+//! does not make the second.
 ghost use Rattle.std.specs.Prelude.{◌≡◌, ◌*◌, IfOk};
 
 use crate::calls::Answer;
@@ -22,12 +22,12 @@ use vac_model::Reply::Done;
 use vac_model::Why::Exists;
 use vac_model::{Command, Joined, Reply, Report, Task, UpdateReply};
 
-/// Room for all entries of the script, and no more.
+/// Number of blocks: room for all entries of the script, and no more.
 const BLOCKS: u32 = 102;
 
 const AUDIT: Task = Task::One(Command::Audit);
 
-/// Says which call was refused memory.
+/// Prints which call was refused memory.
 fn note(rt: &(impl Abort + Print), call: &str) {
     println!(rt; "refused: {call}").expect(rt, "the line is written");
 }
@@ -62,7 +62,8 @@ fn make(rt: &(impl Abort + Print), alloc: Global, line: &Line<'_>) -> Task {
     task_of(alloc, line).expect(rt, "there is memory")
 }
 
-/// The answer to a task. The report is as before where memory was refused to it.
+/// Calls a task and returns the answer. If memory was refused, asserts that the report is as
+/// before, and calls again.
 fn answer(rt: &(impl Abort + Print), session: &mut Session<'_>, task: &Task) -> Answer
     ensures { session.new.manager ≡ session.old.manager }
 {
@@ -92,7 +93,7 @@ fn expect(
     }
 }
 
-/// An update of 32 rooms, from this one on, with the prices 1 to 32.
+/// Returns an update that adds 32 rooms, from this id on, with the prices 1 to 32.
 fn thirty_two_rooms(first: u32) -> [Command; 32] {
     let mut changes = [Command::Audit; 32];
     for (at, change) in changes.iter_mut().enumerate() {
@@ -108,7 +109,7 @@ const ALL_DONE: Reply = Reply::Update(UpdateReply {
     refused: [None; 32],
 });
 
-/// Enters 32 rooms, from this one on.
+/// Adds 32 rooms, from this id on.
 fn enter_rooms(rt: &(impl Abort + Print), alloc: Global, session: &mut Session<'_>, first: u32)
     ensures { session.new.manager ≡ session.old.manager }
 {
@@ -117,7 +118,7 @@ fn enter_rooms(rt: &(impl Abort + Print), alloc: Global, session: &mut Session<'
     expect(rt, alloc, session, &script);
 }
 
-/// A trip to the first 32 rooms.
+/// Makes a trip to the first 32 rooms.
 fn ask_for_rooms(rt: &(impl Abort + Print), alloc: Global, session: &mut Session<'_>)
     ensures { session.new.manager ≡ session.old.manager }
 {
@@ -137,10 +138,10 @@ const A_CAR: [Answered; 4] = [
     (free!(Car, 1), number!(3)),
 ];
 
-/// The report of what was entered.
+/// The report of all entries of the script.
 const COUNTS: Reply = report!([1, 0, 96, 1], 3, 98, 52);
 
-/// Enters rooms and a car, and reserves some.
+/// Adds rooms and a car, and reserves some.
 fn fill(rt: &(impl Abort + Print), alloc: Global, session: &mut Session<'_>)
     ensures { session.new.manager ≡ session.old.manager }
 {
@@ -160,14 +161,14 @@ const COME_AND_GO: [Answered; 5] = [
     (audit!(), COUNTS),
 ];
 
-/// Another client reserves and cancels, and enters a customer who leaves.
+/// Lets another client reserve and cancel, and create a customer who leaves.
 fn come_and_go(rt: &(impl Abort + Print), alloc: Global, session: &mut Session<'_>)
     ensures { session.new.manager ≡ session.old.manager }
 {
     expect(rt, alloc, session, &COME_AND_GO);
 }
 
-/// A first client fills the manager, while a second one is out, which then comes and goes.
+/// Lets the first client fill the manager while a second client is out, which then comes and goes.
 fn two_clients(rt: &(impl Abort + Print), alloc: Global, session: &mut Session<'_>)
     ensures { session.new.manager ≡ session.old.manager }
 {
@@ -177,7 +178,7 @@ fn two_clients(rt: &(impl Abort + Print), alloc: Global, session: &mut Session<'
     session.gather(other);
 }
 
-/// Nothing has changed.
+/// Asserts that nothing has changed.
 fn unchanged(rt: &impl Abort, manager: &Manager, client: Client) -> Client
     requires { client.table ≡ manager.now.table }
     ensures { result.table ≡ manager.now.table }
@@ -187,8 +188,8 @@ fn unchanged(rt: &impl Abort, manager: &Manager, client: Client) -> Client
     session.into_client()
 }
 
-/// Renews the manager. Where the memory of the new words is refused, it is closed, and these are
-/// its words.
+/// Renews the manager. If the memory for the new words is refused, the manager is closed, and its
+/// words are returned.
 fn renew(
     rt: &(impl Abort + Print),
     manager: Manager,
@@ -233,7 +234,7 @@ fn close(rt: &(impl Abort + Print), manager: Manager, client: Client) -> Vec<u64
     }
 }
 
-/// The report of words.
+/// Returns the result of the audit of words.
 fn audited(rt: &(impl Abort + Print), alloc: Global, words: &[u64]) -> Result<Report, AuditFault> {
     let found = audit_words(alloc, words);
     if found != Err(AuditFault::Memory) {

@@ -15,7 +15,7 @@ use vac_model::Kind::Car;
 use vac_model::Reply::Done;
 use vac_model::{Reply, Task};
 
-/// The clock is at its end, and no version is left for a reservation.
+/// Asserts that the clock is spent: no version is left for a reservation.
 fn expect_spent(rt: &impl Abort, session: &mut Session<'_>)
     ensures { session.new.manager ≡ session.old.manager }
 {
@@ -28,7 +28,7 @@ const SPENDING: [Called; 2] = [
     (new_customer!(3), Ok(Done)),
 ];
 
-/// Two calls take both versions of the clock.
+/// Uses both versions of the clock for two calls.
 fn spend(rt: &impl Abort, alloc: Global, manager: &Manager, client: Client) -> Client
     requires { client.table ≡ manager.now.table }
     ensures { result.table ≡ manager.now.table }
@@ -45,7 +45,7 @@ const GOING_ON: [Called; 3] = [
     (cancel!(3, Car, 1), Ok(Done)),
 ];
 
-/// Two more calls on the entries from before take both versions of the new clock.
+/// Uses both versions of the new clock for two more calls on the entries from before.
 fn go_on(rt: &impl Abort, alloc: Global, manager: &Manager, client: Client) -> Client
     requires { client.table ≡ manager.now.table }
     ensures { result.table ≡ manager.now.table }
@@ -56,7 +56,8 @@ fn go_on(rt: &impl Abort, alloc: Global, manager: &Manager, client: Client) -> C
     session.into_client()
 }
 
-/// A renewal that is refused. Returns why.
+/// Tries a renewal that is refused. Returns the manager and the client as they were, and the
+/// reason.
 fn refused(
     rt: &impl Abort,
     manager: Manager,

@@ -1,4 +1,4 @@
-//! Commands: what each does, and the order of its refusals.
+//! Commands: the effect of each, and the order of its refusals.
 
 use crate::scripts::{
     Answered, Line, add, add_command, audit, bill, cancel, delete, drop_customer, drop_flight,
@@ -31,8 +31,8 @@ const FOUR_BLOCKS: [Answered; 10] = [
     (audit!(), report!([1, 0, 0, 2], 1, 0, 10)),
 ];
 
-/// A missing customer before a missing item; sold out before full; a customer that is there before
-/// full; a trip's ask of which nothing is free is found; the bills of the report.
+/// A missing customer comes before a missing item; sold out before full; an existing customer
+/// before full. A trip's ask without a free unit counts as found. The report has the bills.
 #[test]
 fn four_blocks(rt: HostRuntime) {
     play(&rt, rt.alloc(), 4, &FOUR_BLOCKS);
@@ -50,7 +50,7 @@ const THE_LIMIT_OF_A_BOOKING: [Answered; 9] = [
     (audit!(), report!([1, 0, 0, 1], 10000, 10000, 10000)),
 ];
 
-/// Sold out before the limit of a booking, which comes once there are units.
+/// Sold out comes before the limit of a booking, which comes once there are units.
 #[test]
 fn the_limit_of_a_booking(rt: HostRuntime) {
     play(&rt, rt.alloc(), 3, &THE_LIMIT_OF_A_BOOKING);
@@ -73,7 +73,7 @@ const BOOKINGS_OF_SEVERAL_UNITS: [Answered; 14] = [
     (price!(Car, 7), number!(80)),
 ];
 
-/// The report counts the units of a booking; a new price leaves what older units cost.
+/// The report counts the units of a booking; a new price does not change the cost of older units.
 #[test]
 fn bookings_of_several_units(rt: HostRuntime) {
     play(&rt, rt.alloc(), 3, &BOOKINGS_OF_SEVERAL_UNITS);
@@ -100,7 +100,7 @@ const A_DROPPED_CUSTOMER: [Answered; 18] = [
     (free!(Flight, 2), Number(None)),
 ];
 
-/// Dropping a customer gives the units of all kinds back.
+/// Dropping a customer gives back the units of all kinds.
 #[test]
 fn a_dropped_customer(rt: HostRuntime) {
     play(&rt, rt.alloc(), 7, &A_DROPPED_CUSTOMER);
@@ -125,7 +125,7 @@ const DELETIONS: [Answered; 16] = [
     (reserve!(3, Car, 7, 1), No(NoItem)),
 ];
 
-/// A deletion keeps the price and takes only free units; a deletion of none is done.
+/// A deletion keeps the price and removes only free units; a deletion of no units succeeds.
 #[test]
 fn deletions(rt: HostRuntime) {
     play(&rt, rt.alloc(), 3, &DELETIONS);
@@ -193,7 +193,7 @@ const THE_LIMIT_OF_A_TOTAL: [Answered; 6] = [
     (free!(Car, 7), number!(1_000_000_000)),
 ];
 
-/// A refused addition changes neither count nor price.
+/// A refused addition changes neither the count nor the price.
 #[test]
 fn the_limit_of_a_total(rt: HostRuntime) {
     play(&rt, rt.alloc(), 1, &THE_LIMIT_OF_A_TOTAL);

@@ -1,4 +1,4 @@
-//! What tests ask of their answers, in functions of their own: a test has no way out where it asks.
+//! Assertions on results, in functions of their own: a test cannot leave early at an assertion.
 use std::fmt::Debug;
 use std::process::Abort;
 

@@ -1,4 +1,4 @@
-//! How a script is written, and run on a new plain manager and on a new manager over a region.
+//! Scripts of tasks and replies, run on a new plain manager and on a new manager over a region.
 
 use std::alloc::{AllocError, Global};
 use std::process::Abort;
@@ -10,7 +10,7 @@ use vac_sequential::Sequential;
 #[derive(Clone, Copy)]
 pub(crate) enum Line<'a> {
     One(Command),
-    /// A command that is given this many times, each with the same reply.
+    /// A command that is repeated this many times, each time with the same reply.
     Times(u32, Command),
     Trip(u32, &'a [(Kind, u32)]),
     Leave(u32),
@@ -31,11 +31,11 @@ pub(crate) fn task_of(alloc: Global, line: &Line<'_>) -> Result<Task, AllocError
     }
 }
 
-/// The greatest last version.
+/// The largest last version.
 pub(crate) const LAST: u64 = (1 << 62) - 1;
 
 /// Runs a script on a new plain manager of `blocks` blocks, and as transactions of one client over
-/// a region, and compares each reply.
+/// a region. Compares each reply.
 pub(crate) fn play(rt: &impl Abort, alloc: Global, blocks: u32, script: &[(Line<'_>, Reply)]) {
     let mut manager = Sequential::new(alloc, blocks).expect(rt, "the blocks are in range");
     let (shared, mut client) = Manager::new(alloc, blocks, LAST).expect(
@@ -57,8 +57,8 @@ pub(crate) fn play(rt: &impl Abort, alloc: Global, blocks: u32, script: &[(Line<
     }
 }
 
-// Commands, lines and replies are written by macros: of a script that is made of calls, a test
-// would have the facts of each call at hand.
+// Commands, lines and replies are written by macros. In a script that is made of calls, the prover
+// would carry the facts of each call through the whole test.
 
 macro_rules! add_command {
     ($kind:expr, $id:expr, $num:expr, $price:expr $(,)?) => {
@@ -187,7 +187,7 @@ macro_rules! trip {
     };
 }
 
-// A report: the entries of the four tables; the units booked; free and total units; the bills.
+// A report: the entries of the four tables; the booked units; free and total units; the bills.
 macro_rules! report {
     (
         [$cars:expr, $flights:expr, $rooms:expr, $customers:expr $(,)?],

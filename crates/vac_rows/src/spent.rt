@@ -25,7 +25,7 @@ const READING: [Called; 2] = [
     (reserve!(4, Car, 1, 1), Ok(No(NoCustomer))),
 ];
 
-/// Two calls take the two versions that there are; what only reads is answered all the same.
+/// Uses the only two versions for two calls; a task that only reads still gets its reply.
 fn spend(rt: &impl Abort, alloc: Global, session: &mut Session<'_>) {
     expect(rt, alloc, session, 1, &SPENDING);
     let task = Task::One(reserve_command!(3, Car, 1, 1));
@@ -33,8 +33,8 @@ fn spend(rt: &impl Abort, alloc: Global, session: &mut Session<'_>) {
     expect(rt, alloc, session, 1, &READING);
 }
 
-/// The call ends at once where it finds the clock spent, though another client is out and tries are
-/// left: its one attempt tells that it has its locks, and nothing more.
+/// The call ends at once when it finds the clock spent, though another client is out and attempts
+/// are left. Its gate is told that the first attempt has its locks, and nothing more.
 #[test]
 fn a_spent_clock_ends_a_call_of_one_of_two_clients(rt: HostRuntime) {
     let alloc = rt.alloc();

@@ -1,4 +1,4 @@
-//! Copies of the plain manager's state, and when two states are the same.
+//! Copies of the plain manager's state, and the equality of two states.
 
 use crate::same::{holds, same};
 use crate::scripts::{
@@ -10,7 +10,7 @@ use vac_model::Kind::{Car, Room};
 use vac_model::Reply;
 use vac_sequential::Sequential;
 
-/// A plain manager of `blocks` blocks, after a script.
+/// Returns a plain manager of `blocks` blocks after a script.
 fn after(rt: &impl Abort, alloc: Global, blocks: u32, script: &[Line<'_>]) -> Sequential {
     let mut manager = Sequential::new(alloc, blocks).expect(rt, "the blocks are in range");
     run_all(rt, alloc, &mut manager, script);
@@ -32,7 +32,7 @@ const CUSTOMER: Line<'static> = new_customer!(3);
 
 const RESERVED: Line<'static> = reserve!(3, Car, 7, 1);
 
-/// One of two cars at 50 is reserved by customer 3.
+/// Customer 3 reserves one of two cars at 50.
 const ONE_CAR_OF_TWO: Script = &[CARS, CUSTOMER, RESERVED];
 
 fn one_car_of_two(rt: &impl Abort, alloc: Global) -> Sequential {
@@ -62,7 +62,8 @@ fn two_histories_of_one_state(rt: HostRuntime) {
     same(&rt, &other.hash(), &one.hash());
 }
 
-/// Whether the state after this script, in a manager of `blocks` blocks, is that of one car of two.
+/// Returns whether the state after this script, in a manager of `blocks` blocks, is that of one
+/// car of two.
 fn is_one_car_of_two(rt: &impl Abort, alloc: Global, blocks: u32, script: &[Line<'_>]) -> bool {
     let one = one_car_of_two(rt, alloc);
     let other = after(rt, alloc, blocks, script);
@@ -70,7 +71,7 @@ fn is_one_car_of_two(rt: &impl Abort, alloc: Global, blocks: u32, script: &[Line
     one.is_same(&other)
 }
 
-/// Scripts with their blocks.
+/// Scripts with their numbers of blocks.
 const IN_ONE_NUMBER: [(u32, Script); 7] = [
     (9, ONE_CAR_OF_TWO),
     (8, &[CARS, CUSTOMER, RESERVED, add!(Car, 7, 0, Some(51))]),
@@ -92,8 +93,8 @@ const IN_ONE_NUMBER: [(u32, Script); 7] = [
     ),
 ];
 
-/// Each differs in one number from one car of two: the capacity, the price, the units in all, the
-/// units that are booked, what they cost, the customer's id, the item's id.
+/// Each script differs in one number from one car of two: the capacity, the price, the total
+/// units, the booked units, their cost, the customer's id, the item's id.
 #[test]
 fn states_that_differ_in_one_number(rt: HostRuntime) {
     holds(&rt, is_one_car_of_two(&rt, rt.alloc(), 8, ONE_CAR_OF_TWO));
@@ -107,7 +108,7 @@ const CANCELLED: Script = &[cancel!(3, Car, 7), new_customer!(4)];
 
 const RESERVED_AGAIN: Script = &[drop_customer!(4), RESERVED];
 
-/// A copy stays as it was, whatever happens to the other one.
+/// A copy stays as it was, whatever happens to the original.
 #[test]
 fn a_copy_keeps_its_state(rt: HostRuntime) {
     let mut one = one_car_of_two(&rt, rt.alloc());

@@ -39,8 +39,8 @@ const TRIPS_AND_LEAVES: [Answered; 15] = [
     (audit!(), report!([3, 1, 0, 0], 0, 16, 0)),
 ];
 
-/// The first of the dearest is picked, any price beats no pick, and asks that are not found pick
-/// nothing; a second trip adds a unit to the booking.
+/// The first of the dearest items is picked, any price beats no pick, and asks that are not found
+/// pick nothing. A second trip adds a unit to the booking.
 #[test]
 fn trips_and_leaves(rt: HostRuntime) {
     play(&rt, rt.alloc(), 1024, &TRIPS_AND_LEAVES);
@@ -73,15 +73,15 @@ const ONE_BOOKED: [Answered; 5] = trip_in_order!(Some(Full), report!([1, 1, 1, 1
 
 const TWO_BOOKED: [Answered; 5] = trip_in_order!(None, report!([1, 1, 1, 1], 2, 1, 30));
 
-/// The car is reserved before the flight, and the flight before the room, whatever was asked first:
-/// with one entry left the car is booked, and with two the flight, too.
+/// The car is reserved before the flight, and the flight before the room, whatever the order of
+/// the asks. With one entry left the car is booked, and with two the flight, too.
 #[test]
 fn the_order_of_a_trip(rt: HostRuntime) {
     play(&rt, rt.alloc(), 5, &ONE_BOOKED);
     play(&rt, rt.alloc(), 6, &TWO_BOOKED);
 }
 
-/// A trip to a car, whose booking is refused.
+/// A trip to a car whose booking is refused.
 macro_rules! trip_refused {
     ($joined:expr, $why:expr $(,)?) => {
         [
@@ -98,7 +98,8 @@ const NO_BLOCK: [Answered; 2] = trip_refused!(Joined::Refused(Full), NoCustomer)
 
 const ONE_BLOCK: [Answered; 2] = trip_refused!(Joined::Added, Full);
 
-/// The trip goes on where its customer was not added, and each pick says why it was not booked.
+/// The trip goes on if its customer was not added, and each pick has the reason why it was not
+/// booked.
 #[test]
 fn trips_without_room(rt: HostRuntime) {
     play(&rt, rt.alloc(), 1, &NO_BLOCK);

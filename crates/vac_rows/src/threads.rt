@@ -10,24 +10,25 @@ use std::thread::Threads;
 use vac_manager::{Client, Manager, Session};
 use vac_model::{Command, Kind, Reply, Task};
 
-/// How many calls each client makes.
+/// Number of calls of each client.
 const CALLS: u32 = 2_000;
 
-/// How many cars the clients share.
+/// Number of cars that the clients share.
 const CARS: u32 = 4;
 
-/// By how many tries each call is made.
+/// Largest number of attempts of each call.
 const TRIES: u32 = 1_000;
 
-/// A client when its calls are made, and how many units it added.
+/// A client after its calls, and the number of units that it added.
 type Added = (Client, u64);
 
-/// How many units the call of this number adds.
+/// Returns the number of units that the call of this number adds.
 fn units_of(call: u32) -> u32 {
     1 + call % 3
 }
 
-/// Units of a shared car, or, at each fourth call, the question how many there are.
+/// Returns a task that adds units of a shared car, or, at each fourth call, the question for its
+/// free units.
 fn task_of(call: u32, seed: u32) -> Task {
     let kind = Kind::Car;
     let id = 1 + call.wrapping_mul(7).wrapping_add(seed) % CARS;
@@ -42,7 +43,7 @@ fn task_of(call: u32, seed: u32) -> Task {
     })
 }
 
-/// Makes one call. Returns how many units were added.
+/// Makes one call. Returns the number of units added.
 fn add(session: &mut Session<'_>, call: u32, seed: u32) -> u64
     ensures { session.new.manager ≡ session.old.manager }
 {
@@ -89,8 +90,8 @@ fn two_clients<R: Threads + Sync>(
     )
 }
 
-/// Four clients, two and two. Returns the first one, which took in the others, and how many units
-/// all of them added.
+/// Makes the calls of four clients, two and two. Returns the first client, which gathered the
+/// others, and the number of units that all of them added.
 fn four_clients<R: Threads + Sync + Abort>(rt: &R, manager: &Manager, a: Client) -> Added
     requires { a.table ≡ manager.now.table }
     ensures { result.0.table ≡ manager.now.table }
@@ -119,7 +120,7 @@ fn four_clients<R: Threads + Sync + Abort>(rt: &R, manager: &Manager, a: Client)
     )
 }
 
-/// Takes in the second client, and adds up.
+/// Gathers the second client, and adds up the units.
 fn gather(manager: &Manager, first: Added, second: Added) -> Added
     requires { (first.0.table ≡ manager.now.table) × (second.0.table ≡ manager.now.table) }
     ensures { result.0.table ≡ manager.now.table }
@@ -130,7 +131,7 @@ fn gather(manager: &Manager, first: Added, second: Added) -> Added
     (client, added.wrapping_add(more))
 }
 
-/// How many units the cars have.
+/// Returns the number of units of the cars.
 fn units(session: &mut Session<'_>) -> u64
     ensures { session.new.manager ≡ session.old.manager }
 {

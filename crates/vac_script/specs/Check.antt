@@ -1,4 +1,4 @@
--- What a check says of the words that it reads.
+-- The verdict of a check on the words that it reads.
 use Rattle.std.specs.Prelude.{◌≡◌, ◌⊎◌, ⊤, ℕ, ◌≤◌, Bool, true, false, Option, Some, None, List, [], ◌++◌, length, slice_index, codes, decimal, Err}
 use Rattle.std.specs.Io.KnownBytes.{Appends, Consumes, IsAtEnd}
 use Rattle.vac_model.specs.State.{State}
@@ -26,11 +26,11 @@ flaw_name (Colour a) = codes "flaw colour "
 flaw_name (Counts a) = codes "flaw counts "
 flaw_name (Bookings a) = codes "flaw bookings "
 
--- a flaw and the word at which it was met
+-- the text of a flaw: its name and the word at which it was met
 abbrev pub flaw_text : Flaw → List ℕ
 flaw_text flaw = flaw_name flaw ++ decimal (word_of flaw)
 
--- what is written of a verdict
+-- the text of a verdict
 abbrev pub check_text : Verdict → List ℕ
 check_text (Sound report) = report_text report
 check_text (Flawed flaw) = flaw_text flaw
@@ -41,13 +41,14 @@ abbrev pub IsNone : List ℕ → Type 0
 IsNone words =
     (s : State) → 1 ≤ s.capacity → IsState (slice_index words) (length words) s → ⊥
 
--- the words are those of a heap, and this is their first flaw: they represent no balanced state
+-- the words have the size of a heap, and this is their first flaw; they represent no balanced
+-- state
 pub record HasFlaw (words : List ℕ) (flaw : Flaw) : Type 0 where
   pub heap : IsHeapSize (length words)
   pub first : audit (slice_index words) heap.0 ≡ Err flaw
   pub none : IsNone words
 
--- no heap has this number of words: they represent no balanced state
+-- no heap has this number of words, so the words represent no balanced state
 pub record IsNoHeap (words : List ℕ) : Type 0 where
   pub size : IsHeapSize (length words) → ⊥
   pub none : IsNone words
@@ -67,48 +68,48 @@ pub record WordsJudged (unread left : Option (List ℕ)) (verdict : Verdict) : T
   pub words_are : memory_words bytes ≡ Some words
   pub judged : Judged words verdict
 
--- there are no words, or not as many as a heap has
+-- the bytes are not the words of a memory, or their number is not that of a heap
 abbrev pub NoHeapOf : Option (List ℕ) → Type 0
 NoHeapOf None = ⊤
 NoHeapOf (Some words) = IsNoHeap words
 
--- enough of the input was read to see that it is no heap's: all of it, or so much that this holds
--- whatever follows
+-- enough of the input was read to see that it is not the text of a heap: all of it, or so much
+-- that this holds whatever follows
 pub record NoWords (unread left : Option (List ℕ)) : Type 0 where
   pub bytes : List ℕ
   pub consumed : Consumes unread left bytes
   pub none : (IsAtEnd left × NoHeapOf (memory_words bytes))
       ⊎ ((x : List ℕ) → NoHeapOf (memory_words (bytes ++ x)))
 
--- what was read has this verdict
+-- the bytes that were read have this verdict
 abbrev pub IsVerdict : Option (List ℕ) → Option (List ℕ) → Verdict → Type 0
 IsVerdict unread left (Sound report) = WordsJudged unread left (Sound report)
 IsVerdict unread left (Flawed flaw) = WordsJudged unread left (Flawed flaw)
 IsVerdict unread left BadWords = NoWords unread left
 
--- whether a verdict is that of a balanced state
+-- the verdict is that of a balanced state
 abbrev pub is_sound : Verdict → Bool
 is_sound (Sound report) = true
 is_sound (Flawed flaw) = false
 is_sound BadWords = false
 
--- the verdict of what was read was written as one line, and this says whether the words are those
--- of a balanced state
+-- the verdict on the bytes that were read was written as one line, and `sound` says whether the
+-- words represent a balanced state
 pub record Checked (sound : Bool) (unread left held holds : Option (List ℕ)) : Type 0 where
   pub verdict : Verdict
   pub is : IsVerdict unread left verdict
   pub answered : sound ≡ is_sound verdict
   pub written : Appends held holds (as_line (check_text verdict))
 
--- the verdict of what was read was written in part
+-- a prefix of the line of the verdict on the bytes that were read was written
 pub record CheckedPrefix (unread left held holds : Option (List ℕ)) : Type 0 where
   pub verdict : Verdict
   pub is : IsVerdict unread left verdict
   pub written : AppendsPrefix held holds (as_line (check_text verdict))
 
--- a check ended by a fault: before it wrote, or while it wrote
--- Not said: which fault ended it, but that it is neither Busy nor Spent; that no more words are
--- read than must be, which a test counts.
+-- a check ended with a fault, before it wrote or while it wrote
+-- Not said: which fault ended the check, except that it is neither Busy nor Spent; that no more
+-- words are read than necessary, which a test counts.
 abbrev pub CheckStopped : Option (List ℕ) → Option (List ℕ) → Option (List ℕ)
     → Option (List ℕ) → Type 0
 CheckStopped unread left held holds =

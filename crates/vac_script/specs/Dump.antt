@@ -1,4 +1,4 @@
--- What a dump writes: the words of a memory that represents the state which a script leaves.
+-- The output of a dump: the words of a memory that represents the state after a script.
 use Rattle.std.specs.Prelude.{ℕ, ◌⊎◌, Option, List, []}
 use Rattle.std.specs.Io.KnownBytes.{Appends, Consumes, IsAtEnd}
 use Rattle.vac_lines.specs.Script.{script_state}
@@ -6,10 +6,10 @@ use Rattle.vac_lines.specs.Memory.{dump_text}
 use Rattle.vac_manager.specs.Law.{Shows}
 use Rattle.vac_lines.specs.Writing.{AppendsPrefix}
 
--- the input was read to its end; words that represent the state after its script, run on a system
--- of n blocks, were written and nothing else
--- Not said: which of several arrangements of blocks is written; streams whose bytes no contract
--- knows.
+-- the input was read to its end, and exactly the text of some words was written that represent the
+-- state after the script on a system of n blocks
+-- Not said: which of several arrangements of blocks is written; anything of streams whose bytes no
+-- contract knows.
 pub record Dumped (n : ℕ) (unread left held holds : Option (List ℕ)) : Type 0 where
   pub bytes : List ℕ
   pub consumed : Consumes unread left bytes
@@ -18,7 +18,7 @@ pub record Dumped (n : ℕ) (unread left held holds : Option (List ℕ)) : Type 
   pub shown : Shows words (script_state n bytes)
   pub written : Appends held holds (dump_text words)
 
--- the input was read to its end, and a prefix of such words' text was written
+-- the input was read to its end, and a prefix of the text of such words was written
 pub record DumpedPrefix (n : ℕ) (unread left held holds : Option (List ℕ)) : Type 0 where
   pub bytes : List ℕ
   pub consumed : Consumes unread left bytes
@@ -33,8 +33,8 @@ pub record DumpedNothing (unread left held holds : Option (List ℕ)) : Type 0 w
   pub consumed : Consumes unread left bytes
   pub written : Appends held holds []
 
--- a dump ended by a fault: before it wrote, or while it wrote
--- Not said: which of Read, Write, Memory and Bound ended it.
+-- a dump ended with a fault, before it wrote or while it wrote
+-- Not said: which of Read, Write, Memory and Bound ended the dump.
 abbrev pub DumpStopped : ℕ → Option (List ℕ) → Option (List ℕ) → Option (List ℕ)
     → Option (List ℕ) → Type 0
 DumpStopped n unread left held holds =

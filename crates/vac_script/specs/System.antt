@@ -1,5 +1,5 @@
--- A manager with its one client, and what running lines on it does. What is said of a state holds
--- of each state to which the client's records lead: there is one.
+-- A manager with its one client, and the effect of running lines on it. A statement about a state
+-- holds of each state that the client's records reach; there is exactly one.
 use Rattle.std.specs.Prelude.{◌≡◌, ◌≤◌, ◌+◌, ℕ, List, ◌++◌, Result, Option}
 use Rattle.std.specs.Io.KnownBytes.{Appends, Consumes, IsAtEnd}
 use Rattle.vac_model.specs.State.{State, empty_state}
@@ -12,16 +12,16 @@ use Rattle.vac_manager.specs.Called.{HasAllGrants}
 use Rattle.vac_manager.specs.Session.{SessionShown, IsOwn}
 use Rattle.vac_script.specs.declared.system.TheConstants.{LAST_VERSION}
 
--- the client is alone: it has all grants. The clock ends at the last version that there is
+-- the client is solo: it has all grants; the clock ends at the largest possible version
 pub record IsLoneSession (y : SessionShown) : Type 0 where
   pub all : HasAllGrants y.client.value
   pub last : y.manager.last ≡ LAST_VERSION
 
--- the records of the client are a whole history of the manager, which leads to this state
+-- the records of the client are a complete history of the manager with this final state
 abbrev pub StandsInState : SessionShown → State → Type 0
 StandsInState y s = IsHistoryTo y.manager y.client.value.records s
 
--- the clock, as the client knows it, has n versions left
+-- the clock, as the client knows it, has at least n versions left
 abbrev pub Lasts : SessionShown → ℕ → Type 0
 Lasts y n = y.client.value.floor + n ≤ LAST_VERSION
 
@@ -37,25 +37,25 @@ pub record OpensAlone (n : ℕ) (y : SessionShown) : Type 0 where
   pub capacity : capacity_of y.manager ≡ n
   pub fresh : IsNew y
 
--- it is the same manager, and its clock, as the client knows it, went on by at most n versions
+-- the manager is the same, and its clock, as the client knows it, advanced by at most n versions
 pub record GoesOnBy (y y' : SessionShown) (n : ℕ) : Type 0 where
   pub same : y'.manager ≡ y.manager
   pub ticks : y'.client.value.floor ≤ y.client.value.floor + n
 
--- a line was answered, and its output line appended to the output; the clock ticked at most once
+-- a line was run, and its output line was appended to the output; the clock ticked at most once
 pub record AnsweredLine (y y' : SessionShown) (out out' : List ℕ) (line : Result Task LineFault) :
     Type 0 where
   pub state : (s : State) → StandsInState y s → StandsInState y' (answer s line).0
   pub text : (s : State) → StandsInState y s → out' ≡ out ++ (answer s line).1
   pub goes : GoesOnBy y y' 1
 
--- no more than a part of the output line was appended
+-- at most a part of the output line was appended
 pub record AnsweredInPart (y : SessionShown) (out out' : List ℕ) (line : Result Task LineFault) :
     Type 0 where
   pub text : (s : State) → StandsInState y s → Extends out' (out ++ (answer s line).1)
 
--- the input was read to its end, its script output was written, and the system is in the state that
--- the script leaves
+-- the input was read to its end, the output of its script was written, and the system is in the
+-- state after the script
 pub record RanScript (n : ℕ) (y : SessionShown) (unread left held holds : Option (List ℕ)) :
     Type 0 where
   pub bytes : List ℕ

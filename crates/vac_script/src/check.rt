@@ -14,18 +14,18 @@ use vac_lines::{print_reply, write_and_flush};
 use vac_model::{Reply, Report};
 use vac_streams::StreamFault;
 
-/// What is said of a text of words.
+/// The verdict on a text of words.
 #[derive(Clone, Copy)]
 enum Verdict {
-    /// They are the words of a balanced state with this report.
+    /// The words represent a balanced state with this report.
     Sound(Report),
-    /// They have this flaw.
+    /// The words have this flaw.
     Flawed(Flaw),
-    /// They are not the words of a memory, or not as many as one has.
+    /// The text is not that of a memory's words, or their number is not that of a memory.
     BadWords,
 }
 
-/// The name of a flaw, up to its word.
+/// Returns the name of a flaw, up to its word.
 fn flaw_name(flaw: Flaw) -> &'static [u8]
     ensures { result.now ≡ flaw_name flaw }
 {
@@ -40,7 +40,7 @@ fn flaw_name(flaw: Flaw) -> &'static [u8]
     }
 }
 
-/// The word at which a flaw was met.
+/// Returns the word at which a flaw was met.
 fn flaw_word(flaw: Flaw) -> u32
     ensures { result ≡ word_of flaw }
 {
@@ -83,7 +83,7 @@ fn print_verdict(verdict: Verdict, out: &mut Vec<u8>) -> Result<(), AllocError>
     out.extend_from_slice(b"\n")
 }
 
-/// Whether a verdict is that of a balanced state.
+/// Returns whether a verdict is that of a balanced state.
 fn is_sound(verdict: Verdict) -> bool
     ensures { result ≡ is_sound verdict }
 {
@@ -114,14 +114,14 @@ fn read_verdict<R: Read>(alloc: Global, input: &mut R) -> Result<Verdict, Stream
     }
 }
 
-/// Audits the words of a memory, as `dump_script` writes them: reads the lines to the end of the
-/// input, or to the first that shows that there is no memory of these words, and writes one line.
+/// Audits the words of a memory, as `dump_script` writes them. Reads the lines to the end of the
+/// input, or to the first line that shows that no memory has these words, and writes one line.
 ///
-/// Returns true where the words are those of a balanced state, and writes its report. Otherwise
-/// returns false and writes `flaw NAME WORD`, the first flaw and the word at which it was met, or
-/// `fault bad-words` where the lines are not the words of 1 to 262,144 blocks.
+/// Returns true and writes the report if the words represent a balanced state. Otherwise returns
+/// false and writes either `flaw NAME WORD`, the first flaw and the word at which it was met, or
+/// `fault bad-words` if the lines are not the words of 1 to 262,144 blocks.
 ///
-/// After a fault, what was written is nothing or a prefix of the line.
+/// After a fault, the output has nothing or a prefix of the line.
 pub fn check_words<R: Read, W: Write>(
     alloc: Global,
     input: &mut R,

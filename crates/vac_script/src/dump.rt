@@ -1,4 +1,4 @@
-//! Dumps: the words of the memory that a script leaves, one a line.
+//! Dumps: the words of the memory after a script, one word a line.
 
 ghost use Rattle.std.specs.Prelude.{◌≡◌, true, OnOk, OnErr};
 ghost use Rattle.std.specs.Io.KnownBytes.{Appends};
@@ -16,11 +16,11 @@ use vac_lines::print_word;
 use vac_manager::Session;
 use vac_streams::{StreamFault, send_chunk, send_rest};
 
-/// Runs a script for a system of `blocks` blocks, 1 to 262,144, and dumps its memory: reads the
-/// lines to the end of the input, writes no reply, closes the system and writes its words in order,
-/// each in decimal on a line of its own.
+/// Runs a script for a system of `blocks` blocks, 1 to 262,144, and dumps its memory. Reads the
+/// lines to the end of the input, writes no reply, closes the system, and writes its words in
+/// order, each in decimal on a line of its own.
 ///
-/// After a fault, what was written is nothing or a prefix of the whole dump.
+/// After a fault, the output has nothing or a prefix of the whole dump.
 pub fn dump_script<R: Read, W: Write>(
     alloc: Global,
     blocks: u32,

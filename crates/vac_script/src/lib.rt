@@ -1,4 +1,4 @@
-//! Scripts over streams: running one, dumping the memory that it leaves, and auditing such words.
+//! Scripts over streams: running a script, dumping the memory after it, and auditing such words.
 #![tactic(auto)]
 
 mod check;

@@ -1,4 +1,4 @@
-//! Reading the words of a memory, one a line.
+//! Reading the words of a memory, one word a line.
 
 ghost use Rattle.std.specs.Prelude.{MatchBool, MatchOption, IfOk};
 ghost use Rattle.vac_script.specs.Reading.{TookWord, RefusedLine, ReadWords, ReadNone};
@@ -12,11 +12,12 @@ use vac_streams::{MOST_LINES, Next, Sink, StreamFault, read_lines};
 /// A text that is read as the words of a memory.
 #[derive(Drop)]
 struct MemoryText {
-    /// The words of its lines.
+    /// The words of the lines that were read.
     words: Vec<u64>,
 }
 
-/// Takes a line as one more word. Returns whether it is a word for which a memory has room.
+/// Reads a line as one more word. Returns false if the line is no word or if a memory has no room
+/// for the word.
 fn take_line(words: &mut Vec<u64>, line: &[u8]) -> Result<bool, AllocError>
     ensures { IfOk result (λ taken. MatchBool taken
         (TookWord words.old.items words.new.items line.now)
@@ -57,9 +58,9 @@ impl Sink<()> for MemoryText {
     }
 }
 
-/// Reads the words of a memory, as a dump writes them: one a line, in decimal. Returns `None` for a
-/// text that has another line or more words than a memory has; the text may then not be read to its
-/// end.
+/// Reads the words of a memory, as a dump writes them: one word a line, in decimal. Returns `None`
+/// if the text has another line or more words than a memory has. The text may then not be read to
+/// its end.
 pub fn read_memory<R: Read>(alloc: Global, input: &mut R) -> Result<Option<Vec<u64>>, StreamFault>
     ensures { IfOk result (λ found. MatchOption found
         (ReadNone (R.remaining input.old) (R.remaining input.new))

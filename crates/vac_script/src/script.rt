@@ -18,7 +18,7 @@ use vac_manager::{Client, Session};
 use vac_model::Task;
 use vac_streams::{Next, Sink, StreamFault, read_lines, send_all, send_rest};
 
-/// A script that runs.
+/// A running script.
 #[derive(Drop)]
 struct Script<'a> {
     alloc: Global,
@@ -28,7 +28,7 @@ struct Script<'a> {
     ghost lone: { IsLoneSession session },
 }
 
-/// Runs the task of a line that was read, and prints its reply; or prints its fault.
+/// Runs the task of a line and prints its reply, or prints the fault of the line.
 fn run_read(
     session: &mut Session<'_>,
     read: &Result<Task, LineFault>,
@@ -78,7 +78,7 @@ fn run_line(
     run_read(session, &read, out)
 }
 
-/// Writes the text at hand before a fault ends the script.
+/// Writes the buffered text before a fault ends the script.
 fn halt<W: Write>(
     out: &mut Vec<u8>,
     fault: StreamFault,
@@ -93,7 +93,7 @@ fn halt<W: Write>(
 }
 
 impl<'a> Script<'a> {
-    /// A script of which nothing was read.
+    /// Returns a script of which no line was read.
     fn new(alloc: Global, session: Session<'a>) -> Result<Script<'a>, AllocError>
         requires lone { IsLoneSession session }
         ensures session { IfOk result (λ script. script.session ≡ session.entry) }
@@ -138,8 +138,8 @@ impl<'a, W: Write> Sink<W> for Script<'a> {
     }
 }
 
-/// Runs a script on a system without entries, and returns the client that it leaves: reads the
-/// lines to the end of the input and writes an output line for each.
+/// Runs a script on a system without entries, and returns the client. Reads the lines to the end
+/// of the input and writes an output line for each.
 pub(crate) fn run_input<R: Read, W: Write>(
     alloc: Global,
     session: Session<'_>,
@@ -164,10 +164,10 @@ pub(crate) fn run_input<R: Read, W: Write>(
     Ok(script.session.into_client())
 }
 
-/// Runs a script for a system of `blocks` blocks: reads its lines to the end of the input and
+/// Runs a script for a system of `blocks` blocks. Reads its lines to the end of the input and
 /// writes an output line for each.
 ///
-/// After a fault, what was written is a prefix of the whole output.
+/// After a fault, the output has a prefix of the script's whole output.
 #[tactic(auto, using(crate::proofs::Running::wrote_all))]
 pub fn run_script<R: Read, W: Write>(
     alloc: Global,

@@ -1,4 +1,4 @@
-//! A manager and the one client that calls it.
+//! A manager with its only client.
 
 ghost use Rattle.std.specs.Prelude.{◌≡◌, true, IfOk, IfErr};
 ghost use Rattle.vac_model.specs.State.{State};
@@ -16,11 +16,11 @@ use vac_manager::{Client, Fault, Manager, Session};
 use vac_model::{Reply, Task};
 use vac_streams::StreamFault;
 
-/// The version that the clock ends at: the last one that there is.
+/// Last version of the clock: the largest one there is.
 pub(crate) const LAST_VERSION: u64 = VERSION_LIMIT - 1;
 
-/// Runs a task as a transaction and returns its reply. A client that is alone meets no conflict,
-/// and while the clock has a version left it is not at its end.
+/// Runs a task as a transaction and returns its reply. A solo client meets no conflict, and the
+/// clock is not spent while it has a version left.
 #[tactic(auto, using(crate::proofs::Causes::only_memory))]
 pub(crate) fn apply(session: &mut Session<'_>, task: &Task) -> Result<Reply, StreamFault>
     requires in_range { is_task task.now ≡ true }
@@ -57,8 +57,8 @@ pub(crate) fn open(alloc: Global, blocks: u32) -> Result<(Manager, Client), Stre
     }
 }
 
-/// Ends a manager with its one client, and returns the words of its memory. It fails only where
-/// memory is refused.
+/// Closes a manager with its one client, and returns the words of its memory. Fails only if memory
+/// is refused.
 pub(crate) fn close(manager: Manager, client: Client) -> Result<Vec<u64>, StreamFault>
     requires own { client.table ≡ manager.table }
     requires alone { HasAllGrants client.value }

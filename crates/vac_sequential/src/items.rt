@@ -1,4 +1,4 @@
-//! What a command does to an item and to a booking.
+//! The effects of commands on an item and on a booking.
 
 ghost use Rattle.std.specs.Prelude.{◌≡◌, ◌≤◌};
 ghost use Rattle.vac_model.specs.declared.limits.TheConstants.{MOST_AMOUNT};
@@ -7,7 +7,7 @@ ghost use Rattle.vac_model.specs.Fits.{IsItemInRange, IsBookingInRange};
 
 use vac_model::{Booking, Item};
 
-/// An item of which nothing is booked.
+/// Returns an item with no booked unit.
 pub(crate) fn new_item(num: u32, price: u32) -> Item
     ensures { result ≡ rules.new_item num price }
 {
@@ -19,7 +19,7 @@ pub(crate) fn new_item(num: u32, price: u32) -> Item
     }
 }
 
-/// The item with more units, and another price where one is given.
+/// Returns the item with more units, and with another price if one is given.
 pub(crate) fn added(item: Item, num: u32, price: Option<u32>) -> Item
     requires { IsItemInRange item }
     ensures { result ≡ rules.added item num price }
@@ -35,7 +35,7 @@ pub(crate) fn added(item: Item, num: u32, price: Option<u32>) -> Item
     }
 }
 
-/// The item with fewer free units.
+/// Returns the item with fewer free units.
 pub(crate) fn deleted(item: Item, num: u32) -> Item
     requires range { IsItemInRange item }
     requires free { num ≤ item.free }
@@ -48,7 +48,7 @@ pub(crate) fn deleted(item: Item, num: u32) -> Item
     }
 }
 
-/// The item of which `num` more units are booked.
+/// Returns the item with `num` more booked units.
 pub(crate) fn taken(item: Item, num: u32) -> Item
     requires range { IsItemInRange item }
     requires free { num ≤ item.free }
@@ -61,7 +61,7 @@ pub(crate) fn taken(item: Item, num: u32) -> Item
     }
 }
 
-/// The item of which `units` units are booked no longer.
+/// Returns the item after `units` booked units were given back.
 pub(crate) fn given_back(item: Item, units: u64) -> Item
     requires range { IsItemInRange item }
     requires used { units ≤ item.used }
@@ -74,7 +74,7 @@ pub(crate) fn given_back(item: Item, units: u64) -> Item
     }
 }
 
-/// A booking of units at one price.
+/// Returns a booking of units at one price.
 pub(crate) fn new_booking(num: u32, price: u64) -> Booking
     requires { price ≤ MOST_AMOUNT }
     ensures { result ≡ rules.new_booking num price }
@@ -85,7 +85,7 @@ pub(crate) fn new_booking(num: u32, price: u64) -> Booking
     }
 }
 
-/// The booking with more units at the present price; the older units keep their prices.
+/// Returns the booking with more units at the present price. The older units keep their prices.
 pub(crate) fn extended(booking: Booking, num: u32, price: u64) -> Booking
     requires range { IsBookingInRange booking }
     requires price { price ≤ MOST_AMOUNT }

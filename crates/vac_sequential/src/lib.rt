@@ -1,12 +1,11 @@
-//! The plain manager: the program that the rules of `vac_model` are, one call at a time, over maps
-//! whose versions share their entries.
+//! The plain manager: the rules of `vac_model` as a program that runs one task at a time, over
+//! maps whose versions share their entries.
 //!
-//! [`Sequential`] has no words, versions or clients. It is the oracle of tests and the [`Machine`]
-//! of searches: a copy costs nothing, and equal states are found equal.
+//! [`Sequential`] has no words, versions or clients. It is the oracle of tests and the state of
+//! searches: a copy shares all entries, and equal states are found to be equal.
 #![tactic(auto)]
 
 mod items;
-mod machine;
 mod maps;
 mod sequential;
 mod steps;
@@ -14,5 +13,4 @@ mod tables;
 mod task_runs;
 mod tries;
 
-pub use machine::Machine;
 pub use sequential::{Sequential, SequentialFault};

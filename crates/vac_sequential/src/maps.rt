@@ -18,7 +18,7 @@ use std::mem::replace;
 use std::rc::Rc;
 use vac_model::{Booking, Item, Kind};
 
-/// Entries by their ids. A copy shares all of them.
+/// A map from ids to entries. A copy shares all entries.
 #[derive(Drop)]
 pub(crate) struct IdMap<V: Entry> {
     alloc: Global,
@@ -62,16 +62,16 @@ impl<V: Entry> IdMap<V> {
         self.len
     }
 
-    /// The weights of all entries together.
+    /// Returns the sum of the weights of all entries.
     pub(crate) fn weight(&self) -> u64
         ensures { result ≡ sum_by V.weight (map.values self.now) }
     {
         self.weight
     }
 
-    /// A number.
+    /// Returns a hash of the map.
     ///
-    /// Not said: that maps with the same entries have the same, as is meant.
+    /// Not said: that maps with the same entries have the same hash, although they are meant to.
     pub(crate) fn hash(&self) -> u64 {
         self.hash
     }
@@ -85,7 +85,7 @@ impl<V: Entry> IdMap<V> {
         }
     }
 
-    /// The value of an id, where it stands.
+    /// Returns a reference to the value of an id.
     fn find(&self, id: u32) -> Option<&Rc<V>>
         ensures { value_in (option_copied result) ≡ map.get self.now id }
     {
@@ -95,7 +95,7 @@ impl<V: Entry> IdMap<V> {
         }
     }
 
-    /// Whether two maps are the same.
+    /// Returns whether two maps are equal.
     pub(crate) fn is_same(&self, other: &Self) -> bool
         ensures { TellsSame self.now other.now result }
     {
@@ -105,7 +105,7 @@ impl<V: Entry> IdMap<V> {
 }
 
 impl<V: Entry + Drop> IdMap<V> {
-    /// A copy of the map, which shares its entries.
+    /// Returns a copy of the map that shares its entries.
     pub(crate) fn copy(&self) -> Result<Self, AllocError>
         ensures { IfOk result (λ m. m ≡ self.now) }
     {
@@ -118,7 +118,7 @@ impl<V: Entry + Drop> IdMap<V> {
         })
     }
 
-    /// The map after a change at an id.
+    /// Returns the map after a change at an id.
     fn changed<C: Change<V> + Drop>(self, id: u32, change: C) -> Result<Self, AllocError>
         ensures { IfOk result (λ m. m ≡ changed_at (C.changed change) self id) }
     {
@@ -144,9 +144,9 @@ impl<V: Entry + Drop> IdMap<V> {
         })
     }
 
-    /// Changes what an id has. (Nodes that no copy shares are meant to be changed in place.)
+    /// Changes the value at an id. (Nodes that no copy shares are meant to be changed in place.)
     ///
-    /// Not said: what the map is where memory is refused.
+    /// Not said: the map if memory is refused.
     pub(crate) fn change<C: Change<V> + Drop>(
         &mut self,
         id: u32,
@@ -160,7 +160,7 @@ impl<V: Entry + Drop> IdMap<V> {
         Ok(())
     }
 
-    /// Puts a value at an id.
+    /// Inserts a value at an id.
     pub(crate) fn insert(&mut self, id: u32, value: V) -> Result<(), AllocError>
         ensures { OnOk result (self.new ≡ map.insert self.old id value) }
     {
@@ -219,7 +219,7 @@ impl BookingMap {
         self.entries.get(&(kind, id)).copied()
     }
 
-    /// Puts a booking. Where memory for a new one is refused, nothing changes.
+    /// Inserts a booking. If memory for a new one is refused, nothing changes.
     fn insert(&mut self, kind: Kind, id: u32, booking: Booking) -> Result<(), AllocError>
         ensures ok { OnOk result (self.new ≡ map.insert self.old (kind, id) booking) }
         ensures err { OnErr result (self.new ≡ self.old) }
@@ -238,7 +238,7 @@ impl BookingMap {
         self.hash = self.hash.wrapping_sub(booking_hash(kind, id, old));
     }
 
-    /// Puts a booking, or removes the one that is there.
+    /// Inserts a booking, or removes the present one if `booking` is None.
     fn set(&mut self, kind: Kind, id: u32, booking: Option<Booking>) -> Result<(), AllocError>
         ensures { OnOk result (self.new ≡ with_booking self.old (kind, id) booking) }
     {
@@ -249,7 +249,7 @@ impl BookingMap {
         Ok(())
     }
 
-    /// Takes the first booking out.
+    /// Removes and returns the first booking.
     pub(crate) fn pop_first(&mut self) -> Option<((Kind, u32), Booking)>
         ensures some { IfSome result (λ b. map.entries self.old ≡ b ∷ map.entries self.new) }
         ensures none { IfNone result (map.entries self.old ≡ []) }
@@ -377,7 +377,7 @@ impl Entry for BookingMap {
     }
 }
 
-/// What a booking adds to the hash of its map, or none.
+/// Returns the share of a booking in the hash of its map, or 0 for no booking.
 fn booking_hash(kind: Kind, id: u32, booking: Option<Booking>) -> u64 {
     let Some(booking) = booking else {
         return 0;
@@ -386,7 +386,7 @@ fn booking_hash(kind: Kind, id: u32, booking: Option<Booking>) -> u64 {
     mixed(place, mixed(booking.units, booking.sum))
 }
 
-/// What an entry adds to the hash of its map, or none.
+/// Returns the share of an entry in the hash of its map, or 0 for no entry.
 fn entry_hash(entry: Option<((Kind, u32), Booking)>) -> u64 {
     match entry {
         Some(((kind, id), booking)) => booking_hash(kind, id, Some(booking)),
@@ -416,7 +416,7 @@ impl Amount<BookingMap> for Bill {
     }
 }
 
-/// The booking of an item is put among those that are there, or removed from them.
+/// A change of one booking of an item: the booking is inserted among the present ones, or removed.
 #[derive(Drop)]
 pub(crate) struct Rebook {
     pub(crate) kind: Kind,
@@ -445,8 +445,8 @@ impl Change<BookingMap> for Rebook {
 }
 
 impl IdMap<BookingMap> {
-    /// Changes a booking of a customer who is there. The others are copied only where another map
-    /// shares them.
+    /// Changes a booking of a customer, if the customer exists. The customer's other bookings are
+    /// copied only if another map shares them.
     pub(crate) fn rebook(&mut self, customer: u32, change: Rebook) -> Result<(), AllocError>
         ensures { OnOk result (IfSome (map.get self.old customer)
             (λ m. self.new ≡ map.insert self.old customer
@@ -456,7 +456,8 @@ impl IdMap<BookingMap> {
         Ok(())
     }
 
-    /// Takes the bookings of a customer out, which are copied only where another map shares them.
+    /// Removes and returns the bookings of a customer. The bookings are copied only if another map
+    /// shares them.
     pub(crate) fn take(&mut self, customer: u32) -> Result<Option<BookingMap>, AllocError>
         ensures taken { IfOk result (λ taken. taken ≡ map.get self.old customer) }
         ensures left { IfOk result (λ taken. MatchOption taken (self.new ≡ self.old)
@@ -471,14 +472,14 @@ impl IdMap<BookingMap> {
         Ok(Some(bookings))
     }
 
-    /// How many bookings all customers have.
+    /// Returns the number of bookings of all customers.
     pub(crate) fn bookings(&self) -> u64
         ensures { result ≡ sum_by map.len (map.values self.now) }
     {
         self.weight()
     }
 
-    /// How many units all customers have booked.
+    /// Returns the number of units that all customers have booked.
     pub(crate) fn units(&self) -> u64
         requires { sum_by units_booked (map.values self.now) < 2 ^ 64 }
         ensures { result ≡ sum_by units_booked (map.values self.now) }
@@ -486,7 +487,7 @@ impl IdMap<BookingMap> {
         total::<BookingMap, Units>(&self.root)
     }
 
-    /// The sum of all bills.
+    /// Returns the sum of all bills.
     pub(crate) fn bills(&self) -> u64
         requires { sum_by bill_of (map.values self.now) < 2 ^ 64 }
         ensures { result ≡ sum_by bill_of (map.values self.now) }

@@ -9,10 +9,10 @@ use thiserror::Error;
 use vac_model::limits::MOST_BLOCKS;
 use vac_model::{Reply, Report, Task};
 
-/// Why the plain manager did not do a task.
+/// The reason why the plain manager refused a task.
 #[derive(Clone, Copy, Debug, Error)]
 pub enum SequentialFault {
-    /// A number is out of its range, or the task cannot be asked for.
+    /// A number is out of its range, or the task cannot be issued.
     #[error("arguments out of range")]
     Arguments,
     /// Memory was refused.
@@ -46,7 +46,7 @@ impl Sequential {
     ghost use Rattle.vac_model.specs.Run as tasks;
     ghost use Rattle.vac_model.specs.Balanced.{IsBalanced};
 
-    /// A manager with no entries that may have `blocks` of them, 1 to 262,144.
+    /// Returns a manager without entries, with room for `blocks` entries, 1 to 262,144.
     pub fn new(alloc: Global, blocks: u32) -> Result<Sequential, SequentialFault>
         ensures ok { IfOk result (λ manager. manager ≡ empty_state blocks) }
         ensures in_range { OnOk result ((1 ≤ blocks) × (blocks ≤ MOST_BLOCKS)) }
@@ -61,7 +61,7 @@ impl Sequential {
         })
     }
 
-    /// A copy of the state, which shares its entries. It fails only where memory is refused.
+    /// Returns a copy of the state that shares its entries. Fails only if memory is refused.
     pub fn copy(&self) -> Result<Sequential, AllocError>
         ensures { IfOk result (λ copy. copy ≡ self.now) }
     {
@@ -70,7 +70,8 @@ impl Sequential {
         })
     }
 
-    /// Whether two managers have the same state. Where they have, it walks over all entries.
+    /// Returns whether two managers have the same state. If they have, the comparison visits all
+    /// entries.
     pub fn is_same(&self, other: &Sequential) -> bool
         ensures same { result ≡ true → self.now ≡ other.now }
         ensures found { self.now ≡ other.now → result ≡ true }
@@ -78,15 +79,15 @@ impl Sequential {
         self.tables.is_same(&other.tables)
     }
 
-    /// A number that is kept, for finding states that may be the same.
+    /// Returns a stored hash, with which searches find states that may be equal.
     ///
-    /// Not said: anything of it.
+    /// Not said: anything about the hash.
     pub fn hash(&self) -> u64 {
         self.tables.hash()
     }
 
-    /// Does a task. A task that cannot be asked for is refused before anything else; where memory
-    /// is refused, nothing has changed.
+    /// Runs a task. A task that cannot be issued is refused before anything else. If memory is
+    /// refused, nothing has changed.
     pub fn run(&mut self, task: &Task) -> Result<Reply, SequentialFault>
         ensures ok { IfOk result (λ reply. tasks.run self.old task.now ≡ (self.new, reply)) }
         ensures err { OnErr result (self.new ≡ self.old) }
@@ -108,11 +109,12 @@ impl Sequential {
         Ok(reply)
     }
 
-    /// The manager after a task, and the reply. A task that cannot be asked for is refused before
-    /// anything else. A refusal leaves no manager: one that is needed after it is copied before.
+    /// Returns the manager after a task, and the reply. A task that cannot be issued is refused
+    /// before anything else. A refusal consumes the manager, so a caller who still needs it copies
+    /// it first.
     ///
-    /// Not said: what is copied. Nodes of a table, items and bookings that no other manager shares
-    /// are changed where they stand.
+    /// Not said: which parts are copied. Nodes of a table, items and bookings that no other
+    /// manager shares are changed in place.
     pub fn after(self, task: &Task) -> Result<(Sequential, Reply), SequentialFault>
         ensures ok { IfOk result (λ made. tasks.run self task.now ≡ (made.0, made.1)) }
         ensures arguments { (result ≡ Err SequentialFault.Arguments) ↔ (is_task task.now ≡ false) }
@@ -129,7 +131,7 @@ impl Sequential {
         Ok((Sequential { tables }, reply))
     }
 
-    /// The report of the state.
+    /// Returns the report of the state.
     pub fn report(&self) -> Report
         ensures report { result ≡ report self.now }
         ensures balanced { IsBalanced self.now }

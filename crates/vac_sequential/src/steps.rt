@@ -1,4 +1,4 @@
-//! What each command does to the tables, and when it is refused.
+//! The effect of each command on the tables, and the reasons to refuse it.
 
 ghost use Rattle.std.specs.Prelude.{◌≡◌, ◌≤◌, IfOk, OnOk, true};
 ghost use Rattle.std.specs.Option.{option_map};

@@ -1,5 +1,5 @@
-//! The four tables, which contracts see as a state. Where memory is refused the tables are not used
-//! any more: a call may be half done.
+//! The four tables, which contracts see as a state. After memory is refused the tables are not
+//! used any more, because a call may be half done.
 
 ghost use Rattle.std.specs.Prelude.{◌≡◌, ◌<◌, ◌^◌, IfOk, IfSome, OnOk, MatchOption};
 ghost use Rattle.std.specs.Option.{option_copied};
@@ -70,7 +70,7 @@ impl Tables {
         })
     }
 
-    /// Whether two states are the same.
+    /// Returns whether two states are equal.
     pub(crate) fn is_same(&self, other: &Self) -> bool
         ensures { TellsSame self.now other.now result }
     {
@@ -83,9 +83,9 @@ impl Tables {
         self.customers.is_same(&other.customers)
     }
 
-    /// A number.
+    /// Returns a hash of the state.
     ///
-    /// Not said: that equal states have the same, as is meant.
+    /// Not said: that equal states have the same hash, although they are meant to.
     pub(crate) fn hash(&self) -> u64 {
         let items = mixed(
             self.cars.hash(),
@@ -104,7 +104,7 @@ impl Tables {
         }
     }
 
-    /// How many entries there are.
+    /// Returns the number of entries.
     pub(crate) fn size(&self) -> u64
         requires { size self.now < 2 ^ 63 }
         ensures { result ≡ size self.now }
@@ -168,14 +168,14 @@ impl Tables {
         self.customers.get(customer)
     }
 
-    /// Makes a customer without bookings.
+    /// Adds a customer without bookings.
     pub(crate) fn insert_customer(&mut self, customer: u32) -> Result<(), AllocError>
         ensures { OnOk result (self.new ≡ with_bookings self.old customer map.empty) }
     {
         self.customers.insert(customer, BookingMap::new(self.alloc))
     }
 
-    /// Changes a booking of a customer who is there.
+    /// Changes a booking of a customer, if the customer exists.
     pub(crate) fn rebook(&mut self, customer: u32, change: Rebook) -> Result<(), AllocError>
         ensures { OnOk result (IfSome (bookings_of self.old customer)
             (λ m. self.new ≡ with_bookings self.old customer
@@ -185,7 +185,7 @@ impl Tables {
         Ok(())
     }
 
-    /// Removes a customer, and gives the bookings that there were.
+    /// Removes a customer, and returns the customer's bookings if there was one.
     pub(crate) fn take_customer(&mut self, customer: u32) -> Result<Option<BookingMap>, AllocError>
         ensures taken { IfOk result (λ taken. taken ≡ bookings_of self.old customer) }
         ensures left { IfOk result (λ taken. MatchOption taken (self.new ≡ self.old)

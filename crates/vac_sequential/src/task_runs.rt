@@ -1,4 +1,4 @@
-//! What each task does to the tables.
+//! The effect of each task on the tables.
 
 ghost use Rattle.std.specs.Prelude.{◌≡◌, ◌≤◌, ◌==◌, ◌&&◌, IfOk, OnOk, IfSome, length, true};
 ghost use Rattle.std.specs.List.{list_all};
@@ -13,7 +13,7 @@ use std::alloc::AllocError;
 use vac_model::limits::MOST_PARTS;
 use vac_model::{Command, Joined, Kind, Pick, Reply, Task, TripReply, UpdateReply, Why};
 
-/// Why a reply refused, if it did.
+/// Returns the reason of a refusal, if the reply is one.
 fn refusal(reply: &Reply) -> Option<Why>
     ensures { result ≡ tasks.refusal_of reply.now }
 {
@@ -23,7 +23,7 @@ fn refusal(reply: &Reply) -> Option<Why>
     }
 }
 
-/// What the reply to `NewCustomer` says of the customer.
+/// Returns the result for the customer in the reply to `NewCustomer`.
 fn joined(reply: &Reply) -> Joined
     ensures { result ≡ tasks.joined_of reply.now }
 {
@@ -39,7 +39,8 @@ fn is_kind(a: Kind, b: Kind) -> bool
     a.number() == b.number()
 }
 
-/// The dearer of the choice so far and one more item; the first of two that cost the same.
+/// Returns the more expensive of the choice so far and one more item, and the first if both cost
+/// the same.
 fn dearer(best: Option<(u32, u64)>, id: u32, price: Option<u64>) -> Option<(u32, u64)>
     ensures { result ≡ tasks.dearer best id price }
 {
@@ -57,7 +58,7 @@ fn dearer(best: Option<(u32, u64)>, id: u32, price: Option<u64>) -> Option<(u32,
 }
 
 impl Tables {
-    /// The item of a kind that a trip with these asks books: its id and its price.
+    /// Returns the id and the price of the item of a kind that a trip with these asks books.
     fn choice(&self, kind: Kind, asks: &[(Kind, u32)]) -> Option<(u32, u64)>
         ensures { result ≡ tasks.choice_of self.now kind asks.now }
     {
@@ -174,7 +175,7 @@ impl Tables {
         }))
     }
 
-    /// Does a task that can be asked for.
+    /// Runs a task that can be issued.
     pub(crate) fn run(&mut self, task: &Task) -> Result<Reply, AllocError>
         requires small { IsSmall self.old }
         requires in_range { is_task task.now ≡ true }

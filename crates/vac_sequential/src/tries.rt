@@ -1,8 +1,8 @@
-//! Finite maps of ids that share what they have in common: a trie of four ways, by the digits of an
-//! id from the last. A change goes down once: a node on the way to the id is changed in its place
-//! where nothing else holds it, and else made anew from parts that it shares; all others stay as
-//! they are. No node with maps of digits is without an entry, so the shape of a map depends on its
-//! entries alone.
+//! Finite maps of ids that share common parts: four-way tries by the digits of an id, the last
+//! digit first. A change descends once. A node on the way to the id is changed in place if nothing
+//! else refers to it, and is otherwise made anew from parts that it shares. All other nodes stay
+//! as they are. No node with maps of digits is without an entry, so the shape of a map depends
+//! only on its entries.
 
 ghost use Rattle.std.specs.Prelude.{◌≡◌, ◌≢◌, ◌<◌, ◌^◌, ℕ, Option, None, Some, IfOk, MatchOption, sum_by};
 ghost use Rattle.std.specs.Option.{option_copied};
@@ -14,30 +14,30 @@ use std::marker::Model;
 use std::mem::replace;
 use std::rc::Rc;
 
-/// What a map has as a value.
+/// A value of a map.
 pub(crate) trait Entry: Sized {
     ghost weight: { Self → ℕ };
 
-    /// A number that maps add up.
+    /// Returns a number that maps add up.
     fn weight(&self) -> u64
         ensures { result ≡ weight self.now };
 
-    /// Whether two are equal.
+    /// Returns whether two values are equal.
     fn is_same(&self, other: &Self) -> bool
         ensures { TellsSame self.now other.now result };
 
-    /// A number of which nothing is promised.
+    /// Returns a hash, of which nothing is promised.
     fn hash(&self) -> u64;
 }
 
-/// A finite map of ids. Contracts see the map and the depth.
+/// A finite map of ids. Contracts see the map and its depth.
 #[cycle(trie)]
 #[derive(Drop)]
 pub(crate) struct Trie<V> {
     node: Node<V>,
 }
 
-/// No entry; or the value at 0, where there is one, and the maps of the ids above 0.
+/// A node: no entry, or the value at 0 (if there is one) and the maps of the ids above 0.
 #[cycle(trie)]
 #[derive(Drop)]
 enum Node<V> {
@@ -81,7 +81,7 @@ impl<V> Model for Trie<V> {
 }
 
 impl<V> Kids<V> {
-    /// The map of a digit.
+    /// Returns the map of a digit.
     fn kid(&self, digit: u32) -> &Rc<Trie<V>>
         requires { digit < 4 }
         ensures { result.now ≡ child_of self.now digit }
@@ -94,8 +94,8 @@ impl<V> Kids<V> {
         }
     }
 
-    /// The maps where the one of a digit and that of 0 have changed places, so that the one to
-    /// change stands at 0.
+    /// Exchanges the map of a digit with that of digit 0, so that the map to be changed is always
+    /// at digit 0.
     fn swapped(self, digit: u32) -> Kids<V>
         requires { digit < 4 }
         ensures { result ≡ swapped self digit }
@@ -122,7 +122,7 @@ impl<V> Kids<V> {
 }
 
 impl<V> Trie<V> {
-    /// The parts of the map, where there is an entry.
+    /// Returns the parts of the map, or None if the map has no entry.
     fn shown(&self) -> Option<(Option<&Rc<V>>, &Kids<V>)>
         ensures { MatchOption result (self.now.0 ≡ map.empty)
             (λ s. Shows self.now (option_copied s.0) s.1.now) }
@@ -134,7 +134,7 @@ impl<V> Trie<V> {
         }
     }
 
-    /// Whether there is no entry.
+    /// Returns whether the map has no entry.
     fn is_empty(&self) -> bool
         ensures { TellsEmpty self.now.0 result }
     {
@@ -144,7 +144,7 @@ impl<V> Trie<V> {
         }
     }
 
-    /// The parts of a map that has an entry.
+    /// Returns the parts of a map that has an entry.
     fn into_parts(self) -> Parts<V>
         requires { self.0 ≢ map.empty }
         ensures { map_of result ≡ self.0 }
@@ -159,7 +159,7 @@ impl<V> Trie<V> {
         }
     }
 
-    /// The value of an id, where it stands.
+    /// Returns a reference to the value of an id.
     pub(crate) fn find(&self, id: u32) -> Option<&Rc<V>>
         ensures { value_in (option_copied result) ≡ map.get self.now.0 id }
     {
@@ -187,7 +187,7 @@ pub(crate) struct Parts<V> {
 }
 
 impl<V: Drop> Parts<V> {
-    /// Whether there is no entry.
+    /// Returns whether the parts have no entry.
     fn is_empty(&self) -> bool
         ensures { TellsEmpty (map_of self.now) result }
     {
@@ -207,7 +207,7 @@ impl<V: Drop> Parts<V> {
     }
 }
 
-/// The parts of a map, which it shares.
+/// Returns the parts of a map, shared with the map.
 fn share<V: Drop>(link: &Rc<Trie<V>>) -> Result<Parts<V>, AllocError>
     ensures { IfOk result (λ p. map_of p ≡ map_in link.now) }
 {
@@ -234,7 +234,7 @@ fn share<V: Drop>(link: &Rc<Trie<V>>) -> Result<Parts<V>, AllocError>
     })
 }
 
-/// A value that shares its place in memory with this one.
+/// Returns another reference to the same value.
 fn shared<V: Drop>(value: Option<&Rc<V>>) -> Result<Option<Rc<V>>, AllocError>
     ensures { IfOk result (λ v. value_in v ≡ value_in (option_copied value.entry)) }
 {
@@ -244,9 +244,9 @@ fn shared<V: Drop>(value: Option<&Rc<V>>) -> Result<Option<Rc<V>>, AllocError>
     }
 }
 
-/// Takes a map out of its place, if nothing else holds that.
+/// Takes a map out of its reference, if nothing else refers to it.
 ///
-/// Not said: what is left there, and which of the two it is.
+/// Not said: what is left in the reference; which of the two cases applies.
 fn take_own<V: Drop>(link: &mut Rc<Trie<V>>) -> Option<Trie<V>>
     ensures { MatchOption result (link.new.value ≡ link.old.value) (λ t. t ≡ link.old.value) }
 {
@@ -256,8 +256,8 @@ fn take_own<V: Drop>(link: &mut Rc<Trie<V>>) -> Option<Trie<V>>
     }
 }
 
-/// A map that was opened: its parts, its own with the place of its node where nothing else holds
-/// it, and else shared.
+/// An opened map: its parts, either its own together with the reference of its node if nothing
+/// else refers to the node, or shared.
 #[derive(Drop)]
 struct Opened<V> {
     place: Option<Rc<Trie<V>>>,
@@ -281,7 +281,7 @@ fn open<V: Drop>(link: Rc<Trie<V>>) -> Result<Opened<V>, AllocError>
     Ok(Opened { place: None, parts })
 }
 
-/// Writes a value where nothing else holds the place, and else gives it back.
+/// Writes a value if nothing else refers to this place, and otherwise returns the value.
 fn write<T: Drop>(place: &mut Rc<T>, value: T) -> Option<T>
     ensures { MatchOption result (place.new.value ≡ value) (λ back. back ≡ value) }
 {
@@ -294,7 +294,8 @@ fn write<T: Drop>(place: &mut Rc<T>, value: T) -> Option<T>
     }
 }
 
-/// A place with a value: the one given where nothing else holds it, and else a new one.
+/// Returns a reference with a value: the given reference if nothing else shares it, and otherwise
+/// a new one.
 fn placed<T: Drop>(alloc: Global, place: Option<Rc<T>>, value: T) -> Result<Rc<T>, AllocError>
     ensures { IfOk result (λ made. made.value ≡ value) }
 {
@@ -307,7 +308,7 @@ fn placed<T: Drop>(alloc: Global, place: Option<Rc<T>>, value: T) -> Result<Rc<T
     }
 }
 
-/// The map of what was opened.
+/// Returns the map of the opened parts.
 fn join<V: Drop>(alloc: Global, opened: Opened<V>) -> Result<Rc<Trie<V>>, AllocError>
     ensures { IfOk result (λ t. map_in t ≡ map_of opened.parts) }
 {
@@ -325,7 +326,7 @@ fn join<V: Drop>(alloc: Global, opened: Opened<V>) -> Result<Rc<Trie<V>>, AllocE
     Ok(made)
 }
 
-/// What one id adds to the numbers of a map.
+/// The share of one id in the numbers of a map.
 #[derive(Clone, Copy)]
 pub(crate) struct Held {
     pub(crate) len: u64,
@@ -334,7 +335,7 @@ pub(crate) struct Held {
 }
 
 impl Held {
-    /// The hash of the entry of an id, or 0 where there is none.
+    /// Returns the hash of the entry of an id, or 0 if there is none.
     pub(crate) fn hash(self, id: u32) -> u64 {
         if self.len == 0 {
             return 0;
@@ -343,7 +344,7 @@ impl Held {
     }
 }
 
-/// What a value adds, or none.
+/// Returns the share of an optional value.
 fn weigh<V: Entry>(value: &Option<Rc<V>>) -> Held
     ensures { EntryAdds V.weight (value_in value.now) result.len result.weight }
 {
@@ -361,7 +362,7 @@ fn weigh<V: Entry>(value: &Option<Rc<V>>) -> Held
     }
 }
 
-/// What is made of the value of an id, or of none.
+/// A change of the value of an id, which may be missing before and after.
 pub(crate) trait Change<V>: Sized {
     ghost changed: { Self → Option V → Option V };
 
@@ -369,7 +370,7 @@ pub(crate) trait Change<V>: Sized {
         ensures { IfOk result (λ made. value_in made ≡ changed self (value_in value)) };
 }
 
-/// A value is put.
+/// A change that inserts a value.
 #[derive(Drop)]
 pub(crate) struct Put<V> {
     pub(crate) value: V,
@@ -387,7 +388,7 @@ impl<V: Drop> Change<V> for Put<V> {
     }
 }
 
-/// The value is removed.
+/// A change that removes the value.
 #[derive(Drop)]
 pub(crate) struct Cut {}
 
@@ -401,7 +402,7 @@ impl<V: Drop> Change<V> for Cut {
     }
 }
 
-/// A map after a change, and what the id added before it and adds after it.
+/// A map after a change, with the shares of the id before and after.
 #[derive(Drop)]
 pub(crate) struct Changed<V> {
     pub(crate) link: Rc<Trie<V>>,
@@ -409,7 +410,7 @@ pub(crate) struct Changed<V> {
     pub(crate) after: Held,
 }
 
-/// The map after a change at an id.
+/// Returns the map after a change at an id.
 pub(crate) fn change_in<V: Entry + Drop, C: Change<V> + Drop>(
     alloc: Global,
     link: Rc<Trie<V>>,
@@ -459,17 +460,17 @@ pub(crate) fn change_in<V: Entry + Drop, C: Change<V> + Drop>(
     })
 }
 
-/// What is added up over the values of a map.
+/// An amount that is added up over the values of a map.
 pub(crate) trait Amount<V> {
     ghost amount: { V → ℕ };
 
-    /// The amount of a value.
+    /// Returns the amount of a value.
     fn amount(value: &V) -> u64
         requires { amount value.now < 2 ^ 64 }
         ensures { result ≡ amount value.now };
 }
 
-/// The sum over all values.
+/// Returns the sum over all values.
 fn total_in<V, A: Amount<V>>(link: &Rc<Trie<V>>) -> u64
     requires { sum_by A.amount (map.values (map_in link.now)) < 2 ^ 64 }
     ensures { result ≡ sum_by A.amount (map.values (map_in link.now)) }
@@ -488,7 +489,7 @@ fn total_in<V, A: Amount<V>>(link: &Rc<Trie<V>>) -> u64
     first + (zero + (one + (two + three)))
 }
 
-/// Whether two values are the same, or both missing.
+/// Returns whether two values are equal or both missing.
 fn is_same_value<V: Entry>(a: Option<&Rc<V>>, b: Option<&Rc<V>>) -> bool
     ensures { TellsSame (value_in (option_copied a.entry))
         (value_in (option_copied b.entry)) result }
@@ -500,7 +501,7 @@ fn is_same_value<V: Entry>(a: Option<&Rc<V>>, b: Option<&Rc<V>>) -> bool
     }
 }
 
-/// Whether two maps are the same.
+/// Returns whether two maps are equal.
 fn is_same_in<V: Entry>(a: &Rc<Trie<V>>, b: &Rc<Trie<V>>) -> bool
     ensures { TellsSame (map_in a.now) (map_in b.now) result }
 {
@@ -525,7 +526,7 @@ fn is_same_in<V: Entry>(a: &Rc<Trie<V>>, b: &Rc<Trie<V>>) -> bool
     is_same_in(&p.three, &q.three)
 }
 
-/// The map at a root, which is made where there is none.
+/// Returns the map at a root, which is made if there is none.
 pub(crate) fn rooted<V: Drop>(
     alloc: Global,
     root: Option<Rc<Trie<V>>>,
@@ -538,7 +539,7 @@ pub(crate) fn rooted<V: Drop>(
     }
 }
 
-/// The sum over all values at a root.
+/// Returns the sum over all values at a root.
 pub(crate) fn total<V, A: Amount<V>>(root: &Option<Rc<Trie<V>>>) -> u64
     requires { sum_by A.amount (map.values (map_at root.now)) < 2 ^ 64 }
     ensures { result ≡ sum_by A.amount (map.values (map_at root.now)) }
@@ -549,7 +550,7 @@ pub(crate) fn total<V, A: Amount<V>>(root: &Option<Rc<Trie<V>>>) -> u64
     }
 }
 
-/// Whether the maps at two roots are the same.
+/// Returns whether the maps at two roots are equal.
 pub(crate) fn is_same<V: Entry>(a: &Option<Rc<Trie<V>>>, b: &Option<Rc<Trie<V>>>) -> bool
     ensures { TellsSame (map_at a.now) (map_at b.now) result }
 {
@@ -561,7 +562,7 @@ pub(crate) fn is_same<V: Entry>(a: &Option<Rc<Trie<V>>>, b: &Option<Rc<Trie<V>>>
     }
 }
 
-/// A number made of two numbers, for hashes.
+/// Returns a number made of two numbers, for hashes.
 pub(crate) fn mixed(a: u64, b: u64) -> u64 {
     let sum = a.wrapping_mul(0x9e37_79b9_7f4a_7c15) ^ b;
     let low = sum ^ (sum >> 31);

@@ -1,4 +1,4 @@
--- How a text is cut into lines while it is read.
+-- Cutting a text into lines, chunk by chunk.
 use Rattle.std.proofs.Common.{◌≡◌, ◌≢◌, ℕ, ◌+◌, ◌-◌, ◌<◌, ◌≤◌, Bool, true, false, cond, min, List, [], ◌∷◌, ◌++◌}
 use Rattle.std.proofs.Common.{length, take, drop, map, refl, ap, sym, ◌∙◌, inl, inr, arith, append-nil, append_assoc}
 use Rattle.std.proofs.Common.{length-append, length-take-le, eqb, ne_eqb, lt-ltb, subst, length-take, take-add}
@@ -21,7 +21,7 @@ HasNoEnd text = HasNo 10 text
 abbrev is_end : ℕ → Bool
 is_end b = eqb b 10
 
--- the parts of a text: there is a first one
+-- the parts of a text; there is at least one
 abbrev Parts : List (List ℕ) → Type 0
 Parts split = (first : List ℕ) × (rest : List (List ℕ)) × (split ≡ first ∷ rest)
 
@@ -43,7 +43,7 @@ parts_behind (b ∷ bs) text first rest h e =
     slice_split-cons_no is_end b (bs ++ text) (ne_eqb b 10 (All-head (λ x. x ≢ 10) b bs h))
     ∙ ap (onto_first b) (parts_behind bs text first rest (All-tail (λ x. x ≢ 10) b bs h) e)
 
--- a line that has its end
+-- a line with its end
 pub lines_cut : (line text : List ℕ) → HasNoEnd line → lines_of (line ++ 10 ∷ text) ≡ line ∷ lines_of text
 lines_cut line text h =
     let p = parts text in
@@ -58,7 +58,7 @@ lines_last line h =
     let e = parts_behind line [] [] [] h refl in
     ap lines_of (sym (append-nil line)) ∙ ap without_empty_end (e ∙ ap (λ t. t ∷ []) (append-nil line))
 
--- whether a text is empty
+-- true if the text is empty
 abbrev is_empty : List ℕ → Bool
 is_empty text = eqb (length text) 0
 
@@ -67,7 +67,7 @@ module _ (longest : ℕ) where
   long_line : (line : List ℕ) → longest < length line → told_of longest line ≡ LongLine
   long_line line h = rw (lt-ltb longest (length line) h) refl
 
-  -- of a line that is too long it matters only that it is
+  -- only the fact that a line is too long matters for its message
   pub told_prefix : (line : List ℕ) → told_of longest (take (longest + 1) line) ≡ told_of longest line
   told_prefix line =
       elim (cases_lt (longest + 1) (length line)) [
@@ -87,7 +87,7 @@ module _ (longest : ℕ) where
   long_map line (next ∷ more) h = ap (λ t. t ∷ map (told_of longest) (without_empty_end (next ∷ more)))
       (long_line line h)
 
-  -- so the start of a line that is too long need not be kept whole
+  -- so the start of a line that is too long need not be kept in whole
   told_kept : (line text : List ℕ) → HasNoEnd line
       → told_lines longest (take (longest + 1) line ++ text) ≡ told_lines longest (line ++ text)
   told_kept line text h =
@@ -132,11 +132,11 @@ module _ (longest : ℕ) where
       let some : is_empty start ≡ false = ne_eqb (length start) 0 (λ z. omega arith) in
       ap (map (told_of longest)) (lines_last start h) ∙ ap (λ v. map (told_of longest) (cond v [] (start ∷ []))) some
 
-  -- there is none
+  -- there is no last line
   pub told_none : (start : List ℕ) → start ≡ [] → told_lines longest start ≡ []
   told_none start e = ap (told_lines longest) e
 
-  -- what is kept of a line has no line end and is short
+  -- the kept part of a line has no line end and is short
   pub has_begun : (start more : List ℕ) → HasNoEnd start → HasNoEnd more
       → HasBegun longest (take (longest + 1) (start ++ more))
   has_begun start more h g = (
@@ -156,7 +156,7 @@ take_over n xs ys h =
     ∙ ap (λ t. t ++ take (n - length xs) (drop (length xs) (xs ++ ys))) (take-append_seam xs ys)
     ∙ ap (λ t. xs ++ take (n - length xs) t) (drop-append_seam xs ys)
 
--- what is kept of a line that goes on
+-- the kept part of a line that goes on
 pub kept_prefix : (most : ℕ) (start more : List ℕ) (k : ℕ) → length start ≤ most
     → k ≡ min (most - length start) (length more) → start ++ take k more ≡ take most (start ++ more)
 kept_prefix most start more k h e = ap (λ t. start ++ t) (take_least (most - length start) k more e)

@@ -1,4 +1,4 @@
--- What a sink was told, one thing after the other.
+-- The messages that a sink heard, one after the other.
 use Rattle.std.proofs.Common.{◌≡◌, ℕ, true, false, cond, List, [], ◌∷◌, ◌++◌, Result, Ok, Err, refl, ap, sym, ◌∙◌}
 use Rattle.std.proofs.Common.{subst, append-nil, append_assoc, length, take, ◌+◌, ◌<◌, nat_lt, Option, Some, None}
 use Rattle.std.proofs.Common.{IfSome, inl, inr, ◌≢◌, IsErrAnd}
@@ -13,26 +13,26 @@ use Rattle.vac_streams.specs.Heard.{ToldAll, ToldLast, AreFirst, AreFirstOf, Hea
 use Rattle.vac_streams.specs.Feeding.{HasBegun, FedAll, FedLast, Fed, EndedAll, EndedLast, Ended}
 use Rattle.vac_streams.proofs.Cutting.{HasNoEnd, told_cut, told_moved, told_last, told_none}
 
--- the lines of what was told in two parts
+-- the lines of two lists of messages
 pub lines_both : (a b : List Told) → lines_in (a ++ b) ≡ lines_in a ++ lines_in b
 lines_both [] b = refl
 lines_both (Line text ∷ a) b = ap (λ t. Line text ∷ t) (lines_both a b)
 lines_both (LongLine ∷ a) b = ap (λ t. LongLine ∷ t) (lines_both a b)
 lines_both (Pause ∷ a) b = lines_both a b
 
--- what is told of a line is no pause
+-- the message of a line is no pause
 one_line : (longest : ℕ) (line : List ℕ) → lines_in (told_of longest line ∷ []) ≡ told_of longest line ∷ []
 one_line longest line =
     elim (nat_lt longest (length line)) as (λ v. lines_in (cond v LongLine (Line line) ∷ []) ≡ cond v LongLine
     (Line line) ∷ []) [ true ↦ refl | false ↦ refl ]
 
--- a line more
+-- one more line
 lines_more : (longest : ℕ) (told : List Told) (line : List ℕ)
     → lines_in (told ++ told_of longest line ∷ []) ≡ lines_in told ++ told_of longest line ∷ []
 lines_more longest told line = lines_both told (told_of longest line ∷ [])
     ∙ ap (λ t. lines_in told ++ t) (one_line longest line)
 
--- a pause more
+-- one more pause
 lines_paused : (told : List Told) → lines_in (told ++ Pause ∷ []) ≡ lines_in told
 lines_paused told = lines_both told (Pause ∷ []) ∙ append-nil (lines_in told)
 
@@ -40,7 +40,7 @@ module _ {S O : Type 0} (hears : S → O → Told → Result Next StreamFault �
   pub told_nothing : (s : S) (o : O) → ToldAll hears s o [] s o
   told_nothing s o = (refl, refl)
 
-  -- it was told one thing more
+  -- the sink heard one more message
   pub told_more : (s : S) (o : O) (told : List Told) (x : Told) (t : S) (p : O) (u : S) (q : O)
       → ToldAll hears s o told t p → hears t p x (Ok GoOn) u q
       → ToldAll hears s o (told ++ x ∷ []) u q
@@ -83,7 +83,7 @@ module _ {S O : Type 0} (hears : S → O → Told → Result Next StreamFault �
     then = k;
   }
 
-  -- so far a chunk was told: whatever follows it follows the rest
+  -- the part of a chunk that was passed so far: whatever follows the chunk follows the rest
   pub record FedTo (longest : ℕ) (line0 line chunk rest : List ℕ) (s : S) (o : O) (t : S) (p : O) : Type 0 where
     pub told : List Told
     pub only : lines_in told ≡ told
@@ -94,7 +94,7 @@ module _ {S O : Type 0} (hears : S → O → Told → Result Next StreamFault �
   pub fed_first : (longest : ℕ) (line chunk : List ℕ) (s : S) (o : O) → FedTo longest line line chunk chunk s o s o
   fed_first longest line chunk s o = record { told = []; only = refl; heard = told_nothing s o; same = λ x. refl }
 
-  -- a line more
+  -- one more line
   pub fed_line : (longest : ℕ) (line0 start chunk rest line behind after : List ℕ) (s : S) (o : O) (t : S) (p : O)
       (u : S) (q : O) → FedTo longest line0 start chunk rest s o t p
       → HasNoEnd start → HasNoEnd line → rest ≡ line ++ 10 ∷ behind
@@ -112,7 +112,7 @@ module _ {S O : Type 0} (hears : S → O → Told → Result Next StreamFault �
             ∙ ap (λ l. lines_in (f.told ++ x ∷ []) ++ told_lines longest (l ++ (behind ++ y))) (sym z);
       }
 
-  -- a line ended it
+  -- the sink's answer to a line ended the reading
   pub fed_last : (longest : ℕ) (line0 start chunk rest line behind : List ℕ) (r : Result Next StreamFault) (s : S)
       (o : O) (t : S) (p : O) (u : S) (q : O) → FedTo longest line0 start chunk rest s o t p
       → HasNoEnd start → HasNoEnd line → rest ≡ line ++ 10 ∷ behind
@@ -142,7 +142,7 @@ module _ {S O : Type 0} (hears : S → O → Told → Result Next StreamFault �
     same = λ x. f.same x ∙ ap (λ l. lines_in f.told ++ l) (told_moved longest start rest after x h g e);
   }
 
-  -- the sink was told of a pause, and wants more
+  -- the sink heard a pause, and wants more
   paused_on : (longest : ℕ) (line0 line chunk : List ℕ) (s : S) (o : O) (t : S) (p : O) (u : S) (q : O)
       → FedTo longest line0 line chunk [] s o t p
       → HasBegun longest line → hears t p Pause (Ok GoOn) u q → FedAll hears longest line0 line chunk s o u q
@@ -156,7 +156,7 @@ module _ {S O : Type 0} (hears : S → O → Told → Result Next StreamFault �
     same = λ x. f.same x ∙ ap (λ l. l ++ told_lines longest (line ++ x)) (sym (lines_paused f.told));
   }
 
-  -- its answer to a pause ended it
+  -- the sink's answer to a pause ended the reading
   paused_last : (longest : ℕ) (line0 line chunk : List ℕ) (r : Result Next StreamFault) (s : S) (o : O) (t : S)
       (p : O) (u : S) (q : O) → FedTo longest line0 line chunk [] s o t p
       → hears t p Pause r u q → FedLast hears longest r line0 chunk s o u q
@@ -220,8 +220,8 @@ module _ {S O : Type 0} (hears : S → O → Told → Result Next StreamFault �
   ended_line longest line (Err fault) s o t p h n k = last_last longest line (Err fault) s o t p h n
       (subst (λ l. hears s o (told_of longest l) (Err fault) t p) (append-nil line) k)
 
-  --  so far the input was read: whatever follows, the lines are those that were told and those of the line that has
-  -- begun
+  -- the part of the input that was read so far: whatever follows, the lines are those passed and
+  -- those of the line that has begun
   pub record HeardTo (longest : ℕ) (unread left : Option (List ℕ)) (line : List ℕ) (s : S) (o : O) (t : S)
       (p : O) : Type 0 where
     pub bytes : List ℕ
@@ -251,7 +251,7 @@ module _ {S O : Type 0} (hears : S → O → Told → Result Next StreamFault �
     same = h.same;
   }
 
-  -- a chunk was read and told
+  -- a chunk was read, and its lines were passed
   pub heard_on : (longest : ℕ) (unread left now : Option (List ℕ)) (line line' chunk : List ℕ) (s : S) (o : O) (t : S)
       (p : O) (u : S) (q : O) → HeardTo longest unread left line s o t p
       → Consumes left now chunk → FedAll hears longest line line' chunk t p u q
@@ -267,7 +267,7 @@ module _ {S O : Type 0} (hears : S → O → Told → Result Next StreamFault �
         ∙ ap (λ l. l ++ told_lines longest (line' ++ x)) (sym (lines_both h.told f.told));
   }
 
-  -- first lines of what follows are, behind those that were told, first lines of the whole
+  -- first lines of the following text, after the lines passed, are first lines of the whole text
   first_both : (longest : ℕ) (a b : List Told) (text rest : List ℕ)
       → told_lines longest text ≡ lines_in a ++ told_lines longest rest → AreFirst longest (lines_in b) rest
       → AreFirst longest (lines_in (a ++ b)) text
@@ -352,7 +352,7 @@ module _ {S O : Type 0} (hears : S → O → Told → Result Next StreamFault �
   heard_end longest (Err fault) unread left now line s o t p u q h c e f = inl
       (end_last longest (Err fault) unread left now line s o t p u q h c e f)
 
-  -- the fault of the sink is handed on
+  -- the fault of the sink is passed on
   pub fed_err : (longest : ℕ) (r : Result Next StreamFault) (fault : StreamFault) (line0 line chunk : List ℕ) (s : S)
       (o : O) (t : S) (p : O) → IsErrAnd r (λ e. e ≡ fault)
       → FedLast hears longest (Err fault) line0 chunk s o t p → Fed hears longest r line0 line chunk s o t p
@@ -394,7 +394,7 @@ module _ {S O : Type 0} (hears : S → O → Told → Result Next StreamFault �
   heard_bound longest unread left line s o t p h = inr
       (λ w. let q : Bound ≡ Write = w in cc, heard_first longest unread left line s o t p h)
 
-  -- what a chunk does, by what the sink wants then
+  -- the effect of a chunk, by the sink's answer
   pub fed_more : (longest same : ℕ) (next : Next) (line0 line chunk : List ℕ) (s : S) (o : O) (t : S) (p : O)
       → same ≡ longest → next ≡ GoOn → Fed hears same (Ok next) line0 line chunk s o t p
       → FedAll hears longest line0 line chunk s o t p
@@ -409,13 +409,13 @@ module _ {S O : Type 0} (hears : S → O → Told → Result Next StreamFault �
       (λ m. Fed hears m (Ok Stop) line0 line chunk s o t p) l
       (subst (λ n. Fed hears same (Ok n) line0 line chunk s o t p) e f)
 
--- first lines of all that may follow are first lines of what was read
+-- lines that are first whatever follows are first lines of the bytes read
 pub first_of_read : (longest : ℕ) (lines : List Told) (bytes : List ℕ) (left : Option (List ℕ))
     → AreFirstOf longest lines bytes left → AreFirst longest lines bytes
 first_of_read longest lines bytes left (inl f) = f.1
 first_of_read longest lines bytes left (inr f) = subst (AreFirst longest lines) (append-nil bytes) (f [])
 
--- and of the whole input
+-- they are first lines of the whole input
 pub first_of_input : (longest : ℕ) (lines : List Told) (bytes : List ℕ) (unread left : Option (List ℕ))
     → Consumes unread left bytes → AreFirstOf longest lines bytes left
     → IfSome unread (λ input. AreFirst longest lines input)
@@ -425,7 +425,7 @@ first_of_input longest lines bytes (Some input) (Some rest) c (inl f) =
     subst (AreFirst longest lines) (sym (c ∙ ap (λ l. bytes ++ l) f.0 ∙ append-nil bytes)) f.1
 first_of_input longest lines bytes (Some input) (Some rest) c (inr f) = subst (AreFirst longest lines) (sym c) (f rest)
 
--- all lines of what was read to its end are those of the whole input
+-- the lines of an input that was read to its end are those of the whole input
 pub all_of_input : (unread left : Option (List ℕ)) (bytes : List ℕ) → Consumes unread left bytes → IsAtEnd left
     → IfSome unread (λ input. input ≡ bytes)
 all_of_input None left bytes c e = tt

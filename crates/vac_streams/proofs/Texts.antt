@@ -7,7 +7,7 @@ use Rattle.std.proofs.KnownBytes.{Appends-nil, Appends-trans, Appends-kept}
 use Rattle.vac_lines.specs.Writing.{AppendsPrefix}
 use Rattle.vac_streams.specs.Sent.{Sent}
 
--- what follows from a fact of success or of failure
+-- consequences of a fact that holds if a call succeeded, or if it failed
 pub on_ok_map : {T E P Q : Type 0} (r : Result T E) → (P → Q) → OnOk r P → OnOk r Q
 on_ok_map (Ok t) f p = f p
 on_ok_map (Err e) f p = tt
@@ -40,7 +40,7 @@ prefix_is held holds text other e p = subst (AppendsPrefix held holds) e p
 pub sent_nothing : (held : Option (List ℕ)) (hand : List ℕ) → Sent held held hand hand []
 sent_nothing held hand = record { front = []; written = Appends-nil held; all = append-nil hand }
 
--- what was at hand was written
+-- the buffered text was written
 pub sent_hand : (held holds : Option (List ℕ)) (hand hand' : List ℕ) → Appends held holds hand → hand' ≡ []
     → Sent held holds hand hand' []
 sent_hand held holds hand hand' w e = record { front = hand; written = w; all = ap (λ t. hand ++ t) (sym e) }
@@ -55,7 +55,7 @@ sent_text held holds hand grown hand' text e s = record {
       ∙ sym (append-nil grown) ∙ s.all;
 }
 
--- two texts, one behind the other
+-- two texts, one after the other
 pub sent_both : (held holds grown : Option (List ℕ)) (hand hand' hand'' x y : List ℕ) → Sent held holds hand hand' x
     → Sent holds grown hand' hand'' y → Sent held grown hand hand'' (x ++ y)
 sent_both held holds grown hand hand' hand'' x y p q = record {
@@ -81,13 +81,13 @@ pub part_first : (held holds : Option (List ℕ)) (hand x y : List ℕ) → Appe
 part_first held holds hand x y p = prefix_is held holds ((hand ++ x) ++ y) (hand ++ (x ++ y)) (append_assoc hand x y)
     (prefix_longer held holds (hand ++ x) y p)
 
--- the whole was written, and the output stayed as it was
+-- the whole text was written, and then the output stayed as it was
 pub whole_kept : (held holds now : Option (List ℕ)) (text : List ℕ) → Appends held holds text → Keeps holds now
     → AppendsPrefix held now text
 whole_kept held holds now text w k = prefix_of held now text [] text (Appends-kept held holds now text w k)
     (append-nil text)
 
--- what was at hand in the end was written too
+-- the text that was in the buffer at the end was written too
 pub sent_end : (held holds grown : Option (List ℕ)) (hand text : List ℕ) → Sent held holds [] hand text
     → Appends holds grown hand → Appends held grown text
 sent_end held holds grown hand text s w = subst (Appends held grown) (sym s.all)

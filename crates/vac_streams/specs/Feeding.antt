@@ -1,4 +1,4 @@
--- What a part of an input does where a line has begun before it.
+-- The effect of a chunk of an input on a sink, if a line has begun before the chunk.
 use Rattle.std.specs.Prelude.{◌≡◌, ℕ, ◌+◌, ◌≤◌, Result, Ok, Err, List, [], ◌∷◌, ◌++◌, length}
 use Rattle.vac_lines.specs.Lines.{HasNo}
 use Rattle.vac_streams.specs.declared.fault.StreamFault.{StreamFault}
@@ -7,12 +7,12 @@ use Rattle.vac_streams.specs.declared.next.Next.TheVariants.{GoOn, Stop}
 use Rattle.vac_streams.specs.Told.{Told, Pause, told_lines, lines_in}
 use Rattle.vac_streams.specs.Heard.{ToldAll, ToldLast, AreFirst}
 
--- what is kept of a line that has begun: enough to see that it is too long
+-- the kept part of a line that has begun: the line, or enough of it to see that it is too long
 abbrev pub HasBegun : ℕ → List ℕ → Type 0
 HasBegun longest line = HasNo 10 line × (length line ≤ longest + 1)
 
--- the sink was told the lines that end in a chunk, and then of one pause: whatever follows the
--- chunk, the lines after them are those of the line that has begun by then
+-- the sink heard the lines that end in a chunk, and then a pause. Whatever follows the chunk, the
+-- lines after them are those of the line that has begun by then
 pub record FedAll {S O : Type 0}
     (hears : S → O → Told → Result Next StreamFault → S → O → Type 0) (longest : ℕ)
     (line line' chunk : List ℕ) (s : S) (o : O) (t : S) (p : O) : Type 0 where
@@ -25,7 +25,7 @@ pub record FedAll {S O : Type 0}
   pub same : (x : List ℕ) → told_lines longest (line ++ (chunk ++ x))
       ≡ lines_in told ++ told_lines longest (line' ++ x)
 
--- the sink was told some of them, and its answer to the last ended the reading
+-- the sink heard some of these lines, and its answer to the last one ended the reading
 pub record FedLast {S O : Type 0}
     (hears : S → O → Told → Result Next StreamFault → S → O → Type 0) (longest : ℕ)
     (answer : Result Next StreamFault) (line chunk : List ℕ) (s : S) (o : O) (t : S) (p : O) :
@@ -34,7 +34,7 @@ pub record FedLast {S O : Type 0}
   pub heard : ToldLast hears s o told answer t p
   pub first : (x : List ℕ) → AreFirst longest (lines_in told) (line ++ (chunk ++ x))
 
--- what a chunk does
+-- the effect of a chunk on the sink, by its answer
 abbrev pub Fed : {S O : Type 0}
     → (S → O → Told → Result Next StreamFault → S → O → Type 0) → ℕ
     → Result Next StreamFault → List ℕ → List ℕ → List ℕ → S → O → S → O → Type 0
@@ -45,7 +45,7 @@ Fed hears longest (Ok Stop) line line' chunk s o t p =
 Fed hears longest (Err fault) line line' chunk s o t p =
     FedLast hears longest (Err fault) line chunk s o t p
 
--- the sink was told the last line, where there is one
+-- the sink heard the last line, if there is one
 pub record EndedAll {S O : Type 0}
     (hears : S → O → Told → Result Next StreamFault → S → O → Type 0) (longest : ℕ)
     (line : List ℕ) (s : S) (o : O) (t : S) (p : O) : Type 0 where
@@ -53,7 +53,7 @@ pub record EndedAll {S O : Type 0}
   pub heard : ToldAll hears s o told t p
   pub same : lines_in told ≡ told_lines longest line
 
--- its answer to the last line ended the reading
+-- the sink's answer to the last line ended the reading
 pub record EndedLast {S O : Type 0}
     (hears : S → O → Told → Result Next StreamFault → S → O → Type 0) (longest : ℕ)
     (answer : Result Next StreamFault) (line : List ℕ) (s : S) (o : O) (t : S) (p : O) :
@@ -62,7 +62,7 @@ pub record EndedLast {S O : Type 0}
   pub heard : ToldLast hears s o told answer t p
   pub first : AreFirst longest (lines_in told) line
 
--- what the end of the input does
+-- the effect of the end of the input on the sink, by its answer
 abbrev pub Ended : {S O : Type 0}
     → (S → O → Told → Result Next StreamFault → S → O → Type 0) → ℕ
     → Result Next StreamFault → List ℕ → S → O → S → O → Type 0

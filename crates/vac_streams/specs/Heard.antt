@@ -1,5 +1,6 @@
--- What a sink has heard of an input. What being told something does to a sink is its own relation
--- `hears`: from a sink and an output, told this, with this answer, to a sink and an output.
+-- The lines of an input that a sink has heard. The relation `hears` of a sink says what one
+-- message does: it takes a sink and an output, with this message and this answer, to a sink and an
+-- output.
 use Rattle.std.specs.Prelude.{◌≡◌, ◌≢◌, ◌⊎◌, ℕ, Option, Result, Ok, Err, List, [], ◌∷◌, ◌++◌}
 use Rattle.std.specs.Io.KnownBytes.{Consumes, IsAtEnd}
 use Rattle.vac_streams.specs.declared.fault.StreamFault.{StreamFault}
@@ -8,7 +9,7 @@ use Rattle.vac_streams.specs.declared.next.Next.{Next}
 use Rattle.vac_streams.specs.declared.next.Next.TheVariants.{GoOn, Stop}
 use Rattle.vac_streams.specs.Told.{Told, told_lines, lines_in}
 
--- it was told all of this, one after the other, and wants more
+-- the sink heard all these messages in order, and wants more
 abbrev pub ToldAll : {S O : Type 0}
     → (S → O → Told → Result Next StreamFault → S → O → Type 0)
     → S → O → List Told → S → O → Type 0
@@ -16,7 +17,7 @@ ToldAll hears s o [] t p = (t ≡ s) × (p ≡ o)
 ToldAll {S} {O} hears s o (x ∷ more) t p =
     (u : S) × (q : O) × hears s o x (Ok GoOn) u q × ToldAll hears u q more t p
 
--- it was told all of this, one after the other, and this was the answer to the last
+-- the sink heard all these messages in order, and gave this answer to the last
 pub record ToldLast {S O : Type 0}
     (hears : S → O → Told → Result Next StreamFault → S → O → Type 0)
     (s : S) (o : O) (told : List Told) (answer : Result Next StreamFault) (t : S) (p : O) :
@@ -29,18 +30,18 @@ pub record ToldLast {S O : Type 0}
   pub first : ToldAll hears s o before sink output
   pub then : hears sink output last answer t p
 
--- these are the first lines of a text
+-- the messages are those of the first lines of the text
 abbrev pub AreFirst : ℕ → List Told → List ℕ → Type 0
 AreFirst longest lines text = (more : List Told) × (told_lines longest text ≡ lines ++ more)
 
--- these are the first lines of an input of which these bytes were read: it was read to its end, or
--- these are its first lines whatever follows
+-- the messages are those of the first lines of an input of which these bytes were read: the input
+-- was read to its end, or the messages are first whatever follows
 abbrev pub AreFirstOf : ℕ → List Told → List ℕ → Option (List ℕ) → Type 0
 AreFirstOf longest lines bytes left =
     (IsAtEnd left × AreFirst longest lines bytes)
     ⊎ ((x : List ℕ) → AreFirst longest lines (bytes ++ x))
 
--- the input was read to its end, and the sink was told exactly its lines, in their order
+-- the input was read to its end, and the sink heard exactly its lines, in order
 pub record HeardAll {S O : Type 0}
     (hears : S → O → Told → Result Next StreamFault → S → O → Type 0) (longest : ℕ)
     (unread left : Option (List ℕ)) (s : S) (o : O) (t : S) (p : O) : Type 0 where
@@ -51,7 +52,7 @@ pub record HeardAll {S O : Type 0}
   pub heard : ToldAll hears s o told t p
   pub lines : lines_in told ≡ told_lines longest bytes
 
--- the sink was told the first lines of the input, and its answer to the last ended the reading
+-- the sink heard the first lines of the input, and its answer to the last one ended the reading
 pub record HeardLast {S O : Type 0}
     (hears : S → O → Told → Result Next StreamFault → S → O → Type 0) (longest : ℕ)
     (answer : Result Next StreamFault)
@@ -62,7 +63,7 @@ pub record HeardLast {S O : Type 0}
   pub heard : ToldLast hears s o told answer t p
   pub first : AreFirstOf longest (lines_in told) bytes left
 
--- the sink was told the first lines of the input, whatever follows what was read
+-- the sink heard the first lines of the input, whatever follows the bytes read
 pub record HeardFirst {S O : Type 0}
     (hears : S → O → Told → Result Next StreamFault → S → O → Type 0) (longest : ℕ)
     (unread left : Option (List ℕ)) (s : S) (o : O) (t : S) (p : O) : Type 0 where
@@ -72,8 +73,8 @@ pub record HeardFirst {S O : Type 0}
   pub heard : ToldAll hears s o told t p
   pub first : (x : List ℕ) → AreFirst longest (lines_in told) (bytes ++ x)
 
--- what reading an input for a sink leaves: the sink heard all of it; or it ended the reading; or
--- the reading ended by a fault of its own, which is no fault of an output
+-- the outcome of reading an input for a sink: the sink heard all of it; or the sink ended the
+-- reading; or the reading ended by a fault of its own, which is no fault of an output
 -- Not said: which fault of the reading is returned for which failure of the reader.
 abbrev pub Heard : {S O : Type 0}
     → (S → O → Told → Result Next StreamFault → S → O → Type 0) → ℕ

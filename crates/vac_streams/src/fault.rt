@@ -1,4 +1,4 @@
-//! Why a text was not read or written to its end.
+//! The reasons why a text was not read or written to its end.
 
 ghost use Rattle.std.specs.Prelude.{◌≡◌};
 
@@ -6,19 +6,19 @@ use std::alloc::AllocError;
 use thiserror::Error;
 use vac_lines::NotWritten;
 
-/// Why a text was not read or written to its end.
+/// The reason why a text was not read or written to its end.
 #[derive(Clone, Copy, Debug, PartialEq, Eq, Error)]
 pub enum StreamFault {
     /// The input could not be read.
     #[error("the input could not be read")]
     Read = 1,
-    /// The output could not be written, or a write took nothing.
+    /// The output could not be written, or a write wrote no byte.
     #[error("the output could not be written")]
     Write = 2,
     /// Memory was refused.
     #[error("out of memory")]
     Memory = 3,
-    /// The input takes more reads than may be made, or has more lines than can be counted.
+    /// The input needs more reads than may be made, or has more lines than can be counted.
     #[error("the input is too long")]
     Bound = 6,
 }

@@ -1,4 +1,4 @@
-//! Texts over streams: what a reader gives is cut into lines, which a sink is told; and text is
+//! Texts over streams: an input is cut into lines, which are passed to a sink, and output is
 //! gathered and written in chunks.
 #![tactic(auto)]
 

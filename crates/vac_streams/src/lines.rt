@@ -1,4 +1,4 @@
-//! Cutting what is read into lines.
+//! Cutting an input into lines.
 
 ghost use Rattle.std.specs.Prelude.{◌≡◌, ◌<◌, ◌≤◌, ◌+◌, ◌^◌, [], ◌++◌, length, take, vec_capacity};
 ghost use Rattle.std.specs.Prelude.{IfOk, OnOk};
@@ -11,20 +11,20 @@ use crate::sink::Sink;
 use std::alloc::{AllocError, Global};
 use vac_lines::cut_at;
 
-/// A text that is cut into lines.
+/// The state of cutting a text into lines.
 #[derive(Drop)]
 pub(crate) struct Lines {
-    /// The most bytes of a line that a sink is told.
+    /// Largest number of bytes of a line that is passed to a sink.
     longest: usize,
     /// The line that has begun, up to one byte more than the longest: enough to see that it is too
-    /// long.
+    /// long. The room is reserved at the start.
     line: Vec<u8>,
     ghost fits: { longest < 2 ^ 63 },
     ghost roomy: { longest + 1 ≤ vec_capacity line },
 }
 
 impl Lines {
-    /// A text of which nothing was read.
+    /// Returns the state before anything was read.
     pub(crate) fn new(alloc: Global, longest: usize) -> Result<Lines, AllocError>
         requires { longest < 2 ^ 63 }
         ensures longest { IfOk result (λ lines. lines.longest ≡ longest) }
@@ -34,7 +34,8 @@ impl Lines {
         Ok(Lines { longest, line })
     }
 
-    /// Keeps what follows of the line that has begun, as far as it is needed.
+    /// Appends bytes to the line that has begun, as far as they are needed. The bytes fit the
+    /// reserved room, so no memory can be refused.
     fn keep(&mut self, more: &[u8])
         requires { length self.old.line.items ≤ self.old.longest + 1 }
         ensures longest { self.new.longest ≡ self.old.longest }
@@ -49,7 +50,7 @@ impl Lines {
         }
     }
 
-    /// Tells a line, or that it is too long.
+    /// Passes a line to the sink, or reports that the line is too long.
     fn tell<O, S: Sink<O>>(
         &self,
         line: &[u8],
@@ -67,7 +68,7 @@ impl Lines {
         sink.line(line, output)
     }
 
-    /// Tells the line that has begun, whose rest this is.
+    /// Passes the line that has begun to the sink, with its rest.
     fn end_line<O, S: Sink<O>>(
         &mut self,
         rest: &[u8],
@@ -92,7 +93,7 @@ impl Lines {
         Ok(next)
     }
 
-    /// Tells the lines that end in a chunk of the input, and keeps what follows them.
+    /// Passes the lines that end in a chunk of the input to the sink, and keeps what follows them.
     pub(crate) fn feed<O, S: Sink<O>>(
         &mut self,
         chunk: &[u8],
@@ -117,7 +118,7 @@ impl Lines {
         sink.pause(output)
     }
 
-    /// Tells the last line, where it has begun and has no end.
+    /// Passes the last line to the sink if it has begun and has no end.
     pub(crate) fn finish<O, S: Sink<O>>(
         &mut self,
         sink: &mut S,

@@ -1,10 +1,10 @@
-//! Whether a sink wants to be told more.
+//! The answer of a sink to a line.
 
-/// Whether a sink wants to be told more.
+/// The answer of a sink to a line.
 #[derive(Clone, Copy, Debug, PartialEq, Eq)]
 pub enum Next {
-    /// It wants to be told what follows.
+    /// The sink wants the lines that follow.
     GoOn,
-    /// It has heard enough, and is told nothing more.
+    /// The sink has heard enough, and gets no more lines.
     Stop,
 }

@@ -11,22 +11,22 @@ use std::alloc::Global;
 use std::io::{ErrorKind, Read};
 use vac_lines::{CHUNK_BYTES, MOST_READS};
 
-/// The most lines that a sink is told: no read gives more line ends than a chunk has bytes, and
-/// what follows the last of them is one more line.
+/// Largest number of lines that are passed to a sink: no read has more line ends than a chunk has
+/// bytes, and the text after the last line end is one more line.
 pub const MOST_LINES: u64 = (MOST_READS + 1) * CHUNK_BYTES as u64 + 1;
 
-/// Reads an input to its end, or until the sink stops or a fault ends the reading, and tells the
-/// sink its lines in their order, each without its end; of a line that is longer than `longest`,
-/// only that it is. What follows the last line end is a line where it has a byte. After each read
-/// the sink is told of a pause. A read that was interrupted is retried.
+/// Reads an input and passes its lines to the sink in order, each without its end, until the input
+/// ends, the sink stops or a fault occurs. For a line longer than `longest`, the sink is told only
+/// that the line is too long. The text after the last line end is a line if it has a byte. After
+/// each read the sink is told of a pause. An interrupted read is retried.
 ///
 /// Returns whether the sink still wants more at the end of the input.
 ///
 /// # Errors
-/// The first fault that the sink returns; `Read`, where a read failed; `Bound`, where the input did
-/// not end within `MOST_READS` reads and one; `Memory`, before anything was read.
+/// Returns the first fault that the sink returns; `Read` if a read failed; `Bound` if the input
+/// did not end within `MOST_READS` reads and one more; `Memory` before anything was read.
 ///
-/// Not said: which of the last three it is, but that it is no fault of an output.
+/// Not said: which of the last three faults it is, only that it is no fault of an output.
 pub fn read_lines<R: Read, O, S: Sink<O>>(
     alloc: Global,
     longest: usize,

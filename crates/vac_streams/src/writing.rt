@@ -10,7 +10,7 @@ use crate::fault::StreamFault;
 use std::io::Write;
 use vac_lines::{CHUNK_BYTES, write_all, write_and_flush};
 
-/// Writes the text at hand, where it is a chunk or more.
+/// Writes the buffered text if it is a chunk or more.
 pub fn send_chunk<W: Write>(output: &mut W, hand: &mut Vec<u8>) -> Result<(), StreamFault>
     ensures ok { OnOk result (Sent (W.contents output.old) (W.contents output.new)
         hand.old.items hand.new.items []) }
@@ -26,7 +26,7 @@ pub fn send_chunk<W: Write>(output: &mut W, hand: &mut Vec<u8>) -> Result<(), St
     Ok(())
 }
 
-/// Writes the text at hand, however little it is.
+/// Writes the buffered text, however little it is.
 pub fn send_all<W: Write>(output: &mut W, hand: &mut Vec<u8>) -> Result<(), StreamFault>
     ensures ok { OnOk result
         (Appends (W.contents output.old) (W.contents output.new) hand.old.items) }

@@ -5,7 +5,7 @@ use Rattle.vac_model.specs.declared.commands.Command.TheVariants as command
 use Rattle.vac_model.specs.declared.tasks.Task.{Task}
 use Rattle.vac_model.specs.declared.tasks.Task.TheVariants as task
 
--- the commands that only ask
+-- true if the command is a question, which changes nothing
 abbrev pub is_question : Command → Bool
 is_question (command.Add kind id num price) = false
 is_question (command.Delete kind id num) = false
@@ -19,7 +19,7 @@ is_question (command.Reserve customer kind id num) = false
 is_question (command.Cancel customer kind id) = false
 is_question command.Audit = true
 
--- the tasks of one such command
+-- true if the task is a single question
 abbrev pub only_reads : Task → Bool
 only_reads (task.One c) = is_question c
 only_reads (task.Trip customer asks) = false

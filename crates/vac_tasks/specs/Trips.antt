@@ -1,4 +1,4 @@
--- What the parts of a trip do to a memory that holds a state, under every image.
+-- The effects of the parts of a trip on a memory that holds a state, under every possible image.
 use Rattle.std.specs.Prelude.{◌≡◌, ℕ, List, Option, Some, None, IfSome, MatchOption, length, nat_lt, ◌||◌, Bool, is_some, if◌then◌else◌, true}
 use Rattle.std.specs.Option.{option_map}
 use Rattle.tx_memory.specs.View.{View, Sees}
@@ -20,22 +20,22 @@ use Rattle.vac_tasks.specs.declared.trip.Choices.{Choices}
 use Rattle.vac_tasks.specs.declared.trip.Owner.{Owner}
 use Rattle.vac_tasks.specs.Runs.{Runs}
 
--- the id and the price of what is chosen
+-- the id and the price of a choice
 abbrev pub priced : Option Choice → Option (ℕ × ℕ)
 priced None = None
 priced (Some c) = Some (c.id, c.price)
 
--- what is chosen of a kind
+-- the choice of a kind
 abbrev pub choice_in : Choices → Kind → Option Choice
 choice_in cs Car = cs.car
 choice_in cs Flight = cs.flight
 choice_in cs Room = cs.room
 
--- whether anything is chosen
+-- true if any item is chosen
 abbrev pub any_chosen : Choices → Bool
 any_chosen cs = is_some cs.car || is_some cs.flight || is_some cs.room
 
--- the dearer of two, and the first of two that cost the same
+-- the dearer of two choices; the first one if both cost the same
 abbrev pub dearer_of : Option Choice → Option Choice → Option Choice
 dearer_of best None = best
 dearer_of None (Some found) = Some found
@@ -48,37 +48,38 @@ with_found cs Car found = record cs { car = dearer_of cs.car found }
 with_found cs Flight found = record cs { flight = dearer_of cs.flight found }
 with_found cs Room found = record cs { room = dearer_of cs.room found }
 
--- the item is one of this kind, in the block that is noted
+-- the choice is an item of this kind, in the recorded block
 pub record IsKnownItem (s : View) (kind : Kind) (c : Choice) : Type 0 where
   pub id : is_id c.id ≡ true
   pub at : HasItemAt s kind c.id c.item
 
--- each item that is chosen is of its kind, in the block that is noted
+-- each chosen item is of its kind, in the recorded block
 pub record AreKnownItems (s : View) (cs : Choices) : Type 0 where
   pub known : (kind : Kind) → IfSome (choice_in cs kind) (λ c. IsKnownItem s kind c)
 
--- under each image of the memory's size the item is one of this kind, in the block that is noted
--- (which is what a booking asks for)
+-- under each possible image of the memory's size the choice is an item of this kind, in the
+-- recorded block (a booking requires this)
 pub record ChoiceIsAt (s : View) (kind : Kind) (c : Choice) : Type 0 where
   pub id : is_id c.id ≡ true
   pub at : ItemIsAt s kind c.id c.item
 
--- under each image of the memory's size each item that is chosen is of its kind, in the block that
--- is noted
+-- under each possible image of the memory's size each chosen item is of its kind, in the recorded
+-- block
 pub record ChoicesAreAt (s : View) (cs : Choices) : Type 0 where
   pub known : (kind : Kind) → IfSome (choice_in cs kind) (λ c. ChoiceIsAt s kind c)
 
--- what is chosen of a kind is in the block that is noted
+-- the chosen item of a kind is in the recorded block
 abbrev pub IsChoiceAt : {m : ℕ → ℕ} {n : ℕ} {s : State} → IsState m n s → Kind → Option Choice →
     Type 0
 IsChoiceAt h kind choice = IfSome choice (λ c. item_block h kind c.id ≡ c.item)
 
--- all that is chosen is in the blocks that are noted
+-- all chosen items are in the recorded blocks
 pub record AtChoices (cs : Choices) (m : ℕ → ℕ) (n : ℕ) (s : State) (h : IsState m n s) : Type 0
   where
     pub at : (kind : Kind) → IsChoiceAt h kind (choice_in cs kind)
 
--- only reads were made, and under each image this is the item with its price, if it is there
+-- only reads were made, and under each possible image the result is the item with its price, if
+-- the item exists
 pub record LookedUp (s s' : View) (kind : Kind) (id : ℕ) (found : Option Choice) : Type 0 where
   pub reads : OnlyRead s s'
   pub price : (image : List ℕ) (state : State) → Sees s' image →
@@ -87,7 +88,7 @@ pub record LookedUp (s s' : View) (kind : Kind) (id : ℕ) (found : Option Choic
   pub asked : IfSome found (λ c. c.id ≡ id)
   pub known : IfSome found (λ c. IsKnownItem s' kind c)
 
--- only reads were made, and under each image these are the definition's choices
+-- only reads were made, and under each possible image the choices are those of the definition
 pub record Chosen (s s' : View) (asks : List Place) (cs : Choices) : Type 0 where
   pub reads : OnlyRead s s'
   pub are : (image : List ℕ) (state : State) → Sees s' image →
@@ -95,30 +96,30 @@ pub record Chosen (s s' : View) (asks : List Place) (cs : Choices) : Type 0 wher
       choice_of state kind asks ≡ priced (choice_in cs kind)
   pub known : AreKnownItems s' cs
 
--- the block of the customer; where there is none, the customer is missing
+-- the block of the customer, or none if the customer is missing
 abbrev pub IsOwner : View → ℕ → Option ℕ → Type 0
 IsOwner s id block =
     MatchOption block (CustomerIsMissing s id) (λ c. CustomerIsAt s id c)
 
--- the block of the customer in one image that represents a state; where there is none, the
--- customer is missing
+-- the block of the customer in one image that represents a state, or none if the customer is
+-- missing
 abbrev pub IsOwnerAt : {m : ℕ → ℕ} {n : ℕ} {s : State} → IsState m n s → ℕ → Option ℕ → Type 0
 IsOwnerAt h id block =
     MatchOption block (customer_block h id ≡ 0) (λ c. customer_block h id ≡ c)
 
--- the customer and what is chosen of a kind are in these blocks
+-- the customer and the chosen item of a kind are in these blocks
 pub record AtPick (id : ℕ) (block : Option ℕ) (kind : Kind) (choice : Option Choice)
     (m : ℕ → ℕ) (n : ℕ) (s : State) (h : IsState m n s) : Type 0 where
   pub owner : IsOwnerAt h id block
   pub chosen : IsChoiceAt h kind choice
 
--- the state after the customer was asked for, and what became of the customer
+-- the state after NewCustomer was run for the customer, and the result for the trip
 abbrev pub asked_to_join : ℕ → State → State × Joined
 asked_to_join id s =
     ((step s (command.NewCustomer id)).0, joined_of (step s (command.NewCustomer id)).1)
 
--- under each image the customer was asked for, this is the customer's block now, and the items are
--- in the same blocks as before
+-- under each possible image NewCustomer was run for the customer, the result has the customer's
+-- block, and the items are in the same blocks as before
 pub record HasJoined (s s' : View) (id : ℕ) (owner : Owner) : Type 0 where
   pub runs : Runs s s' (asked_to_join id) owner.joined
   pub room : IsWithin s' owner.block

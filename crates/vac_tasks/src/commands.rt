@@ -1,4 +1,4 @@
-//! Each command by its body.
+//! The body of each command.
 
 ghost use Rattle.std.specs.Prelude.{◌≡◌, IfOk, IfErr, true};
 ghost use Rattle.vac_model.specs.Run.{refusal_of};
@@ -14,7 +14,7 @@ use vac_commands::{
 use vac_model::{Command, Reply, Why};
 use vac_report::report;
 
-/// Whether the command only asks.
+/// Returns whether the command is a question, which changes nothing.
 pub(crate) fn asks_only(command: &Command) -> bool
     ensures { result ≡ is_question command.now }
 {
@@ -24,7 +24,7 @@ pub(crate) fn asks_only(command: &Command) -> bool
     )
 }
 
-/// Why a reply refused, if it did.
+/// Returns the reason of a refusal, or `None` if the reply is no refusal.
 pub(crate) fn refusal(reply: &Reply) -> Option<Why>
     ensures { result ≡ refusal_of reply.now }
 {
@@ -34,7 +34,7 @@ pub(crate) fn refusal(reply: &Reply) -> Option<Why>
     }
 }
 
-/// Runs a command that only asks.
+/// Runs a question.
 pub(crate) fn read_command<M: TxRead>(memory: &mut M, command: Command) -> Result<Reply, M::Stop>
     requires state { HoldsState (M.view memory.old) }
     requires asks { is_question command ≡ true }
@@ -64,7 +64,7 @@ pub(crate) fn read_command<M: TxRead>(memory: &mut M, command: Command) -> Resul
     }
 }
 
-/// Runs a command. New entries take their blocks from free list `start` on.
+/// Runs a command. New entries take their blocks from the free lists, beginning with list `start`.
 pub(crate) fn run_command<M: TxMem>(
     memory: &mut M,
     command: Command,

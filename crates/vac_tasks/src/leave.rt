@@ -1,4 +1,4 @@
-//! Leaving: a bill, and the end of a customer.
+//! Leaves: a bill, and the removal of the customer.
 
 ghost use Rattle.std.specs.Prelude.{◌≡◌, IfOk, true};
 ghost use Rattle.vac_model.specs.Ranges.{is_task};
@@ -10,7 +10,7 @@ use tx_memory::TxMem;
 use vac_commands::{bill_at, drop_customer_at, find_customer};
 use vac_model::{Reply, Task};
 
-/// Returns the bill of a customer who is there, and deletes that customer.
+/// Returns the bill of a customer, if the customer exists, and deletes the customer.
 pub(crate) fn leave<M: TxMem>(
     memory: &mut M,
     customer: u32,

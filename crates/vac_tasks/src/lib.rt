@@ -1,10 +1,10 @@
 //! The tasks of the reservation system as the bodies of transactions, over any memory that holds a
 //! state.
 //!
-//! Each meets the definition of the same task (`vac_model`), under every image that agrees with
-//! what was read. A task finds an entry that is there and stays by one walk down its table; one
-//! that is made or removed is looked up again where it enters or leaves its table. No call takes
-//! memory of its own.
+//! Each task meets the definition of the same task in `vac_model`, under every image that agrees
+//! with what was read. A task finds an entry that stays by one walk down its table; an entry that
+//! is made or removed is looked up again when it enters or leaves its table. No call takes memory
+//! of its own.
 #![tactic(auto)]
 
 mod commands;

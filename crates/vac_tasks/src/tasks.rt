@@ -14,7 +14,7 @@ use tx_alloc::FreeList;
 use tx_memory::{TxMem, TxRead};
 use vac_model::{Reply, Task};
 
-/// Whether the task is one that only reads.
+/// Returns whether the task only reads.
 pub fn only_reads(task: &Task) -> bool
     ensures { result ≡ reading.only_reads task.now }
 {
@@ -41,7 +41,7 @@ pub fn read_task<M: TxRead>(memory: &mut M, task: &Task) -> Result<Reply, M::Sto
     read_command(memory, *command)
 }
 
-/// Runs a task. New entries take their blocks from free list `start` on.
+/// Runs a task. New entries take their blocks from the free lists, beginning with list `start`.
 pub fn run_task<M: TxMem>(memory: &mut M, task: &Task, start: FreeList) -> Result<Reply, M::Stop>
     requires state { HoldsState (M.view memory.old) }
     requires range { is_task task.now ≡ true }

@@ -1,4 +1,4 @@
-//! Trips: of each kind the dearest of the items that were asked for, for one customer.
+//! Trips: for one customer, a booking of the dearest item of each kind among the asks.
 
 ghost use Rattle.std.specs.Prelude.{◌≡◌, IfOk, IfSome, true};
 ghost use Rattle.std.specs.List.{list_all};
@@ -26,7 +26,7 @@ struct Choice {
     item: Block,
 }
 
-/// Of each kind the dearest item so far.
+/// The dearest item of each kind so far.
 #[derive(Clone, Copy)]
 struct Choices {
     car: Option<Choice>,
@@ -34,14 +34,14 @@ struct Choices {
     room: Option<Choice>,
 }
 
-/// What became of the customer of a trip, and the customer's block, if the customer is there.
+/// The result of the customer's part of a trip, and the customer's block, if the customer exists.
 #[derive(Clone, Copy)]
 struct Owner {
     joined: Joined,
     block: Option<Block>,
 }
 
-/// The dearer of two items; the first of two that cost the same.
+/// Returns the dearer of two items; the first one if both cost the same.
 fn dearer(best: Option<Choice>, found: Option<Choice>) -> Option<Choice>
     ensures { result ≡ dearer_of best found }
 {
@@ -59,14 +59,14 @@ fn dearer(best: Option<Choice>, found: Option<Choice>) -> Option<Choice>
 }
 
 impl Choices {
-    /// Whether anything is chosen.
+    /// Returns whether any item is chosen.
     fn are_any(&self) -> bool
         ensures { result ≡ any_chosen self.now }
     {
         self.car.is_some() || self.flight.is_some() || self.room.is_some()
     }
 
-    /// Chooses what was found, where it is dearer than the choice so far.
+    /// Chooses an item that was found, if it is dearer than the choice so far.
     fn see(&mut self, kind: Kind, found: Option<Choice>)
         ensures { self.new ≡ with_found self.old kind found }
     {
@@ -78,7 +78,8 @@ impl Choices {
     }
 }
 
-/// An item with its price and its block, if it is there.
+/// Looks up an item with its price and its block, if the item exists.
+#[inline(always)]
 fn look_up<M: TxRead>(memory: &mut M, kind: Kind, id: u32) -> Result<Option<Choice>, M::Stop>
     requires state { HoldsState (M.view memory.old) }
     requires range { is_id id ≡ true }
@@ -93,7 +94,7 @@ fn look_up<M: TxRead>(memory: &mut M, kind: Kind, id: u32) -> Result<Option<Choi
     Ok(Some(Choice { id, price, item }))
 }
 
-/// Looks each ask up once, and chooses the dearest of each kind.
+/// Looks up each ask once, and chooses the dearest item of each kind.
 fn choose<M: TxRead>(memory: &mut M, asks: &[(Kind, u32)]) -> Result<Choices, M::Stop>
     requires state { HoldsState (M.view memory.old) }
     requires range { list_all (λ ask. is_id ask.1) asks.now ≡ true }
@@ -113,7 +114,7 @@ fn choose<M: TxRead>(memory: &mut M, asks: &[(Kind, u32)]) -> Result<Choices, M:
     Ok(choices)
 }
 
-/// Looks for the customer once, and makes one who is missing.
+/// Looks up the customer once, and makes the customer if missing.
 fn join<M: TxMem>(memory: &mut M, customer: u32, start: FreeList) -> Result<Owner, M::Stop>
     requires state { HoldsState (M.view memory.old) }
     requires range { is_id customer ≡ true }
@@ -139,7 +140,7 @@ fn join<M: TxMem>(memory: &mut M, customer: u32, start: FreeList) -> Result<Owne
     }
 }
 
-/// Books one unit of what was chosen of a kind. Without a customer the pick is refused.
+/// Books one unit of the chosen item of a kind. Without a customer the pick is refused.
 fn reserve_choice<M: TxMem>(
     memory: &mut M,
     customer: u32,
@@ -186,7 +187,7 @@ fn reserve_choice<M: TxMem>(
     }))
 }
 
-/// Sees to the customer, and books what was chosen: a car, a flight, a room.
+/// Finds or makes the customer, and books the chosen items: a car, a flight, a room.
 fn book_choices<M: TxMem>(
     memory: &mut M,
     customer: u32,
@@ -219,8 +220,8 @@ fn book_choices<M: TxMem>(
     }))
 }
 
-/// Finds the item of each ask once, picks the dearest of each kind, sees to the customer, and
-/// books one unit of each pick.
+/// Looks up the item of each ask once, picks the dearest item of each kind, finds or makes the
+/// customer, and books one unit of each pick.
 pub(crate) fn trip<M: TxMem>(
     memory: &mut M,
     customer: u32,

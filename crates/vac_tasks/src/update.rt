@@ -11,7 +11,7 @@ use tx_memory::TxMem;
 use vac_model::limits::MOST_PARTS;
 use vac_model::{Command, Reply, Task, UpdateReply};
 
-/// Makes the changes in their order. A refusal is noted, and the next change follows.
+/// Makes the changes in their order. A refusal is recorded, and the next change follows.
 pub(crate) fn update<M: TxMem>(
     memory: &mut M,
     changes: &[Command],

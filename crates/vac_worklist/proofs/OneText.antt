@@ -1,4 +1,4 @@
--- A load has one text of its tasks.
+-- A load has exactly one text of its tasks.
 use Rattle.std.proofs.Common.{◌≡◌, ◌∙◌, ◌⊎◌, inl, inr, refl, sym, ap, subst, ℕ, zero, suc, ◌*◌, List, [], ◌∷◌, ◌++◌}
 use Rattle.std.proofs.Common.{Option, Some, append-nil, flat_map}
 use Rattle.rand_pcg.specs.Lcg.{Lcg}
@@ -10,14 +10,14 @@ use Rattle.vac_worklist.specs.Worklist.{DrawnLines, IsTextOf, opening_line, task
 use Rattle.vac_worklist.specs.Laws.{HasOneText}
 use Rattle.vac_worklist.proofs.Totals.{opening_total, times_total, task_total}
 
--- some words more
+-- some more words
 abbrev IsFrontOf : List ℕ → List ℕ → Type 0
 IsFrontOf xs ys = (more : List ℕ) × (ys ≡ xs ++ more)
 
 further : (w u : ℕ) (ws us : List ℕ) → w ≡ u → IsFrontOf ws us → IsFrontOf (w ∷ ws) (u ∷ us)
 further w u ws us e p = (p.0, ap (λ (x : ℕ). x ∷ us) (sym e) ∙ ap (λ (l : List ℕ). w ∷ l) p.1)
 
--- of two runs of words from one state one goes on with the other
+-- of two runs of words from one state, one continues the other
 one_run : (a : Lcg) (ws : List ℕ) (b : Lcg) (us : List ℕ) (c : Lcg) → Drew gives a ws b → Drew gives a us c →
     IsFrontOf ws us ⊎ IsFrontOf us ws
 one_run a [] b us c p q = inl (us, refl)
@@ -37,7 +37,7 @@ some_read {X} x y us ws e =
     let f : ◌≡◌ {A = X × List ℕ} (x, us) (y, ws) = cc in
     ap (λ (p : X × List ℕ). p.0) f
 
--- what is read of words and of words that go on with them is the same
+-- words and words that continue them are read as the same value
 same_read : {X : Type 0} (reader : Reader X) (ws us : List ℕ) (x y : X) → IsFrontOf ws us → Reads reader ws x →
     Reads reader us y → x ≡ y
 same_read reader ws us x y p q r =
@@ -65,7 +65,7 @@ one_text_of s (suc n) x y p q =
     (one_lines (times_over (s.rounds * s.tasks) (task_of s)) (task_line (suc n))
     (stream_of s.seed (suc n)) p.3.0 q.3.0 p.1 q.1 p.3.1 q.3.1) ∙ sym q.4
 
--- there is one
+-- there is a text
 text_of : (s : Settings) (n : ℕ) → (x : List ℕ) × IsTextOf s n x
 text_of s zero =
     let first = opening_total s (stream_of s.seed 0) in

@@ -25,7 +25,7 @@ use Rattle.vac_lines.proofs.Spacing.{Each, each_all, each_both}
 use Rattle.vac_worklist.specs.Laws.{IsReadBack, AreReadBack}
 use Rattle.vac_worklist.proofs.OneText.{some_read}
 
--- whatever words are drawn, what is read of them is so
+-- whatever words are drawn, the value read from them has the property
 abbrev Yields : {X : Type 0} → (X → Type 0) → Reader X → Type 0
 Yields {X} P reader = (words rest : List ℕ) (x : X) → reader words ≡ Some (x, rest) → P x
 
@@ -80,7 +80,7 @@ pub yields_times : {X : Type 0} (P : X → Type 0) (reader : Reader X) (n : ℕ)
     Yields (Each P) (times_over n reader)
 yields_times P reader n p = yields_for_each P (λ _. one reader) n n (omega arith) (λ k some few. yields_one P reader p)
 
--- so many of them are read
+-- this many values are read
 yields_length : {X : Type 0} (reader : Reader X) (n : ℕ) → Yields (λ xs. length xs ≡ n) (times_over n reader)
 yields_length reader zero = yields_always (λ xs. length xs ≡ 0) [] refl
 yields_length reader (suc n) =
@@ -109,7 +109,7 @@ or_true : (a b : Bool) → b ≡ true → (a || b) ≡ true
 or_true true b p = refl
 or_true false b p = p
 
--- the ranges of the settings that tasks are drawn by
+-- the ranges of the settings from which tasks are drawn
 record IsSmall (s : Settings) : Type 0 where
   pub some_items : 1 ≤ s.items
   pub few_items : s.items ≤ 65536
@@ -165,7 +165,7 @@ yields_ask s i =
     (yields_any kind)
     (λ k _. yields_then IsItem (λ a. is_id a.1 ≡ true) (up_to s.items) (λ id. (k, id)) (yields_item s i) item_id)
 
--- a task in its ranges whose line fits
+-- a valid task whose line fits
 abbrev IsGood : Task → Type 0
 IsGood t = (is_task t ≡ true) × (is_fitting t ≡ true)
 
@@ -288,7 +288,7 @@ yields_task s i =
     (yields_after (λ _. Unit {0}) IsGood (below PERCENT) (λ r. mixed_at s r) (yields_any (below PERCENT))
     (λ r _. yields_if IsGood (nat_lt r s.reads) (question s) (work s) (yields_question s i) (yields_work s i)))
 
--- the opening
+-- the commands of the setup phase
 abbrev IsCommand : Command → Type 0
 IsCommand c = is_command c ≡ true
 
@@ -326,7 +326,7 @@ yields_opening s i =
     (yields_for_each IsCommand stocks 65536 s.items i.few_items (λ k some few. yields_stocks k (some, few)))
     (λ items h. each_both IsCommand items (customers s.items) h (customers_in s.items i.few_items))
 
--- what is in its ranges and fits is read back
+-- a valid task whose line fits is read back
 good_read : TaskTextsAreRead → TaskTextsFit → (t : Task) → IsGood t → IsReadBack t
 good_read read fit t h = let few = fit t h.0 h.1 in record { range = h.0; fits = few; read = read t h.0 few }
 

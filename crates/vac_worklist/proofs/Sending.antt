@@ -50,7 +50,7 @@ module _ {X : Type 0} (line : X → List ℕ) where
     written = part_second held holds grown hand hand' p.text q.text p.sent q.written;
   }
 
-  -- what would have come behind it
+  -- the lines that would have followed
   pub part_before : (first second : Reader (List X)) (a : Lcg) (held holds : Option (List ℕ)) (hand : List ℕ)
       → IsTotal second → SentInPart first line a held holds hand →
       SentInPart (joined first second) line a held holds hand
@@ -92,7 +92,7 @@ module _ {X : Type 0} (line : X → List ℕ) where
       (part_before (for_each (n + m) f) (f (suc (n + m))) a held holds hand (total (suc (n + m)))
       (longer f total m n a held holds hand p))
 
-  -- one of them was sent in part
+  -- one of the lines was sent in part
   pub part_more : (f : ℕ → Reader (List X)) → ((k : ℕ) → IsTotal (f k)) → (n all : ℕ) → n < all →
       (a b : Lcg) (held holds grown : Option (List ℕ)) (hand hand' : List ℕ)
       → SentLines (for_each n f) line a b held holds hand hand' → SentInPart (f (n + 1)) line b holds grown hand' →
@@ -139,7 +139,7 @@ part_task s client a b result t held holds hand is d w =
       written = w;
     }
 
--- a task that was drawn and not built
+-- a task that was drawn, but not built for lack of memory
 pub unbuilt_task : {E : Type 0} (s : Settings) (client : ℕ) (a b : Lcg) (result : Result Task E)
     (held : Option (List ℕ)) (hand : List ℕ)
     → DrawnTask gives (task_of s) a result b → SentInPart (one (task_of s)) (task_line client) a held held hand
@@ -187,7 +187,7 @@ customer_sent n held holds grown hand hand' hand'' p q =
     rw (made_more n) (sent_both held holds grown hand hand' hand'' (made n)
     (opening_line (command.NewCustomer (n + 1))) p q)
 
--- customers more
+-- more customers
 made_longer : (held holds : Option (List ℕ)) (hand : List ℕ) (m n : ℕ) → AppendsPrefix held holds (hand ++ made n) →
     AppendsPrefix held holds (hand ++ made (n + m))
 made_longer held holds hand zero n p =
@@ -212,7 +212,7 @@ customer_in_part n all less held holds grown hand hand' p q =
     (prefix_is held grown (hand ++ (made n ++ line)) (hand ++ made (n + 1)) (ap (λ t. hand ++ t) (sym (made_more n)))
     (part_second held holds grown hand hand' (made n) line p q)))
 
--- the opening
+-- the lines of the setup phase
 lines_opening : (s : Settings) (a b : Lcg) (x : List ℕ) → DrawnLines (for_each s.items stocks) opening_line a b x →
     DrawnLines (opening s) opening_line a b (x ++ made s.items)
 lines_opening s a b x p = record {

@@ -1,4 +1,4 @@
--- From each state of a generator the words are drawn that a reader of tasks asks for.
+-- From each state of a generator, the words that a reader of tasks needs are drawn.
 use Rattle.std.proofs.Common.{refl, ℕ, zero, suc, ◌+◌, ◌*◌, ◌==◌, ◌%◌, Bool, true, false, if◌then◌else◌, nat_lt, List}
 use Rattle.std.proofs.Common.{[], ◌∷◌, ◌++◌, Some}
 use Rattle.rand_pcg.specs.Lcg.{Lcg}

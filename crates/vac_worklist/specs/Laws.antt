@@ -1,4 +1,4 @@
--- What holds of the lines of drawn tasks.
+-- Statements on the lines of drawn tasks.
 use Rattle.std.specs.Prelude.{◌≡◌, ◌≤◌, ℕ, List, Some, Ok, All, length, true}
 use Rattle.vac_model.specs.declared.commands.Command.{Command}
 use Rattle.vac_model.specs.declared.tasks.Task.{Task}
@@ -13,30 +13,30 @@ use Rattle.vac_lines.specs.LineTable.{line_task}
 use Rattle.vac_lines.specs.TaskText.{task_text}
 use Rattle.vac_worklist.specs.Worklist.{IsTasksText}
 
--- a load of these settings has one text of its tasks, and no other
+-- a load with these settings has exactly one text of its tasks
 pub record HasOneText (s : Settings) : Type 0 where
   pub text : List ℕ
   pub is : IsTasksText s text
   pub only : (other : List ℕ) → IsTasksText s other → other ≡ text
 
--- whatever the settings, a load of them has one text of its tasks
+-- every load, whatever its settings, has exactly one text of its tasks
 abbrev pub TasksHaveOneText : Type 0
 TasksHaveOneText = (s : Settings) → HasOneText s
 
--- a task can be asked for, its line is no longer than a line may be, and it is read as that task
+-- the task is valid, its line is no longer than a line may be, and the line is read as that task
 pub record IsReadBack (t : Task) : Type 0 where
   pub range : is_task t ≡ true
   pub fits : length (task_text t) ≤ LINE_BYTES
   pub read : line_task (task_text t) ≡ Ok t
 
--- the line of each command of the opening, and of each task of a client, is no longer than a line
--- may be and is read as that task, whatever words are drawn
+-- the line of each command of the setup phase, and of each task of a client, is no longer than a
+-- line may be and is read as that task, whatever words are drawn
 pub record AreReadBack (s : Settings) : Type 0 where
   pub of_opening : (words rest : List ℕ) (commands : List Command)
       → opening s words ≡ Some (commands, rest) → All (λ c. IsReadBack (task.One c)) commands
   pub of_client : (n : ℕ) (words rest : List ℕ) (tasks : List Task)
       → times_over n (task_of s) words ≡ Some (tasks, rest) → All IsReadBack tasks
 
--- the lines of all drawn tasks are read back, where the settings fit each other
+-- if the settings are valid, the lines of all drawn tasks are read back
 abbrev pub DrawnLinesAreRead : Type 0
 DrawnLinesAreRead = (s : Settings) → is_settings s ≡ true → AreReadBack s

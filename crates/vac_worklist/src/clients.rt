@@ -14,7 +14,7 @@ use std::alloc::Global;
 use std::io::Write;
 use vac_draws::{PcgDraws, Settings, draw_task};
 
-/// Draws the tasks of a client in all rounds, one after the other, and sends their lines.
+/// Draws the tasks of a client in all rounds, and sends their lines.
 pub(crate) fn send_tasks<W: Write>(
     alloc: Global,
     output: &mut W,

@@ -1,11 +1,11 @@
-//! Why the tasks of a load were not written to their end.
+//! The reasons why the tasks of a load were not written to their end.
 
 ghost use Rattle.std.specs.Prelude.{◌≡◌};
 
 use std::alloc::AllocError;
 use thiserror::Error;
 
-/// Why the tasks of a load were not written to their end.
+/// The reason why the tasks of a load were not written to their end.
 #[derive(Clone, Copy, Debug, PartialEq, Eq, Error)]
 pub enum TasksFault {
     /// A setting is out of its range.
@@ -14,7 +14,7 @@ pub enum TasksFault {
     /// Memory was refused.
     #[error("out of memory")]
     Memory,
-    /// The output could not be written, or a write took nothing.
+    /// The output could not be written, or a write wrote no byte.
     #[error("the output could not be written")]
     Write,
 }

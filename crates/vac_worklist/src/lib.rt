@@ -1,5 +1,5 @@
-//! The work of a load as lines: the commands of its opening and the tasks of its clients, each
-//! after the number of its client. No manager is needed to write them.
+//! The workload of a load as lines: the commands of its setup phase and the tasks of its clients,
+//! each after the number of its client. Writing them needs no manager.
 #![tactic(auto)]
 
 mod clients;

@@ -13,7 +13,7 @@ use vac_lines::{print_reply, print_task};
 use vac_model::{Reply, Task};
 use vac_streams::send_chunk;
 
-/// Appends the line of a client's task.
+/// Appends the line of a client's task to the buffer.
 fn append_line(hand: &mut Vec<u8>, client: u32, task: &Task) -> Result<(), AllocError>
     ensures { OnOk result (hand.new.items ≡ hand.old.items ++ task_line client task.now) }
 {
@@ -23,7 +23,7 @@ fn append_line(hand: &mut Vec<u8>, client: u32, task: &Task) -> Result<(), Alloc
     hand.extend_from_slice(b"\n")
 }
 
-/// Sends the line of a client's task.
+/// Appends the line of a client's task to the buffer, which is written if it has a chunk.
 pub(crate) fn send_line<W: Write>(
     output: &mut W,
     hand: &mut Vec<u8>,

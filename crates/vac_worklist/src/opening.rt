@@ -1,4 +1,4 @@
-//! The lines of the opening.
+//! The lines of the setup phase.
 
 ghost use Rattle.std.specs.Prelude.{◌≡◌, ◌≢◌, ◌<◌, ◌++◌, ◌^◌, true, OnOk, OnErr, IfErr, flat_map};
 ghost use Rattle.vac_model.specs.Amounts.{is_id};
@@ -17,10 +17,10 @@ use std::io::Write;
 use vac_draws::{PcgDraws, Settings, draw_stock};
 use vac_model::{Command, Kind, Task};
 
-/// The number of the client under which the opening's commands are written.
+/// The client under which the commands of the setup phase are written.
 pub const OPENING: u32 = 0;
 
-/// Sends the command that adds an item of this kind.
+/// Sends the line of the command that adds an item of this kind.
 fn send_stock<W: Write>(
     output: &mut W,
     hand: &mut Vec<u8>,
@@ -39,7 +39,7 @@ fn send_stock<W: Write>(
     send_line(output, hand, OPENING, &Task::One(command))
 }
 
-/// Sends the commands that add an item of each kind, for each id from 1 on.
+/// Sends the lines of the commands that add an item of each kind, for each id from 1 on.
 fn send_items<W: Write>(
     output: &mut W,
     hand: &mut Vec<u8>,
@@ -63,7 +63,7 @@ fn send_items<W: Write>(
     Ok(())
 }
 
-/// Sends the commands that make the customers from 1 on.
+/// Sends the lines of the commands that create the customers from 1 on.
 fn send_customers<W: Write>(
     output: &mut W,
     hand: &mut Vec<u8>,
@@ -82,7 +82,7 @@ fn send_customers<W: Write>(
     Ok(())
 }
 
-/// Sends the commands of the opening, drawn from stream 0.
+/// Sends the lines of the commands of the setup phase, drawn from stream 0.
 pub(crate) fn send_opening<W: Write>(
     output: &mut W,
     hand: &mut Vec<u8>,

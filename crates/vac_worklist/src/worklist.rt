@@ -14,7 +14,7 @@ use std::io::Write;
 use vac_draws::{PcgDraws, Settings};
 use vac_streams::send_rest;
 
-/// Sends the lines of the opening and of all clients.
+/// Sends the lines of the setup phase and of all clients.
 fn send_all<W: Write>(
     alloc: Global,
     output: &mut W,
@@ -39,14 +39,14 @@ fn send_all<W: Write>(
     Ok(())
 }
 
-/// Writes the tasks of a load with these settings, one a line as `CLIENT LINE`, LINE being what
-/// [`print_task`](vac_lines::print_task) prints: first the commands of the opening as those of
-/// client 0, then the tasks of client 1 in all rounds, then those of client 2, and so on. They are
-/// exactly those of the load with these settings. Its clients' tries, its blocks and its last
-/// version change nothing, but must be in their ranges.
+/// Writes the tasks of a load with these settings, one a line as `CLIENT LINE`, LINE being the
+/// output of [`print_task`](vac_lines::print_task). The commands of the setup phase come first,
+/// under client 0, then the tasks of client 1 in all rounds, then those of client 2, and so on.
+/// The tasks are exactly those of the load with these settings. The settings for attempts, blocks
+/// and the last version change nothing, but must be in their ranges.
 ///
-/// Takes memory for one chunk of text and one task. After a fault, what was written is nothing or
-/// a prefix of the whole.
+/// Takes memory for one chunk of text and one task. After a fault, nothing or a prefix of the
+/// whole text was written.
 pub fn write_tasks<W: Write>(
     alloc: Global,
     settings: &Settings,

@@ -6,7 +6,7 @@ use Rattle.vac_lines.specs.Names.{line_name}
 use Rattle.vac_lines.specs.LineTable.{named_change, change_line}
 use Rattle.vac_lines.proofs.lists.read_change.Goals as goal
 
--- a change is what its first word names
+-- a change is the command that its first word names
 named : (words : List (Bor (List ℕ))) (word : Bor (List ℕ)) (rest : List (Bor (List ℕ))) (name : Option LineName) →
     words ≡ word ∷ rest → name ≡ line_name word.now → named_change name (texts rest) ≡ change_line (texts words)
 named words word rest name e f =

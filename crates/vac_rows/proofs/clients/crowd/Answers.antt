@@ -3,7 +3,7 @@ use Rattle.vac_manager.specs.declared.client.Client.{Client}
 use Rattle.vac_rows.proofs.Behind.{all_more}
 use Rattle.vac_rows.proofs.clients.crowd.Goals as goal
 
--- src/clients.rt:35:5
+-- one more client that belongs to the manager
 pub loop-id-preserved : goal.loop-id-preserved
 loop-id-preserved g c = (
   search rules,

@@ -4,7 +4,7 @@ use Rattle.vac_streams.specs.Feeding.{HasBegun}
 use Rattle.vac_streams.proofs.Telling.{HeardTo}
 use Rattle.vac_streams.proofs.reading.read_lines.Given as goal
 
--- the chunks so far are read, and their lines are told
+-- the chunks so far were read, and their lines were passed
 abbrev pub invariant-reads : goal.invariant-reads
 invariant-reads g l = record {
   longest : l.lines.longest ≡ l.fn.longest;

@@ -3,7 +3,7 @@ use Rattle.vac_streams.specs.Feeding.{HasBegun}
 use Rattle.vac_streams.proofs.Telling.{FedTo}
 use Rattle.vac_streams.proofs.lines.Lines.feed.Given as goal
 
--- the lines so far are told: whatever follows the chunk follows the rest
+-- the lines so far were passed: whatever follows the chunk follows the rest
 abbrev pub invariant-loop-line : goal.invariant-loop-line
 invariant-loop-line g l = record {
   longest : l.self.longest ≡ l.initial.self.longest;

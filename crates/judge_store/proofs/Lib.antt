@@ -1,4 +1,0 @@
-pub mod Cutting
-pub mod Histories
-pub mod WordPlaces
-pub mod Legal

@@ -1,9 +1,0 @@
-use Rattle.std.proofs.Common.{length}
-use Rattle.judge_store.proofs.Histories.{HasReadTo}
-use Rattle.judge_store.proofs.history.read_history.Given as goal
-
-abbrev pub invariant-lines : goal.invariant-lines
-invariant-lines l = HasReadTo l.text l.lines.items l.rest
-
-abbrev pub decreases-lines : goal.decreases-lines
-decreases-lines l = length l.rest

@@ -1,4 +1,0 @@
-pub mod Client
-pub mod Order
-pub mod Laws
-pub mod Keeping
