@@ -19,13 +19,13 @@ STALE = [
     ("stm_words", "clause of the version's new"),
     ("stm_words", "clause of Version::free"),
     ("stm_words", "clause `free` of Version::new"),
-    ("bank", "clause `told` of Move::run: its trait has no such clause"),
+    ("ex_bank", "clause `told` of Move::run: its trait has no such clause"),
     ("tx_observed", "clause `heard` of Observed: it has no such ghost field"),
-    ("vac_cli", "row cli_rows: writes_that_fail"),
-    ("vac_cli", "row cli_rows: flushes_that_fail: two tests have this name"),
-    ("vac_cli", "row cli_rows: work::flushes_that_fail: it stands in two other modules"),
-    ("vac_cli", "row stm_rows: a_cleared_write_log_keeps_its_memory: its crate does not stand on this one"),
-    ("vac_cli", "script tests/kinds"),
+    ("cli_main", "row test_cli: writes_that_fail"),
+    ("cli_main", "row test_cli: flushes_that_fail: two tests have this name"),
+    ("cli_main", "row test_cli: work::flushes_that_fail: it stands in two other modules"),
+    ("cli_main", "row test_stm: a_cleared_write_log_keeps_its_memory: its crate does not stand on this one"),
+    ("cli_main", "script tests/kinds"),
 ]
 
 
@@ -97,7 +97,7 @@ def stale(crate, by):
     if label["script"] and not (ROOT / "tests" / label["script"]).is_file():
         return f"there is no script tests/{label['script']}"
     if label["rows"]:
-        if not label["rows"].endswith("_rows") or crate not in below(label["rows"]):
+        if not label["rows"].startswith("test_") or crate not in below(label["rows"]):
             return f"there is no crate of tests {label['rows']} that stands on {crate}"
         found = tests_named(label)
         if len(found) != 1:

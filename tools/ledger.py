@@ -487,13 +487,13 @@ def is_at_hand(helper, path):
 
 
 class Tests:
-    """The tests of the crates whose names end in `_rows`, and the calls that each of them makes."""
+    """The tests of the crates whose names begin with `test_`, and the calls that each of them makes."""
 
     def __init__(self, crates):
-        self.below = {name: standing_on(crates, name) for name in crates if name.endswith("_rows")}
+        self.below = {name: standing_on(crates, name) for name in crates if name.startswith("test_")}
         self.tests, self.by_call = [], {}
         for name in self.below:
-            shared = [crate for crate in sorted(self.below[name]) if crate.endswith("_rows")]
+            shared = [crate for crate in sorted(self.below[name]) if crate.startswith("test_")]
             found = [f for crate in shared for path in sources(crate) for f in functions(path)]
             calls = {id(f): self.calls_of(f) for f in found}
             by_name = {}
@@ -719,7 +719,7 @@ def page_of(crate, tests, common):
     every = [f for path in sources(crate) for f in functions(path)]
     for function in every:
         function.edits = placed.get((function.file, function.start), [])
-    calls = [f for f in every if is_public(f)] if not crate.endswith("_rows") else []
+    calls = [f for f in every if is_public(f)] if not crate.startswith("test_") else []
     edits = list((CRATES / crate / "must-fail").glob("*.edit"))
     unsaid = sum(len(f.unsaid) for f in every)
     for path in (CRATES / crate / "specs").rglob("*.antt"):

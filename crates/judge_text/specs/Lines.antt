@@ -4,7 +4,7 @@ use Rattle.std.specs.Prelude.{ℕ, ◌-◌, Bool, Option, Some, None, Result, Ok
 use Rattle.std.specs.Str.{bytes_eq}
 use Rattle.vac_lines.specs.Lines.{words_of}
 use Rattle.vac_lines.specs.Words.{memory_word_of}
-use Rattle.vac_clients.specs.Client.{client_number}
+use Rattle.judge_clients.specs.Client.{client_number}
 use Rattle.judge_time.specs.declared.span.Span.{Span}
 use Rattle.judge_time.specs.declared.span.TheConstants.{NEVER}
 use Rattle.judge_object.specs.Call.{Call}

@@ -6,9 +6,9 @@ ghost use Rattle.vac_lines.specs.Lines.{words_of, texts};
 ghost use Rattle.judge_text.specs.Lines.{end_number, words_span, word_reply};
 
 use crate::worded::Worded;
+use judge_clients::read_client;
 use judge_time::{NEVER, Span};
 use std::alloc::{AllocError, Global};
-use vac_clients::read_client;
 use vac_lines::{cut_at, read_memory_word};
 
 /// Cuts a line at every space.

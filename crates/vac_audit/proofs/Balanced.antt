@@ -17,7 +17,7 @@ use Rattle.vac_model.proofs.Ids.{id_between}
 use Rattle.vac_model.proofs.Balance.{some_same}
 use Rattle.vac_model.proofs.Places.{place_cmp-IsAntisymmetric}
 use Rattle.tx_alloc.specs.Rows.{Rows, IsFrom, block_at}
-use Rattle.tx_list.specs.Bookings.{Linked, IsList}
+use Rattle.vac_bookings.specs.Bookings.{Linked, IsList}
 use Rattle.vac_model.specs.Coded.{kind_of_number, kind_back}
 use Rattle.vac_records.specs.Bookings.{place_in, booking_in}
 use Rattle.vac_records.specs.Items.{item_in}

@@ -8,7 +8,7 @@ use Rattle.std.proofs.lemmas.Bool.{cases_lt}
 use Rattle.tx_memory.specs.Seen.{same_or}
 use Rattle.tx_alloc.specs.Pool.{IsBlock}
 use Rattle.tx_alloc.specs.Rows.{Rows}
-use Rattle.tx_list.specs.Bookings.{place_code}
+use Rattle.vac_bookings.specs.Bookings.{place_code}
 use Rattle.vac_audit.specs.Walk.{then, wants, follow, walk_bookings, is_in_order, is_booking, units_in}
 use Rattle.vac_audit.specs.Noted.{AreRising, keys_in, codes_in, blocks_in, booked_in}
 use Rattle.vac_audit.specs.Marks.{Marks, Followed, IsIndex, BookingLooked, Counting, SameItems, BookingsCounted}

@@ -10,9 +10,9 @@ use Rattle.std.proofs.lemmas.Bool.{cases_lt}
 use Rattle.std.proofs.lemmas.Bool.Decides.{nat_tests}
 use Rattle.std.proofs.lemmas.Cmp.{ranked}
 use Rattle.tx_memory.specs.Seen.{same_or}
-use Rattle.tx_list.specs.Bookings.{IsKey, code_of, key_code}
-use Rattle.tx_list.specs.Search.{key_cmp}
-use Rattle.tx_list.specs.declared.key.Key.{Key}
+use Rattle.vac_bookings.specs.Bookings.{IsKey, code_of, key_code}
+use Rattle.vac_bookings.specs.Search.{key_cmp}
+use Rattle.vac_bookings.specs.declared.key.Key.{Key}
 use Rattle.vac_audit.specs.Noted.{InOrder, codes_in}
 use Rattle.vac_audit.specs.declared.notes.NotedItem.{NotedItem}
 use Rattle.vac_audit.proofs.Noted.{no_item, length_codes, code_at, short_at}

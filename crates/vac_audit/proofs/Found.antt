@@ -8,10 +8,10 @@ use Rattle.tx_alloc.specs.Pool.{IsBlock, held, sum_below, with_at}
 use Rattle.tx_alloc.proofs.Sums.{with_else, sum_has}
 use Rattle.tx_alloc.proofs.Chains.{free_block}
 use Rattle.tx_alloc.specs.Rows.{Rows, times}
-use Rattle.tx_list.specs.Bookings.{IsList}
+use Rattle.vac_bookings.specs.Bookings.{IsList}
 use Rattle.tx_alloc.specs.Rows.{IsFrom}
 use Rattle.vac_records.specs.Heap.{Parts, over}
-use Rattle.tx_list.proofs.Frame.{list_block}
+use Rattle.vac_bookings.proofs.Frame.{list_block}
 use Rattle.vac_records.proofs.Overs.{over_has}
 use Rattle.vac_model.specs.declared.replies.Report.{Report}
 use Rattle.vac_audit.specs.Tree.{Tree, leaf, node, rows, is_red, Hangs}

@@ -15,7 +15,7 @@ use Rattle.vac_audit.proofs.States.{customers_of}
 use Rattle.std.specs.List.{sum_by}
 use Rattle.std.proofs.lemmas.List.Sums.{sum_by-cons}
 use Rattle.tx_alloc.specs.Rows.{Rows}
-use Rattle.tx_list.specs.Bookings.{Linked, IsList}
+use Rattle.vac_bookings.specs.Bookings.{Linked, IsList}
 use Rattle.vac_model.specs.Coded.{kind_of_number}
 use Rattle.vac_records.specs.Bookings.{booking_in}
 use Rattle.vac_records.specs.Items.{item_in}

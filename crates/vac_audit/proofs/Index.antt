@@ -8,7 +8,7 @@ use Rattle.std.proofs.lemmas.List.Elements.{All-nil, All-cons, All-append, All-m
 use Rattle.tx_memory.specs.Seen.{same_or}
 use Rattle.tx_alloc.specs.Pool.{IsBlock}
 use Rattle.tx_alloc.specs.Rows.{Rows, block_at}
-use Rattle.tx_list.specs.Bookings.{key_code}
+use Rattle.vac_bookings.specs.Bookings.{key_code}
 use Rattle.vac_audit.specs.Tree.{Tree, leaf, node, rows, is_red}
 use Rattle.vac_audit.specs.Walk.{Seen, Look, above, is_key, is_coloured, walk_tree, walk_table}
 use Rattle.vac_audit.specs.Noted.{AreRising, InOrder, codes_in, blocks_in, noted_of}

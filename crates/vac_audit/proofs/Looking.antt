@@ -5,7 +5,7 @@ use Rattle.std.proofs.lemmas.Bool.Decides.{nat_tests}
 use Rattle.tx_alloc.specs.Pool.{with_at}
 use Rattle.tx_alloc.proofs.Sums.{with_here, with_else}
 use Rattle.tx_alloc.specs.Rows.{Rows, times}
-use Rattle.tx_list.specs.Bookings.{IsList}
+use Rattle.vac_bookings.specs.Bookings.{IsList}
 use Rattle.vac_audit.specs.Walk.{Seen, is_item, look_at_item, look_at_customer, walk_bookings}
 use Rattle.vac_audit.proofs.Sound.{Each, IsItemAt, IsBookingRow}
 use Rattle.vac_audit.specs.declared.Flaw.TheVariants.{Counts}

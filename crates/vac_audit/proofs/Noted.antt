@@ -7,8 +7,8 @@ use Rattle.std.proofs.lemmas.Bool.{cases_lt}
 use Rattle.std.proofs.lemmas.List.{length-map, get_or-map, get_or_past, map-append, map-set, set-get_or}
 use Rattle.std.proofs.lemmas.List.Elements.{All-get_or, All-from_get_or, All-nil, All-cons}
 use Rattle.tx_alloc.specs.Rows.{Rows}
-use Rattle.tx_list.specs.Bookings.{code_of}
-use Rattle.tx_list.specs.declared.key.Key.{Key}
+use Rattle.vac_bookings.specs.Bookings.{code_of}
+use Rattle.vac_bookings.specs.declared.key.Key.{Key}
 use Rattle.vac_audit.specs.Noted.{AreRising, InOrder, keys_in, codes_in, blocks_in, booked_in, noted_of}
 use Rattle.vac_audit.specs.Marks.{SameItems}
 use Rattle.vac_audit.specs.declared.notes.NotedItem.{NotedItem}

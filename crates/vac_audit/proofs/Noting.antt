@@ -7,7 +7,7 @@ use Rattle.std.proofs.lemmas.List.Sums.{sum_by-append}
 use Rattle.tx_alloc.specs.Pool.{held, with_at}
 use Rattle.tx_alloc.specs.Rows.{Rows, times}
 use Rattle.tx_alloc.proofs.Sums.{with_here, with_else}
-use Rattle.tx_list.specs.Bookings.{place_code}
+use Rattle.vac_bookings.specs.Bookings.{place_code}
 use Rattle.vac_model.specs.declared.items.Kind.{Kind}
 use Rattle.vac_model.specs.State.{kind_number}
 use Rattle.vac_records.specs.Heap.{over}

@@ -8,7 +8,7 @@ use Rattle.tx_alloc.specs.Pool.{IsBlock, held, Free}
 use Rattle.tx_alloc.proofs.Chains.{held_first}
 use Rattle.tx_alloc.specs.Rows.{Rows, times}
 use Rattle.tx_alloc.proofs.Times.{times_first}
-use Rattle.tx_list.specs.Bookings.{Linked, place_code}
+use Rattle.vac_bookings.specs.Bookings.{Linked, place_code}
 use Rattle.vac_audit.specs.Walk.{walk_free, walk_bookings, is_in_order, is_booking}
 use Rattle.vac_audit.proofs.Sound.{Each, IsBookingRow}
 use Rattle.vac_audit.specs.declared.Flaw.TheVariants.{Shared, Order, Bookings}

@@ -7,7 +7,7 @@ use Rattle.tx_memory.specs.Seen.{same_or}
 use Rattle.tx_alloc.specs.Rows.{Rows, times}
 use Rattle.tx_alloc.proofs.Order.{from_lower}
 use Rattle.tx_alloc.proofs.Sums.{sum_has}
-use Rattle.tx_list.specs.Bookings.{IsList}
+use Rattle.vac_bookings.specs.Bookings.{IsList}
 use Rattle.tx_tree.specs.Table.{IsTable}
 use Rattle.vac_records.specs.Heap.{Parts, IsHeap}
 use Rattle.vac_records.specs.Represents.{Represents}

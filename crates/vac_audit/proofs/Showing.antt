@@ -18,7 +18,7 @@ use Rattle.vac_model.specs.State.{Bookings, Place, place_cmp, kind_number, table
 use Rattle.vac_model.proofs.Views.{entries_of_sorted}
 use Rattle.vac_model.proofs.Places.{place_cmp_total}
 use Rattle.tx_alloc.specs.Rows.{Rows}
-use Rattle.tx_list.specs.Bookings.{Linked, IsList, IsBookingOfRow}
+use Rattle.vac_bookings.specs.Bookings.{Linked, IsList, IsBookingOfRow}
 use Rattle.vac_records.specs.Heap.{over}
 use Rattle.tx_alloc.specs.Rows.{IsFrom}
 use Rattle.vac_model.specs.Coded.{kind_of_number}

@@ -2,7 +2,7 @@
 use Rattle.std.specs.Prelude.{◌≡◌, ◌≢◌, ℕ, ◌+◌, ◌*◌, ◌^◌, ◌<◌, ◌≤◌, [], ◌∷◌, Ok, false}
 use Rattle.tx_alloc.specs.Pool.{IsPool}
 use Rattle.tx_alloc.specs.Rows.{Rows, IsFrom, block_at}
-use Rattle.tx_list.specs.Bookings.{IsList}
+use Rattle.vac_bookings.specs.Bookings.{IsList}
 use Rattle.vac_records.specs.Heap.{Parts, over, used_in, count_in}
 use Rattle.vac_audit.specs.Tree.{Tree, rows, is_red, IsEven, IsApart, Hangs}
 use Rattle.vac_audit.specs.Walk.{units_in, walk, audit, report_of}

@@ -14,7 +14,7 @@ use Rattle.vac_model.specs.Balanced.{IsItem}
 use Rattle.vac_model.specs.Amounts.{is_id}
 use Rattle.vac_model.proofs.Ids.{id_low, id_high}
 use Rattle.tx_alloc.specs.Rows.{Rows, IsFrom, block_at}
-use Rattle.tx_list.specs.Bookings.{Linked, IsList}
+use Rattle.vac_bookings.specs.Bookings.{Linked, IsList}
 use Rattle.tx_tree.specs.Table.{IsTable}
 use Rattle.tx_tree.proofs.TableFrame.{table_rises}
 use Rattle.vac_model.specs.Coded.{kind_of_number}

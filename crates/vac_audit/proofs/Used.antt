@@ -7,7 +7,7 @@ use Rattle.std.proofs.lemmas.List.{append_assoc}
 use Rattle.std.proofs.lemmas.Bool.Decides.{nat_tests}
 use Rattle.tx_alloc.specs.Pool.{with_at}
 use Rattle.tx_alloc.specs.Rows.{Rows}
-use Rattle.tx_list.specs.Bookings.{key_code}
+use Rattle.vac_bookings.specs.Bookings.{key_code}
 use Rattle.vac_records.specs.Heap.{over}
 use Rattle.vac_audit.specs.Noted.{blocks_in, booked_in}
 use Rattle.vac_audit.specs.Walk.{then, wants, check_used, check_all_used, units_in}

@@ -7,7 +7,7 @@ use Rattle.std.proofs.lemmas.Bool.{cases_lt}
 use Rattle.tx_alloc.specs.Pool.{IsBlock, Free, held, sum_below, with_at}
 use Rattle.tx_alloc.proofs.Sums.{with_here, with_else, sum_same, sum_one, sum_none}
 use Rattle.tx_alloc.specs.Rows.{Rows, times}
-use Rattle.tx_list.specs.Bookings.{Linked}
+use Rattle.vac_bookings.specs.Bookings.{Linked}
 use Rattle.vac_records.specs.Heap.{Parts, over}
 use Rattle.vac_audit.specs.Tree.{rows, is_red}
 use Rattle.vac_audit.specs.Walk.{Seen, Look, look_at_item, look_at_customer, walk_tree, walk_table, walk_items}

@@ -3,7 +3,7 @@
 use Rattle.std.specs.Prelude.{◌≡◌, ℕ, ◌+◌, ◌*◌, ◌<◌, ◌≤◌, ◌^◌, ◌≢◌, Bool, false, not, cond, List, [], ◌∷◌, length, nat_eq, slice_index, slice_index_or, Result, Ok, Err, MatchResult, MatchOption, Option, suc, sum_by, ⊤}
 use Rattle.tx_alloc.specs.Pool.{held, heap_words, block_place, IsBlock}
 use Rattle.tx_alloc.specs.declared.place.TheConstants.{MOST_BLOCKS}
-use Rattle.tx_list.specs.Bookings.{key_code}
+use Rattle.vac_bookings.specs.Bookings.{key_code}
 use Rattle.vac_model.specs.declared.limits.TheConstants.{MOST_AMOUNT, MOST_UNITS}
 use Rattle.vac_audit.specs.Noted.{InOrder, keys_in, blocks_in, booked_in, codes_in}
 use Rattle.vac_audit.specs.Walk.{then, wants, is_in_order, is_booking, walk_bookings, units_in, follow, walk_free, walk_lists, check_reached}

@@ -2,8 +2,8 @@
 use Rattle.std.specs.Prelude.{ℕ, ◌+◌, ◌<◌, ◌^◌, List, map, length, slice_index, Option, Some, None}
 use Rattle.std.specs.List.{All}
 use Rattle.tx_alloc.specs.Rows.{Rows}
-use Rattle.tx_list.specs.Bookings.{code_of}
-use Rattle.tx_list.specs.declared.key.Key.{Key}
+use Rattle.vac_bookings.specs.Bookings.{code_of}
+use Rattle.vac_bookings.specs.declared.key.Key.{Key}
 use Rattle.vac_audit.specs.declared.notes.NotedItem.{NotedItem}
 
 -- the keys of these items

@@ -8,7 +8,7 @@ use Rattle.std.specs.Prelude.{ℕ, ◌+◌, ◌*◌, ◌^◌, Bool, true, false,
 use Rattle.tx_alloc.specs.Pool.{held, sum_below, with_at}
 use Rattle.tx_alloc.specs.Rows.{Rows, block_at}
 use Rattle.tx_alloc.specs.declared.place.TheConstants.{FIRST_BLOCK, BLOCK_WORDS, LISTS, FIRST_HEAD}
-use Rattle.tx_list.specs.Bookings.{key_code, place_code}
+use Rattle.vac_bookings.specs.Bookings.{key_code, place_code}
 use Rattle.vac_model.specs.declared.limits.TheConstants.{MOST_AMOUNT, MOST_TOTAL, MOST_UNITS}
 use Rattle.vac_model.specs.declared.replies.Report.{Report}
 use Rattle.vac_records.specs.Heap.{Parts, over}

@@ -3,7 +3,7 @@
 ghost use Rattle.std.specs.Prelude.{◌≡◌, ◌+◌, ◌*◌, ◌<◌, ◌≤◌, ◌≢◌, ℕ, IfOk, OnOk};
 ghost use Rattle.std.specs.Prelude.{MatchOption, length, nat_le, slice_index};
 ghost use Rattle.tx_alloc.specs.declared.place.TheConstants.{BLOCK_WORDS};
-ghost use Rattle.tx_list.specs.Bookings.{IsKey, code_of, place_code};
+ghost use Rattle.vac_bookings.specs.Bookings.{IsKey, code_of, place_code};
 ghost use Rattle.vac_audit.specs.Marks.{IsMarked, BookingLooked, Counting, BookingsRan};
 ghost use Rattle.vac_audit.specs.Marks.{unmarked};
 ghost use Rattle.vac_audit.specs.Noted.{codes_in, InOrder, HasShortId, least_next};
@@ -13,7 +13,7 @@ use crate::Flaw;
 use crate::notes::{NotedItem, Notes};
 use crate::pointers::follow;
 use crate::tree::LAST_ID;
-use tx_list::{Key, place};
+use vac_bookings::{Key, place};
 use vac_model::limits::{MOST_AMOUNT, MOST_UNITS};
 
 const ID: usize = place::ID as usize;

@@ -1,6 +1,6 @@
 //! The notes of a walk.
 
-use tx_list::Key;
+use vac_bookings::Key;
 
 /// Sums over the walked items and bookings.
 #[derive(Clone, Copy, Debug, PartialEq, Eq)]

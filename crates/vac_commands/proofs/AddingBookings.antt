@@ -19,12 +19,12 @@ use Rattle.tx_alloc.specs.Drawing.{DrawnBlock, IsDrawing}
 use Rattle.tx_alloc.specs.Pool.{NoneFree}
 use Rattle.tx_alloc.specs.Rows.{Rows, times, block_at}
 use Rattle.tx_alloc.proofs.Sums.{sum_has}
-use Rattle.tx_list.specs.declared.search.Spot.{Spot}
-use Rattle.tx_list.specs.Bookings.{IsList}
-use Rattle.tx_list.specs.Lists.{IsListAt}
-use Rattle.tx_list.specs.Search.{SpotAt}
-use Rattle.tx_list.proofs.Frame.{list_frame, list_block}
-use Rattle.tx_list.proofs.Spots.{Unmoved, spot_stays}
+use Rattle.vac_bookings.specs.declared.search.Spot.{Spot}
+use Rattle.vac_bookings.specs.Bookings.{IsList}
+use Rattle.vac_bookings.specs.Lists.{IsListAt}
+use Rattle.vac_bookings.specs.Search.{SpotAt}
+use Rattle.vac_bookings.proofs.Frame.{list_frame, list_block}
+use Rattle.vac_bookings.proofs.Spots.{Unmoved, spot_stays}
 use Rattle.vac_records.specs.Items.{mem, item_in, IsNode, IsItemNow, CanMakeOf, ItemChangedOf}
 use Rattle.vac_model.specs.Coded.{kind_of_number, kind_back}
 use Rattle.vac_records.specs.Bookings.{place_in, place_key, booking_in}

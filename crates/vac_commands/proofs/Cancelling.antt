@@ -13,7 +13,7 @@ use Rattle.vac_model.specs.Step.{done, step, given_back}
 use Rattle.vac_model.proofs.States.{item_of-with_bookings}
 use Rattle.vac_model.proofs.Balance.{some_same}
 use Rattle.vac_model.proofs.Holdings.{units-used}
-use Rattle.tx_list.specs.declared.search.Spot.{Spot}
+use Rattle.vac_bookings.specs.declared.search.Spot.{Spot}
 use Rattle.tx_alloc.specs.Pool.{IsBlock, IsUsed, IsGiving, HasUsed, Given}
 use Rattle.tx_alloc.specs.Rows.{Rows, block_at}
 use Rattle.vac_records.specs.Items.{mem, item_in, IsItemNow, CanCancel, ItemChanged}

@@ -5,9 +5,9 @@ use Rattle.tx_memory.specs.Seen.{same_or}
 use Rattle.vac_model.specs.State.{State, Bookings}
 use Rattle.tx_alloc.specs.Pool.{IsBlock}
 use Rattle.tx_alloc.specs.Rows.{Rows, times}
-use Rattle.tx_list.specs.Bookings.{IsList}
-use Rattle.tx_list.specs.Lists.{IsOutside}
-use Rattle.tx_list.proofs.Frame.{list_frame}
+use Rattle.vac_bookings.specs.Bookings.{IsList}
+use Rattle.vac_bookings.specs.Lists.{IsOutside}
+use Rattle.vac_bookings.proofs.Frame.{list_frame}
 use Rattle.vac_records.specs.Customers.{head_of}
 use Rattle.vac_records.specs.Represents.{Represents}
 use Rattle.vac_records.specs.Laws.{Stays, IsCustomerAt}

@@ -19,13 +19,13 @@ use Rattle.vac_model.proofs.Balance.{some_same}
 use Rattle.vac_model.proofs.Views.{not_some}
 use Rattle.tx_alloc.specs.Rows.{Rows, times}
 use Rattle.tx_alloc.proofs.Times.{times_first}
-use Rattle.tx_list.specs.Bookings.{IsList, place_code, first_block}
-use Rattle.tx_list.specs.Lists.{IsListAt, SomeBooking, HasList, First, HasBooking}
-use Rattle.tx_list.specs.declared.search.Spot.{Spot}
-use Rattle.tx_list.specs.Search.{SpotAt}
-use Rattle.tx_list.proofs.Frame.{list_booked}
-use Rattle.tx_list.proofs.Reading.{linked_first}
-use Rattle.tx_list.proofs.Spots.{first_spot}
+use Rattle.vac_bookings.specs.Bookings.{IsList, place_code, first_block}
+use Rattle.vac_bookings.specs.Lists.{IsListAt, SomeBooking, HasList, First, HasBooking}
+use Rattle.vac_bookings.specs.declared.search.Spot.{Spot}
+use Rattle.vac_bookings.specs.Search.{SpotAt}
+use Rattle.vac_bookings.proofs.Frame.{list_booked}
+use Rattle.vac_bookings.proofs.Reading.{linked_first}
+use Rattle.vac_bookings.proofs.Spots.{first_spot}
 use Rattle.vac_records.specs.Items.{mem, item_in}
 use Rattle.vac_records.specs.Bookings.{place_in, place_key, booking_in}
 use Rattle.vac_records.specs.Customers.{head_of}

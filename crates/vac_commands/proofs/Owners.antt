@@ -7,10 +7,10 @@ use Rattle.vac_model.specs.State.{State, Place, item_of}
 use Rattle.tx_alloc.specs.Pointer.{pointer, IsWithin}
 use Rattle.tx_alloc.specs.Pool.{IsBlock}
 use Rattle.tx_alloc.specs.Rows.{times}
-use Rattle.tx_list.specs.declared.search.Spot.{Spot}
-use Rattle.tx_list.specs.Lists.{IsListAt, HasList}
-use Rattle.tx_list.specs.Search.{Sought, SpotAt}
-use Rattle.tx_list.proofs.Spots.{sought_spot}
+use Rattle.vac_bookings.specs.declared.search.Spot.{Spot}
+use Rattle.vac_bookings.specs.Lists.{IsListAt, HasList}
+use Rattle.vac_bookings.specs.Search.{Sought, SpotAt}
+use Rattle.vac_bookings.proofs.Spots.{sought_spot}
 use Rattle.vac_records.specs.Items.{mem, item_in}
 use Rattle.vac_records.specs.Bookings.{place_key, booking_in}
 use Rattle.vac_records.specs.Customers.{head_of}

@@ -13,8 +13,8 @@ use Rattle.vac_model.specs.Ranges.{is_command}
 use Rattle.vac_model.specs.State.{State, Bookings, item_of, bookings_of}
 use Rattle.vac_model.specs.Step.{refused, step}
 use Rattle.tx_alloc.specs.Pointer.{pointer}
-use Rattle.tx_list.specs.Search.{Sought}
-use Rattle.tx_list.specs.declared.search.Spot.{Spot}
+use Rattle.vac_bookings.specs.Search.{Sought}
+use Rattle.vac_bookings.specs.declared.search.Spot.{Spot}
 use Rattle.vac_records.specs.Items.{mem, item_in}
 use Rattle.vac_records.specs.Bookings.{place_key}
 use Rattle.vac_records.specs.Customers.{head_of}

@@ -11,8 +11,8 @@ use Rattle.vac_model.specs.Step.{step}
 use Rattle.vac_model.specs.Ranges.{is_command}
 use Rattle.tx_alloc.specs.Pointer.{IsWithin}
 use Rattle.tx_alloc.specs.Rows.{block_at}
-use Rattle.tx_list.specs.Search.{SpotAt}
-use Rattle.tx_list.specs.declared.search.Spot.{Spot}
+use Rattle.vac_bookings.specs.Search.{SpotAt}
+use Rattle.vac_bookings.specs.declared.search.Spot.{Spot}
 use Rattle.tx_tree.specs.Table.{IsInside}
 use Rattle.vac_records.specs.Items.{mem}
 use Rattle.vac_records.specs.Bookings.{place_key}

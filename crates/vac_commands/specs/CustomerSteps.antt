@@ -10,7 +10,7 @@ use Rattle.vac_model.specs.declared.replies.Reply.{Reply}
 use Rattle.vac_model.specs.State.{State, Bookings, Place, bookings_of}
 use Rattle.vac_model.specs.Step.{step, drop_customer}
 use Rattle.vac_model.specs.Ranges.{is_command}
-use Rattle.tx_list.specs.Lists.{SomeBooking}
+use Rattle.vac_bookings.specs.Lists.{SomeBooking}
 use Rattle.tx_tree.specs.Table.{IsInside}
 use Rattle.vac_records.specs.Items.{mem}
 use Rattle.vac_records.specs.Bookings.{place_in, booking_in}

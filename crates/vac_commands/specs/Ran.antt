@@ -47,7 +47,7 @@ Idle s s' command.Audit = Unit {0}
 -- under each possible image the command changed the memory as it changes the state, and the reply
 -- is the command's reply. A command that is refused, or has nothing to change, writes nothing
 -- Not said: which blocks new entries get, and the free list whose first block the block of a
--- removed entry becomes; tests of vac_rows check both for some commands.
+-- removed entry becomes; tests of test_vac check both for some commands.
 -- Not said: that the spare words of a block stay 0, and, if something is to change, that no word
 -- is written with the value that it already has.
 pub record Ran (s s' : View) (c : Command) (r : Reply) : Type 0 where

@@ -10,8 +10,8 @@ ghost use Rattle.vac_commands.specs.BookingSteps.{CanServe, CanReserve, CanReser
 
 use crate::find::{find_customer, find_item};
 use tx_alloc::{Block, FreeList, give, take_refilling};
-use tx_list::Spot;
 use tx_memory::TxMem;
+use vac_bookings::Spot;
 use vac_model::limits::MOST_UNITS;
 use vac_model::{Command, Kind, Reply, Why};
 use vac_records::{

@@ -2,7 +2,7 @@
 
 ghost use Rattle.std.specs.Prelude.{◌≡◌, ◌+◌, ◌≤◌, IfOk, IfErr, MatchOption, Some, true};
 ghost use Rattle.vac_model.specs.Ranges.{is_command};
-ghost use Rattle.tx_list.specs.Lists.{HasBooking};
+ghost use Rattle.vac_bookings.specs.Lists.{HasBooking};
 ghost use Rattle.vac_records.specs.InMemory.{HoldsState};
 ghost use Rattle.vac_commands.specs.Entries.{CustomerIsAt, CustomerIsMissing};
 ghost use Rattle.vac_commands.specs.CustomerSteps.{RanOn, ItemsStayOn, HasSeat, HasNoBookings, CanDrop, CanCancelFirst, PlaceRead, OneGivenBack, GivenBack};
@@ -12,8 +12,8 @@ use crate::bookings::{CustomerAt, ItemAt, cancel_at};
 use crate::find::{find_customer, find_item};
 use tx_alloc::place::MOST_BLOCKS;
 use tx_alloc::{Block, FreeList, give, take_refilling};
-use tx_list::Spot;
 use tx_memory::{TxMem, TxRead, load};
+use vac_bookings::Spot;
 use vac_model::{Command, Kind, Reply, Why};
 use vac_records::{CUSTOMERS, init_customer, place};
 
@@ -146,7 +146,7 @@ fn give_bookings_back<M: TxMem>(
 {
     let head = who.owner.word(place::BOOKINGS);
     for _ in 0..MOST_BLOCKS {
-        let Some(booking) = tx_list::first(memory, head)? else {
+        let Some(booking) = vac_bookings::first(memory, head)? else {
             return Ok(());
         };
         cancel_first(memory, who.customer, who.owner, booking, start)?;
@@ -200,8 +200,8 @@ fn place_at<M: TxRead>(memory: &mut M, booking: Block) -> Result<(Kind, u32), M:
     ensures answer { IfOk result (λ item.
         PlaceRead (M.view memory.old) (M.view memory.new) booking item) }
 {
-    let number = load(memory, booking.word(tx_list::place::KIND))?;
-    let id = load(memory, booking.word(tx_list::place::ID))?;
+    let number = load(memory, booking.word(vac_bookings::place::KIND))?;
+    let id = load(memory, booking.word(vac_bookings::place::ID))?;
     Ok((Kind::from_number(number), id as u32))
 }
 

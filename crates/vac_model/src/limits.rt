@@ -1,5 +1,5 @@
 //! The limits of the reservation system. Each number stands here alone, except `MOST_BLOCKS`,
-//! which `tx_alloc` has too, and `KINDS`, which `tx_list` has. Code, contracts and definitions
+//! which `tx_alloc` has too, and `KINDS`, which `vac_bookings` has. Code, contracts and definitions
 //! cite each by its name.
 
 /// Number of kinds of items.

@@ -5,9 +5,9 @@ use Rattle.std.proofs.lemmas.Bool.Decides.{nat_tests}
 use Rattle.tx_memory.specs.View.{View, Sees, RestsOn, Kept, Loaded}
 use Rattle.tx_alloc.specs.Pointer.{pointer, IsWithin}
 use Rattle.tx_alloc.specs.Rows.{Rows}
-use Rattle.tx_list.specs.Bookings.{IsList, first_block, block_behind}
-use Rattle.tx_list.specs.Lists.{HasList, First, Next, HasBooking}
-use Rattle.tx_list.proofs.Frame.{list_rest}
+use Rattle.vac_bookings.specs.Bookings.{IsList, first_block, block_behind}
+use Rattle.vac_bookings.specs.Lists.{HasList, First, Next, HasBooking}
+use Rattle.vac_bookings.proofs.Frame.{list_rest}
 use Rattle.vac_records.specs.Items.{mem, IsNode}
 use Rattle.vac_records.specs.Customers.{head_of, sum_in, HasBill, CanBill, Billed}
 use Rattle.vac_records.specs.Steps.{kept_both, stood}

@@ -15,7 +15,7 @@ use Rattle.tx_alloc.specs.Pool.{IsBlock, with_at}
 use Rattle.tx_alloc.specs.Rows.{Rows, times, put_row, cut_row, block_at, Relinks}
 use Rattle.tx_alloc.proofs.Times.{times_put, times_cut}
 use Rattle.tx_alloc.proofs.Sums.{with_here, with_else}
-use Rattle.tx_list.specs.Bookings.{IsList}
+use Rattle.vac_bookings.specs.Bookings.{IsList}
 use Rattle.vac_model.specs.Coded.{kind_of_number}
 use Rattle.vac_records.specs.Bookings.{place_in, booking_in, place_key}
 use Rattle.vac_records.specs.Represents.{items_in, bookings_in, customers_in, opened_bookings, Represents}
@@ -24,7 +24,7 @@ use Rattle.vac_records.specs.Laws.{BookingRemoved, IsCustomerAt}
 use Rattle.vac_records.proofs.Keyed.{HasRow, Matches, entries_remove, find_absent, find_present, put_absent}
 use Rattle.vac_records.proofs.Keyed.{put_present, cut_present, row_at, row_times, two_rows}
 use Rattle.tx_tree.proofs.TableFrame.{table_rises}
-use Rattle.tx_list.proofs.Frame.{list_from}
+use Rattle.vac_bookings.proofs.Frame.{list_from}
 use Rattle.vac_records.proofs.Links.{list_row}
 use Rattle.vac_records.proofs.Overs.{over_has, over_two}
 use Rattle.vac_records.proofs.Hang.{booked}

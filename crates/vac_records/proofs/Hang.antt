@@ -7,11 +7,11 @@ use Rattle.tx_alloc.specs.Pool.{IsBlock, held, sum_below, with_at}
 use Rattle.tx_alloc.proofs.Sums.{with_here, with_else, sum_has}
 use Rattle.tx_alloc.proofs.Chains.{held_first, free_block}
 use Rattle.tx_alloc.specs.Rows.{Rows, times, put_row, Relinks}
-use Rattle.tx_list.specs.Bookings.{IsList}
+use Rattle.vac_bookings.specs.Bookings.{IsList}
 use Rattle.vac_records.specs.Heap.{Parts, used_in, count_in, IsHeap}
 use Rattle.tx_alloc.proofs.Times.{times_put, length_put}
 use Rattle.tx_tree.proofs.TableFrame.{table_frame, table_block}
-use Rattle.tx_list.proofs.Frame.{list_frame, list_block}
+use Rattle.vac_bookings.proofs.Frame.{list_frame, list_block}
 use Rattle.vac_records.proofs.Overs.{over_has, over_two, over_with}
 use Rattle.tx_alloc.proofs.Outside.{outside_block, outside_links, outside_low}
 use Rattle.vac_records.proofs.Insert.{pool_as}

@@ -6,12 +6,12 @@ use Rattle.tx_memory.specs.View.{View, Loaded}
 use Rattle.vac_model.specs.declared.items.Kind.{Kind}
 use Rattle.vac_model.specs.State.{Place, kind_number}
 use Rattle.tx_alloc.specs.Rows.{Rows, times, block_at, Relinks}
-use Rattle.tx_list.specs.declared.key.Key.{Key}
-use Rattle.tx_list.specs.declared.search.Spot.{Spot}
-use Rattle.tx_list.specs.Lists.{IsListAt, FreshBooking}
-use Rattle.tx_list.specs.Search.{Sought, SpotAt, Hung, Unhung}
-use Rattle.tx_list.proofs.Frame.{list_frame, list_block}
-use Rattle.tx_list.proofs.Spots.{Unmoved, sought_spot, spot_stays}
+use Rattle.vac_bookings.specs.declared.key.Key.{Key}
+use Rattle.vac_bookings.specs.declared.search.Spot.{Spot}
+use Rattle.vac_bookings.specs.Lists.{IsListAt, FreshBooking}
+use Rattle.vac_bookings.specs.Search.{Sought, SpotAt, Hung, Unhung}
+use Rattle.vac_bookings.proofs.Frame.{list_frame, list_block}
+use Rattle.vac_bookings.proofs.Spots.{Unmoved, sought_spot, spot_stays}
 use Rattle.vac_records.specs.Bookings.{place_key}
 use Rattle.vac_records.specs.Items.{mem, IsNode}
 use Rattle.vac_records.specs.Customers.{head_of, IsNewBooking, BookingMade, IsLoose, IsBooked, BookedAt, Booked}

@@ -9,11 +9,11 @@ use Rattle.tx_alloc.proofs.Chains.{held_first, free_block}
 use Rattle.tx_alloc.proofs.Moves.{pool_same}
 use Rattle.tx_alloc.specs.Rows.{Rows, times, put_row, Relinks}
 use Rattle.tx_tree.specs.Table.{IsTable}
-use Rattle.tx_list.specs.Bookings.{IsList}
+use Rattle.vac_bookings.specs.Bookings.{IsList}
 use Rattle.vac_records.specs.Heap.{Parts, over, used_in, count_in, IsHeap}
 use Rattle.tx_alloc.proofs.Times.{times_put, length_put}
 use Rattle.tx_tree.proofs.TableFrame.{table_frame, table_block}
-use Rattle.tx_list.proofs.Frame.{list_frame, list_block}
+use Rattle.vac_bookings.proofs.Frame.{list_frame, list_block}
 use Rattle.vac_records.proofs.Overs.{over_has, over_put}
 use Rattle.tx_alloc.proofs.Outside.{outside_block, outside_links, outside_low}
 

@@ -2,9 +2,9 @@
 use Rattle.std.proofs.Common.{◌≡◌, ◌≢◌, inl, inr, ℕ, ◌+◌, ◌*◌, ◌^◌, ◌<◌, [], ◌∷◌, refl, subst, arith, add-zero}
 use Rattle.tx_alloc.specs.Pool.{IsBlock}
 use Rattle.tx_alloc.specs.Rows.{Rows, times}
-use Rattle.tx_list.specs.Bookings.{Linked, IsList}
-use Rattle.tx_list.proofs.Frame.{SameBooking, linked_frame}
-pub use Rattle.tx_list.proofs.Frame.{list_one}
+use Rattle.vac_bookings.specs.Bookings.{Linked, IsList}
+use Rattle.vac_bookings.proofs.Frame.{SameBooking, linked_frame}
+pub use Rattle.vac_bookings.proofs.Frame.{list_one}
 use Rattle.vac_records.proofs.Keyed.{HasRow}
 
 pub list_kept : (m m' : ℕ → ℕ) (n p : ℕ) (rs : Rows) → IsList m n p rs →

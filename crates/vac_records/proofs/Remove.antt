@@ -7,11 +7,11 @@ use Rattle.tx_alloc.proofs.Sums.{with_here, with_else, sum_has, sum_two, sum_wit
 use Rattle.tx_alloc.proofs.Chains.{free_block}
 use Rattle.tx_alloc.specs.Rows.{Rows, times, cut_row, block_at, Relinks}
 use Rattle.tx_tree.specs.Table.{IsTable}
-use Rattle.tx_list.specs.Bookings.{IsList}
+use Rattle.vac_bookings.specs.Bookings.{IsList}
 use Rattle.vac_records.specs.Heap.{Parts, over, used_in, count_in, IsHeap}
 use Rattle.tx_alloc.proofs.Times.{times_cut, length_cut}
 use Rattle.tx_tree.proofs.TableFrame.{table_frame, table_block}
-use Rattle.tx_list.proofs.Frame.{list_frame, list_block}
+use Rattle.vac_bookings.proofs.Frame.{list_frame, list_block}
 use Rattle.vac_records.proofs.Overs.{over_has, over_cut}
 use Rattle.tx_alloc.proofs.Outside.{outside_block, outside_links, outside_low}
 use Rattle.vac_records.proofs.Insert.{pool_as}

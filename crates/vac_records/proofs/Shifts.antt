@@ -11,7 +11,7 @@ use Rattle.tx_alloc.specs.Rows.{Rows, times}
 use Rattle.tx_alloc.proofs.Sums.{with_else, sum_has, sum_two}
 use Rattle.tx_alloc.proofs.Chains.{held_first}
 use Rattle.tx_tree.proofs.TableFrame.{table_block}
-use Rattle.tx_list.proofs.Frame.{list_block}
+use Rattle.vac_bookings.proofs.Frame.{list_block}
 use Rattle.vac_records.specs.Heap.{Parts, used_in, count_in, IsHeap}
 use Rattle.vac_records.specs.Represents.{items_in, customers_in, opened_bookings, Represents}
 use Rattle.vac_records.proofs.Overs.{over_has, over_else}

@@ -12,7 +12,7 @@ use Rattle.tx_alloc.proofs.Moves.{pool_within}
 use Rattle.tx_alloc.proofs.Sums.{sum_none}
 use Rattle.tx_tree.proofs.TableFrame.{table_frame}
 use Rattle.vac_records.proofs.TableRows.{table_one}
-use Rattle.tx_list.proofs.Frame.{list_frame}
+use Rattle.vac_bookings.proofs.Frame.{list_frame}
 use Rattle.vac_records.specs.Heap.{Parts, over, used_in, count_in, IsHeap}
 use Rattle.vac_records.specs.Represents.{items_in, bookings_in, customers_in, Represents}
 use Rattle.vac_records.specs.Laws.{OneState, OneShape, SameWords, NoneLeft, SomeLeft}

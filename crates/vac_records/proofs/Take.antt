@@ -8,10 +8,10 @@ use Rattle.tx_alloc.proofs.Sums.{sum_has}
 use Rattle.tx_alloc.proofs.Chains.{held_first, free_block}
 use Rattle.tx_alloc.specs.Rows.{times}
 use Rattle.tx_tree.specs.Table.{IsTable}
-use Rattle.tx_list.specs.Bookings.{IsList}
+use Rattle.vac_bookings.specs.Bookings.{IsList}
 use Rattle.vac_records.specs.Heap.{Parts, used_in, count_in, IsHeap}
 use Rattle.tx_tree.proofs.TableFrame.{table_frame, table_block}
-use Rattle.tx_list.proofs.Frame.{list_frame, list_block}
+use Rattle.vac_bookings.proofs.Frame.{list_frame, list_block}
 use Rattle.vac_records.proofs.Overs.{over_has}
 use Rattle.vac_records.proofs.Insert.{pool_as}
 

@@ -1,8 +1,8 @@
 -- Bookings in blocks of a transactional memory. The words of a block are kind, id, sum, next,
 -- units.
 use Rattle.std.specs.Prelude.{ℕ, ◌+◌}
-use Rattle.tx_list.specs.Bookings.{key_code}
-use Rattle.tx_list.specs.declared.place.TheConstants.{ID, SUM, UNITS}
+use Rattle.vac_bookings.specs.Bookings.{key_code}
+use Rattle.vac_bookings.specs.declared.place.TheConstants.{ID, SUM, UNITS}
 use Rattle.vac_model.specs.declared.items.Booking.{Booking}
 use Rattle.vac_model.specs.Coded.{kind_of_number}
 use Rattle.vac_model.specs.State.{Place, kind_number}

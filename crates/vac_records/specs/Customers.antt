@@ -8,12 +8,12 @@ use Rattle.vac_model.specs.Step.{new_booking}
 use Rattle.tx_alloc.specs.Pointer.{pointer, IsWithin}
 use Rattle.tx_alloc.specs.Pool.{IsBlock}
 use Rattle.tx_alloc.specs.declared.place.TheConstants.{BLOCK_WORDS, MOST_BLOCKS}
-use Rattle.tx_list.specs.declared.place.TheConstants.{ID, SUM, UNITS}
+use Rattle.vac_bookings.specs.declared.place.TheConstants.{ID, SUM, UNITS}
 use Rattle.vac_records.specs.declared.place.TheConstants.{BOOKINGS}
 use Rattle.tx_alloc.specs.Rows.{Rows, times, put_row, cut_row, block_at, Relinks}
-use Rattle.tx_list.specs.Lists.{IsListAt, IsOutside}
-use Rattle.tx_list.specs.Search.{SpotAt}
-use Rattle.tx_list.specs.declared.search.Spot.{Spot}
+use Rattle.vac_bookings.specs.Lists.{IsListAt, IsOutside}
+use Rattle.vac_bookings.specs.Search.{SpotAt}
+use Rattle.vac_bookings.specs.declared.search.Spot.{Spot}
 use Rattle.vac_records.specs.Items.{mem, IsNode, RoomAt}
 use Rattle.vac_records.specs.Bookings.{booking_in, place_key}
 

@@ -4,7 +4,7 @@ use Rattle.std.specs.Prelude.{ℕ, ◌+◌, ◌<◌, List, [], ◌∷◌, length
 use Rattle.tx_alloc.specs.Pool.{held, sum_below, IsPool}
 use Rattle.tx_alloc.specs.Rows.{Rows, times}
 use Rattle.tx_tree.specs.Table.{IsTable}
-use Rattle.tx_list.specs.Bookings.{IsList}
+use Rattle.vac_bookings.specs.Bookings.{IsList}
 
 -- the structures of a heap: the tables of cars, flights, rooms and customers by their numbers 0 to
 -- 3, the lists of bookings by their customers' blocks, the free blocks by their lists, and the

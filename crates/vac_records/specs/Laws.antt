@@ -10,8 +10,8 @@ use Rattle.tx_alloc.specs.Spread.{IsSpreadHeap, spread_lists}
 use Rattle.tx_alloc.specs.declared.place.TheConstants.{MOST_BLOCKS}
 use Rattle.tx_alloc.specs.Rows.{Rows, put_row, cut_row, block_at, Relinks}
 use Rattle.tx_tree.specs.Table.{IsTable, Table}
-use Rattle.tx_list.specs.Bookings.{IsList}
-use Rattle.tx_list.specs.Lists.{IsListAt}
+use Rattle.vac_bookings.specs.Bookings.{IsList}
+use Rattle.vac_bookings.specs.Lists.{IsListAt}
 use Rattle.vac_records.specs.Items.{item_in}
 use Rattle.vac_records.specs.Bookings.{place_key, place_in, booking_in}
 use Rattle.vac_records.specs.Customers.{head_of, sum_in}

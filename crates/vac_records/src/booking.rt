@@ -2,7 +2,7 @@
 
 ghost use Rattle.std.specs.Prelude.{◌≡◌, ◌+◌, ◌*◌, ◌<◌, ◌^◌, IfOk, IfErr};
 ghost use Rattle.tx_memory.specs.View.{Loaded};
-ghost use Rattle.tx_list.specs.declared.place.TheConstants.{SUM, UNITS};
+ghost use Rattle.vac_bookings.specs.declared.place.TheConstants.{SUM, UNITS};
 ghost use Rattle.vac_model.specs.State.{kind_number};
 ghost use Rattle.vac_model.specs.Step.{extended};
 ghost use Rattle.vac_records.specs.Items.{IsNode};
@@ -10,8 +10,8 @@ ghost use Rattle.vac_records.specs.Customers.{CanMakeBooking, BookingMade, Booki
 
 use crate::word::{clear_spare, raise};
 use tx_alloc::Block;
-use tx_list::{Key, place};
 use tx_memory::{TxMem, TxRead, load, store};
+use vac_bookings::{Key, place};
 use vac_model::{Booking, Kind};
 
 /// Returns the key of the bookings of an item in customers' lists.

@@ -2,8 +2,8 @@
 
 ghost use Rattle.std.specs.Prelude.{◌≡◌, ◌+◌, ◌*◌, ◌<◌, ◌≤◌, ◌^◌, IfOk, IfErr};
 ghost use Rattle.tx_alloc.specs.Pointer.{IsWithin};
-ghost use Rattle.tx_list.specs.Lists.{HasList, Found};
-ghost use Rattle.tx_list.specs.Search.{Sought};
+ghost use Rattle.vac_bookings.specs.Lists.{HasList, Found};
+ghost use Rattle.vac_bookings.specs.Search.{Sought};
 ghost use Rattle.vac_records.specs.Bookings.{place_key};
 ghost use Rattle.vac_records.specs.Items.{IsNode};
 ghost use Rattle.vac_records.specs.Customers.{head_of, CustomerMade, CanBook, BookedAt, Booked, UnbookedAt, Unbooked, CanBill, Billed};
@@ -13,8 +13,8 @@ use crate::place;
 use crate::word::clear_spare;
 use tx_alloc::Block;
 use tx_alloc::place::MOST_BLOCKS;
-use tx_list::{Spot, insert_at, remove_at, seek};
 use tx_memory::{TxMem, TxRead, store};
+use vac_bookings::{Spot, insert_at, remove_at, seek};
 use vac_model::Kind;
 
 /// Makes the block a customer with this key and without bookings. The links into a table are left
@@ -44,7 +44,7 @@ pub fn booking_of<M: TxRead>(
     ensures answer { IfOk result (λ found. Found (M.view memory.old) (M.view memory.new)
         (head_of customer) (place_key (kind, id)) found) }
 {
-    let found = tx_list::find(memory, customer.word(place::BOOKINGS), key_of(kind, id))?;
+    let found = vac_bookings::find(memory, customer.word(place::BOOKINGS), key_of(kind, id))?;
     Ok(found)
 }
 
@@ -161,14 +161,14 @@ pub fn bill<M: TxRead>(memory: &mut M, customer: Block) -> Result<u64, M::Stop>
         Billed (M.view memory.old) (M.view memory.new) customer total) }
     ensures stopped { IfErr result (λ stop. M.stopped_for memory.new stop) }
 {
-    let mut next = tx_list::first(memory, customer.word(place::BOOKINGS))?;
+    let mut next = vac_bookings::first(memory, customer.word(place::BOOKINGS))?;
     let mut total = 0;
     for _ in 0..MOST_BLOCKS {
         match next {
             None => return Ok(total),
             Some(block) => {
                 total += sum_at(memory, block)?;
-                next = tx_list::next(memory, block)?;
+                next = vac_bookings::next(memory, block)?;
             }
         }
     }

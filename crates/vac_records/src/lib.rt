@@ -3,8 +3,8 @@
 //!
 //! The words of an item's block are its key, three words that link the block into its table, the
 //! numbers of used, free and all units, and the price of a unit. The words of a customer's block
-//! are the key, the same three words, and the head of the list of bookings. `tx_list` defines the
-//! words of a booking's block.
+//! are the key, the same three words, and the head of the list of bookings. `vac_bookings` defines
+//! the words of a booking's block.
 #![tactic(auto)]
 
 mod booking;

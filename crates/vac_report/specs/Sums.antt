@@ -4,8 +4,8 @@ use Rattle.std.specs.FinMap.{len, values}
 use Rattle.tx_memory.specs.View.{View, Sees, RestsOn}
 use Rattle.tx_alloc.specs.declared.place.TheConstants.{MOST_BLOCKS}
 use Rattle.tx_alloc.specs.Rows.{Rows}
-use Rattle.tx_list.specs.Lists.{IsListAt}
-use Rattle.tx_list.specs.declared.place.TheConstants.{SUM, UNITS}
+use Rattle.vac_bookings.specs.Lists.{IsListAt}
+use Rattle.vac_bookings.specs.declared.place.TheConstants.{SUM, UNITS}
 use Rattle.vac_model.specs.declared.items.Kind.{Kind}
 use Rattle.vac_model.specs.State.{State, ItemTable, Customers, table_of, units_booked, bill_of}
 use Rattle.vac_records.specs.Items.{mem}

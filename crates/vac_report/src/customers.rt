@@ -42,7 +42,7 @@ fn sums_of_customer<M: TxRead>(memory: &mut M, customer: Block) -> Result<Custom
         CustomerCounted (M.view memory.old) (M.view memory.new) customer sums) }
     ensures stopped { IfErr result (λ stop. M.stopped_for memory.new stop) }
 {
-    let mut next = tx_list::first(memory, customer.word(BOOKINGS))?;
+    let mut next = vac_bookings::first(memory, customer.word(BOOKINGS))?;
     let mut units = 0;
     let mut billed = 0;
     for _ in 0..MOST_BLOCKS {
@@ -51,7 +51,7 @@ fn sums_of_customer<M: TxRead>(memory: &mut M, customer: Block) -> Result<Custom
             Some(block) => {
                 units += units_at(memory, block)?;
                 billed += sum_at(memory, block)?;
-                next = tx_list::next(memory, block)?;
+                next = vac_bookings::next(memory, block)?;
             }
         }
     }

@@ -6,10 +6,10 @@
 //! whether the calls that such a program logged are right.
 #![tactic(auto)]
 
+use cli_main::{refuse_words, run_words};
 use std::io::ErrorKind;
 use std::process::ExitCode;
 use std::{env, io};
-use vac_cli::{refuse_words, run_words};
 
 /// The words of the command line. One that is not UTF-8 is an error.
 fn words(rt: &HostRuntime) -> io::Result<Vec<String>> {

@@ -1,6 +1,6 @@
 use Rattle.std.specs.Prelude.{Ok, Err, slice_index}
 use Rattle.std.proofs.Common.{refl, arith, ap, ◌∙◌, sym, subst, List, length, get_or, ◌<◌, ◌^◌}
-use Rattle.tx_list.specs.Bookings.{code_of}
+use Rattle.vac_bookings.specs.Bookings.{code_of}
 use Rattle.vac_audit.specs.Noted.{InOrder, codes_in, least_next}
 use Rattle.vac_audit.specs.Marks.{BookingsRan}
 use Rattle.vac_audit.specs.declared.notes.NotedItem.{NotedItem}

@@ -1,8 +1,0 @@
-use Rattle.std.proofs.Common.{rules}
-use Rattle.stm_object.specs.Steps.{fits_words}
-use Rattle.bank.specs.declared.law.TheConstants.{ACCOUNTS}
-use Rattle.bank.specs.Accounts.{IsBank, IsEntry, Finds, after, code}
-use Rattle.bank.proofs.bank.new_bank.Goals as goal
-
-pub new-requires-clause-fits : goal.new-requires-clause-fits
-new-requires-clause-fits c = fits_words ACCOUNTS IsBank IsEntry Finds after code _ (search rules)

@@ -1,0 +1,62 @@
+-- The pages of the ledgers of a load.
+use Rattle.std.proofs.Common.{◌≡◌, ◌∙◌, ◌&&◌, ◌↔◌, refl, sym, ap, subst, arith, ℕ, Bool, true, false}
+use Rattle.std.proofs.Common.{Err, nat_eq, List, [], ◌∷◌, Option, map}
+use Rattle.std.specs.Prelude.{IsErrOf}
+use Rattle.std.proofs.lemmas.Bool.Decides.{nat_tests}
+use Rattle.load_run.specs.Load.{is_load}
+use Rattle.load_draws.specs.declared.settings.Settings.{Settings}
+use Rattle.load_draws.specs.Setting.{is_settings}
+use Rattle.vac_manager.specs.declared.note.Note.{Note}
+use Rattle.load_attempts.specs.declared.ledger.Ledger.{Ledger}
+use Rattle.load_attempts.specs.Pages.{page_of, pages_of}
+use Rattle.load_attempts.specs.Text.{WroteAttempts, WroteAttemptsPrefix}
+use Rattle.load_run.specs.declared.load.LoadFault.TheVariants as load
+use Rattle.load_run.specs.declared.load.LoadFault.{LoadFault}
+use Rattle.cli_main.specs.Load.{HasNoted, WroteTried, WroteTriedInPart}
+
+-- the calls that a ledger keeps
+abbrev calls_in : {W : Type 0} → Ledger W → List Note
+calls_in ledger = ledger.journal.notes.items
+
+same_pages : {W : Type 0} (clients : List (Ledger W)) → map (λ page. page.calls)
+    (map page_of clients) ≡ map calls_in clients
+same_pages [] = refl
+same_pages (c ∷ clients) = ap (λ (l : List (List Note)). calls_in c ∷ l) (same_pages clients)
+
+module _ {W : Type 0} (s : Settings) (opening : Ledger W) (clients : List (Ledger W))
+    (has : HasNoted s (calls_in opening) (map calls_in clients)) where
+  has_pages : HasNoted s (page_of opening).calls (map (λ page. page.calls) (map page_of clients))
+  has_pages = subst (λ (l : List (List Note)). HasNoted s (calls_in opening) l) (sym (same_pages clients)) has
+
+  -- the attempts were written whole
+  pub wrote_tried : (held holds : Option (List ℕ)) → WroteAttempts s.blocks (pages_of opening clients) held holds →
+      WroteTried s held holds
+  wrote_tried held holds wrote = record {
+    opening = page_of opening;
+    clients = map page_of clients;
+    noted = has_pages;
+    written = wrote;
+  }
+
+  -- a prefix of them was written
+  pub wrote_tried_in_part : (held holds : Option (List ℕ)) →
+      WroteAttemptsPrefix s.blocks (pages_of opening clients) held holds → WroteTriedInPart s held holds
+  wrote_tried_in_part held holds wrote = record {
+    opening = page_of opening;
+    clients = map page_of clients;
+    noted = has_pages;
+    written = wrote;
+  }
+
+both_true : (a : Bool) (n m : ℕ) → a ≡ true → n ≡ m → (a && nat_eq n m) ≡ true
+both_true true n m e same = grind (arith, nat_tests, same)
+both_true false n m e same = absurd cc
+
+-- a load with as many keepers as clients is not refused for its settings where these fit each other
+pub not_refused : {T : Type 0} (s : Settings) (n : ℕ) (fault : LoadFault) → is_settings s ≡ true → n ≡ s.clients →
+    (IsErrOf {T = T} (Err fault) load.Arguments ↔ (is_load s n ≡ false)) → fault ≡ load.Arguments → ⊥
+not_refused s n fault fits same arguments e =
+    let right : is_load s n ≡ true = both_true (is_settings s) n s.clients fits same in
+    let wrong : is_load s n ≡ false = arguments.0 (ap (λ (f : LoadFault). Err f) e) in
+    let bad : true ≡ false = sym right ∙ wrong in
+    absurd cc

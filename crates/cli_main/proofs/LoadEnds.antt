@@ -1,0 +1,155 @@
+-- How a load ends.
+use Rattle.std.proofs.Common.{◌≡◌, ◌≤◌, ◌↔◌, ◌&&◌, ◌⊎◌, inl, inr, refl, ℕ, zero, suc, Bool, true, false, List, Option}
+use Rattle.std.proofs.Common.{map, arith, sym, subst}
+use Rattle.std.specs.Prelude.{Result, Ok, Err, OnOk, OnErr, IfErr}
+use Rattle.std.proofs.lemmas.Bool.Decides.{nat_tests}
+use Rattle.load_draws.specs.declared.settings.Settings.{Settings}
+use Rattle.load_draws.specs.Streams.{stream_of}
+use Rattle.load_draws.specs.Setting.{is_settings, is_work, is_system}
+use Rattle.vac_model.specs.Ranges.{is_block_count}
+use Rattle.load_history.specs.declared.journal.Journal.{Journal}
+use Rattle.load_history.specs.Order.{Entry, IsMerged, AreOrdered}
+use Rattle.load_history.specs.Numbers.{EachHasLines}
+use Rattle.load_history.specs.History.{notes_of, kept_by, call_of_entry, calls_text, WroteHistory, WroteHistoryPrefix}
+use Rattle.load_history.specs.Legal.{AreLegal, JudgedByPrecedence}
+use Rattle.load_history.proofs.Legality.{texts_up_to_precedence}
+use Rattle.judge_calls.specs.CallText.{IsTheirHistory}
+use Rattle.load_run.specs.declared.load.LoadFault.{LoadFault}
+use Rattle.load_run.specs.declared.load.LoadFault.TheVariants as load
+use Rattle.load_run.specs.declared.load.LoadReport.{LoadReport}
+use Rattle.load_run.specs.Streams.{LoadedBySeed}
+use Rattle.vac_streams.specs.declared.fault.StreamFault.{StreamFault}
+use Rattle.vac_streams.specs.declared.fault.StreamFault.TheVariants as stream
+use Rattle.std.specs.Io.KnownBytes.{Appends}
+use Rattle.vac_lines.specs.Writing.{AppendsPrefix}
+use Rattle.cli_main.specs.Ending.{load_fault_line, fault_line, CanStopWriting, EndsDone}
+use Rattle.cli_main.specs.Load.{load_text, NamedFault, EndsLoad, EndsKept, HasNoted, IsFaultBySeed}
+use Rattle.cli_main.specs.Load.{WroteCalls, WroteCallsInPart}
+use Rattle.cli_main.specs.Program.{Loads}
+use Rattle.cli_main.proofs.Turning.{each_ordered, each_in_turn}
+use Rattle.cli_main.proofs.Recorded.{load_legal}
+use Rattle.cli_main.proofs.Lines.{each_has_lines}
+
+both_first : (a b : Bool) → (a && b) ≡ true → a ≡ true
+both_first true b e = refl
+both_first false b e = e
+
+pub not_arguments : load.Memory ≡ load.Arguments → ⊥
+not_arguments e = absurd cc
+
+-- a load can end for want of memory
+memory_by_seed : (s : Settings) → IsFaultBySeed s load.Memory
+memory_by_seed s = inr (stream_of s.seed 0, inl refl)
+
+named_memory : (s : Settings) (held holds : Option (List ℕ)) →
+    AppendsPrefix held holds (load_fault_line load.Memory) → NamedFault s held holds
+named_memory s held holds line = (load.Memory, not_arguments, memory_by_seed s, line)
+
+pub one_of : (status : ℕ) → 1 ≤ status → status ≤ 2 → (status ≡ 2 → ⊥) → status ≡ 1
+one_of status low high is_not = omega (arith, low, high, is_not)
+
+-- how a load ends whose settings fit each other
+module _ (wrote stopped : Settings → Option (List ℕ) → Option (List ℕ) → Type 0) (s : Settings)
+    (fits : is_settings s ≡ true) where
+  -- by a fault
+  pub ended_by_fault : (fault : LoadFault) (status : ℕ) (held holds : Option (List ℕ)) →
+      (fault ≡ load.Arguments → ⊥) → IsFaultBySeed s fault → 1 ≤ status → status ≤ 2
+      → ((status ≡ 2) ↔ (fault ≡ load.Arguments)) → AppendsPrefix held holds (load_fault_line fault) →
+      EndsLoad wrote stopped status s held holds
+  ended_by_fault fault status held holds is_not why low high refused line = inl (
+    fits,
+    inr (
+      one_of status low high (λ two. is_not (refused.0 two)),
+      inl (fault, is_not, why, line),
+    ),
+  )
+
+  -- for want of memory
+  pub ended_for_memory : (status : ℕ) (held holds : Option (List ℕ)) → 1 ≤ status → status ≤ 2
+      → ((status ≡ 2) ↔ (load.Memory ≡ load.Arguments)) →
+      AppendsPrefix held holds (load_fault_line load.Memory) → EndsLoad wrote stopped status s held holds
+  ended_for_memory status held holds low high refused line =
+      ended_by_fault load.Memory status held holds not_arguments (memory_by_seed s) low high refused line
+
+-- the calls of a load whose settings fit each other were written, in whole or in part, and then it ended
+pub ended_kept : (wrote in_part : Settings → Option (List ℕ) → Option (List ℕ) → Type 0) (s : Settings)
+    {T : Type 0} (r : Result T StreamFault) (status : ℕ) (held middle holds : Option (List ℕ)) → is_settings s ≡ true →
+    OnOk r (wrote s held middle) → OnErr r (in_part s held middle) → IfErr r CanStopWriting →
+    EndsDone r status middle holds → EndsKept wrote in_part status s held holds
+ended_kept wrote in_part s (Ok t) status held middle holds fits ok err can e =
+    inl (fits, inl (e.0, subst (wrote s held) (sym e.1) ok))
+ended_kept wrote in_part s (Err fault) status held middle holds fits ok err can e =
+    inl (fits, inr (e.0, inr (middle, err, (fault, can, e.1))))
+
+-- the load was run to its end, and its two lines were written, in whole or in part, or memory was refused for them
+pub ended_with_lines : (s : Settings) (load : LoadReport) (status : ℕ) (held holds : Option (List ℕ)) →
+    is_settings s ≡ true → LoadedBySeed s load.tally load.report → status ≤ 1 →
+    (status ≡ 0 → Appends held holds (load_text load))
+    → (status ≡ 1 → AppendsPrefix held holds (fault_line stream.Memory) ⊎ AppendsPrefix held holds (load_text load)) →
+    Loads false status s held holds
+ended_with_lines s load zero held holds fits loaded low done stopped =
+    inl (fits, inl (refl, record { load = load; loaded = loaded; written = done refl }))
+ended_with_lines s load (suc zero) held holds fits loaded low done stopped =
+    elim (stopped refl) [
+      | inl line ↦ inl (fits, inr (refl, inl (named_memory s held holds line)))
+      | inr part ↦ inl (fits, inr (refl, inr (record { load = load; loaded = loaded; written = part })))
+    ]
+ended_with_lines s load (suc (suc n)) held holds fits loaded low done stopped = absurd (omega (arith, low))
+
+-- the calls of journals that were written in one order
+module _ {C : Type 0} (s : Settings) (opening : Journal C) (clients : List (Journal C)) (fits : is_settings s ≡ true)
+    (has : HasNoted s (notes_of opening) (map notes_of clients)) where
+  in_order : (all : List Entry) → IsMerged (kept_by opening clients) all → AreOrdered (map (λ e. e.note) all)
+  in_order all merged = merged.ordered (each_ordered s opening clients has)
+
+  are_legal : (all : List Entry) → IsMerged (kept_by opening clients) all →
+      AreLegal s.blocks (map call_of_entry all) has.loaded.last
+  are_legal all merged =
+      load_legal s (notes_of opening) (map notes_of clients) all has merged (each_in_turn opening clients)
+      (in_order all merged)
+
+  lines : EachHasLines (kept_by opening clients)
+  lines = each_has_lines s (notes_of opening) (map notes_of clients) fits has
+
+  are_judged : (all : List Entry) → IsMerged (kept_by opening clients) all → IsTheirHistory (map call_of_entry all) →
+      JudgedByPrecedence s.blocks (calls_text all) (map call_of_entry all)
+  are_judged all merged read =
+      texts_up_to_precedence s.blocks (map call_of_entry all) has.loaded.last read (are_legal all merged)
+
+  -- the history was written whole
+  pub wrote_calls : (held holds : Option (List ℕ)) → WroteHistory (kept_by opening clients) held holds →
+      WroteCalls s held holds
+  wrote_calls held holds wrote = record {
+    opening = notes_of opening;
+    clients = map notes_of clients;
+    noted = has;
+    in_turn = each_in_turn opening clients;
+    written = wrote;
+    in_order = in_order wrote.all wrote.merged;
+    legal = are_legal wrote.all wrote.merged;
+    read = wrote.read lines;
+    judged = are_judged wrote.all wrote.merged (wrote.read lines);
+  }
+
+  -- a prefix of it was written
+  pub wrote_calls_in_part : (held holds : Option (List ℕ)) → WroteHistoryPrefix (kept_by opening clients) held holds →
+      WroteCallsInPart s held holds
+  wrote_calls_in_part held holds wrote = record {
+    opening = notes_of opening;
+    clients = map notes_of clients;
+    noted = has;
+    in_turn = each_in_turn opening clients;
+    written = wrote;
+    in_order = in_order wrote.all wrote.merged;
+    legal = are_legal wrote.all wrote.merged;
+    read = wrote.read lines;
+    judged = are_judged wrote.all wrote.merged (wrote.read lines);
+  }
+
+-- there are few clients
+pub few_clients : (s : Settings) → is_settings s ≡ true → s.clients ≤ 64
+few_clients s e = let w : is_work s ≡ true = both_first (is_work s) (is_system s) e in grind (arith, nat_tests, w)
+
+-- the number of blocks is in its range
+pub right_blocks : (s : Settings) → is_settings s ≡ true → is_block_count s.blocks ≡ true
+right_blocks s e = grind (arith, nat_tests, e)

@@ -1,0 +1,59 @@
+use Rattle.std.proofs.Common.{rules, ◌≡◌, ◌≤◌, true, length, vec_len, arith}
+use Rattle.load_draws.specs.Setting.{is_settings}
+use Rattle.load_run.specs.declared.load.LoadFault.TheVariants as load
+use Rattle.cli_main.specs.Load.{StoppedKept}
+use Rattle.cli_main.proofs.Kept.{noted, same_clients}
+use Rattle.cli_main.proofs.LoadEnds.{ended_for_memory, ended_kept, ended_by_fault, few_clients}
+use Rattle.cli_main.proofs.Ledgers.{not_refused}
+use Rattle.cli_main.proofs.load.AskedLoad.keep.Goals as goal
+
+pub returns-in_default : goal.returns-in_default
+returns-in_default g c =
+    let e = c.end_load_by.ensures in
+    ended_for_memory g.K.Transcript.wrote (StoppedKept g.K.Transcript.wrote_in_part) c.args.self.now.settings.now
+    (search rules) _ (g.W.Write.contents c.args.output.now) (g.W.Write.contents c.end_load_by.new.output)
+    e.low e.high e.refused e.line
+
+pub returns-then-not-are_whole : goal.returns-then-not-are_whole
+returns-then-not-are_whole g c =
+    let e = c.end_load_by-then-not-are_whole.ensures in
+    ended_for_memory g.K.Transcript.wrote (StoppedKept g.K.Transcript.wrote_in_part) c.args.self.now.settings.now
+    (search rules) _ (g.W.Write.contents c.args.output.now)
+    (g.W.Write.contents c.end_load_by-then-not-are_whole.new.output) e.low e.high e.refused e.line
+
+pub write-requires : goal.write-requires
+write-requires g c =
+    let s = c.args.self.now.settings.now in
+    let fits : is_settings s ≡ true = search rules in
+    let few : s.clients ≤ 64 = few_clients s fits in
+    let loaded = c.in-Ok-run_told.loaded in
+    let kept = c.in-Ok-run_told.ensures.kept in
+    let empty = c.in-Ok.empty in
+    let number : vec_len empty.clients ≡ s.clients = rw c.in-Ok.is at c.requires.number in
+    let same : length loaded.2.clients.items ≡ length empty.clients.items =
+    same_clients g.K.Keep.notes s loaded.0 empty loaded.2 kept in
+    record {
+      fits = fits;
+      noted = noted g.K.Keep.notes s loaded.0 empty loaded.2 (rw c.in-Ok.is at c.requires.opening)
+          (rw c.in-Ok.is at c.requires.clients) kept;
+      few = omega (arith, few, same, number);
+    }
+
+pub returns : goal.returns
+returns g c =
+    ended_kept g.K.Transcript.wrote g.K.Transcript.wrote_in_part c.args.self.now.settings.now
+    c.write.result c.end_done.result (g.W.Write.contents c.args.output.now)
+    (g.W.Write.contents c.write.new.output) (g.W.Write.contents c.end_done.new.output) (search rules)
+    c.write.ensures.ok c.write.ensures.err c.write.ensures.fault c.end_done.ensures
+
+pub returns-in-Err : goal.returns-in-Err
+returns-in-Err g c =
+    let s = c.args.self.now.settings.now in
+    let e = c.end_load_by-in-Err.ensures in
+    let fits : is_settings s ≡ true = search rules in
+    let is_not : c.in-Err.fault ≡ load.Arguments → ⊥ = not_refused s
+    (vec_len c.in-Ok.empty.clients) c.in-Err.fault fits (rw c.in-Ok.is at c.requires.number)
+    c.in-Err.ensures.arguments in
+    ended_by_fault g.K.Transcript.wrote (StoppedKept g.K.Transcript.wrote_in_part) s fits c.in-Err.fault
+    c.end_load_by-in-Err.result (g.W.Write.contents c.args.output.now)
+    (g.W.Write.contents c.end_load_by-in-Err.new.output) is_not c.in-Err.ensures.refused e.low e.high e.refused e.line

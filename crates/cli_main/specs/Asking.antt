@@ -1,0 +1,37 @@
+-- The program's judges of calls and of attempts, by what the command line asks for.
+use Rattle.std.specs.Prelude.{◌⊎◌, ℕ, Bool, true, false, Option, Some, None, List}
+use Rattle.std.specs.Borrow.{Bor}
+use Rattle.judge_opacity.specs.Reading.{HasJudgedAttempts, HasJudgedAttemptsInPart}
+use Rattle.cli_main.specs.Ending.{EndsWithStatus}
+use Rattle.cli_main.specs.Judging.{Judges, JudgesWork, NamedAlone}
+use Rattle.cli_main.specs.Ordering.{JudgesAnyOrder, JudgesAnyWork}
+
+-- the program judges a history in any order or in the order of its lines; if a file is named, the
+-- history is also checked against the workload in the file, whose bytes are those that `files`
+-- gives for its name
+abbrev pub JudgesAs : (List ℕ → Option (List ℕ)) → Bool → Option (Bor (List ℕ)) → ℕ → ℕ → ℕ
+    → Option (List ℕ) → Option (List ℕ) → Option (List ℕ) → Option (List ℕ) → Type 0
+JudgesAs files false None blocks steps status unread left held holds =
+    Judges blocks status unread left held holds
+JudgesAs files false (Some name) blocks steps status unread left held holds =
+    JudgesWork (files name.now) blocks status unread left held holds
+JudgesAs files true None blocks steps status unread left held holds =
+    JudgesAnyOrder blocks steps status unread left held holds
+JudgesAs files true (Some name) blocks steps status unread left held holds =
+    JudgesAnyWork (files name.now) blocks steps status unread left held holds
+
+-- a fault ended a judgement of attempts: either the output failed, and a prefix of the verdict was
+-- written; or another fault was met, and only a prefix of the line that names a fault was written
+-- Not said: which fault stands for which cause.
+abbrev pub AttemptsStopped : ℕ → Option (List ℕ) → Option (List ℕ) → Option (List ℕ)
+    → Option (List ℕ) → Type 0
+AttemptsStopped words unread left held holds =
+    HasJudgedAttemptsInPart words unread left held holds ⊎ NamedAlone held holds
+
+-- the program judges attempts on this number of words; the status is 0 if they are opaque
+abbrev pub JudgesAttempts : ℕ → ℕ → Option (List ℕ) → Option (List ℕ) → Option (List ℕ)
+    → Option (List ℕ) → Type 0
+JudgesAttempts words status unread left held holds =
+    EndsWithStatus status (HasJudgedAttempts words true unread left held holds)
+    (HasJudgedAttempts words false unread left held holds
+    ⊎ AttemptsStopped words unread left held holds)

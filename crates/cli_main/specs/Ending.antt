@@ -1,0 +1,66 @@
+-- The last line and the status of the program after a fault.
+use Rattle.std.specs.Prelude.{◌≡◌, ◌⊎◌, ℕ, Bool, true, false, Option, Result, Ok, Err, List, [], codes}
+use Rattle.vac_lines.specs.Script.{as_line}
+use Rattle.vac_lines.specs.Writing.{AppendsPrefix}
+use Rattle.vac_streams.specs.declared.fault.StreamFault.{StreamFault}
+use Rattle.vac_streams.specs.declared.fault.StreamFault.TheVariants as stream
+use Rattle.load_run.specs.declared.load.LoadFault.{LoadFault}
+use Rattle.load_run.specs.declared.load.LoadFault.TheVariants as load
+
+-- the last line after a fault; there is none if the output failed
+abbrev pub fault_line : StreamFault → List ℕ
+fault_line stream.Read = as_line (codes "fault read")
+fault_line stream.Write = []
+fault_line stream.Memory = as_line (codes "fault memory")
+fault_line stream.Bound = as_line (codes "fault bound")
+
+-- the last line if a file could not be opened
+abbrev pub unopened_line : List ℕ
+unopened_line = as_line (codes "fault open")
+
+-- the last line of a load after a fault
+abbrev pub load_fault_line : LoadFault → List ℕ
+load_fault_line load.Arguments = as_line (codes "fault arguments")
+load_fault_line load.Memory = as_line (codes "fault memory")
+load_fault_line load.Spawn = as_line (codes "fault spawn")
+load_fault_line (load.Opening fault) = as_line (codes "fault opening")
+
+-- the status is 0 and the work was done, or the status is 1 and the work was stopped
+-- Not said: that the line of a fault is written, or written completely; that the line names the
+-- fault that was met; that the output is flushed. Tests use streams that fail.
+abbrev pub EndsWithStatus : ℕ → Type 0 → Type 0 → Type 0
+EndsWithStatus status done stopped = ((status ≡ 0) × done) ⊎ ((status ≡ 1) × stopped)
+
+-- the end of the program after its work: the status is 0 if the work was done; after a fault the
+-- status is 1, and a prefix of the line that names the fault was written
+abbrev pub EndsDone : {T : Type 0} → Result T StreamFault → ℕ → Option (List ℕ) → Option (List ℕ)
+    → Type 0
+EndsDone (Ok t) status held holds = (status ≡ 0) × (holds ≡ held)
+EndsDone (Err fault) status held holds =
+    (status ≡ 1) × AppendsPrefix held holds (fault_line fault)
+
+-- the end of the program after a judgement: the status is 0 if the verdict is positive, and 1
+-- otherwise; after a fault the status is 1, and a prefix of the line that names the fault was
+-- written
+abbrev pub EndsJudged : Result Bool StreamFault → ℕ → Option (List ℕ) → Option (List ℕ) → Type 0
+EndsJudged (Ok true) status held holds = (status ≡ 0) × (holds ≡ held)
+EndsJudged (Ok false) status held holds = (status ≡ 1) × (holds ≡ held)
+EndsJudged (Err fault) status held holds =
+    (status ≡ 1) × AppendsPrefix held holds (fault_line fault)
+
+-- the fault is one that can stop a command that only writes
+abbrev pub CanStopWriting : StreamFault → Type 0
+CanStopWriting fault = (fault ≡ stream.Memory) ⊎ (fault ≡ stream.Write)
+
+-- the output that was written before a fault is followed by a prefix of the line that names a
+-- fault
+abbrev pub NamedAfter : (Option (List ℕ) → Type 0) → Option (List ℕ) → Type 0
+NamedAfter before holds = (held : Option (List ℕ)) × before held
+    × ((fault : StreamFault) × AppendsPrefix held holds (fault_line fault))
+
+-- as `NamedAfter`, for a command that reads nothing: the named fault is one that can stop such a
+-- command
+abbrev pub NamedAfterWriting : (Option (List ℕ) → Type 0) → Option (List ℕ) → Type 0
+NamedAfterWriting before holds = (held : Option (List ℕ)) × before held
+    × ((fault : StreamFault) × CanStopWriting fault
+    × AppendsPrefix held holds (fault_line fault))

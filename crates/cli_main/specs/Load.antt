@@ -1,0 +1,181 @@
+-- The lines that a load writes.
+use Rattle.std.specs.Prelude.{◌≡◌, ◌≢◌, ◌↔◌, ℕ, ◌⊎◌, true, false, List, ◌∷◌, ◌++◌, map}
+use Rattle.std.specs.Prelude.{[], Option, Some, None, codes, vec_len, Result, IfOk, IfErr, IsErrOf}
+use Rattle.std.specs.Io.KnownBytes.{Appends}
+use Rattle.vac_lines.specs.Script.{as_line}
+use Rattle.vac_lines.specs.Text.{field_text, report_text}
+use Rattle.load_client.specs.declared.tally.Tally.{Tally}
+use Rattle.load_run.specs.declared.load.LoadReport.{LoadReport}
+use Rattle.load_run.specs.declared.load.LoadFault.{LoadFault}
+use Rattle.load_run.specs.declared.load.LoadFault.TheVariants as load
+use Rattle.load_draws.specs.declared.settings.Settings.{Settings}
+use Rattle.load_draws.specs.Setting.{is_settings}
+use Rattle.load_draws.specs.Streams.{gives, stream_of}
+use Rattle.vac_manager.specs.declared.note.Note.{Note}
+use Rattle.vac_manager.specs.Keeping.{IsNoted}
+use Rattle.load_history.specs.Turns.{EachInTurn}
+use Rattle.load_history.specs.Order.{AreOrdered}
+use Rattle.load_history.specs.History.{call_of_entry, calls_text, WroteHistory, WroteHistoryPrefix}
+use Rattle.load_history.specs.Legal.{AreLegal, JudgedByPrecedence}
+use Rattle.judge_calls.specs.CallText.{IsTheirHistory}
+use Rattle.load_attempts.specs.Pages.{Page}
+use Rattle.load_attempts.specs.Text.{WroteAttempts, WroteAttemptsPrefix}
+use Rattle.load_client.specs.Lists.{Paired}
+use Rattle.load_client.specs.declared.efforts.Efforts.{Efforts}
+use Rattle.load_run.specs.declared.seats.Keepers.{Keepers}
+use Rattle.load_client.specs.Keeping.{KeptNotes}
+use Rattle.load_run.specs.Load.{IsLoadFault, is_load}
+use Rattle.load_run.specs.Streams.{LoadedBySeed, KeptBySeed}
+use Rattle.vac_lines.specs.Writing.{AppendsPrefix}
+use Rattle.cli_main.specs.Ending.{EndsWithStatus, NamedAfterWriting, load_fault_line}
+
+-- the number of completed tasks, and the number of tasks that met a conflict with another client
+-- in each attempt, as text
+abbrev pub tried_text : Tally → List ℕ
+tried_text t = field_text (codes "answered ") t.answered ++ field_text (codes " busy ") t.busy
+
+-- the number of tasks that were refused memory, and the number of tasks that found the clock
+-- spent, as text
+abbrev pub wanting_text : Tally → List ℕ
+wanting_text t = field_text (codes " memory ") t.memory ++ field_text (codes " spent ") t.spent
+
+-- the text of a load's counts
+abbrev pub tally_text : Tally → List ℕ
+tally_text t = tried_text t ++ wanting_text t
+
+-- the two lines of a load
+abbrev pub load_text : LoadReport → List ℕ
+load_text load = as_line (tally_text load.tally) ++ as_line (report_text load.report)
+
+-- the load of these settings ran to its end, and exactly its two lines were written
+pub record WroteLoad (s : Settings) (held holds : Option (List ℕ)) : Type 0 where
+  pub load : LoadReport
+  pub loaded : LoadedBySeed s load.tally load.report
+  pub written : Appends held holds (load_text load)
+
+-- the load ran to its end, and a prefix of its two lines was written
+pub record WroteLoadInPart (s : Settings) (held holds : Option (List ℕ)) : Type 0 where
+  pub load : LoadReport
+  pub loaded : LoadedBySeed s load.tally load.report
+  pub written : AppendsPrefix held holds (load_text load)
+
+-- the fault is the reason why the load of a seed did not run to its end; the setup phase of such a
+-- load draws from stream 0
+abbrev pub IsFaultBySeed : Settings → LoadFault → Type 0
+IsFaultBySeed s fault = IsLoadFault gives s (stream_of s.seed 0) fault
+
+-- a load of these settings was run with these recorders, or refused because the settings and the
+-- recorders do not fit: the result has the recorded calls, or the reason why the load did not run
+-- to its end
+pub record RunsKept {K : Type 0} (notes : K → KeptNotes) (s : Settings) (keepers : Keepers K)
+    (result : Result (LoadReport × Efforts × Keepers K) LoadFault) : Type 0 where
+  pub arguments : IsErrOf result load.Arguments
+      ↔ (is_load s (vec_len keepers.clients) ≡ false)
+  pub kept : IfOk result (λ r. KeptBySeed notes s r.0.tally r.0.report keepers r.2)
+  pub refused : IfErr result (λ fault. IsFaultBySeed s fault)
+
+-- a load of these settings was stopped by a fault other than unfitting arguments, and a prefix of
+-- the line that names the fault was written
+-- Not said: that memory was refused if `fault memory` or `fault opening` is named, or a thread if
+-- `fault spawn` is.
+-- Not said: which of the three faults. The clock of the program's loads has time for every setup
+-- phase, so the contract allows each of the three for any settings in range.
+abbrev pub NamedFault : Settings → Option (List ℕ) → Option (List ℕ) → Type 0
+NamedFault s held holds = (fault : LoadFault) × (fault ≢ load.Arguments)
+    × IsFaultBySeed s fault × AppendsPrefix held holds (load_fault_line fault)
+
+-- a load with fitting settings is run: its result is written, or a fault ends it and is named, or
+-- `stopped` describes its end; if the settings do not fit each other, the command line is refused
+abbrev pub EndsLoad : (wrote stopped : Settings → Option (List ℕ) → Option (List ℕ) → Type 0) → ℕ
+    → Settings → Option (List ℕ) → Option (List ℕ) → Type 0
+EndsLoad wrote stopped status s held holds =
+    ((is_settings s ≡ true)
+    × EndsWithStatus status (wrote s held holds) (NamedFault s held holds ⊎ stopped s held holds))
+    ⊎ ((is_settings s ≡ false) × (status ≡ 2)
+    × AppendsPrefix held holds (load_fault_line load.Arguments))
+
+-- the recorded calls of a load were written in part, followed by a prefix of the line of a fault
+abbrev pub StoppedKept : (in_part : Settings → Option (List ℕ) → Option (List ℕ) → Type 0)
+    → Settings → Option (List ℕ) → Option (List ℕ) → Type 0
+StoppedKept in_part s held holds = NamedAfterWriting (in_part s held) holds
+
+-- the end of a load that writes its recorded calls
+abbrev pub EndsKept : (wrote in_part : Settings → Option (List ℕ) → Option (List ℕ) → Type 0) → ℕ
+    → Settings → Option (List ℕ) → Option (List ℕ) → Type 0
+EndsKept wrote in_part status s held holds =
+    EndsLoad wrote (StoppedKept in_part) status s held holds
+
+-- the load of these settings ran to its end, and the notes are its completed calls: those of the
+-- setup phase and those of each client, one for each record, in the order of the records
+pub record HasNoted (s : Settings) (opening : List Note) (clients : List (List Note))
+    : Type 0 where
+  pub load : LoadReport
+  pub loaded : LoadedBySeed s load.tally load.report
+  pub of_opening : Paired IsNoted opening loaded.opened
+  pub of_clients : Paired (λ notes x. Paired IsNoted notes x.records) clients loaded.shares
+
+-- the recorded calls; none if nothing is recorded
+abbrev pub calls_kept : KeptNotes → List Note
+calls_kept None = []
+calls_kept (Some calls) = calls
+
+-- the load ran to its end, and the recorders have its completed calls
+abbrev pub AreNoted : {K : Type 0} → (K → KeptNotes) → Settings → Keepers K → Type 0
+AreNoted notes s k = HasNoted s (calls_kept (notes k.opening))
+    (map (λ x. calls_kept (notes x)) k.clients.items)
+
+-- the load ran to its end, and exactly the history of its completed calls was written: all calls
+-- in the order of their records, and the readers of one version in the order of their begins. In
+-- this order the calls are legal and reach the state that the load reports. The lines are read as
+-- these calls, and the judge calls the history legal if and only if no call that ended before
+-- another began comes after that other call
+-- Not said: that the order keeps real time. The clock readings of two clients do not show which of
+-- them read first.
+-- Not said: that a stamp is a reading of the clock; that the state is the one that the load writes
+-- to the error stream, of which no clause speaks.
+-- Not said: that no call was left out because a journal had no room for it. Of the journals that a
+-- load returns, only the recorded calls are known.
+pub record WroteCalls (s : Settings) (held holds : Option (List ℕ)) : Type 0 where
+  pub opening : List Note
+  pub clients : List (List Note)
+  pub noted : HasNoted s opening clients
+  pub in_turn : EachInTurn (opening ∷ clients)
+  pub written : WroteHistory (opening ∷ clients) held holds
+  pub in_order : AreOrdered (map (λ e. e.note) written.all)
+  pub legal : AreLegal s.blocks (map call_of_entry written.all) noted.loaded.last
+  pub read : IsTheirHistory (map call_of_entry written.all)
+  pub judged : JudgedByPrecedence s.blocks (calls_text written.all) (map call_of_entry written.all)
+
+-- the load ran to its end, and a prefix of such a history was written
+pub record WroteCallsInPart (s : Settings) (held holds : Option (List ℕ)) : Type 0 where
+  pub opening : List Note
+  pub clients : List (List Note)
+  pub noted : HasNoted s opening clients
+  pub in_turn : EachInTurn (opening ∷ clients)
+  pub written : WroteHistoryPrefix (opening ∷ clients) held holds
+  pub in_order : AreOrdered (map (λ e. e.note) written.all)
+  pub legal : AreLegal s.blocks (map call_of_entry written.all) noted.loaded.last
+  pub read : IsTheirHistory (map call_of_entry written.all)
+  pub judged : JudgedByPrecedence s.blocks (calls_text written.all) (map call_of_entry written.all)
+
+-- the load ran to its end, and exactly the attempts of its calls were written: for each completed
+-- call its attempt, once, with the commit position, the reads and the writes of the call's record
+-- (`IsNoted` of vac_manager); aborted attempts; and attempts that write the initial words. All are
+-- sorted by commit position
+-- Not said: that each aborted attempt is among them, its reads, and its position; that a stamp is
+-- a reading of the clock, and that the stamps of each client are in turn. `vacation opaque` judges
+-- these.
+-- Not said: that `vacation opaque` reads the lines.
+-- Not said: that nothing was left out because a ledger had no room for it.
+pub record WroteTried (s : Settings) (held holds : Option (List ℕ)) : Type 0 where
+  pub opening : Page
+  pub clients : List Page
+  pub noted : HasNoted s opening.calls (map (λ page. page.calls) clients)
+  pub written : WroteAttempts s.blocks (opening ∷ clients) held holds
+
+-- the load ran to its end, and nothing or a prefix of the text of such attempts was written
+pub record WroteTriedInPart (s : Settings) (held holds : Option (List ℕ)) : Type 0 where
+  pub opening : Page
+  pub clients : List Page
+  pub noted : HasNoted s opening.calls (map (λ page. page.calls) clients)
+  pub written : WroteAttemptsPrefix s.blocks (opening ∷ clients) held holds

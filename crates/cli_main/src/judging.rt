@@ -1,0 +1,114 @@
+//! Judging histories and attempts, and the resulting statuses.
+
+ghost use Rattle.std.specs.Prelude.{◌≡◌, true, IfOk, IfErr, OnOk, IsSome, option_map};
+ghost use Rattle.vac_model.specs.Ranges.{is_block_count};
+ghost use Rattle.cli_main.specs.Judging.{JudgesWith, NotOpened};
+ghost use Rattle.cli_main.specs.Asking.{JudgesAs, JudgesAttempts};
+
+use crate::files::Open;
+use crate::searching::judge_any;
+use crate::status::{end_by, end_judged, end_unopened};
+use cli_options::Judging;
+use judge_calls::{judge_history, judge_work};
+use judge_opacity::judge_attempts;
+use std::alloc::Global;
+use std::io;
+use std::io::{ErrorKind, Read, Write};
+use std::time::Clock;
+use vac_streams::StreamFault;
+
+/// Judges a history, checks it against these tasks if there are any, and returns the status: 0 if
+/// the history is legal and has all tasks.
+pub(crate) fn judge_with<F: Read + Drop, R: Read, W: Write>(
+    alloc: Global,
+    blocks: u32,
+    tasks: Option<F>,
+    input: &mut R,
+    output: &mut W,
+) -> u8
+    requires { is_block_count blocks ≡ true }
+    ensures { JudgesWith (option_map F.remaining tasks) blocks result
+        (R.remaining input.old) (R.remaining input.new)
+        (W.contents output.old) (W.contents output.new) }
+{
+    match tasks {
+        None => end_judged(judge_history(alloc, blocks, input, output), output),
+        Some(mut tasks) => {
+            end_judged(judge_work(alloc, blocks, &mut tasks, input, output), output)
+        }
+    }
+}
+
+/// Ends the program if the file of the tasks was not opened, and returns the status.
+fn end_unopened_by<W: Write>(error: &io::Error, output: &mut W) -> u8
+    ensures { NotOpened result (W.contents output.old) (W.contents output.new) }
+{
+    if error.kind() == ErrorKind::OutOfMemory {
+        end_by(StreamFault::Memory, output)
+    } else {
+        end_unopened(output)
+    }
+}
+
+/// Opens the file of tasks of this name, if there is a name. If the file was not opened, the error
+/// is the status.
+fn open_tasks<F: Open, W: Write>(
+    files: &F,
+    name: Option<&str>,
+    output: &mut W,
+) -> Result<Option<F::File>, u8>
+    ensures opened { IfOk result (λ tasks. option_map F.File.remaining tasks
+        ≡ option_map (λ n. F.holds files.now n.now) name.entry) }
+    ensures unwritten { OnOk result (W.contents output.new ≡ W.contents output.old) }
+    ensures named { IfErr result (λ _. IsSome name.entry) }
+    ensures refused { IfErr result (λ status.
+        NotOpened status (W.contents output.old) (W.contents output.new)) }
+{
+    let Some(name) = name else {
+        return Ok(None);
+    };
+    match files.open(name) {
+        Ok(tasks) => Ok(Some(tasks)),
+        Err(error) => Err(end_unopened_by(&error, output)),
+    }
+}
+
+/// Judges a history as the command line asks, and returns the status.
+pub(crate) fn judge<T: Clock + AllocGlobal, F: Open, R: Read, W: Write, E: Write>(
+    rt: &T,
+    files: &F,
+    blocks: u32,
+    how: Judging<'_>,
+    input: &mut R,
+    output: &mut W,
+    errors: &mut E,
+) -> u8
+    requires { is_block_count blocks ≡ true }
+    ensures { JudgesAs (F.holds files.now) how.entry.any_order how.entry.tasks blocks
+        how.entry.search.steps result
+        (R.remaining input.old) (R.remaining input.new)
+        (W.contents output.old) (W.contents output.new) }
+{
+    let tasks = match open_tasks(files, how.tasks, output) {
+        Ok(tasks) => tasks,
+        Err(status) => return status,
+    };
+    if how.any_order {
+        judge_any(rt, blocks, how.search, tasks, input, output, errors)
+    } else {
+        judge_with(rt.alloc(), blocks, tasks, input, output)
+    }
+}
+
+/// Judges attempts on `words` words, and returns the status: 0 if they are opaque.
+pub(crate) fn judge_opaque<R: Read, W: Write>(
+    alloc: Global,
+    words: u32,
+    input: &mut R,
+    output: &mut W,
+) -> u8
+    ensures { JudgesAttempts words result (R.remaining input.old) (R.remaining input.new)
+        (W.contents output.old) (W.contents output.new) }
+{
+    end_judged(judge_attempts(alloc, words, input, output), output)
+}

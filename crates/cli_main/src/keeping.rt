@@ -1,0 +1,217 @@
+//! Loads that record the calls of their clients, and write them.
+
+ghost use Rattle.std.specs.Prelude.{◌≡◌, ◌<◌, ◌^◌, true, [], Some, ℕ, Bool, List, Option, length};
+ghost use Rattle.std.specs.Prelude.{vec_len, All, IfOk, OnOk, OnErr, IfErr};
+ghost use Rattle.load_draws.specs.declared.settings.Settings.{Settings};
+ghost use Rattle.load_draws.specs.Setting.{is_settings};
+ghost use Rattle.load_run.specs.declared.seats.Keepers.{Keepers};
+ghost use Rattle.cli_main.specs.Ending.{CanStopWriting};
+ghost use Rattle.cli_main.specs.Load.{AreNoted, EndsKept};
+ghost use Rattle.cli_main.specs.Program.{Loads, Tries};
+
+use crate::load::{AskedLoad, tell_load};
+use crate::stats::{Span, tell_stats};
+use crate::status::{end_by_settings, end_done, end_load_by};
+use crate::telling::run_told;
+use load_attempts::{Ledger, write_attempts};
+use load_history::{Journal, Since, Watch, write_history};
+use load_run::{Keepers, LoadFault, Settings};
+use std::alloc::{AllocError, Global};
+use std::io::Write;
+use std::sync::Wait;
+use std::thread::Threads;
+use std::time::{Clock, Instant};
+use vac_manager::Keep;
+use vac_streams::StreamFault;
+
+/// A load that ran to its end, and its recorders.
+#[derive(Drop)]
+pub(crate) struct KeptLoad<'a, K> {
+    alloc: Global,
+    settings: &'a Settings,
+    keepers: Keepers<K>,
+}
+
+/// A recorder of a client's calls that reads times from a clock, and writes the calls of a whole
+/// load.
+pub(crate) trait Transcript<W>: Keep + Sized {
+    /// The calls of a load of these settings were written.
+    ghost wrote: { Settings → Option (List ℕ) → Option (List ℕ) → Type 0 };
+
+    /// The calls of a load of these settings were written in part.
+    ghost wrote_in_part: { Settings → Option (List ℕ) → Option (List ℕ) → Type 0 };
+
+    /// The recorders had room for all calls.
+    ghost are_whole: { Keepers Self → Bool };
+
+    /// Returns a recorder without calls.
+    fn empty(alloc: Global, watch: W) -> Self
+        ensures { Self.notes result ≡ Some [] };
+
+    /// Returns whether the recorders had room for all calls.
+    fn are_whole(keepers: &Keepers<Self>) -> bool
+        ensures { result ≡ are_whole keepers.now };
+
+    /// Writes the calls of a load.
+    fn write<O: Write>(load: &KeptLoad<'_, Self>, output: &mut O) -> Result<(), StreamFault>
+        requires fits { is_settings load.now.settings.now ≡ true }
+        requires noted { AreNoted Self.notes load.now.settings.now load.now.keepers }
+        requires few { length load.now.keepers.clients.items < 2 ^ 32 }
+        ensures ok { OnOk result
+            (wrote load.now.settings.now (O.contents output.old) (O.contents output.new)) }
+        ensures err { OnErr result
+            (wrote_in_part load.now.settings.now (O.contents output.old) (O.contents output.new)) }
+        ensures fault { IfErr result CanStopWriting };
+}
+
+impl<W: Watch> Transcript<W> for Journal<W> {
+    ghost use Rattle.load_history.specs.History as history;
+    ghost use Rattle.cli_main.specs.Load.{WroteCalls, WroteCallsInPart};
+
+    ghost wrote = { WroteCalls };
+
+    ghost wrote_in_part = { WroteCallsInPart };
+
+    ghost are_whole = { λ k. history.are_whole k.opening k.clients.items };
+
+    fn empty(alloc: Global, watch: W) -> Journal<W> {
+        Journal::new(alloc, watch)
+    }
+
+    fn are_whole(keepers: &Keepers<Journal<W>>) -> bool {
+        load_history::are_whole(&keepers.opening, keepers.clients.as_slice())
+    }
+
+    fn write<O: Write>(load: &KeptLoad<'_, Journal<W>>, output: &mut O) -> Result<(), StreamFault> {
+        let Keepers { opening, clients } = &load.keepers;
+        write_history(load.alloc, opening, clients.as_slice(), output)
+    }
+}
+
+impl<W: Watch + Copy + Drop> Transcript<W> for Ledger<W> {
+    ghost use Rattle.load_attempts.specs.Known.{are_whole_ledgers};
+    ghost use Rattle.cli_main.specs.Load.{WroteTried, WroteTriedInPart};
+
+    ghost wrote = { WroteTried };
+
+    ghost wrote_in_part = { WroteTriedInPart };
+
+    ghost are_whole = { λ k. are_whole_ledgers k.opening k.clients.items };
+
+    fn empty(alloc: Global, watch: W) -> Ledger<W> {
+        Ledger::new(alloc, watch)
+    }
+
+    fn are_whole(keepers: &Keepers<Ledger<W>>) -> bool {
+        load_attempts::are_whole(&keepers.opening, keepers.clients.as_slice())
+    }
+
+    fn write<O: Write>(load: &KeptLoad<'_, Ledger<W>>, output: &mut O) -> Result<(), StreamFault> {
+        let (blocks, kept) = (load.settings.blocks, &load.keepers);
+        write_attempts(
+            load.alloc,
+            blocks,
+            &kept.opening,
+            kept.clients.as_slice(),
+            output,
+        )
+    }
+}
+
+/// Returns the empty recorders of a load of `count` clients, with one clock and one start.
+fn empty_keepers<'a, T: Clock, K: Transcript<Since<'a, T>> + Drop>(
+    alloc: Global,
+    clock: &'a T,
+    count: u32,
+) -> Result<Keepers<K>, AllocError>
+    ensures number { IfOk result (λ keepers. vec_len keepers.clients ≡ count) }
+    ensures opening { IfOk result (λ keepers. K.notes keepers.opening ≡ Some []) }
+    ensures clients { IfOk result (λ keepers.
+        All (λ x. K.notes x ≡ Some []) keepers.clients.items) }
+{
+    let start = Instant::now(clock).ok();
+    let mut clients = Vec::with_capacity(alloc, count as usize)?;
+    for number in 0..count {
+        clients.push(K::empty(alloc, Since::new(clock, start)))?;
+    }
+    let opening = K::empty(alloc, Since::new(clock, start));
+    Ok(Keepers { opening, clients })
+}
+
+impl<'a, T: Threads + Wait + Clock + Sync + AllocGlobal> AskedLoad<'a, T> {
+    /// Runs the load, writes the history of its calls, writes its two lines to `errors`, and
+    /// returns the status. A call for which a journal had no room was not issued, and the load
+    /// then ends with the fault of refused memory.
+    pub(crate) fn note<W: Write, E: Write + Send>(&self, output: &mut W, errors: &mut E) -> u8
+        ensures { Loads true result self.now.settings.now
+            (W.contents output.old) (W.contents output.new) }
+    {
+        let (clock, count) = (self.rt, self.settings.clients);
+        let keepers = empty_keepers::<T, Journal<Since<'a, T>>>(clock.alloc(), clock, count);
+        self.keep(keepers, output, errors)
+    }
+
+    /// Runs the load, writes the attempts of its calls, writes its two lines to `errors`, and
+    /// returns the status. If there was no room for a call, for an attempt, or for the reads and
+    /// writes of an attempt, the load ends with the fault of refused memory.
+    pub(crate) fn trace<W: Write, E: Write + Send>(&self, output: &mut W, errors: &mut E) -> u8
+        ensures { Tries result self.now.settings.now
+            (W.contents output.old) (W.contents output.new) }
+    {
+        let (clock, count) = (self.rt, self.settings.clients);
+        let keepers = empty_keepers::<T, Ledger<Since<'a, T>>>(clock.alloc(), clock, count);
+        self.keep(keepers, output, errors)
+    }
+
+    /// Runs the load with these recorders, writes the recorded calls, writes the load's two lines
+    /// to `errors`, and returns the status. If a recorder had no room, the load ends with the
+    /// fault of refused memory.
+    fn keep<K: Transcript<Since<'a, T>> + Send + Drop, W: Write, E: Write + Send>(
+        &self,
+        keepers: Result<Keepers<K>, AllocError>,
+        output: &mut W,
+        errors: &mut E,
+    ) -> u8
+    where
+        K::Tracing: Send,
+        requires number { IfOk keepers (λ k. vec_len k.clients ≡ self.now.settings.now.clients) }
+        requires opening { IfOk keepers (λ k. K.notes k.opening ≡ Some []) }
+        requires clients { IfOk keepers (λ k. All (λ x. K.notes x ≡ Some []) k.clients.items) }
+        ensures { EndsKept K.wrote K.wrote_in_part result self.now.settings.now
+            (W.contents output.old) (W.contents output.new) }
+    {
+        if !self.settings.is_in_range() {
+            return end_by_settings(self.rt.alloc(), self.settings, output, errors);
+        }
+        let alloc = self.rt.alloc();
+        let Ok(empty) = keepers else {
+            return end_load_by(LoadFault::Memory, output);
+        };
+        let span = Span::new(self.rt, self.settings.clients);
+        let (report, efforts, keepers) = match run_told(
+            self.rt,
+            self.settings,
+            self.how,
+            empty,
+            &span,
+            errors,
+        ) {
+            Ok(loaded) => loaded,
+            Err(fault) => return end_load_by(fault, output),
+        };
+        if !K::are_whole(&keepers) {
+            return end_load_by(LoadFault::Memory, output);
+        }
+        if self.how.stats {
+            tell_stats(alloc, span.nanos(), report.tally.answered, efforts, errors);
+        }
+        tell_load(alloc, &report, errors);
+        let settings = self.settings;
+        let load = KeptLoad {
+            alloc,
+            settings,
+            keepers,
+        };
+        end_done(K::write(&load, output), output)
+    }
+}

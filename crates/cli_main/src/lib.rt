@@ -1,0 +1,22 @@
+//! The program: runs the command that its command line asks for, over the streams that the caller
+//! gives.
+//!
+//! Scripts over streams, and the line-by-line readers and writers, are re-exported from the crates
+//! below.
+#![tactic(auto)]
+
+mod files;
+mod judging;
+mod keeping;
+mod load;
+mod program;
+mod searching;
+mod stats;
+mod status;
+mod telling;
+
+pub use cli_script::{check_words, dump_script, run_script};
+pub use files::Open;
+pub use program::{refuse_words, run_words};
+pub use vac_lines::{LineFault, print_reply, read_line};
+pub use vac_streams::StreamFault;

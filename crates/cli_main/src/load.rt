@@ -1,0 +1,174 @@
+//! A load from the command line, and the lines that the load writes.
+
+ghost use Rattle.std.specs.Prelude.{◌≡◌, ◌≤◌, ◌++◌, ◌⊎◌, false, OnOk};
+ghost use Rattle.cli_main.specs.Load.{tried_text, wanting_text};
+ghost use Rattle.cli_main.specs.Load.{tally_text, load_text};
+ghost use Rattle.cli_main.specs.Program.{Loads, LoadsAs};
+ghost use Rattle.std.specs.Io.KnownBytes.{Appends};
+ghost use Rattle.vac_streams.specs.declared.fault.StreamFault.TheVariants.{Memory};
+ghost use Rattle.cli_main.specs.Ending.{fault_line};
+ghost use Rattle.vac_lines.specs.Script.{as_line};
+ghost use Rattle.vac_lines.specs.Writing.{AppendsPrefix};
+ghost use Rattle.vac_lines.specs.Text.{report_text};
+
+use crate::stats::{Span, tell_stats};
+use crate::status::{DONE, FAULT, REFUSED, end_by, end_by_settings, end_load_by};
+use crate::telling::run_told;
+use cli_options::How;
+use load_run::{LoadFault, LoadReport, Settings, Tally, no_keepers};
+use std::alloc::{AllocError, Global};
+use std::io::Write;
+use std::sync::Wait;
+use std::thread::Threads;
+use std::time::Clock;
+use vac_lines::{append_field, print_reply, write_and_flush};
+use vac_model::{Reply, Report};
+use vac_streams::StreamFault;
+
+/// A load from the command line, with the runtime it runs on.
+#[derive(Drop)]
+pub(crate) struct AskedLoad<'a, T> {
+    pub(crate) rt: &'a T,
+    pub(crate) settings: &'a Settings,
+    /// The outputs that the command line asks for.
+    pub(crate) how: How,
+}
+
+/// Writes that a load cannot write both its history and its attempts, and returns the status of a
+/// refused command line.
+fn refuse_both<E: Write>(errors: &mut E) -> u8
+    ensures { result ≡ 2 }
+{
+    let _ = write_and_flush(
+        errors,
+        b"error: --history and --attempts do not go together\n",
+    );
+    REFUSED
+}
+
+/// Runs a load, writes its two lines, the history of its calls or their attempts, and returns the
+/// status. If the command line asks for them, writes progress lines to `errors`, and at the end
+/// the time and the attempt statistics of the clients. If the history or the attempts are written,
+/// the two lines go to `errors`.
+pub(crate) fn load<T: Threads + Wait + Clock + Sync + AllocGlobal, W: Write, E: Write + Send>(
+    rt: &T,
+    settings: &Settings,
+    how: How,
+    output: &mut W,
+    errors: &mut E,
+) -> u8
+    ensures { LoadsAs how.history how.attempts result settings.now
+        (W.contents output.old) (W.contents output.new) }
+{
+    let asked = AskedLoad { rt, settings, how };
+    match (how.history, how.attempts) {
+        (true, true) => refuse_both(errors),
+        (true, false) => asked.note(output, errors),
+        (false, true) => asked.trace(output, errors),
+        (false, false) => asked.report(output, errors),
+    }
+}
+
+impl<T: Threads + Wait + Clock + Sync + AllocGlobal> AskedLoad<'_, T> {
+    /// Runs the load, writes its two lines, and returns the status.
+    fn report<W: Write, E: Write + Send>(&self, output: &mut W, errors: &mut E) -> u8
+        ensures { Loads false result self.now.settings.now
+            (W.contents output.old) (W.contents output.new) }
+    {
+        if !self.settings.is_in_range() {
+            return end_by_settings(self.rt.alloc(), self.settings, output, errors);
+        }
+        let Ok(keepers) = no_keepers(self.rt.alloc(), self.settings.clients) else {
+            return end_load_by(LoadFault::Memory, output);
+        };
+        let span = Span::new(self.rt, self.settings.clients);
+        match run_told(self.rt, self.settings, self.how, keepers, &span, errors) {
+            Ok((report, efforts, _kept)) => {
+                if self.how.stats {
+                    let answered = report.tally.answered;
+                    tell_stats(self.rt.alloc(), span.nanos(), answered, efforts, errors);
+                }
+                write_load(self.rt.alloc(), &report, output)
+            }
+            Err(fault) => end_load_by(fault, output),
+        }
+    }
+}
+
+/// Writes the two lines of a load to `errors`. If memory or the write is refused, only these lines
+/// are lost.
+pub(crate) fn tell_load<E: Write>(alloc: Global, report: &LoadReport, errors: &mut E) {
+    let mut text = Vec::new(alloc);
+    if append_load(&mut text, report).is_ok() {
+        let _ = write_and_flush(errors, text.as_slice());
+    }
+}
+
+/// Writes the two lines of a load, and returns the status.
+fn write_load<W: Write>(alloc: Global, report: &LoadReport, output: &mut W) -> u8
+    ensures status { result ≤ 1 }
+    ensures done { result ≡ 0 →
+        Appends (W.contents output.old) (W.contents output.new) (load_text report.now) }
+    ensures stopped { result ≡ 1 →
+        AppendsPrefix (W.contents output.old) (W.contents output.new) (fault_line Memory)
+        ⊎ AppendsPrefix (W.contents output.old) (W.contents output.new) (load_text report.now) }
+{
+    let mut text = Vec::new(alloc);
+    if append_load(&mut text, report).is_err() {
+        return end_by(StreamFault::Memory, output);
+    }
+    match write_and_flush(output, text.as_slice()) {
+        Ok(()) => DONE,
+        Err(_) => FAULT,
+    }
+}
+
+/// Appends the number of completed tasks, and the number of tasks that met a conflict with another
+/// client in each attempt.
+fn append_tried(out: &mut Vec<u8>, tally: Tally) -> Result<(), AllocError>
+    ensures { OnOk result (out.new.items ≡ out.old.items ++ tried_text tally) }
+{
+    append_field(out, b"answered ", tally.answered)?;
+    append_field(out, b" busy ", tally.busy)
+}
+
+/// Appends the number of tasks that were refused memory, and the number of tasks that found the
+/// clock spent.
+fn append_wanting(out: &mut Vec<u8>, tally: Tally) -> Result<(), AllocError>
+    ensures { OnOk result (out.new.items ≡ out.old.items ++ wanting_text tally) }
+{
+    append_field(out, b" memory ", tally.memory)?;
+    append_field(out, b" spent ", tally.spent)
+}
+
+/// Appends the counts of the tasks, without a line end.
+fn append_tally(out: &mut Vec<u8>, tally: Tally) -> Result<(), AllocError>
+    ensures { OnOk result (out.new.items ≡ out.old.items ++ tally_text tally) }
+{
+    append_tried(out, tally)?;
+    append_wanting(out, tally)
+}
+
+/// Appends the counts of the tasks, as a line.
+fn append_tally_line(out: &mut Vec<u8>, tally: Tally) -> Result<(), AllocError>
+    ensures { OnOk result (out.new.items ≡ out.old.items ++ as_line (tally_text tally)) }
+{
+    append_tally(out, tally)?;
+    out.extend_from_slice(b"\n")
+}
+
+/// Appends a report, as a line.
+fn append_report_line(out: &mut Vec<u8>, report: Report) -> Result<(), AllocError>
+    ensures { OnOk result (out.new.items ≡ out.old.items ++ as_line (report_text report)) }
+{
+    print_reply(&Reply::Report(report), out)?;
+    out.extend_from_slice(b"\n")
+}
+
+/// Appends the two lines of a load: the counts of its tasks, and the report.
+fn append_load(out: &mut Vec<u8>, load: &LoadReport) -> Result<(), AllocError>
+    ensures { OnOk result (out.new.items ≡ out.old.items ++ load_text load.now) }
+{
+    append_tally_line(out, load.tally)?;
+    append_report_line(out, load.report)
+}

@@ -1,0 +1,165 @@
+//! The program: runs the command of a command line, and returns its status.
+
+ghost use Rattle.std.specs.Prelude.{◌≡◌, ◌≤◌, ℕ, true, List, map, string_bytes};
+ghost use Rattle.std.specs.Io.KnownBytes.{Appends};
+ghost use Rattle.clap.specs.Words.{kind_of};
+ghost use Rattle.clap.specs.declared.error.kind.ErrorKind.TheVariants.{DisplayVersion};
+ghost use Rattle.vac_model.specs.Ranges.{is_block_count};
+ghost use Rattle.cli_main.specs.Program.{RunsScript, Dumps, Checks, ListsTasks, ShowsError, Serves};
+
+use crate::files::Open;
+use crate::judging::{judge, judge_opaque};
+use crate::load::load;
+use crate::searching::order;
+use crate::status::{DONE, FAULT, REFUSED, end_by, end_by_settings, end_done, end_judged};
+use clap::Error;
+use clap::error::ErrorKind;
+use cli_options::{Asked, VERSION, read_asked};
+use cli_script::{check_words, dump_script, run_script};
+use load_run::Settings;
+use load_worklist::{TasksFault, write_tasks};
+use std::alloc::Global;
+use std::io::{Read, Write};
+use std::sync::Wait;
+use std::thread::Threads;
+use std::time::Clock;
+use vac_lines::write_and_flush;
+use vac_streams::StreamFault;
+
+/// Runs the program on a command line, whose first word is the program's name, and returns its
+/// status. The status is 0 if the program did its work or showed its help or its version. The
+/// status is 1 after a fault, or if `check` found no balanced state, `judge` no legal history,
+/// `order` no linearization, or `opaque` attempts that are not opaque. The status is 2 if the
+/// command line was refused, and 3 if `order` did not decide.
+///
+/// Help and the version go to `output`, the text of a refused command line to `errors`. A fault is
+/// the last line of `output`, unless `output` failed. The lines that a load writes to `errors`
+/// (its progress, its statistics, its two lines with `--history`) change neither `output` nor the
+/// status.
+///
+/// Not said: that a load that is asked for progress lines writes them, their text and their times;
+/// the line of `--stats`. Tests look at these.
+pub fn run_words<
+    T: Threads + Wait + Clock + Sync + AllocGlobal,
+    R: Read,
+    W: Write,
+    E: Write + Send,
+    F: Open,
+>(rt: &T, files: &F, words: &[String], input: &mut R, output: &mut W, errors: &mut E) -> u8
+    ensures { Serves (F.holds files.now) (map string_bytes words.now) result
+        (R.remaining input.old) (R.remaining input.new)
+        (W.contents output.old) (W.contents output.new) }
+{
+    let alloc = rt.alloc();
+    match read_asked(alloc, words) {
+        Ok(Asked::Run(blocks)) => run(alloc, blocks, input, output),
+        Ok(Asked::Dump(blocks)) => dump(alloc, blocks, input, output),
+        Ok(Asked::Check) => check(alloc, input, output),
+        Ok(Asked::Judge(blocks, how)) => judge(rt, files, blocks, how, input, output, errors),
+        Ok(Asked::Order(blocks, search)) => order(rt, blocks, search, input, output, errors),
+        Ok(Asked::Opaque(words)) => judge_opaque(alloc, words, input, output),
+        Ok(Asked::Load(settings, how)) => load(rt, &settings, how, output, errors),
+        Ok(Asked::Tasks(settings)) => list_tasks(alloc, &settings, output, errors),
+        Err(error) => show(alloc, &error, output, errors),
+    }
+}
+
+/// Writes that a word of the command line is no text, and returns the status of a refused command
+/// line. A failed write changes nothing.
+///
+/// Not said: that `main` calls this function for words that are no text, and passes the words of
+/// any other command line to `run_words`. Those three lines are read in the code.
+pub fn refuse_words<E: Write>(errors: &mut E) -> u8
+    ensures { result ≡ 2 }
+{
+    let text = b"error: a word of the command line is not valid UTF-8\n";
+    if errors.write_all(text).is_ok() {
+        let _ = errors.flush();
+    }
+    REFUSED
+}
+
+/// Runs a script and returns the status.
+fn run<R: Read, W: Write>(alloc: Global, blocks: u32, input: &mut R, output: &mut W) -> u8
+    requires { is_block_count blocks ≡ true }
+    ensures { RunsScript blocks result (R.remaining input.old) (R.remaining input.new)
+        (W.contents output.old) (W.contents output.new) }
+{
+    end_done(run_script(alloc, blocks, input, output), output)
+}
+
+/// Dumps the memory after a script, and returns the status.
+fn dump<R: Read, W: Write>(alloc: Global, blocks: u32, input: &mut R, output: &mut W) -> u8
+    requires { is_block_count blocks ≡ true }
+    ensures { Dumps blocks result (R.remaining input.old) (R.remaining input.new)
+        (W.contents output.old) (W.contents output.new) }
+{
+    end_done(dump_script(alloc, blocks, input, output), output)
+}
+
+/// Audits words, and returns the status: 0 if they represent a balanced state.
+fn check<R: Read, W: Write>(alloc: Global, input: &mut R, output: &mut W) -> u8
+    ensures { Checks result (R.remaining input.old) (R.remaining input.new)
+        (W.contents output.old) (W.contents output.new) }
+{
+    end_judged(check_words(alloc, input, output), output)
+}
+
+/// Writes the tasks of a load, and returns the status.
+#[tactic(auto, using(crate::proofs::Ending::nothing_then))]
+fn list_tasks<W: Write, E: Write>(
+    alloc: Global,
+    settings: &Settings,
+    output: &mut W,
+    errors: &mut E,
+) -> u8
+    ensures { ListsTasks result settings.now (W.contents output.old) (W.contents output.new) }
+{
+    match write_tasks(alloc, settings, output) {
+        Ok(()) => DONE,
+        Err(TasksFault::Arguments) => end_by_settings(alloc, settings, output, errors),
+        Err(TasksFault::Memory) => end_by(StreamFault::Memory, output),
+        Err(TasksFault::Write) => end_by(StreamFault::Write, output),
+    }
+}
+
+/// Shows the help, the version, or the reason why the command line was refused, and returns the
+/// status.
+fn show<W: Write, E: Write>(alloc: Global, error: &Error, output: &mut W, errors: &mut E) -> u8
+    ensures { ShowsError (kind_of error.now) result (W.contents output.old)
+        (W.contents output.new) }
+{
+    match error.kind() {
+        ErrorKind::OutOfMemory => end_by(StreamFault::Memory, output),
+        ErrorKind::DisplayHelp => show_help(alloc, error, output),
+        ErrorKind::DisplayVersion => show_version(output),
+        _ => {
+            let _ = write!(errors, "{error}");
+            REFUSED
+        }
+    }
+}
+
+/// Writes the name and version of the program, and returns the status.
+fn show_version<W: Write>(output: &mut W) -> u8
+    ensures { ShowsError DisplayVersion result (W.contents output.old) (W.contents output.new) }
+{
+    match write_and_flush(output, VERSION.as_bytes()) {
+        Ok(()) => DONE,
+        Err(_) => FAULT,
+    }
+}
+
+/// Writes the help, and returns the status.
+fn show_help<W: Write>(alloc: Global, help: &Error, output: &mut W) -> u8
+    ensures status { result ≤ 1 }
+    ensures text { (text : List ℕ) × Appends (W.contents output.old) (W.contents output.new) text }
+{
+    let Ok(text) = format!(in alloc; "{help}") else {
+        return end_by(StreamFault::Memory, output);
+    };
+    match write_and_flush(output, text.as_bytes()) {
+        Ok(()) => DONE,
+        Err(_) => FAULT,
+    }
+}

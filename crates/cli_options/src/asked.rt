@@ -1,0 +1,257 @@
+//! The request that a command line makes.
+
+ghost use Rattle.std.specs.Prelude.{◌≡◌, ◌<◌, ◌≤◌, ◌^◌, ℕ, true, Some, List, map};
+ghost use Rattle.std.specs.Prelude.{string_bytes, codes, IfOk, IfSome, IsSome};
+ghost use Rattle.clap.specs.Words.{FailsBy, Row, Text, fault_of, found_of, rows_of};
+ghost use Rattle.clap.specs.Words.{subcommand_of, subcommand_rows_of};
+ghost use Rattle.vac_model.specs.declared.limits.TheConstants.{MOST_BLOCKS};
+ghost use Rattle.vac_model.specs.Ranges.{is_block_count};
+ghost use Rattle.cli_options.specs.CommandLine.{vacation, Gives, GivesIn, HasSettings, AreGiven};
+ghost use Rattle.cli_options.specs.CommandLine.{Says, IsFlag, HasFlags, IsTold, NamesFile, AsksFor};
+ghost use Rattle.cli_options.specs.CommandLine.{IsFoundIn};
+ghost use Rattle.cli_options.specs.CommandLine.{HasSearch, IsSearchOfRows, HasJudging, IsJudging};
+
+use crate::options::command_line;
+use clap::{ArgMatches, Error};
+use load_draws::Settings;
+use std::alloc::Global;
+use stm_words::VERSION_LIMIT;
+
+/// Largest value of an option for any 64-bit number: the seed of a load, or the steps of a search.
+pub const MOST_NUMBER: u64 = u64::MAX;
+
+/// The output of a load besides its two lines.
+#[derive(Clone, Copy)]
+pub struct How {
+    /// True if the load reports its progress.
+    pub progress: bool,
+    /// True if the load reports its running time and the number of its attempts.
+    pub stats: bool,
+    /// True if the load writes the history of its calls to standard output, and its two lines to
+    /// standard error.
+    pub history: bool,
+    /// True if the load writes the attempts of its calls to standard output, and its two lines to
+    /// standard error.
+    pub attempts: bool,
+}
+
+/// Largest number of words of a memory whose attempts are judged.
+pub const MOST_WORDS: u32 = 4_194_304;
+
+/// The settings of a search for a linearization.
+#[derive(Clone, Copy)]
+pub struct Search {
+    /// Largest number of steps.
+    pub steps: u64,
+    /// True if the search reports its progress.
+    pub progress: bool,
+}
+
+/// The settings of a judge of a history.
+#[derive(Clone, Copy)]
+pub struct Judging<'a> {
+    /// The file of the tasks against which the history is checked.
+    pub tasks: Option<&'a str>,
+    /// True if the judge searches for a linearization instead of trusting the order of the lines.
+    pub any_order: bool,
+    /// The settings of that search.
+    pub search: Search,
+}
+
+/// The request that a command line makes.
+pub enum Asked<'a> {
+    /// Runs a script on a system of this many blocks.
+    Run(u32),
+    /// Runs a script on a system of this many blocks and dumps the memory that the script leaves.
+    Dump(u32),
+    /// Audits the words of a memory.
+    Check,
+    /// Judges a history of a system of this many blocks.
+    Judge(u32, Judging<'a>),
+    /// Finds a linearization of a history of a system of this many blocks.
+    Order(u32, Search),
+    /// Judges attempts on a memory of this many words.
+    Opaque(u32),
+    /// Runs a load, with this output.
+    Load(Settings, How),
+    /// Writes the tasks of a load.
+    Tasks(Settings),
+}
+
+/// Parses a command line with clap.
+fn read_words<'a>(alloc: Global, words: &'a [String]) -> Result<ArgMatches<'a>, Error>
+    ensures fails { FailsBy (fault_of vacation (map string_bytes words.now)) result }
+    ensures found { IfOk result (λ m.
+        subcommand_rows_of m ≡ subcommand_of vacation (map string_bytes words.now)) }
+{
+    command_line(alloc)?.try_get_matches_from(words)
+}
+
+/// Returns the matches of this subcommand if the command line names it.
+fn named<'b, 'a>(matches: &'b ArgMatches<'a>, name: &str) -> Option<&'b ArgMatches<'a>>
+    ensures some { IfSome result (λ m.
+        subcommand_rows_of matches.now ≡ Some (name.now, rows_of (found_of m.now))) }
+    ensures none { (rows : List Row) → subcommand_rows_of matches.now ≡ Some (name.now, rows)
+        → IsSome result }
+{
+    matches.subcommand_matches(name)
+}
+
+/// Returns the number that an option gives, or its default. Every such option has a default, so
+/// that clap always gives a number.
+fn number_of(matches: &ArgMatches, option: &str) -> u32
+    requires { (least : ℕ) × (most : ℕ) × (most < 2 ^ 32)
+        × GivesIn (rows_of (found_of matches.now)) option.now least most }
+    ensures { Gives (rows_of (found_of matches.now)) option.now result }
+{
+    match matches.get_one::<u32>(option) {
+        Some(number) => number,
+        None => unreachable!(),
+    }
+}
+
+/// Returns the 64-bit number that an option gives, or its default. Every such option has a
+/// default, so that clap always gives a number.
+fn any_number_of(matches: &ArgMatches, option: &str) -> u64
+    requires { GivesIn (rows_of (found_of matches.now)) option.now 0 MOST_NUMBER }
+    ensures { Gives (rows_of (found_of matches.now)) option.now result }
+{
+    match matches.get_one::<u64>(option) {
+        Some(number) => number,
+        None => unreachable!(),
+    }
+}
+
+/// Returns whether a flag is set.
+fn flag_of(matches: &ArgMatches, name: &str) -> bool
+    requires { IsFlag (rows_of (found_of matches.now)) name.now }
+    ensures { Says (rows_of (found_of matches.now)) name.now result }
+{
+    matches.get_flag(name)
+}
+
+/// Returns the output settings of a load.
+fn how_of(matches: &ArgMatches) -> How
+    requires { HasFlags (rows_of (found_of matches.now)) }
+    ensures { IsTold (rows_of (found_of matches.now)) result }
+{
+    How {
+        progress: flag_of(matches, "progress"),
+        stats: flag_of(matches, "stats"),
+        history: flag_of(matches, "history"),
+        attempts: flag_of(matches, "attempts"),
+    }
+}
+
+/// Returns the number of blocks that a subcommand gives, or the default.
+fn blocks_of(matches: &ArgMatches) -> u32
+    requires { GivesIn (rows_of (found_of matches.now)) (codes "blocks") 1 MOST_BLOCKS }
+    ensures given { Gives (rows_of (found_of matches.now)) (codes "blocks") result }
+    ensures range { is_block_count result ≡ true }
+{
+    number_of(matches, "blocks")
+}
+
+/// Returns the file of tasks that a judge names, if it names one.
+fn file_of<'a>(matches: &ArgMatches<'a>) -> Option<&'a str>
+    ensures { NamesFile (rows_of (found_of matches.now)) (codes "tasks") result }
+{
+    matches.get_str("tasks")
+}
+
+/// Returns the settings of a search.
+fn search_of(matches: &ArgMatches) -> Search
+    requires { HasSearch (rows_of (found_of matches.now)) }
+    ensures { IsSearchOfRows (rows_of (found_of matches.now)) result }
+{
+    Search {
+        steps: any_number_of(matches, "steps"),
+        progress: flag_of(matches, "progress"),
+    }
+}
+
+/// Returns the settings of a judge of a history.
+fn judging_of<'a>(matches: &ArgMatches<'a>) -> Judging<'a>
+    requires { HasJudging (rows_of (found_of matches.now)) }
+    ensures { IsJudging (rows_of (found_of matches.now)) result }
+{
+    Judging {
+        tasks: file_of(matches),
+        any_order: flag_of(matches, "any-order"),
+        search: search_of(matches),
+    }
+}
+
+/// Returns the number of words that a judge of attempts gives, or the default.
+fn words_of(matches: &ArgMatches) -> u32
+    requires { GivesIn (rows_of (found_of matches.now)) (codes "words") 1 MOST_WORDS }
+    ensures given { Gives (rows_of (found_of matches.now)) (codes "words") result }
+    ensures least { 1 ≤ result }
+    ensures most { result ≤ MOST_WORDS }
+{
+    number_of(matches, "words")
+}
+
+/// Returns the settings of a load: the values of its options, or their defaults.
+fn settings_of(matches: &ArgMatches) -> Settings
+    requires { HasSettings (rows_of (found_of matches.now)) }
+    ensures { AreGiven (rows_of (found_of matches.now)) result }
+{
+    Settings {
+        clients: number_of(matches, "clients"),
+        tasks: number_of(matches, "tasks"),
+        items: number_of(matches, "items"),
+        asks: number_of(matches, "asks"),
+        reads: number_of(matches, "reads"),
+        user: number_of(matches, "user"),
+        seed: any_number_of(matches, "seed"),
+        blocks: number_of(matches, "blocks"),
+        tries: number_of(matches, "tries"),
+        last: VERSION_LIMIT - 1,
+        rounds: number_of(matches, "rounds"),
+    }
+}
+
+/// Returns the request in words that clap has parsed.
+fn asked_of<'a>(matches: &ArgMatches<'a>) -> Asked<'a>
+    requires { (words : List Text) × IsFoundIn words matches.now }
+    ensures { (words : List Text) → IsFoundIn words matches.now → AsksFor words result }
+{
+    if let Some(run) = named(matches, "run") {
+        return Asked::Run(blocks_of(run));
+    }
+    if let Some(dump) = named(matches, "dump") {
+        return Asked::Dump(blocks_of(dump));
+    }
+    if named(matches, "check").is_some() {
+        return Asked::Check;
+    }
+    if let Some(judge) = named(matches, "judge") {
+        return Asked::Judge(blocks_of(judge), judging_of(judge));
+    }
+    if let Some(order) = named(matches, "order") {
+        return Asked::Order(blocks_of(order), search_of(order));
+    }
+    if let Some(opaque) = named(matches, "opaque") {
+        return Asked::Opaque(words_of(opaque));
+    }
+    if let Some(tasks) = named(matches, "tasks") {
+        return Asked::Tasks(settings_of(tasks));
+    }
+    match named(matches, "load") {
+        Some(load) => Asked::Load(settings_of(load), how_of(load)),
+        None => unreachable!(),
+    }
+}
+
+/// Returns the request that a command line makes. An error is the help that the words ask for, or
+/// the reason why they are refused.
+///
+/// Not said: if clap could name two faults, which of them it names.
+pub fn read_asked<'a>(alloc: Global, words: &'a [String]) -> Result<Asked<'a>, Error>
+    ensures fails { FailsBy (fault_of vacation (map string_bytes words.now)) result }
+    ensures asked { IfOk result (λ asked. AsksFor (map string_bytes words.now) asked) }
+{
+    let matches = read_words(alloc, words)?;
+    Ok(asked_of(&matches))
+}

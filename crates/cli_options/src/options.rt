@@ -1,0 +1,300 @@
+//! The command line that the program takes, as clap reads it.
+
+ghost use Rattle.std.specs.Prelude.{◌≡◌, [], ◌∷◌, codes, IfOk, IsOkAnd};
+ghost use Rattle.clap.specs.Words.{AddsArg, AddsSubcommand, app_of};
+ghost use Rattle.cli_options.specs.CommandLine.{valued_option, number_parser, number_option};
+ghost use Rattle.cli_options.specs.CommandLine.{any_number_option, blocks_option, flag};
+ghost use Rattle.cli_options.specs.CommandLine.{file_option, words_option, with_options};
+ghost use Rattle.cli_options.specs.CommandLine.{client_options, task_options, telling_options};
+ghost use Rattle.cli_options.specs.CommandLine.{load_options, searching_options, judging_options};
+ghost use Rattle.cli_options.specs.CommandLine.{top_command, script_commands, judging_commands};
+ghost use Rattle.cli_options.specs.CommandLine.{load_commands, vacation, IsOption, IsCommand};
+ghost use Rattle.cli_options.specs.CommandLine.{GetsOptions, GetsCommands};
+
+use crate::asked::MOST_WORDS;
+use clap::builder::ValueParser;
+use clap::{Arg, ArgAction, Command, value_parser};
+use load_draws::{MOST_CLIENTS, MOST_ITEMS, MOST_ROUNDS, MOST_TASKS, PERCENT};
+use std::alloc::{AllocError, Global};
+use vac_model::limits::{MOST_BLOCKS, MOST_PARTS, MOST_TRIES};
+
+/// The output of `--version`: the program and its version, and the toolchain that proved and built
+/// the program, as `rt version` names it.
+pub const VERSION: &str = "vacation 0.1.0\nrattle-kit-13f logic dac8208d650f15bf\n";
+
+/// Default number of blocks of a system.
+const DEFAULT_BLOCKS: &str = "1024";
+
+/// A command under construction, or an error if memory was refused.
+type Made<'a> = Result<Command<'a>, AllocError>;
+
+/// Returns an option that takes a value.
+fn valued_option<'a>(alloc: Global, name: &'a str) -> Arg<'a>
+    ensures { IsOption result (valued_option name.now) }
+{
+    Arg::new(alloc, name).long(name).value_name("N")
+}
+
+/// Returns the parser of a number in a range.
+fn number_parser<'a>(least: u32, most: u32) -> ValueParser<'a>
+    ensures { result ≡ number_parser least most }
+{
+    value_parser!(u32).range(i64::from(least)..=i64::from(most))
+}
+
+/// Returns an option that takes a number in a range.
+fn number_option<'a>(
+    alloc: Global,
+    name: &'a str,
+    least: u32,
+    most: u32,
+    default: &'a str,
+) -> Arg<'a>
+    ensures { IsOption result (number_option name.now least most default.now) }
+{
+    valued_option(alloc, name)
+        .value_parser(number_parser(least, most))
+        .default_value(default)
+}
+
+/// Returns an option that takes any 64-bit number.
+fn any_number_option<'a>(alloc: Global, name: &'a str, default: &'a str) -> Arg<'a>
+    ensures { IsOption result (any_number_option name.now default.now) }
+{
+    valued_option(alloc, name)
+        .value_parser(value_parser!(u64))
+        .default_value(default)
+}
+
+/// Returns the option for the number of blocks of a system.
+fn blocks_option<'a>(alloc: Global) -> Arg<'a>
+    ensures { IsOption result blocks_option }
+{
+    number_option(alloc, "blocks", 1, MOST_BLOCKS, DEFAULT_BLOCKS).help(
+        "Capacity: items, customers and bookings together",
+    )
+}
+
+/// Returns the option that names a file of tasks.
+fn file_option<'a>(alloc: Global) -> Arg<'a>
+    ensures { IsOption result file_option }
+{
+    Arg::new(alloc, "tasks")
+        .long("tasks")
+        .value_name("FILE")
+        .help("Checks the history against the workload in this file, as tasks writes it")
+}
+
+/// Returns a flag, which the help shows if `is_shown`.
+fn flag<'a>(alloc: Global, name: &'a str, is_shown: bool) -> Arg<'a>
+    ensures { IsOption result (flag name.now) }
+{
+    Arg::new(alloc, name)
+        .long(name)
+        .hide(!is_shown)
+        .action(ArgAction::SetTrue)
+}
+
+/// Adds an option to a command.
+fn add_option<'a>(command: Made<'a>, option: Arg<'a>) -> Made<'a>
+    ensures { IfOk result (λ after. IsOkAnd command.entry
+        (λ before. AddsArg before option.entry after)) }
+{
+    command?.arg(option)
+}
+
+/// Adds the options of a load for its clients, tasks, rounds and attempts.
+fn add_client_options<'a>(alloc: Global, command: Made<'a>) -> Made<'a>
+    ensures { GetsOptions command.entry client_options result }
+{
+    let clients = number_option(alloc, "clients", 1, MOST_CLIENTS, "4")
+        .short('c')
+        .help("Clients, each in a thread of its own");
+    let tasks = number_option(alloc, "tasks", 1, MOST_TASKS, "100")
+        .short('t')
+        .help("Tasks per client and round");
+    let rounds = number_option(alloc, "rounds", 1, MOST_ROUNDS, "1").help(
+        "Rounds, each with a new version clock",
+    );
+    let tries = number_option(alloc, "tries", 1, MOST_TRIES, "64").help("Most attempts of a task");
+    let command = add_option(add_option(command, clients), tasks);
+    add_option(add_option(command, rounds), tries)
+}
+
+/// Adds the options that determine the tasks of a load.
+fn add_task_options<'a>(alloc: Global, command: Made<'a>) -> Made<'a>
+    ensures { GetsOptions command.entry task_options result }
+{
+    let items = number_option(alloc, "items", 1, MOST_ITEMS, "16")
+        .short('r')
+        .help("Items of each kind, and customers; at most a fourth of the blocks");
+    let asks = number_option(alloc, "asks", 1, MOST_PARTS as u32, "4")
+        .short('n')
+        .help("Most items of a trip, most changes of an update");
+    let reads = number_option(alloc, "reads", 0, PERCENT, "0").help(
+        "Chance in percent that a task is a question",
+    );
+    let user = number_option(alloc, "user", 0, PERCENT, "80")
+        .short('u')
+        .help("Chance in percent that a task which is no question is a trip");
+    let seed = any_number_option(alloc, "seed", "1")
+        .short('s')
+        .help("Seed of the pseudo-random generator");
+    let command = add_option(add_option(command, items), asks);
+    let command = add_option(add_option(command, reads), user);
+    add_option(add_option(command, seed), blocks_option(alloc))
+}
+
+/// Adds the flags for the output of a load. If no load is run, the flags change nothing and the
+/// help does not show them.
+fn add_telling_options<'a>(alloc: Global, command: Made<'a>, is_run: bool) -> Made<'a>
+    ensures { GetsOptions command.entry telling_options result }
+{
+    let progress = flag(alloc, "progress", is_run).help(
+        "Reports completed tasks on standard error, at most twice a second",
+    );
+    let stats = flag(alloc, "stats", is_run).help(
+        "Reports time, attempts and conflicts on standard error",
+    );
+    let history = flag(alloc, "history", is_run).help(
+        "Writes the completed calls for judge; the two lines go to standard error",
+    );
+    let attempts = flag(alloc, "attempts", is_run).help(
+        "Writes the attempts for opaque; the two lines go to standard error",
+    );
+    let command = add_option(add_option(command, progress), stats);
+    add_option(add_option(command, history), attempts)
+}
+
+/// Adds all options of a load, for the subcommand that runs the load or for the one that writes
+/// its tasks.
+fn add_load_options<'a>(alloc: Global, command: Made<'a>, is_run: bool) -> Made<'a>
+    ensures { GetsOptions command.entry load_options result }
+{
+    let command = add_client_options(alloc, command);
+    add_telling_options(alloc, add_task_options(alloc, command), is_run)
+}
+
+/// Adds the options of a search for a linearization.
+fn add_searching_options<'a>(alloc: Global, command: Made<'a>) -> Made<'a>
+    ensures { GetsOptions command.entry searching_options result }
+{
+    let steps = any_number_option(alloc, "steps", "10000000").help(
+        "Most steps of each of the two searches",
+    );
+    let progress = flag(alloc, "progress", true).help(
+        "Reports the progress of the search on standard error, at most twice a second",
+    );
+    add_option(add_option(command, steps), progress)
+}
+
+/// Returns the subcommand that finds a linearization.
+fn order_command<'a>(alloc: Global) -> Made<'a>
+    ensures { IfOk result (λ c.
+        IsCommand c (with_options (codes "order") (blocks_option ∷ searching_options))) }
+{
+    let command = Command::new(alloc, "order")
+        .about(
+            "Finds a linearization of the history on standard input, or shows that there is none",
+        )
+        .after_help("Example:\n  echo '1 0 5 newcust 3 -> true' | vacation order")
+        .arg(blocks_option(alloc));
+    add_searching_options(alloc, command)
+}
+
+/// Returns the subcommand that judges attempts.
+fn opaque_command<'a>(alloc: Global) -> Made<'a>
+    ensures { IfOk result (λ c. IsCommand c (with_options (codes "opaque") (words_option ∷ []))) }
+{
+    let words = number_option(alloc, "words", 1, MOST_WORDS, "65536").help(
+        "Number of words of the memory, all 0 at the beginning",
+    );
+    Command::new(alloc, "opaque")
+        .about("Judges the attempts on standard input: whether their order shows opacity")
+        .after_help("Example:\n  echo '1 0 5 commit r 7 0 w 7 1' | vacation opaque")
+        .arg(words)
+}
+
+/// Returns the subcommand that judges a history.
+fn judge_command<'a>(alloc: Global) -> Made<'a>
+    ensures { IfOk result (λ c. IsCommand c (with_options (codes "judge") judging_options)) }
+{
+    let any_order = flag(alloc, "any-order", true).help(
+        "Searches for a linearization instead of trusting the order of the lines",
+    );
+    let command = Command::new(alloc, "judge")
+        .about("Judges whether the lines of the history on standard input are a linearization")
+        .after_help("Example:\n  echo '1 0 5 newcust 3 -> true' | vacation judge")
+        .arg(blocks_option(alloc));
+    let command = add_option(add_option(command, file_option(alloc)), any_order);
+    add_searching_options(alloc, command)
+}
+
+/// Adds a subcommand.
+fn add_command<'a>(top: Made<'a>, sub: Made<'a>) -> Made<'a>
+    ensures { IfOk result (λ after. IsOkAnd top.entry (λ before. IsOkAnd sub.entry
+        (λ added. AddsSubcommand before added after))) }
+{
+    top?.subcommand(sub?)
+}
+
+/// Adds the subcommands that read a script.
+fn add_script_commands<'a>(alloc: Global, top: Made<'a>) -> Made<'a>
+    ensures { GetsCommands top.entry script_commands result }
+{
+    let run = Command::new(alloc, "run")
+        .about("Runs the commands on standard input and writes their replies")
+        .after_help("Example:\n  printf 'add car 7 100 50\\nfree car 7\\n' | vacation run")
+        .arg(blocks_option(alloc));
+    let dump = Command::new(alloc, "dump")
+        .about("Runs the commands on standard input, then writes the words of the memory")
+        .after_help("Example:\n  echo 'add car 7 100 50' | vacation dump --blocks 1")
+        .arg(blocks_option(alloc));
+    add_command(add_command(top, run), dump)
+}
+
+/// Adds the subcommands that run a load or write its tasks.
+fn add_load_commands<'a>(alloc: Global, top: Made<'a>) -> Made<'a>
+    ensures { GetsCommands top.entry load_commands result }
+{
+    let load = Command::new(alloc, "load")
+        .about("Runs client threads that issue drawn tasks, and reports the state that they leave")
+        .after_help("Example:\n  vacation load --clients 2 --tasks 1000");
+    let tasks = Command::new(alloc, "tasks")
+        .about("Writes the tasks that a load of these options draws, one a line, and runs nothing")
+        .after_help("Example:\n  vacation tasks --clients 2 --tasks 3");
+    let top = add_command(top, add_load_options(alloc, Ok(load), true));
+    add_command(top, add_load_options(alloc, Ok(tasks), false))
+}
+
+/// Adds the subcommands that judge memories, histories and attempts.
+fn add_judging_commands<'a>(alloc: Global, top: Made<'a>) -> Made<'a>
+    ensures { GetsCommands top.entry judging_commands result }
+{
+    let check = Command::new(alloc, "check")
+        .about("Audits the words of a memory on standard input, as dump writes them")
+        .after_help("Example:\n  echo 'add car 7 100 50' | vacation dump | vacation check");
+    let top = add_command(add_command(top, Ok(check)), judge_command(alloc));
+    add_command(
+        add_command(top, order_command(alloc)),
+        opaque_command(alloc),
+    )
+}
+
+/// Returns the program before its subcommands are added.
+fn top_command<'a>(alloc: Global) -> Command<'a>
+    ensures { app_of result ≡ top_command }
+{
+    Command::new(alloc, "vacation")
+        .version(VERSION)
+        .about("A proved travel reservation system, and proved judges of histories")
+        .subcommand_required(true)
+}
+
+/// Returns the command line that the program takes.
+pub(crate) fn command_line<'a>(alloc: Global) -> Made<'a>
+    ensures { IfOk result (λ c. app_of c ≡ vacation) }
+{
+    let scripts = add_script_commands(alloc, Ok(top_command(alloc)));
+    add_load_commands(alloc, add_judging_commands(alloc, scripts))
+}

@@ -1,0 +1,18 @@
+-- A manager that is opened with its one client.
+use Rattle.std.proofs.Common.{ℕ, refl, sym, subst}
+use Rattle.stm_region.specs.Shown.{RegionShown}
+use Rattle.vac_manager.specs.Called.{CallerShown}
+use Rattle.vac_manager.specs.Opening.{Opens}
+use Rattle.cli_script.specs.declared.system.TheConstants.{LAST_VERSION}
+use Rattle.cli_script.specs.System.{OpensAlone}
+
+-- the client is alone, and the manager has no entry yet
+pub opened : (n stripes : ℕ) (region : RegionShown) (client : CallerShown) →
+    Opens n LAST_VERSION stripes region client → OpensAlone n (record { manager = region; client = client })
+opened n stripes region client o =
+    subst (λ (x : CallerShown). OpensAlone n (record { manager = region; client = x })) (sym o.client_is) (record {
+      own = refl;
+      alone = record { all = refl; last = o.last_is };
+      capacity = o.capacity;
+      fresh = record { stands = refl; floor = refl };
+    })

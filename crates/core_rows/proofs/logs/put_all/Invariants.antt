@@ -1,5 +1,0 @@
-use Rattle.stm_logs.specs.Log.{IsStriped}
-use Rattle.core_rows.proofs.logs.put_all.Given as goal
-
-abbrev pub invariant-loop-i : goal.invariant-loop-i
-invariant-loop-i g l = IsStriped l.log l.stripes

@@ -1,5 +1,0 @@
-use Rattle.stm_logs.specs.Log.{IsStriped}
-use Rattle.core_rows.proofs.logs.put_some.Given as goal
-
-abbrev pub invariant-loop-addr : goal.invariant-loop-addr
-invariant-loop-addr g l = IsStriped l.log 1000000

@@ -1,6 +1,0 @@
-use Rattle.std.proofs.Common.{◌≡◌}
-use Rattle.stm_core.specs.Core.{IsFreeHanded}
-use Rattle.core_rows.proofs.renewals.renew_times.Given as goal
-
-abbrev pub invariant-loop : goal.invariant-loop
-invariant-loop g l = (l.client.table ≡ l.region.table) × IsFreeHanded l.client.value

@@ -1,0 +1,89 @@
+//! The bank and its tellers.
+
+ghost use Rattle.std.specs.Prelude.{◌≡◌, ◌*◌, ◌<◌, ◌≤◌, IfOk, IfErr, replicate, sum, true, false};
+ghost use Rattle.stm_core.specs.Event.{opener};
+ghost use Rattle.stm_region.specs.Shown.{opened_on};
+ghost use Rattle.stm_region.specs.Refused.{ClosesNot, IsLast, OpensNot};
+ghost use Rattle.stm_object.specs.History.{HasCalled, IsAlone};
+ghost use Rattle.ex_bank.specs.declared.entry.Entry.TheVariants.{Transfer, Sum};
+ghost use Rattle.ex_bank.specs.declared.law.TheConstants.{ACCOUNTS};
+ghost use Rattle.ex_bank.specs.Accounts.{bank, ClosesBalanced};
+
+use crate::bodies::{AddUp, Move};
+use crate::law::{ACCOUNTS, BankObject};
+use std::alloc::Global;
+use stm_attempt::Stop;
+use stm_object::{Shared, User};
+use stm_region::RegionFault;
+use stm_words::Version;
+
+/// A bank, used by many tellers at once.
+pub type Bank = Shared<BankObject>;
+
+/// A teller: the right to use the bank, from one thread at a time. Between calls a teller holds no
+/// lock.
+pub type Teller = User<BankObject>;
+
+/// Opens a bank with `each` on each account, and returns the bank and its first teller. The
+/// version clock ends at `last`, 1 to 2^62 - 1.
+pub fn new_bank(alloc: Global, each: u32, last: u64) -> Result<(Bank, Teller), RegionFault>
+    ensures region { IfOk result (λ r.
+        r.0 ≡ opened_on r.0.table (replicate ACCOUNTS each) last ACCOUNTS) }
+    ensures first { IfOk result (λ r. r.0.first ≡ replicate ACCOUNTS each) }
+    ensures total { IfOk result (λ r. sum r.0.first ≡ ACCOUNTS * each) }
+    ensures teller { IfOk result (λ r. r.1 ≡ record { table = r.0.table; value = opener }) }
+    ensures range { IfOk result (λ _. IsLast last) }
+    ensures refused { IfErr result (λ fault. OpensNot ACCOUNTS last ACCOUNTS fault) }
+{
+    let image = [u64::from(each); ACCOUNTS as usize];
+    Shared::new(alloc, &image, last, ACCOUNTS)
+}
+
+/// Moves an amount from one account to another as a transaction, in at most `tries` attempts, and
+/// returns whether there was enough. A transfer that stops with an error moves nothing.
+pub fn transfer(
+    shared: &Bank,
+    teller: &mut Teller,
+    from: u32,
+    to: u32,
+    amount: u64,
+    tries: u32,
+) -> Result<bool, Stop>
+    requires own { teller.old.table ≡ shared.now.table }
+    requires range { (from < ACCOUNTS) × (to < ACCOUNTS) }
+    requires tries { 1 ≤ tries }
+    ensures own { teller.new.table ≡ teller.old.table }
+    ensures call { HasCalled bank shared.now (λ moved. Transfer from to amount moved)
+        (λ moved. moved) false tries result teller.old.value teller.new.value }
+{
+    shared.run(teller, &Move { from, to, amount }, tries)
+}
+
+/// Adds up all balances as a transaction, in at most `tries` attempts. The sum is that of the
+/// opening, whatever the other tellers do.
+pub fn audit(shared: &Bank, teller: &mut Teller, tries: u32) -> Result<u64, Stop>
+    requires own { teller.old.table ≡ shared.now.table }
+    requires tries { 1 ≤ tries }
+    ensures own { teller.new.table ≡ teller.old.table }
+    ensures call { HasCalled bank shared.now (λ total. Sum total) (λ total. false) true tries
+        result teller.old.value teller.new.value }
+    ensures total { IfOk result (λ total. total ≡ sum shared.now.first) }
+{
+    shared.ask(teller, &AddUp, tries)
+}
+
+/// Closes a bank once every other teller was gathered, and returns its balances and its clock. The
+/// teller's records are then one order of all completed transactions. If closing is refused,
+/// returns the bank and the teller as they were.
+pub fn close_bank(
+    shared: Bank,
+    teller: Teller,
+) -> Result<(Vec<u64>, Version), (Bank, Teller, RegionFault)>
+    requires { teller.table ≡ shared.table }
+    ensures closes { IfOk result (λ r. ClosesBalanced shared teller.value r.0.items r.1) }
+    ensures alone { IfOk result (λ _. IsAlone teller.value) }
+    ensures kept { IfErr result
+        (λ r. (r.0 ≡ shared) × (r.1 ≡ teller) × ClosesNot teller.value.grants r.2) }
+{
+    shared.close(teller)
+}

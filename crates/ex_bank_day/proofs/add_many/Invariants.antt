@@ -1,0 +1,5 @@
+use Rattle.std.proofs.Common.{◌≡◌}
+use Rattle.ex_bank_day.proofs.add_many.Given as goal
+
+abbrev pub invariant-loop : goal.invariant-loop
+invariant-loop l = l.teller.table ≡ l.bank.table

@@ -1,8 +1,0 @@
-use Rattle.std.proofs.Common.{arith}
-use Rattle.vac_records.proofs.Fresh.{fresh_state}
-use Rattle.vac_plain.proofs.Heaps.{free_holds}
-use Rattle.heap_rows.proofs.reports.no_entries.Goals as goal
-
-pub report-requires : goal.report-requires
-report-requires g c = rw c.new-flat.ensures (free_holds _ 4 (omega arith) c.in_ok-fresh_words.ensures.words.size
-    (fresh_state _ _ c.in_ok-fresh_words.ensures.words c.in_ok-fresh_words.ensures.pool))

@@ -1,0 +1,170 @@
+//! Judging a history that is checked against a workload.
+
+ghost use Rattle.std.specs.Prelude.{◌≡◌, ◌≢◌, ◌≤◌, ◌++◌, IfOk, OnOk, OnErr, IfErr};
+ghost use Rattle.vac_lines.specs.Text.{Extends, field_text};
+ghost use Rattle.vac_lines.specs.Script.{as_line};
+ghost use Rattle.judge_calls.specs.Work.{comes_first, held_verdict, held_text, is_whole};
+ghost use Rattle.judge_calls.specs.HeldReading.{IsReadWhole, HasHeld, HasHeldStopped};
+
+use crate::holding::{first_missing, hold_calls};
+use crate::reading::judge_input;
+use crate::verdict::{Verdict, print_verdict};
+use crate::work::read_work;
+use std::alloc::{AllocError, Global};
+use std::io::{ErrorKind, Read, Write};
+use vac_lines::{append_field, keep_whole, write_and_flush};
+use vac_model::limits::MOST_BLOCKS;
+use vac_streams::StreamFault;
+
+/// The verdict on a history that is checked against a workload. Lines are numbered from 1.
+#[derive(Clone, Copy, Debug, PartialEq, Eq)]
+pub enum HeldVerdict {
+    /// The verdict on the history alone. If that verdict is legal, the history covers the
+    /// workload, except for the tasks of a client after its pending call.
+    Judged(Verdict),
+    /// A line of the workload gives no task.
+    BadTasks { line: u64 },
+    /// The call of a line of the history does not submit the next task of its client.
+    Foreign { line: u64 },
+    /// No call submits the task with this number among the tasks of a client, counted from 1.
+    Missing { client: u32, number: u64 },
+}
+
+/// Returns whether a line comes before the line that a verdict names, or is that line. A legal
+/// verdict names no line, and any line comes first.
+fn comes_first(line: u64, verdict: &Verdict) -> bool
+    ensures { result ≡ comes_first line verdict.now }
+{
+    match verdict {
+        Verdict::Legal(_) => true,
+        Verdict::Fault { line: named, .. } => line <= *named,
+        Verdict::Illegal { line: named, .. } => line <= *named,
+    }
+}
+
+/// Judges the text of a history, checked against the text of the workload.
+fn hold(
+    alloc: Global,
+    blocks: u32,
+    tasks: &[u8],
+    history: &[u8],
+) -> Result<HeldVerdict, StreamFault>
+    requires some { 1 ≤ blocks }
+    requires most { blocks ≤ MOST_BLOCKS }
+    ensures held { IfOk result (λ verdict. verdict ≡ held_verdict blocks tasks.now history.now) }
+    ensures fault { IfErr result (λ fault. fault ≢ StreamFault.Write) }
+{
+    let work = match read_work(alloc, tasks)? {
+        Ok(work) => work,
+        Err(line) => return Ok(HeldVerdict::BadTasks { line }),
+    };
+    let mut input = history;
+    let verdict = judge_input(alloc, blocks, &mut input)?;
+    let (held, foreign) = hold_calls(alloc, &work, history)?;
+    if let Some(line) = foreign {
+        if comes_first(line, &verdict) {
+            return Ok(HeldVerdict::Foreign { line });
+        }
+        return Ok(HeldVerdict::Judged(verdict));
+    }
+    if let Verdict::Legal(_) = verdict {
+        if let Some((client, number)) = first_missing(alloc, &work, &held)? {
+            return Ok(HeldVerdict::Missing { client, number });
+        }
+    }
+    Ok(HeldVerdict::Judged(verdict))
+}
+
+/// Appends a line of a text and a number.
+fn append_line(out: &mut Vec<u8>, text: &[u8], number: u64) -> Result<(), AllocError>
+    ensures ok { OnOk result
+        (out.new.items ≡ out.old.items ++ as_line (field_text text.now number)) }
+    ensures err { OnErr result (Extends out.old.items out.new.items) }
+{
+    append_field(out, text, number)?;
+    out.extend_from_slice(b"\n")
+}
+
+/// Appends the line that reports a client's task with this number as missing.
+fn append_missing(out: &mut Vec<u8>, client: u32, number: u64) -> Result<(), AllocError>
+    ensures ok { OnOk result
+        (out.new.items ≡ out.old.items ++ held_text (HeldVerdict.Missing client number)) }
+    ensures err { OnErr result (Extends out.old.items out.new.items) }
+{
+    append_field(out, b"illegal missing ", u64::from(client))?;
+    append_line(out, b" ", number)
+}
+
+/// Appends the text of a verdict. If memory is refused, nothing is appended.
+pub fn print_held(verdict: &HeldVerdict, out: &mut Vec<u8>) -> Result<(), AllocError>
+    ensures ok { OnOk result (out.new.items ≡ out.old.items ++ held_text verdict.now) }
+    ensures err { OnErr result (out.new.items ≡ out.old.items) }
+{
+    let start = out.len();
+    let printed = match verdict {
+        HeldVerdict::Judged(verdict) => print_verdict(verdict, out),
+        HeldVerdict::BadTasks { line } => append_line(out, b"fault bad-tasks ", *line),
+        HeldVerdict::Foreign { line } => append_line(out, b"illegal task ", *line),
+        HeldVerdict::Missing { client, number } => append_missing(out, *client, *number),
+    };
+    keep_whole(out, start, printed)
+}
+
+/// Returns whether the verdict is that the history is legal and covers the workload, except for
+/// the tasks of a client after its pending call.
+fn is_whole(verdict: &HeldVerdict) -> bool
+    ensures { result ≡ is_whole verdict.now }
+{
+    matches!(verdict, HeldVerdict::Judged(Verdict::Legal(_)))
+}
+
+/// Reads an input to its end.
+fn read_all<R: Read>(alloc: Global, input: &mut R) -> Result<Vec<u8>, StreamFault>
+    ensures bytes { IfOk result (λ bytes.
+        IsReadWhole (R.remaining input.old) (R.remaining input.new) bytes.items) }
+    ensures fault { IfErr result (λ fault. fault ≢ StreamFault.Write) }
+{
+    let mut bytes = Vec::new(alloc);
+    match input.read_to_end(&mut bytes) {
+        Ok(_) => Ok(bytes),
+        Err(error) if error.kind() == ErrorKind::OutOfMemory => Err(StreamFault::Memory),
+        Err(_) => Err(StreamFault::Read),
+    }
+}
+
+/// Judges a history of a system of `blocks` blocks and checks it against a workload of lines
+/// `CLIENT LINE`: reads both to their ends, and writes the verdict. Returns whether the history is
+/// legal and covers the workload, except for the tasks of a client after its pending call.
+///
+/// Each pending call must have its line too: if the line of a pending call is left out, its task
+/// counts as missing.
+///
+/// After a fault of the output a prefix of the verdict's text was written, after any other fault
+/// nothing.
+/// Not said: how much memory the function takes. It keeps both texts in memory as a whole.
+pub fn judge_work<V: Read, R: Read, W: Write>(
+    alloc: Global,
+    blocks: u32,
+    tasks: &mut V,
+    input: &mut R,
+    output: &mut W,
+) -> Result<bool, StreamFault>
+    requires some { 1 ≤ blocks }
+    requires most { blocks ≤ MOST_BLOCKS }
+    ensures ok { IfOk result (λ legal. HasHeld blocks legal
+        (V.remaining tasks.old) (V.remaining tasks.new)
+        (R.remaining input.old) (R.remaining input.new)
+        (W.contents output.old) (W.contents output.new)) }
+    ensures err { IfErr result (λ fault. HasHeldStopped blocks fault
+        (V.remaining tasks.old) (V.remaining tasks.new)
+        (R.remaining input.old) (R.remaining input.new)
+        (W.contents output.old) (W.contents output.new)) }
+{
+    let work = read_all(alloc, tasks)?;
+    let history = read_all(alloc, input)?;
+    let verdict = hold(alloc, blocks, work.as_slice(), history.as_slice())?;
+    let mut text = Vec::new(alloc);
+    print_held(&verdict, &mut text)?;
+    write_and_flush(output, text.as_slice())?;
+    Ok(is_whole(&verdict))
+}

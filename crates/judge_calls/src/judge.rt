@@ -1,0 +1,175 @@
+//! Judging one call after another.
+
+ghost use Rattle.std.specs.Prelude.{◌≡◌, ◌≢◌, ◌≤◌, ◌<◌, ◌^◌, ◌+◌, IfOk, IfErr, MatchOption, List, [], true, Err};
+ghost use Rattle.vac_model.specs.Ranges.{is_task};
+ghost use Rattle.vac_model.specs.State.{State, empty_state};
+ghost use Rattle.vac_lines.specs.Text.{is_right};
+ghost use Rattle.judge_calls.specs.Call.{Call, line_call};
+ghost use Rattle.judge_calls.specs.Parts.{shown_call, shown_reply};
+ghost use Rattle.judge_calls.specs.Judging.{Follows, JudgesTimes, JudgesCall, Takes, DecidesVerdict as IsEnd};
+ghost use Rattle.judge_calls.specs.Judging.{IsJudgeStop};
+ghost use Rattle.judge_calls.specs.Verdict.{summary_of};
+
+use crate::call::{Answer, CallLine, read_call};
+use crate::fault::CallFault;
+use crate::verdict::{Summary, Verdict, Wrong};
+use judge_time::{Misplaced, Spans};
+use std::alloc::{AllocError, Global};
+use tx_alloc::FreeList;
+use vac_lines::{LineFault, is_text_of};
+use vac_model::Reply;
+use vac_model::limits::MOST_BLOCKS;
+use vac_plain::Heap;
+use vac_streams::StreamFault;
+
+/// A judge of a history that is given line by line: the state that the calls so far leave, and the
+/// data by which the order of the next call is judged.
+///
+/// A judge keeps the memory of the state and one number for each client, and nothing of the calls.
+#[derive(Drop)]
+pub struct Judge {
+    heap: Heap,
+    spans: Spans,
+    /// Buffer for the text of the last expected reply.
+    expected: Vec<u8>,
+}
+
+/// Returns whether the reply of a call is the expected one. Any reply is correct for a pending
+/// call. The buffer is overwritten with the expected text; it is passed in so that its room is
+/// used again.
+fn is_expected(
+    buffer: &mut Vec<u8>,
+    answer: Option<Answer<'_>>,
+    reply: &Reply,
+) -> Result<bool, AllocError>
+    ensures { IfOk result (λ right. right ≡ is_right (shown_reply answer.entry) reply.now) }
+{
+    match answer {
+        Some(answer) => is_text_of(buffer, reply, answer.reply),
+        None => Ok(true),
+    }
+}
+
+/// Returns the fault of a line itself, or an error if the fault is that memory was refused.
+fn own_fault(fault: CallFault) -> Result<CallFault, StreamFault>
+    ensures own { IfOk result (λ found.
+        (found ≡ fault) × (fault ≢ CallFault.Line LineFault.Memory)) }
+    ensures refused { IfErr result (λ refused. refused ≡ StreamFault.Memory) }
+{
+    if matches!(fault, CallFault::Line(LineFault::Memory)) {
+        return Err(StreamFault::Memory);
+    }
+    Ok(fault)
+}
+
+impl Judge {
+    /// Creates a judge of a history without calls, for a system of `blocks` blocks.
+    pub fn new(alloc: Global, blocks: u32) -> Result<Judge, StreamFault>
+        requires some { 1 ≤ blocks }
+        requires most { blocks ≤ MOST_BLOCKS }
+        ensures empty { IfOk result (λ judge. Follows judge (empty_state blocks) []) }
+        ensures refused { IfErr result (λ fault. fault ≡ StreamFault.Memory) }
+    {
+        Ok(Judge {
+            heap: Heap::new(alloc, blocks)?,
+            spans: Spans::new(alloc),
+            expected: Vec::new(alloc),
+        })
+    }
+
+    /// Returns the number of the next line.
+    fn number(&self) -> Result<u64, StreamFault>
+        ensures line { IfOk result (λ line. line ≡ self.now.spans.count + 1) }
+        ensures refused { IfErr result (λ fault. IsJudgeStop self.now fault) }
+    {
+        let count = self.spans.count();
+        if count == u64::MAX {
+            return Err(StreamFault::Bound);
+        }
+        Ok(count + 1)
+    }
+
+    /// Returns the fault of the times of a call after the calls before it, if there is one.
+    fn judge_times(&self, call: &CallLine<'_>) -> Option<Wrong>
+        ensures { (s : State) (earlier : List Call) → Follows self.now s earlier →
+            JudgesTimes earlier (shown_call call.now) result }
+    {
+        match self.spans.find(&call.span()) {
+            Some(Misplaced::Client) => Some(Wrong::Client),
+            Some(Misplaced::Time) => Some(Wrong::Time),
+            None => None,
+        }
+    }
+
+    /// Judges a call, and takes the call if it has no fault.
+    fn judge_call(&mut self, call: &CallLine<'_>) -> Result<Option<Wrong>, AllocError>
+        requires in_range { is_task call.now.task ≡ true }
+        requires room { self.old.spans.count + 1 < 2 ^ 64 }
+        ensures { IfOk result (λ found. (s : State) (earlier : List Call) →
+            Follows self.old s earlier →
+            JudgesCall self.new s earlier (shown_call call.now) found) }
+    {
+        if let Some(wrong) = self.judge_times(call) {
+            return Ok(Some(wrong));
+        }
+        let reply = self.heap.run(&call.task, FreeList::new(0));
+        if !is_expected(&mut self.expected, call.answer, &reply)? {
+            return Ok(Some(Wrong::Reply(reply)));
+        }
+        self.spans.push(&call.span())?;
+        Ok(None)
+    }
+
+    /// Judges a line, which is given without its end. Returns the verdict if the line decides it,
+    /// whatever lines follow. Returns `None` if the call of the line has no fault; the call is
+    /// then taken.
+    ///
+    /// After a verdict or a fault, the judge must not be used for further lines.
+    ///
+    /// Not said: that the judge keeps no more than the heap, one number for each client and a
+    /// reply, which is read in the code.
+    pub fn judge_line(&mut self, alloc: Global, text: &[u8]) -> Result<Option<Verdict>, StreamFault>
+        ensures judged { IfOk result (λ found. MatchOption found
+            (Takes self.old self.new (line_call text.now))
+            (λ verdict. IsEnd self.old (line_call text.now) verdict)) }
+        ensures refused { IfErr result (λ fault. IsJudgeStop self.old fault) }
+    {
+        let line = self.number()?;
+        match read_call(alloc, text) {
+            Ok(call) => match self.judge_call(&call)? {
+                Some(wrong) => Ok(Some(Verdict::Illegal { line, wrong })),
+                None => Ok(None),
+            },
+            Err(fault) => {
+                let fault = own_fault(fault)?;
+                Ok(Some(Verdict::Fault { line, fault }))
+            }
+        }
+    }
+
+    /// Returns the verdict for an overlong line.
+    pub(crate) fn long_line(&self) -> Result<Verdict, StreamFault>
+        ensures judged { IfOk result (λ verdict.
+            IsEnd self.now (Err (CallFault.Line LineFault.LongLine)) verdict) }
+        ensures refused { IfErr result (λ fault. IsJudgeStop self.now fault) }
+    {
+        let line = self.number()?;
+        Ok(Verdict::Fault {
+            line,
+            fault: CallFault::Line(LineFault::LongLine),
+        })
+    }
+
+    /// Returns the summary of the calls judged so far.
+    pub fn summary(&mut self) -> Summary
+        ensures same { self.new ≡ self.old }
+        ensures summary { (s : State) (earlier : List Call) → Follows self.old s earlier →
+            result ≡ summary_of s earlier }
+    {
+        Summary {
+            calls: self.spans.count(),
+            clients: self.spans.clients(),
+            report: self.heap.report(),
+        }
+    }
+}

@@ -1,0 +1,122 @@
+//! Laws on verdicts. Each is the contract of a function that does nothing.
+
+ghost use Rattle.judge_calls.specs.Laws.{LegalIsLinearization, LegalSummary};
+ghost use Rattle.judge_calls.specs.Wrongs.{IllegalIsFirstWrong, FaultIsFirst};
+ghost use Rattle.judge_calls.specs.Whole.{LegalIsWhole};
+ghost use Rattle.judge_calls.specs.NotWhole.{BadTasksIsFirst, ForeignIsFirst, MissingIsFirst};
+ghost use Rattle.std.specs.Prelude.{◌≡◌, ◌≤◌, length, true};
+ghost use Rattle.vac_model.specs.Ranges.{is_task};
+ghost use Rattle.vac_lines.specs.TaskText.{task_text};
+ghost use Rattle.judge_calls.specs.CallText.{CallTextsAreRead, HistoriesAreRead, IsReadBackAsCall};
+ghost use Rattle.judge_calls.specs.CallText.{answered_call, unanswered};
+
+use crate::answers::numbers_of_a_reply;
+use vac_lines::{LINE_BYTES, task_texts_are_read};
+use vac_model::{Reply, Task};
+
+/// States that a history is legal if and only if each of its lines is a call and the order of the
+/// lines is a linearization. In a linearization the calls, run one after the other, give their
+/// replies; the calls of each client do not overlap and are in their order; and no call comes
+/// before a call that had ended before it began. A pending call ends later than all times and
+/// gives any reply.
+pub fn a_verdict_finds_the_linearizations()
+    ensures { LegalIsLinearization }
+{}
+
+/// States that the verdict on a legal history gives the number of its calls and of its clients,
+/// and the report of the state that the calls leave.
+pub fn a_legal_history_has_this_summary()
+    ensures { LegalSummary }
+{}
+
+/// States that the verdict names the first wrong line of the history, and the first cause. The
+/// verdict calls a line illegal if and only if the lines before it are calls whose order is a
+/// linearization, and the order with the call of the line is no linearization. First cause: the
+/// calls of a client are not in turn. Second: the call had ended before an earlier call of the
+/// order began. Third: the sequential manager gives another reply, which the verdict names.
+pub fn an_illegal_verdict_names_the_first_wrong_line()
+    ensures { IllegalIsFirstWrong }
+{}
+
+/// States that the verdict is the fault of a line if and only if the line is no call by this
+/// fault, and the lines before it are calls whose order is a linearization.
+pub fn a_fault_names_the_first_line_that_is_no_call()
+    ensures { FaultIsFirst }
+{}
+
+/// States that a history checked against a workload is legal if and only if each line of the
+/// workload gives a task, the history is legal by itself, and the calls of each client submit
+/// exactly its tasks, in their order. A client with a pending call submits the first of its tasks.
+pub fn a_whole_history_is_of_all_the_work()
+    ensures { LegalIsWhole }
+{
+    a_verdict_finds_the_linearizations();
+}
+
+/// States that the verdict names the first line of the workload that gives no task: the verdict
+/// names a line of the workload if and only if that line gives no task and each line before it
+/// gives one.
+pub fn bad_tasks_name_the_first_line_without_a_task()
+    ensures { BadTasksIsFirst }
+{}
+
+/// States that the verdict names the first line of the history whose call does not submit the next
+/// task of its client. The verdict calls the task of a line foreign if and only if all of this
+/// holds. Each line of the workload gives a task. The lines before that line are calls whose order
+/// is a linearization, and each client submits its first tasks in them, in their order. With the
+/// call of that line, its client does not submit its first tasks.
+pub fn a_foreign_verdict_names_the_first_line_of_another_task()
+    ensures { ForeignIsFirst }
+{}
+
+/// States that the verdict names the first task of the workload that is left out. The verdict
+/// names a client's task as missing if and only if all of this holds. Each line of the workload
+/// gives a task. The history is legal by itself, and the calls of each client submit its first
+/// tasks, in their order. The task is the first of the workload that no call submits and whose
+/// client has no pending call.
+pub fn a_missing_verdict_names_the_first_task_that_is_left_out()
+    ensures { MissingIsFirst }
+{
+    a_verdict_finds_the_linearizations();
+}
+
+/// States that the written line of a completed or pending call is no longer than a line of a
+/// history may be, and is read back as the call. The line is `CLIENT BEGIN END LINE -> REPLY`,
+/// with the plain form of the task and the text of the reply, or `CLIENT BEGIN - LINE -> ?` for a
+/// pending call.
+pub fn call_texts_are_read()
+    ensures { CallTextsAreRead }
+{
+    task_texts_are_read();
+}
+
+/// States that the written line of a completed call, with any reply, is no longer than a line of a
+/// history may be, and is read back as the call. The numbers of every reply fit the widths of
+/// their types.
+pub fn an_answered_call_is_read(client: u32, begin: u64, end: u64, task: &Task, reply: &Reply)
+    requires in_range { is_task task.now ≡ true }
+    requires fits { length (task_text task.now) ≤ LINE_BYTES }
+    ensures { IsReadBackAsCall (answered_call client begin end task.now reply.now) }
+{
+    numbers_of_a_reply(reply);
+    call_texts_are_read();
+}
+
+/// States that the written line of a pending call is no longer than a line of a history may be,
+/// and is read back as the call.
+pub fn a_call_never_answered_is_read(client: u32, begin: u64, task: &Task)
+    requires in_range { is_task task.now ≡ true }
+    requires fits { length (task_text task.now) ≤ LINE_BYTES }
+    ensures { IsReadBackAsCall (unanswered client begin task.now) }
+{
+    call_texts_are_read();
+}
+
+/// States that the written history of some completed and pending calls, one line for each, has
+/// exactly these calls, and is legal if and only if their order is a linearization.
+pub fn histories_are_read()
+    ensures { HistoriesAreRead }
+{
+    a_verdict_finds_the_linearizations();
+    call_texts_are_read();
+}

@@ -1,0 +1,13 @@
+use Rattle.std.proofs.Common.{subst}
+use Rattle.std.specs.Prelude.{IfSome}
+use Rattle.judge_reservations.specs.Reserving.{reserving}
+use Rattle.judge_search.specs.Calls.{calls_of}
+use Rattle.judge_search.specs.Judging.{IsLinearizedBy}
+use Rattle.judge_linear.proofs.order.judge_order.Goals as goal
+
+pub returns-in-Some : goal.returns-in-Some
+returns-in-Some g c =
+    let calls = calls_of c.args.calls.now.lines.items in
+    subst (λ s. IsLinearizedBy reserving s calls c.in-Some.places.items) c.in_ok-first.ensures
+    (subst (λ found. IfSome found (λ places. IsLinearizedBy reserving c.in_ok-first.first calls places.items))
+    c.in-Some.is c.in_ok-places.ensures)

@@ -1,0 +1,130 @@
+-- The result for a history of which only each client's own order is known, and the text of the
+-- result.
+use Rattle.std.specs.Prelude.{◌≡◌, ◌≤◌, ◌-◌, ℕ, Bool, Some, None, All, List, [], ◌++◌, map, flat_map, length, get_or, codes, decimal}
+use Rattle.vac_model.specs.State.{State, empty_state}
+use Rattle.vac_model.specs.declared.replies.Reply.{Reply}
+use Rattle.vac_lines.specs.Lines.{lines_of}
+use Rattle.vac_lines.specs.Script.{as_line}
+use Rattle.vac_lines.specs.Text.{reply_text}
+use Rattle.judge_calls.specs.declared.verdict.Verdict.{Verdict}
+use Rattle.judge_calls.specs.Verdict.{verdict_text}
+use Rattle.judge_calls.specs.Call.{Call}
+use Rattle.judge_calls.specs.Laws.{Lists, IsLinearization}
+use Rattle.judge_object.specs.Orders.{IsMerge, IsOrderOf, IsLinearizable}
+use Rattle.judge_reservations.specs.Reserving.{reserving}
+use Rattle.judge_search.specs.declared.stuck.Stuck.{Stuck}
+use Rattle.judge_search.specs.Configurations.{start, answered, PlacesAtMost, Deepest}
+use Rattle.judge_search.specs.Calls.{rest_of}
+use Rattle.judge_search.specs.Searching.{IsUndecided}
+use Rattle.judge_search.specs.Walking.{AreDistinct}
+use Rattle.judge_search.specs.Stuck.{AreStuck}
+use Rattle.judge_linear.specs.Reading.{first_wrong, call_at}
+
+-- the result for a history: a wrong line; the numbers of the lines in an order that is a
+-- linearization; no order, with the largest number of completed calls that can be placed and the
+-- lines of the calls that are then blocked, each with the expected reply; or undecided
+pub data FoundOfText : Type 0 where
+  Wrong : (verdict : Verdict) → FoundOfText
+  Order : (numbers : List ℕ) → FoundOfText
+  NoOrder : (most : ℕ) → (stuck : List (ℕ × Reply)) → FoundOfText
+  Undecided : (most : ℕ) → FoundOfText
+
+-- the calls of the lines with these numbers, in this order
+abbrev pub calls_numbered : List Call → List ℕ → List Call
+calls_numbered calls numbers = map (call_at calls) numbers
+
+-- the numbers are numbers of lines, and no number occurs twice
+pub record AreNumbers (calls : List Call) (numbers : List ℕ) : Type 0 where
+  pub distinct : AreDistinct numbers
+  pub first : All (λ number. 1 ≤ number) numbers
+  pub last : All (λ number. number ≤ length calls) numbers
+
+-- the lines of a text are calls, and the calls of the lines with these numbers are an order of all
+-- calls that is a linearization, for a system of n blocks
+pub record IsOrdered (n : ℕ) (bytes : List ℕ) (numbers : List ℕ) : Type 0 where
+  pub calls : List Call
+  pub listed : Lists bytes calls
+  pub numbers_are : AreNumbers calls numbers
+  pub orders : IsOrderOf calls (calls_numbered calls numbers)
+  pub linearization : IsLinearization n (calls_numbered calls numbers)
+
+-- the lines of a text are calls, the calls of each client are in turn, and a search keeps the
+-- calls in the order of these numbers
+pub record AreKeptInOrder (bytes : List ℕ) (calls : List Call) (numbers : List ℕ) : Type 0 where
+  pub listed : Lists bytes calls
+  pub right : first_wrong bytes ≡ None
+  pub numbers_are : AreNumbers calls numbers
+  pub merges : IsMerge calls (calls_numbered calls numbers)
+
+-- the blocked calls with the numbers of their lines in the place of their positions
+abbrev pub told_by : List ℕ → List (Stuck Reply) → List (ℕ × Reply)
+told_by numbers stuck = map (λ one. (get_or numbers one.place 0, one.expected)) stuck
+
+-- no order of the calls is a linearization. At most `most` completed calls can be placed, one
+-- after the other, such that each may come next and gives its reply. In a state with that many
+-- placed calls, the completed calls that may come next are given, each with the reply of the
+-- manager
+-- Not said: in which order the blocked calls are given.
+pub record HasNone (n : ℕ) (bytes : List ℕ) (most : ℕ) (stuck : List (ℕ × Reply)) : Type 0 where
+  pub calls : List Call
+  pub numbers : List ℕ
+  pub kept : AreKeptInOrder bytes calls numbers
+  pub none : IsLinearizable reserving (empty_state n) calls → ⊥
+  pub made : ℕ → Bool
+  pub state : State
+  pub deepest : Deepest reserving (start (empty_state n) (calls_numbered calls numbers)) most
+      (record { rest = rest_of made 0 (calls_numbered calls numbers); state = state })
+  pub bound : PlacesAtMost reserving (answered (calls_numbered calls numbers)) most
+      (start (empty_state n) (calls_numbered calls numbers))
+  pub found : List (Stuck Reply)
+  pub are : AreStuck reserving state made (calls_numbered calls numbers) found
+  pub told : stuck ≡ told_by numbers found
+
+-- after `steps` steps neither an order is found nor the absence of one is shown. In the orders
+-- that were tried, at most `most` completed calls were placed
+pub record IsLeftOpen (n : ℕ) (bytes : List ℕ) (steps most : ℕ) : Type 0 where
+  pub calls : List Call
+  pub numbers : List ℕ
+  pub kept : AreKeptInOrder bytes calls numbers
+  pub undecided : IsUndecided reserving (start (empty_state n) (calls_numbered calls numbers))
+      steps most
+
+-- the value is a result for the text, for a system of n blocks, after at most this many steps
+abbrev pub IsFound : ℕ → ℕ → List ℕ → FoundOfText → Type 0
+IsFound n steps bytes (Wrong verdict) = first_wrong bytes ≡ Some verdict
+IsFound n steps bytes (Order numbers) = IsOrdered n bytes numbers
+IsFound n steps bytes (NoOrder most stuck) = HasNone n bytes most stuck
+IsFound n steps bytes (Undecided most) = IsLeftOpen n bytes steps most
+
+-- the text of the line with this number, the first line having number 1
+abbrev pub line_at : List ℕ → ℕ → List ℕ
+line_at bytes number = get_or (lines_of bytes) (number - 1) []
+
+-- the lines with these numbers, in this order
+abbrev pub order_text : List ℕ → List ℕ → List ℕ
+order_text bytes numbers = flat_map (λ number. as_line (line_at bytes number)) numbers
+
+-- the line of a blocked call: the number of its line and the expected reply
+abbrev pub stuck_text : ℕ × Reply → List ℕ
+stuck_text one =
+    as_line (codes "stuck " ++ decimal one.0 ++ codes " " ++ reply_text one.1)
+
+-- the text of the result that there is no order, with the lines of the blocked calls
+abbrev pub none_text : ℕ → List (ℕ × Reply) → List ℕ
+none_text most stuck =
+    as_line (codes "illegal order " ++ decimal most) ++ flat_map stuck_text stuck
+
+-- the text of the result that the question is undecided
+abbrev pub open_text : ℕ → List ℕ
+open_text most = as_line (codes "undecided " ++ decimal most)
+
+-- the output for a result
+abbrev pub found_text : List ℕ → FoundOfText → List ℕ
+found_text bytes (Wrong verdict) = verdict_text verdict
+found_text bytes (Order numbers) = order_text bytes numbers
+found_text bytes (NoOrder most stuck) = none_text most stuck
+found_text bytes (Undecided most) = open_text most
+
+-- the lines with the texts at these positions of a list
+abbrev pub placed_text : List (List ℕ) → List ℕ → List ℕ
+placed_text texts places = flat_map (λ place. as_line (get_or texts place [])) places

@@ -1,0 +1,58 @@
+-- The result is correct, in terms of linearizability (Herlihy and Wing, TOPLAS 1990): some order
+-- of the calls of a history, with each client's calls in their order, is a linearization, or no
+-- order is. The text that is written for an order is legal for a judge that trusts the order of
+-- the lines.
+use Rattle.std.specs.Prelude.{◌≡◌, ℕ, Option, IfSome, List, reverse}
+use Rattle.std.specs.Io.KnownBytes.{Appends}
+use Rattle.vac_model.specs.State.{empty_state}
+use Rattle.vac_model.specs.declared.replies.Reply.{Reply}
+use Rattle.judge_calls.specs.declared.verdict.Verdict.TheVariants.{Legal}
+use Rattle.judge_calls.specs.Call.{Call}
+use Rattle.judge_calls.specs.Verdict.{verdict_on, summary_of}
+use Rattle.judge_calls.specs.Laws.{Lists, IsLinearization, state_after}
+use Rattle.judge_linear.specs.declared.ordering.Outcome.TheVariants as outcome
+use Rattle.judge_object.specs.Orders.{IsOrderOf, IsLinearizable}
+use Rattle.judge_reservations.specs.Reserving.{reserving}
+use Rattle.judge_linear.specs.Found.{Order, NoOrder, IsFound}
+use Rattle.judge_linear.specs.Ordering.{HasOrdered}
+
+-- if an order is found, some order of the calls of the text is a linearization
+abbrev pub OrderIsLinearization : Type 0
+OrderIsLinearization = (n steps : ℕ) (bytes : List ℕ) (numbers : List ℕ) →
+    IsFound n steps bytes (Order numbers) →
+    (calls : List Call) → Lists bytes calls → IsLinearizable reserving (empty_state n) calls
+
+-- if the result is that there is no order, no order of the calls of the text is a linearization
+abbrev pub NoOrderMeansNone : Type 0
+NoOrderMeansNone = (n steps : ℕ) (bytes : List ℕ) (most : ℕ) (stuck : List (ℕ × Reply)) →
+    IsFound n steps bytes (NoOrder most stuck) →
+    (calls : List Call) → Lists bytes calls → IsLinearizable reserving (empty_state n) calls → ⊥
+
+-- a text is a history of these calls, and their order is a linearization, for a system of n
+-- blocks. The verdict on the text is legal, with the number of calls and clients and the report of
+-- the state that the calls leave
+pub record IsJudgedLegal (n : ℕ) (text : List ℕ) (calls : List Call) : Type 0 where
+  pub listed : Lists text calls
+  pub linearization : IsLinearization n calls
+  pub verdict : verdict_on n text ≡
+      Legal (summary_of (state_after (empty_state n) calls) (reverse calls))
+
+-- the lines of a text are calls, and the given list is an order of these calls
+pub record IsOrderOfText (bytes : List ℕ) (order : List Call) : Type 0 where
+  pub calls : List Call
+  pub listed : Lists bytes calls
+  pub orders : IsOrderOf calls order
+
+-- a text was written whose verdict is legal; the calls of the text are an order of the calls of
+-- the input
+pub record WroteLegal (n : ℕ) (unread held holds : Option (List ℕ)) : Type 0 where
+  pub text : List ℕ
+  pub written : Appends held holds text
+  pub calls : List Call
+  pub judged : IsJudgedLegal n text calls
+  pub of_input : IfSome unread (λ input. IsOrderOfText input calls)
+
+-- if a history is ordered, a text is written whose verdict is legal
+abbrev pub OrderIsJudgedLegal : Type 0
+OrderIsJudgedLegal = (n steps : ℕ) (unread left held holds : Option (List ℕ)) →
+    HasOrdered n steps outcome.Ordered unread left held holds → WroteLegal n unread held holds

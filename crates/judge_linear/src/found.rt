@@ -1,0 +1,102 @@
+//! The texts of the results for a history.
+
+ghost use Rattle.std.specs.Prelude.{◌≡◌, ◌++◌, ◌<◌, All, OnOk, decimal, flat_map, length};
+ghost use Rattle.vac_lines.specs.Script.{as_line};
+ghost use Rattle.judge_linear.specs.Found.{placed_text, stuck_text, none_text, open_text, told_by};
+ghost use Rattle.judge_linear.specs.Reading.{texts_of, numbers_of};
+
+use judge_object::Line;
+use judge_reservations::Asked;
+use judge_search::Stuck;
+use std::alloc::AllocError;
+use vac_lines::{append_field, print_reply};
+use vac_model::Reply;
+
+/// Appends a text and a number as a line.
+fn append_count(out: &mut Vec<u8>, text: &[u8], number: u64) -> Result<(), AllocError>
+    ensures { OnOk result
+        (out.new.items ≡ out.old.items ++ as_line (text.now ++ decimal number)) }
+{
+    append_field(out, text, number)?;
+    out.extend_from_slice(b"\n")
+}
+
+/// Appends a text as a line.
+fn append_line(out: &mut Vec<u8>, text: &[u8]) -> Result<(), AllocError>
+    ensures { OnOk result (out.new.items ≡ out.old.items ++ as_line text.now) }
+{
+    out.extend_from_slice(text)?;
+    out.extend_from_slice(b"\n")
+}
+
+/// Appends the lines at these positions.
+pub(crate) fn print_order(
+    lines: &[Line<Asked>],
+    places: &[usize],
+    out: &mut Vec<u8>,
+) -> Result<(), AllocError>
+    ensures { OnOk result (All (λ place. place < length lines.now) places.now →
+        out.new.items ≡ out.old.items ++ placed_text (texts_of lines.now) places.now) }
+{
+    'places: for number in 0..places.len() {
+        let place = places[number];
+        if place < lines.len() {
+            append_line(out, lines[place].text.as_slice())?;
+        }
+    }
+    Ok(())
+}
+
+/// Appends the line of a blocked call: its number and the expected reply.
+fn print_stuck(number: u64, expected: &Reply, out: &mut Vec<u8>) -> Result<(), AllocError>
+    ensures { OnOk result
+        (out.new.items ≡ out.old.items ++ stuck_text (number, expected.now)) }
+{
+    append_field(out, b"stuck ", number)?;
+    out.extend_from_slice(b" ")?;
+    print_reply(expected, out)?;
+    out.extend_from_slice(b"\n")
+}
+
+/// Appends the lines of the blocked calls.
+fn print_all_stuck(
+    lines: &[Line<Asked>],
+    stuck: &[Stuck<Reply>],
+    out: &mut Vec<u8>,
+) -> Result<(), AllocError>
+    ensures { OnOk result (All (λ one. one.place < length lines.now) stuck.now →
+        out.new.items ≡ out.old.items
+        ++ flat_map stuck_text (told_by (numbers_of lines.now) stuck.now)) }
+{
+    'stuck: for number in 0..stuck.len() {
+        let place = stuck[number].place;
+        if place < lines.len() {
+            print_stuck(lines[place].number, &stuck[number].expected, out)?;
+        }
+    }
+    Ok(())
+}
+
+/// Appends the result that there is no order: the largest number `most` of completed calls that
+/// can be placed, and the calls that are then blocked.
+pub(crate) fn print_no_order(
+    most: u64,
+    lines: &[Line<Asked>],
+    stuck: &[Stuck<Reply>],
+    out: &mut Vec<u8>,
+) -> Result<(), AllocError>
+    ensures { OnOk result (All (λ one. one.place < length lines.now) stuck.now →
+        out.new.items ≡ out.old.items
+        ++ none_text most (told_by (numbers_of lines.now) stuck.now)) }
+{
+    append_count(out, b"illegal order ", most)?;
+    print_all_stuck(lines, stuck, out)
+}
+
+/// Appends the result that the question is undecided, with the largest number `most` of completed
+/// calls that were placed.
+pub(crate) fn print_undecided(most: u64, out: &mut Vec<u8>) -> Result<(), AllocError>
+    ensures { OnOk result (out.new.items ≡ out.old.items ++ open_text most) }
+{
+    append_count(out, b"undecided ", most)
+}

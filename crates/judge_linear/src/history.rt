@@ -1,0 +1,123 @@
+//! The calls of a history while it is read, each client's in turn.
+
+ghost use Rattle.std.specs.Prelude.{◌≡◌, ◌<◌, ◌^◌, true, [], not, IfOk, MatchBool};
+ghost use Rattle.vac_model.specs.Ranges.{is_task};
+ghost use Rattle.judge_object.specs.Rules.{given_text};
+ghost use Rattle.judge_calls.specs.Order.{call_breaks_client};
+ghost use Rattle.judge_calls.specs.Parts.{shown_call, shown_end, shown_reply};
+ghost use Rattle.judge_search.specs.Calls.{calls_of};
+ghost use Rattle.judge_linear.specs.Reading.{IsHeld, IsLineOf, Took};
+
+use judge_calls::{Answer, CallLine};
+use judge_object::Line;
+use judge_reservations::Asked;
+use judge_time::{Ends, NEVER};
+use std::alloc::{AllocError, Global};
+
+/// The calls that were read, in the order of their lines, and the end of the last call of each
+/// client.
+#[derive(Drop)]
+pub(crate) struct History {
+    pub(crate) lines: Vec<Line<Asked>>,
+    pub(crate) ends: Ends,
+}
+
+/// Returns the end of a call, [`NEVER`] for a pending call.
+fn end_of(answer: Option<Answer<'_>>) -> u128
+    ensures { result ≡ shown_end answer.entry }
+{
+    match answer {
+        Some(answer) => u128::from(answer.end),
+        None => NEVER,
+    }
+}
+
+/// Returns a copy of the text of the reply, or `None` for a pending call.
+fn reply_of(alloc: Global, answer: Option<Answer<'_>>) -> Result<Option<Vec<u8>>, AllocError>
+    ensures { IfOk result (λ reply. given_text reply ≡ shown_reply answer.entry) }
+{
+    match answer {
+        Some(answer) => Ok(Some(Vec::from_slice(alloc, answer.reply)?)),
+        None => Ok(None),
+    }
+}
+
+/// Makes the line with this number and text from its call.
+fn line_of(
+    alloc: Global,
+    number: u64,
+    text: &[u8],
+    call: CallLine<'_>,
+) -> Result<Line<Asked>, AllocError>
+    requires { is_task call.task ≡ true }
+    ensures line { IfOk result (λ line.
+        IsLineOf number text.now (shown_call call.entry) line) }
+    ensures begun { IfOk result (λ _. call.entry.begin < 2 ^ 64) }
+{
+    let end = end_of(call.answer);
+    let reply = reply_of(alloc, call.answer)?;
+    Ok(Line {
+        number,
+        text: Vec::from_slice(alloc, text)?,
+        client: call.client,
+        begin: call.begin,
+        end,
+        op: Asked::new(call.task),
+        reply,
+        soonest: call.begin,
+    })
+}
+
+impl History {
+    /// Creates a history without calls.
+    pub(crate) fn new(alloc: Global) -> History
+        ensures held { IsHeld result }
+        ensures lines { result.lines.items ≡ [] }
+    {
+        History {
+            lines: Vec::new(alloc),
+            ends: Ends::new(alloc),
+        }
+    }
+
+    /// Returns whether a call is in turn after the calls of its client.
+    fn is_in_turn(&self, call: &CallLine<'_>) -> bool
+        ensures { IsHeld self.now →
+            result ≡ not (call_breaks_client (calls_of self.now.lines.items)
+            (shown_call call.now)) }
+    {
+        let begin = u128::from(call.begin);
+        if end_of(call.answer) < begin {
+            return false;
+        }
+        match self.ends.get(call.client) {
+            Some(last) => last <= begin,
+            None => true,
+        }
+    }
+
+    /// Takes the call of a line with this text, if the call is in turn. Returns whether the call
+    /// was taken.
+    pub(crate) fn take(
+        &mut self,
+        alloc: Global,
+        text: &[u8],
+        call: CallLine<'_>,
+    ) -> Result<bool, AllocError>
+        requires { is_task call.task ≡ true }
+        ensures { IfOk result (λ taken. IsHeld self.old → MatchBool taken
+            (Took self.old self.new text.now (shown_call call.entry))
+            (call_breaks_client (calls_of self.old.lines.items) (shown_call call.entry) ≡ true)) }
+    {
+        if !self.is_in_turn(&call) {
+            return Ok(false);
+        }
+        let number = self.lines.len() as u64 + 1;
+        let client = call.client;
+        let end = end_of(call.answer);
+        let line = line_of(alloc, number, text, call)?;
+        self.ends.insert(client, end)?;
+        self.lines.push(line)?;
+        Ok(true)
+    }
+}

@@ -1,0 +1,166 @@
+//! Ordering a history: reading, searching and writing the result.
+
+ghost use Rattle.std.specs.Prelude.{◌≡◌, ◌≤◌, ◌≢◌, ℕ, None, List, [], IfOk, IfErr};
+ghost use Rattle.judge_object.specs.declared.line.Line.{Line};
+ghost use Rattle.judge_reservations.specs.Reserving.{reserving};
+ghost use Rattle.vac_model.specs.State.{empty_state};
+ghost use Rattle.vac_lines.specs.Lines.{lines_of};
+ghost use Rattle.judge_calls.specs.Laws.{Lists};
+ghost use Rattle.vac_streams.specs.declared.fault.StreamFault.TheVariants.{Write};
+ghost use Rattle.vac_model.specs.declared.tasks.Task.{Task};
+ghost use Rattle.judge_search.specs.Calls.{calls_of};
+ghost use Rattle.judge_search.specs.Judging.{IsFoundOfCalls};
+ghost use Rattle.judge_search.specs.Point.{point_at};
+ghost use Rattle.judge_linear.specs.Reading.{IsHeld, AreKeptLines, texts_of, first_wrong};
+ghost use Rattle.judge_linear.specs.Ordering.{FindsText, HasText, HasOrdered, HasStoppedOrdering};
+
+use crate::found::{print_no_order, print_order, print_undecided};
+use crate::history::History;
+use crate::order::{Ordered, judge_lines};
+use crate::reading::{Reading, read_history};
+use judge_calls::print_verdict;
+use judge_object::Watcher;
+use judge_reservations::Reservations;
+use judge_search::{Finding, stuck_calls};
+use std::alloc::{AllocError, Global};
+use std::io::{Read, Write};
+use vac_lines::write_and_flush;
+use vac_model::limits::MOST_BLOCKS;
+use vac_streams::StreamFault;
+
+/// Largest number of steps of each search, if the command line gives none.
+pub const STEPS: u64 = 10_000_000;
+
+/// The kind of result that was written for a history.
+#[derive(Clone, Copy, Debug, PartialEq, Eq)]
+pub enum Outcome {
+    /// The lines of the history, in an order that is a linearization.
+    Ordered,
+    /// The statement that there is no such order, or the first line that is no call or not in
+    /// turn.
+    Illegal,
+    /// The statement that neither is known after the allowed steps.
+    Undecided,
+}
+
+/// Returns the state of a system without entries. The number of blocks is in range, so the one
+/// refusal left is that of memory.
+fn open(alloc: Global, blocks: u32) -> Result<Reservations, AllocError>
+    requires some { 1 ≤ blocks }
+    requires most { blocks ≤ MOST_BLOCKS }
+    ensures { IfOk result (λ machine. machine ≡ empty_state blocks) }
+{
+    match Reservations::new(alloc, blocks) {
+        Ok(machine) => Ok(machine),
+        Err(_) => Err(AllocError),
+    }
+}
+
+/// Writes the text of the finding for some calls into `text`, which is empty before.
+fn print_finding(
+    alloc: Global,
+    ordered: &Ordered,
+    text: &mut Vec<u8>,
+) -> Result<Outcome, AllocError>
+    ensures { IfOk result (λ outcome. (lines : List (Line Task)) (n steps : ℕ) (bytes : List ℕ) →
+        AreKeptLines lines ordered.now.calls.lines.items →
+        IsFoundOfCalls reserving (point_at reserving ordered.now.calls) (empty_state n)
+        (calls_of ordered.now.calls.lines.items)
+        steps ordered.now.finding → texts_of lines ≡ lines_of bytes →
+        Lists bytes (calls_of lines) → first_wrong bytes ≡ None → text.old.items ≡ [] →
+        FindsText n steps bytes outcome text.new.items) }
+{
+    let lines = ordered.calls.as_slice();
+    match &ordered.finding {
+        Finding::Order(places) => {
+            print_order(lines, places.as_slice(), text)?;
+            Ok(Outcome::Ordered)
+        }
+        Finding::NoOrder(most, point) => {
+            let stuck = stuck_calls(alloc, &ordered.calls, point)?;
+            print_no_order(*most, lines, stuck.as_slice(), text)?;
+            Ok(Outcome::Illegal)
+        }
+        Finding::Unknown(most) => {
+            print_undecided(*most, text)?;
+            Ok(Outcome::Undecided)
+        }
+    }
+}
+
+/// Searches for an order of a history that was read, and returns the outcome with its text.
+fn order_calls<P: Watcher>(
+    alloc: Global,
+    blocks: u32,
+    steps: u64,
+    history: History,
+    watcher: &mut P,
+) -> Result<(Outcome, Vec<u8>), AllocError>
+    requires some { 1 ≤ blocks }
+    requires most { blocks ≤ MOST_BLOCKS }
+    requires held { IsHeld history }
+    ensures { IfOk result (λ found. (bytes : List ℕ) →
+        texts_of history.lines.items ≡ lines_of bytes →
+        Lists bytes (calls_of history.lines.items) → first_wrong bytes ≡ None →
+        FindsText blocks steps bytes found.0 found.1.items) }
+{
+    let machine = open(alloc, blocks)?;
+    let ordered = judge_lines(alloc, history, machine, steps, watcher)?;
+    let mut text = Vec::new(alloc);
+    let outcome = print_finding(alloc, &ordered, &mut text)?;
+    Ok((outcome, text))
+}
+
+/// Reads a history, and returns the outcome with the text to be written.
+fn find_text<R: Read, P: Watcher>(
+    alloc: Global,
+    blocks: u32,
+    steps: u64,
+    input: &mut R,
+    watcher: &mut P,
+) -> Result<(Outcome, Vec<u8>), StreamFault>
+    requires some { 1 ≤ blocks }
+    requires most { blocks ≤ MOST_BLOCKS }
+    ensures found { IfOk result (λ found. HasText blocks steps
+        (R.remaining input.old) (R.remaining input.new) found.0 found.1.items) }
+    ensures refused { IfErr result (λ fault. fault ≢ Write) }
+{
+    match read_history(alloc, input)? {
+        Reading::Whole(history) => Ok(order_calls(alloc, blocks, steps, history, watcher)?),
+        Reading::Wrong(verdict) => {
+            let mut text = Vec::new(alloc);
+            print_verdict(&verdict, &mut text)?;
+            Ok((Outcome::Illegal, text))
+        }
+    }
+}
+
+/// Orders a history of a system of `blocks` blocks, of which only each client's own order is
+/// known. Reads the lines to the end of the input, or to the first line that is no call or not in
+/// turn; searches for an order that is a linearization, quickly and then exactly, in at most
+/// `steps` steps each; and writes the result.
+///
+/// After a fault of the output a prefix of the text was written, after any other fault nothing.
+///
+/// Not said: the reports to the watcher.
+pub fn order_history<R: Read, W: Write, P: Watcher>(
+    alloc: Global,
+    blocks: u32,
+    steps: u64,
+    input: &mut R,
+    output: &mut W,
+    watcher: &mut P,
+) -> Result<Outcome, StreamFault>
+    requires some { 1 ≤ blocks }
+    requires most { blocks ≤ MOST_BLOCKS }
+    ensures ok { IfOk result (λ outcome. HasOrdered blocks steps outcome
+        (R.remaining input.old) (R.remaining input.new)
+        (W.contents output.old) (W.contents output.new)) }
+    ensures err { IfErr result (λ fault. HasStoppedOrdering blocks steps fault
+        (R.remaining input.old) (R.remaining input.new)
+        (W.contents output.old) (W.contents output.new)) }
+{
+    let (outcome, text) = find_text(alloc, blocks, steps, input, watcher)?;
+    write_and_flush(output, text.as_slice())?;
+    Ok(outcome)
+}

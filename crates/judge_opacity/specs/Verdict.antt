@@ -1,0 +1,90 @@
+-- The verdict of the judge on a text of attempts, as a function of all its bytes. Earlier attempts
+-- are listed from the newest on.
+use Rattle.std.specs.Prelude.{ℕ, ◌+◌, Bool, true, false, Option, Some, None, Result, Ok, Err, List, [], ◌∷◌, ◌++◌, map, length, codes, if◌then◌else◌}
+use Rattle.vac_lines.specs.declared.fault.LineFault.{LineFault}
+use Rattle.vac_lines.specs.Lines.{lines_of}
+use Rattle.vac_lines.specs.Text.{fault_text, field_text}
+use Rattle.vac_lines.specs.Script.{as_line}
+use Rattle.judge_time.specs.declared.span.Misplaced.{Misplaced}
+use Rattle.judge_time.specs.declared.span.Misplaced.TheVariants.{Client, Time}
+use Rattle.judge_time.specs.Order.{misplaced, clients_of}
+use Rattle.judge_opacity.specs.declared.finding.Breach.{Breach}
+use Rattle.judge_opacity.specs.declared.finding.Breach.TheVariants as breach
+use Rattle.judge_opacity.specs.declared.finding.Counts.{Counts}
+use Rattle.judge_opacity.specs.declared.finding.Finding.{Finding}
+use Rattle.judge_opacity.specs.declared.finding.Finding.TheVariants.{Opaque, Fault, Illegal}
+use Rattle.judge_opacity.specs.Attempt.{Attempt, span_of_attempt, line_attempt}
+use Rattle.judge_opacity.specs.Words.{left_by, wrong_read}
+
+-- the fault of an attempt: a wrong position comes before a wrong read
+abbrev pub place_first : Option Misplaced → Option Breach → Option Breach
+place_first None rest = rest
+place_first (Some wrong) rest = Some (breach.Place wrong)
+
+-- the first fault of an attempt after these earlier attempts, or none
+abbrev pub breach_of : List Attempt → Attempt → Option Breach
+breach_of earlier attempt =
+    place_first (misplaced span_of_attempt earlier attempt)
+    (wrong_read (left_by earlier) attempt.accesses)
+
+-- the number of committed attempts
+abbrev pub committed_of : List Attempt → ℕ
+committed_of [] = 0
+committed_of (attempt ∷ earlier) =
+    if attempt.commits then committed_of earlier + 1 else committed_of earlier
+
+-- the counts of attempts that are all correct
+abbrev pub counts_of : List Attempt → Counts
+counts_of attempts = record {
+  attempts = length attempts;
+  committed = committed_of attempts;
+  clients = clients_of span_of_attempt attempts;
+}
+
+-- a wrong attempt decides the verdict; otherwise the rest of the lines decides
+abbrev pub unless_breach : Option Breach → ℕ → Finding → Finding
+unless_breach None line rest = rest
+unless_breach (Some breach) line rest = Illegal line breach
+
+-- the verdict on these lines after earlier attempts, newest first
+abbrev pub judged_attempts : List Attempt → List (Result Attempt LineFault) → Finding
+judged_attempts earlier [] = Opaque (counts_of earlier)
+judged_attempts earlier (Err fault ∷ rest) = Fault (length earlier + 1) fault
+judged_attempts earlier (Ok attempt ∷ rest) =
+    unless_breach (breach_of earlier attempt) (length earlier + 1)
+    (judged_attempts (attempt ∷ earlier) rest)
+
+-- the verdict on a text of attempts at this many words
+abbrev pub finding_on : ℕ → List ℕ → Finding
+finding_on words bytes = judged_attempts [] (map (line_attempt words) (lines_of bytes))
+
+-- true if the verdict is that the order is opaque
+abbrev pub is_opaque : Finding → Bool
+is_opaque (Opaque counts) = true
+is_opaque (Fault line fault) = false
+is_opaque (Illegal line breach) = false
+
+-- the text of the counts of opaque attempts
+abbrev pub attempts_counts_text : Counts → List ℕ
+attempts_counts_text counts =
+    field_text (codes "opaque attempts=") counts.attempts
+    ++ field_text (codes " committed=") counts.committed
+    ++ field_text (codes " clients=") counts.clients
+
+-- the text of a wrong read: the line, the word and the expected value
+abbrev pub read_text : ℕ → ℕ → ℕ → List ℕ
+read_text line word expected =
+    field_text (codes "illegal read ") line ++ field_text (codes " ") word
+    ++ field_text (codes " ") expected
+
+-- the text of a wrong attempt
+abbrev pub breach_text : Breach → ℕ → List ℕ
+breach_text (breach.Place Client) line = field_text (codes "illegal client ") line
+breach_text (breach.Place Time) line = field_text (codes "illegal time ") line
+breach_text (breach.Read word expected) line = read_text line word expected
+
+-- the output for a verdict
+abbrev pub finding_text : Finding → List ℕ
+finding_text (Opaque counts) = as_line (attempts_counts_text counts)
+finding_text (Fault line fault) = as_line (fault_text fault ++ field_text (codes " ") line)
+finding_text (Illegal line breach) = as_line (breach_text breach line)

@@ -1,5 +1,0 @@
-use Rattle.std.proofs.Common.{◌≡◌}
-use Rattle.law_rows.proofs.tellers.add_many.Given as goal
-
-abbrev pub invariant-loop : goal.invariant-loop
-invariant-loop l = l.teller.table ≡ l.bank.table

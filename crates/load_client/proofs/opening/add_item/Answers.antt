@@ -1,0 +1,12 @@
+use Rattle.load_draws.specs.Tasks.{stock}
+use Rattle.load_client.proofs.Opened.{asked_one, kept_if_ok}
+use Rattle.load_client.proofs.opening.add_item.Goals as goal
+
+pub returns-clause-asked : goal.returns-clause-asked
+returns-clause-asked g c = asked_one g.D.Draws.leads (stock c.args.id c.args.kind) c.draw_stock-command.result
+    c.args.session.now c.ask_for.new.session _ _ _ _ c.ask_for.result c.ask_for.ensures.session c.ask_for.ensures.grants
+    c.draw_stock-command.ensures.drawn c.ask_for.ensures.answered c.ask_for.ensures.refused
+
+pub returns-clause-kept : goal.returns-clause-kept
+returns-clause-kept g c = kept_if_ok c.draw_stock-command.result c.args.session.now c.ask_for.new.session _ _
+    c.ask_for.result c.ask_for.ensures.answered

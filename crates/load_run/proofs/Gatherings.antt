@@ -1,0 +1,68 @@
+-- Clients are gathered one by one.
+use Rattle.std.proofs.Common.{◌≡◌, ◌∙◌, ℕ, ◌+◌, min, List, [], ◌∷◌, ◌++◌, refl, sym, ap, arith}
+use Rattle.stm_core.specs.Client.{Client, Record, merged}
+use Rattle.stm_region.specs.Shown.{with_gathered}
+use Rattle.vac_manager.specs.Session.{SessionShown}
+use Rattle.load_client.specs.declared.tally.Tally.{Tally}
+use Rattle.load_client.specs.Looping.{plus}
+use Rattle.load_run.specs.Several.{sum_of, added_up}
+use Rattle.load_run.specs.Load.{all_merged, Gathered}
+
+sum_more : {X : Type 0} (f : X → ℕ) (xs : List X) (x : X) → sum_of f (xs ++ (x ∷ [])) ≡ sum_of f xs + f x
+sum_more f [] x = omega arith
+sum_more f (y ∷ xs) x = omega (arith, sum_more f xs x)
+
+added_more : {X : Type 0} (f : X → Tally) (xs : List X) (x : X) →
+    added_up f (xs ++ (x ∷ [])) ≡ plus (added_up f xs) (f x)
+added_more f xs x = λ i. record {
+  answered = sum_more (λ y. (f y).answered) xs x i;
+  busy = sum_more (λ y. (f y).busy) xs x i;
+  memory = sum_more (λ y. (f y).memory) xs x i;
+  spent = sum_more (λ y. (f y).spent) xs x i;
+}
+
+merged_more : {X : Type 0} (records_of : X → List Record) (first : List Record) (xs : List X) (y : X) →
+    all_merged records_of first (xs ++ (y ∷ [])) ≡ merged (all_merged records_of first xs) (records_of y)
+merged_more records_of first [] y = refl
+merged_more records_of first (x ∷ xs) y = merged_more records_of (merged first (records_of x)) xs y
+
+pub gathered_one : {X : Type 0} (records_of : X → List Record) (tally_of : X → Tally) (x : X) →
+    Gathered records_of tally_of x [] (records_of x) (tally_of x)
+gathered_one records_of tally_of x = record {
+  records_are = refl;
+  tallies = λ i. record {
+    answered = zero_more (tally_of x).answered i;
+    busy = zero_more (tally_of x).busy i;
+    memory = zero_more (tally_of x).memory i;
+    spent = zero_more (tally_of x).spent i;
+  };
+}
+  where
+    zero_more : (n : ℕ) → n ≡ n + 0
+    zero_more n = omega arith
+
+pub gathered_more : {X : Type 0} (records_of : X → List Record) (tally_of : X →
+    Tally) (x : X) (xs : List X) (y : X) (v v' : Client) (t t' : Tally) →
+    Gathered records_of tally_of x xs v.records t →
+    v'.records ≡ merged v.records (records_of y) → t' ≡ plus t (tally_of y) →
+    Gathered records_of tally_of x (xs ++ (y ∷ [])) v'.records t'
+gathered_more records_of tally_of x xs y v v' t t' h e f = record {
+  records_are = e ∙ (ap (λ (l : List Record). merged l (records_of y)) h.records_are ∙
+      sym (merged_more records_of (records_of x) xs y));
+  tallies = f ∙ (ap (λ (u : Tally). plus u (tally_of y)) h.tallies ∙ sym (added_more tally_of (x ∷ xs) y));
+}
+
+-- a session after it took in another
+pub record TookIn (y other after : SessionShown) : Type 0 where
+  pub manager : after.manager ≡ y.manager
+  pub records : after.client.value.records ≡ merged y.client.value.records other.client.value.records
+  pub grants : after.client.value.grants ≡ min (y.client.value.grants + other.client.value.grants + 1) 63
+
+pub took_in : (y other after : SessionShown) → after ≡ record y {
+  client = record y.client { value = with_gathered y.client.value other.client.value };
+} → TookIn y other after
+took_in y other after e = record {
+  manager = ap (λ (x : SessionShown). x.manager) e;
+  records = ap (λ (x : SessionShown). x.client.value.records) e;
+  grants = ap (λ (x : SessionShown). x.client.value.grants) e;
+}

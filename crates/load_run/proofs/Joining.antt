@@ -1,0 +1,229 @@
+-- Rounds, one after the other.
+use Rattle.std.proofs.Common.{◌≡◌, ◌∙◌, ℕ, suc, ◌+◌, ◌*◌, ◌≤◌, List, [], ◌∷◌, ◌++◌, length}
+use Rattle.std.proofs.Common.{length-append, append_assoc, refl, sym, ap, subst, arith}
+use Rattle.std.proofs.Math.Nat.{mul-le-mul}
+use Rattle.tx_memory.specs.Image.{In}
+use Rattle.stm_core.specs.Client.{Record}
+use Rattle.stm_region.specs.Shown.{RegionShown}
+use Rattle.vac_manager.specs.Called.{CallerShown}
+use Rattle.vac_manager.specs.Renewed.{ClosesSomewhere}
+use Rattle.vac_manager.specs.Session.{SessionShown}
+use Rattle.stm_core.specs.History.{Sub, done, keep, skip}
+use Rattle.load_draws.specs.declared.settings.Settings.{Settings}
+use Rattle.load_run.specs.declared.rounds.Round.{Round}
+use Rattle.load_client.specs.declared.tally.Tally.{Tally}
+use Rattle.load_client.specs.Looping.{total, AreKnown, plus}
+use Rattle.load_run.specs.Several.{sum_of, added_up}
+use Rattle.load_client.specs.Lists.{Paired, none, both}
+use Rattle.load_run.specs.Seats.{SeatShown}
+use Rattle.load_run.specs.Load.{InterleavedAll, Share, drawn_share, HasShare, HasKeptShare, RanAll, RoundHasRun}
+use Rattle.load_draws.proofs.Drawing.{drawn_both}
+use Rattle.load_client.proofs.Answering.{are_of_both}
+use Rattle.load_run.proofs.Merging.{interleaved_both}
+use Rattle.load_client.proofs.Notes.{are_kept_both}
+use Rattle.load_run.proofs.Pairs.{paired_through, paired_length}
+
+sub_after : {A : Type 0} (us bs xs : List A) → Sub xs bs → Sub xs (us ++ bs)
+sub_after [] bs xs p = p
+sub_after (u ∷ us) bs xs p = skip u (sub_after us bs xs p)
+
+sub_both : {A : Type 0} {xs us : List A} (ys vs : List A) → Sub xs us → Sub ys vs → Sub (xs ++ ys) (us ++ vs)
+sub_both ys vs (done {ys = us}) q = sub_after us vs ys q
+sub_both ys vs (keep x p) q = keep x (sub_both ys vs p q)
+sub_both ys vs (skip y p) q = skip y (sub_both ys vs p q)
+
+-- what a client did in some rounds and then in others
+abbrev joined_share : {D : Type 0} → Share D → Share D → Share D
+joined_share x y = record { records = x.records ++ y.records; tally = plus x.tally y.tally; left = y.left }
+
+share_both : {D : Type 0} (leads : D → ℕ → D → Type 0) (s : Settings) (n m : ℕ) (state : D) (x y : Share D) →
+    HasShare leads s n state x → HasShare leads s m x.left y → HasShare leads s (n + m) state (joined_share x y)
+share_both leads s n m state x y h k = record {
+  tasks = h.tasks ++ k.tasks;
+  drawn = drawn_both leads n m _ state h.tasks x.left k.tasks y.left h.drawn k.drawn;
+  answered = h.answered ++ k.answered;
+  among = sub_both k.answered k.tasks h.among k.among;
+  number = omega (arith, length-append h.answered k.answered, h.number, k.number);
+  are_of = are_of_both h.answered k.answered x.records y.records h.are_of k.are_of;
+  all = omega (arith, h.all, k.all);
+}
+
+-- the same with what was kept
+kept_share_both : {D : Type 0} (leads : D → ℕ → D → Type 0) (s : Settings) (n m : ℕ) (state : SeatShown D)
+    (x y : Share (SeatShown D)) → HasKeptShare leads s n state x → HasKeptShare leads s m x.left y →
+    HasKeptShare leads s (n + m) state (joined_share x y)
+kept_share_both leads s n m state x y h k = record {
+  has = share_both leads s n m state.draws (drawn_share x) (drawn_share y) h.has k.has;
+  kept = are_kept_both x.records y.records state.kept x.left.kept y.left.kept h.kept k.kept;
+}
+
+abbrev zipped : {D : Type 0} → List (Share D) → List (Share D) → List (Share D)
+zipped [] ys = []
+zipped (x ∷ xs) [] = []
+zipped (x ∷ xs) (y ∷ ys) = joined_share x y ∷ zipped xs ys
+
+module _ {D P : Type 0} (leads : D → ℕ → D → Type 0) (s : Settings) (shown_of : P → SeatShown D) (n m : ℕ) where
+  zip_each : (ps : List P) (xs ys : List (Share (SeatShown D))) →
+      Paired (λ p x. HasKeptShare leads s n (shown_of p) x) ps xs →
+      Paired (λ x y. HasKeptShare leads s m x.left y) xs ys →
+      Paired (λ p x. HasKeptShare leads s (n + m) (shown_of p) x) ps (zipped xs ys)
+  zip_each [] [] [] none none = none
+  zip_each (p ∷ ps) (x ∷ xs) (y ∷ ys) (both h hs) (both k ks) =
+      both (kept_share_both leads s n m (shown_of p) x y h k) (zip_each ps xs ys hs ks)
+  zip_each [] (x ∷ xs) ys hs ks = elim hs [ ]
+  zip_each (p ∷ ps) [] ys hs ks = elim hs [ ]
+  zip_each [] [] (y ∷ ys) hs ks = elim ks [ ]
+  zip_each (p ∷ ps) (x ∷ xs) [] hs ks = elim ks [ ]
+
+  zip_left : (xs ys : List (Share (SeatShown D))) (ps : List P) →
+      Paired (λ x y. HasKeptShare leads s m x.left y) xs ys → Paired (λ y p. shown_of p ≡ y.left) ys ps →
+      Paired (λ x p. shown_of p ≡ x.left) (zipped xs ys) ps
+  zip_left [] [] [] none none = none
+  zip_left (x ∷ xs) (y ∷ ys) (p ∷ ps) (both h hs) (both k ks) = both k (zip_left xs ys ps hs ks)
+  zip_left [] (y ∷ ys) ps hs ks = elim hs [ ]
+  zip_left (x ∷ xs) [] ps hs ks = elim hs [ ]
+  zip_left [] [] (p ∷ ps) hs ks = elim ks [ ]
+  zip_left (x ∷ xs) (y ∷ ys) [] hs ks = elim ks [ ]
+
+  zip_once : (xs ys : List (Share (SeatShown D))) (k l : List Record) →
+      Paired (λ x y. HasKeptShare leads s m x.left y) xs ys →
+      InterleavedAll (λ (x : Share (SeatShown D)). x.records) xs k →
+      InterleavedAll (λ (x : Share (SeatShown D)). x.records) ys l →
+      InterleavedAll (λ (x : Share (SeatShown D)). x.records) (zipped xs ys) (k ++ l)
+  zip_once [] [] k l none a b = ap (λ (r : List Record). r ++ l) a ∙ b
+  zip_once (x ∷ xs) (y ∷ ys) k l (both h hs) a b = (
+    a.0 ++ b.0,
+    interleaved_both a.1 b.1,
+    zip_once xs ys a.0 b.0 hs a.2 b.2,
+  )
+  zip_once [] (y ∷ ys) k l hs a b = elim hs [ ]
+  zip_once (x ∷ xs) [] k l hs a b = elim hs [ ]
+
+  -- sums over shares of what adds up
+  zip_sum : (f : Share (SeatShown D) → ℕ) → ((x y : Share (SeatShown D)) → f (joined_share x y) ≡ f x + f y) →
+      (xs ys : List (Share (SeatShown D))) → Paired (λ x y. HasKeptShare leads s m x.left y) xs ys →
+      sum_of f (zipped xs ys) ≡ sum_of f xs + sum_of f ys
+  zip_sum f adds [] [] none = refl
+  zip_sum f adds (x ∷ xs) (y ∷ ys) (both h hs) = omega (arith, adds x y, zip_sum f adds xs ys hs)
+  zip_sum f adds [] (y ∷ ys) hs = elim hs [ ]
+  zip_sum f adds (x ∷ xs) [] hs = elim hs [ ]
+
+  zip_tallies : (xs ys : List (Share (SeatShown D))) → Paired (λ x y. HasKeptShare leads s m x.left y) xs ys →
+      added_up (λ (x : Share (SeatShown D)). x.tally) (zipped xs ys) ≡ plus
+      (added_up (λ (x : Share (SeatShown D)). x.tally) xs) (added_up (λ (x : Share (SeatShown D)). x.tally) ys)
+  zip_tallies xs ys h = λ i. record {
+    answered = zip_sum (λ (x : Share (SeatShown D)). x.tally.answered) (λ x y. refl) xs ys h i;
+    busy = zip_sum (λ (x : Share (SeatShown D)). x.tally.busy) (λ x y. refl) xs ys h i;
+    memory = zip_sum (λ (x : Share (SeatShown D)). x.tally.memory) (λ x y. refl) xs ys h i;
+    spent = zip_sum (λ (x : Share (SeatShown D)). x.tally.spent) (λ x y. refl) xs ys h i;
+  }
+
+  pub ran_both : (before middle after : List Record) (pairs between left : List P) (t u : Tally) →
+      RanAll leads s shown_of n before pairs middle between t → RanAll leads s shown_of m middle between after left u →
+      RanAll leads s shown_of (n + m) before pairs after left (plus t u)
+  ran_both before middle after pairs between left t u h k =
+      let goes : Paired (λ x y. HasKeptShare leads s m x.left y) h.shares k.shares =
+      paired_through (λ (x : Share (SeatShown D)) p. shown_of p ≡ x.left)
+      (λ p (y : Share (SeatShown D)). HasKeptShare leads s m (shown_of p) y)
+      (λ (x : Share (SeatShown D)) y. HasKeptShare leads s m x.left y)
+      (λ x p y e f. subst (λ (d : SeatShown D). HasKeptShare leads s m d y) e f) h.shares between k.shares h.left_are
+      k.each in
+      record {
+        shares = zipped h.shares k.shares;
+        each = zip_each pairs h.shares k.shares h.each goes;
+        left_are = zip_left h.shares k.shares left goes k.left_are;
+        rest = h.rest ++ k.rest;
+        behind = k.behind ∙ (ap (λ (l : List Record). l ++ k.rest) h.behind ∙ append_assoc before h.rest k.rest);
+        each_once = zip_once h.shares k.shares h.rest k.rest goes h.each_once k.each_once;
+        tallies = ap (λ (x : Tally). plus x u) h.tallies ∙ (ap
+            (λ (x : Tally). plus (added_up (λ (y : Share (SeatShown D)). y.tally) h.shares) x) k.tallies ∙
+            sym (zip_tallies h.shares k.shares goes));
+        alone = λ one. (
+            let same : length between ≡ length pairs = paired_length _ h.shares between h.left_are ∙
+            paired_length _ pairs h.shares h.each in
+            let a = h.alone one in
+            let b = k.alone (same ∙ one) in
+            omega (arith, a, b));
+        in_time = λ one time. (
+            let same : length between ≡ length pairs = paired_length _ h.shares between h.left_are ∙
+            paired_length _ pairs h.shares h.each in
+            let a = h.in_time one time in
+            let b = k.in_time (same ∙ one) time in
+            omega (arith, a, b));
+      }
+
+-- one round more
+pub ran_more : {W D : Type 0} (leads : D → ℕ → D → Type 0) (shown_of : W → SeatShown D) (s : Settings) (rounds : ℕ)
+    (y ready : SessionShown) (seats : List W) (r more : Round W) (t : Tally) →
+    RoundHasRun leads shown_of s (rounds * s.tasks) y seats r →
+    ready.client.value.records ≡ r.client.value.records →
+    RoundHasRun leads shown_of s s.tasks ready r.seats.items more → t ≡ plus r.tally.tally more.tally.tally →
+    RanAll leads s shown_of ((rounds + 1) * s.tasks) y.client.value.records seats
+    more.client.value.records more.seats.items t
+ran_more leads shown_of s rounds y ready seats r more t h same k e =
+    let n : rounds * s.tasks + s.tasks ≡ (rounds + 1) * s.tasks = grind arith in
+    let first = y.client.value.records in
+    let middle = r.client.value.records in
+    let last = more.client.value.records in
+    let next : RanAll leads s shown_of s.tasks middle r.seats.items last more.seats.items more.tally.tally =
+    subst (λ (l : List Record). RanAll leads s shown_of s.tasks l r.seats.items last more.seats.items
+    more.tally.tally) same k in
+    subst (λ (j : ℕ). RanAll leads s shown_of j first seats last more.seats.items t) n
+    (subst (λ (u : Tally). RanAll leads s shown_of (rounds * s.tasks + s.tasks) first seats last
+    more.seats.items u) (sym e)
+    (ran_both leads s shown_of (rounds * s.tasks) s.tasks first middle last seats r.seats.items more.seats.items
+    r.tally.tally more.tally.tally h next))
+
+-- tallies of so many tasks each
+total_of : {D P : Type 0} (leads : D → ℕ → D → Type 0) (s : Settings) (shown_of : P →
+    SeatShown D) (n : ℕ) (pairs : List P) (shares : List (Share (SeatShown D))) →
+    Paired (λ p x. HasKeptShare leads s n (shown_of p) x) pairs shares →
+    total (added_up (λ (x : Share (SeatShown D)). x.tally) shares) ≡ length pairs * n
+total_of leads s shown_of n [] [] none = omega arith
+total_of leads s shown_of n (p ∷ pairs) (x ∷ shares) (both h hs) =
+    counts (total_of leads s shown_of n pairs shares hs) h.has.all
+  where
+    counts : total (added_up (λ (y : Share _). y.tally) shares) ≡ length pairs * n → total x.tally ≡ n →
+        total (added_up (λ (y : Share _). y.tally) (x ∷ shares)) ≡ suc (length pairs) * n
+    counts e f = omega (arith, e, f)
+total_of leads s shown_of n [] (x ∷ shares) hs = elim hs [ ]
+total_of leads s shown_of n (p ∷ pairs) [] hs = elim hs [ ]
+
+pub ran_total : {D P : Type 0} (leads : D → ℕ → D → Type 0) (s : Settings) (shown_of : P →
+    SeatShown D) (n : ℕ) (before after : List Record) (pairs left : List P) (t : Tally) →
+    RanAll leads s shown_of n before pairs after left t → total t ≡ length pairs * n
+ran_total leads s shown_of n before after pairs left t h = ap (λ (u : Tally). total u) h.tallies ∙
+    total_of leads s shown_of n pairs h.shares h.each
+
+-- the product of numbers below bounds
+below_both : (a b c d : ℕ) → a ≤ b → c ≤ d → a * c ≤ b * d
+below_both a b c d p q = mul-le-mul p q
+
+-- no more tasks than in the most rounds by the most clients
+pub few_tasks : (clients rounds tasks : ℕ) → clients ≤ 64 → rounds ≤ 100 → tasks ≤ 1000000 →
+    clients * (rounds * tasks) ≤ 6400000000
+few_tasks clients rounds tasks a b c =
+    let p : rounds * tasks ≤ 100 * 1000000 = below_both rounds 100 tasks 1000000 b c in
+    below_both clients 64 (rounds * tasks) (100 * 1000000) a p
+
+pub few_each : (n pairs clients tasks : ℕ) → n ≡ pairs * tasks → pairs ≡ clients → clients ≤ 64 → tasks ≤ 1000000 →
+    n ≤ 64000000
+few_each n pairs clients tasks e f a b = let p : pairs * tasks ≤ 64 * 1000000 =
+    below_both pairs 64 tasks 1000000 (omega (arith, f, a)) b in omega (arith, e, p)
+
+pub few_all : (n pairs clients rounds tasks : ℕ) → n ≡ pairs * (rounds * tasks) → pairs ≡ clients → clients ≤ 64 →
+    rounds ≤ 100 → tasks ≤ 1000000 → n ≤ 6400000000
+few_all n pairs clients rounds tasks e f a b c = let p = few_tasks pairs rounds tasks (omega (arith, f, a)) b c in
+    omega (arith, e, p)
+
+-- after a renewal all records are of earlier ones
+pub renewed_known : (region region' : RegionShown) (c c' : CallerShown) (words : List ℕ) →
+    ClosesSomewhere region c.value words → region'.renewal ≡ region.renewal + 1 → c'.value.records ≡ c.value.records →
+    AreKnown region'.renewal c'.value.floor c'.value.records
+renewed_known region region' c c' words h e same = λ r i.
+    (let past = h.1.ends.eras r (subst (λ (l : List Record). In r l) same i) in
+    record {
+      present = omega (arith, e, past);
+      known = λ q. absurd (omega (arith, e, past, q));
+      unplaced = λ q. absurd (omega (arith, e, past, q));
+    })

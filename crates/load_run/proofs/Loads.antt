@@ -1,0 +1,310 @@
+-- A load as a whole: the opening, the clients, and the report.
+use Rattle.std.proofs.lemmas.Bool.Decides.{nat_tests}
+use Rattle.std.proofs.Common.{Bool, true, false, Result, Ok, Err, IsErrOf, ◌↔◌, nat_eq, ◌≡◌, ◌∙◌, ◌⊎◌, ℕ, ◌+◌, ◌*◌, ◌-◌}
+use Rattle.std.proofs.Common.{◌/◌, List, [], ◌∷◌, ◌++◌, length}
+use Rattle.std.proofs.Common.{length-append, map, refl, sym, inl, inr, ap, subst, arith}
+use Rattle.tx_memory.specs.Image.{In}
+use Rattle.stm_core.specs.Client.{Client, Record}
+use Rattle.stm_region.specs.Shown.{RegionShown}
+use Rattle.vac_model.specs.declared.replies.Report.{Report}
+use Rattle.vac_model.specs.State.{State, empty_state, report}
+use Rattle.vac_manager.specs.Law.{Shows}
+use Rattle.vac_manager.specs.Legal.{IsLegal, AreVersioned, capacity_of}
+use Rattle.vac_manager.specs.Called.{CallerShown}
+use Rattle.vac_manager.specs.Opening.{Opens}
+use Rattle.vac_manager.specs.Renewed.{ClosesSomewhere}
+use Rattle.vac_manager.specs.Session.{SessionShown}
+use Rattle.load_draws.specs.declared.settings.Settings.{Settings}
+use Rattle.load_client.specs.declared.tally.Tally.{Tally}
+use Rattle.load_draws.specs.Tasks.{opening}
+use Rattle.vac_manager.specs.declared.fault.Fault.{Fault}
+use Rattle.vac_manager.specs.declared.fault.Fault.TheVariants as fault
+use Rattle.load_client.specs.Opening.{Stopped}
+use Rattle.rand_pcg.specs.Lcg.{Lcg}
+use Rattle.load_run.specs.declared.seats.Keepers.{Keepers}
+use Rattle.load_run.specs.declared.seats.Seat.{Seat}
+use Rattle.load_run.specs.declared.rounds.Round.{Round}
+use Rattle.load_run.specs.declared.load.LoadFault.{LoadFault}
+use Rattle.load_run.specs.declared.load.LoadFault.TheVariants as load
+use Rattle.load_draws.specs.Streams.{stream_of, streams_of, gives}
+use Rattle.load_run.specs.Streams.{KeptBySeed}
+use Rattle.load_client.specs.Lists.{Paired, none, both}
+use Rattle.load_run.specs.Alone.{IsReadyForRound}
+use Rattle.load_client.specs.Keeping.{KeptNotes, AreKept}
+use Rattle.load_run.specs.Several.{AllKept, none_kept, one_kept, sum_of, added_up}
+use Rattle.load_run.specs.Seats.{SeatShown, shown, kept_at}
+use Rattle.load_run.specs.Load.{InterleavedAll, Share, drawn_share, HasShare, HasKeptShare, HasOpened, RoundHasRun}
+use Rattle.load_run.specs.Load.{is_load, LoadedKept, WasOpened, WasStopped, IsTooShort, IsStopOfLoad, IsLoadFault}
+use Rattle.load_client.proofs.Order.{added_known}
+use Rattle.load_run.proofs.Joining.{ran_total}
+use Rattle.load_client.proofs.Ranges.{first_true}
+use Rattle.load_draws.specs.Setting.{is_settings}
+use Rattle.load_client.proofs.Beginning.{long_opening}
+
+-- after the opening the first round can begin: what the opening added is known to its client, and it
+-- took the clock on by at most one for each of its commands
+pub opened_ready : {D : Type 0} (leads : D → ℕ → D → Type 0) (s : Settings) (state left : D) (y : SessionShown) →
+    HasOpened leads s state left y → IsReadyForRound s y
+opened_ready leads s state left y h =
+    let a = h.ran.answered in
+    let all : y.client.value.records ≡ a.added = a.records ∙
+    ap (λ (c : CallerShown). c.value.records ++ a.added) h.opens.client_is in
+    let first : h.opener.value.floor ≡ 0 = ap (λ (c : CallerShown). c.value.floor) h.opens.client_is in
+    let d = h.ran.drawn in
+    let long = long_opening s (d.words ++ []) h.ran.commands [] (d.reads []) in
+    record {
+      last = h.opens.last_is;
+      known = λ r i. added_known y.manager.renewal h.opener.value.floor y.client.value.floor r
+          (a.each r (subst (λ (l : List Record). In r l) all i));
+      early = omega (arith, long, first, h.ran.near);
+    }
+
+-- shares without what was kept
+module _ {D : Type 0} where
+  once_drawn : (xs : List (Share (SeatShown D))) (l : List Record) →
+      InterleavedAll (λ (x : Share (SeatShown D)). x.records) xs l →
+      InterleavedAll (λ (x : Share D). x.records) (map drawn_share xs) l
+  once_drawn [] l h = h
+  once_drawn (x ∷ xs) l h = (h.0, h.1, once_drawn xs h.0 h.2)
+
+  sum_drawn : (f : Share D → ℕ) (xs : List (Share (SeatShown D))) →
+      sum_of f (map drawn_share xs) ≡ sum_of (λ x. f (drawn_share x)) xs
+  sum_drawn f [] = refl
+  sum_drawn f (x ∷ xs) = ap (λ n. f (drawn_share x) + n) (sum_drawn f xs)
+
+  tallies_drawn : (xs : List (Share (SeatShown D))) → added_up (λ (x : Share D). x.tally)
+      (map drawn_share xs) ≡ added_up (λ (x : Share (SeatShown D)). x.tally) xs
+  tallies_drawn xs = λ i. record {
+    answered = sum_drawn (λ x. x.tally.answered) xs i;
+    busy = sum_drawn (λ x. x.tally.busy) xs i;
+    memory = sum_drawn (λ x. x.tally.memory) xs i;
+    spent = sum_drawn (λ x. x.tally.spent) xs i;
+  }
+
+module _ {D P : Type 0} (leads : D → ℕ → D → Type 0) (s : Settings) (shown_of : P → SeatShown D) (n : ℕ) where
+  each_drawn : (ps : List P) (xs : List (Share (SeatShown D))) →
+      Paired (λ p x. HasKeptShare leads s n (shown_of p) x) ps xs →
+      Paired (λ p x. HasShare leads s n (shown_of p).draws x) ps (map drawn_share xs)
+  each_drawn [] [] none = none
+  each_drawn (p ∷ ps) (x ∷ xs) (both h hs) = both h.has (each_drawn ps xs hs)
+  each_drawn [] (x ∷ xs) hs = elim hs [ ]
+  each_drawn (p ∷ ps) [] hs = elim hs [ ]
+
+  kept_drawn : (ps : List P) (xs : List (Share (SeatShown D))) (qs : List P) →
+      Paired (λ p x. HasKeptShare leads s n (shown_of p) x) ps xs → Paired (λ x p. shown_of p ≡ x.left) xs qs →
+      AllKept (λ (x : Share D). x.records) (map drawn_share xs) (map (λ p. (shown_of p).kept) ps)
+      (map (λ p. (shown_of p).kept) qs)
+  kept_drawn [] [] [] none none = none_kept
+  kept_drawn (p ∷ ps) (x ∷ xs) (q ∷ qs) (both h hs) (both k ks) =
+      one_kept (subst (λ (y : SeatShown D). AreKept x.records (shown_of p).kept y.kept) (sym k) h.kept)
+      (kept_drawn ps xs qs hs ks)
+  kept_drawn [] (x ∷ xs) qs hs ks = elim hs [ ]
+  kept_drawn (p ∷ ps) [] qs hs ks = elim hs [ ]
+  kept_drawn [] [] (q ∷ qs) hs ks = elim ks [ ]
+  kept_drawn (p ∷ ps) (x ∷ xs) [] hs ks = elim ks [ ]
+
+pub loaded_kept : {D G K : Type 0} (leads : D → ℕ → D → Type 0) (notes : K → KeptNotes) (s : Settings) (state last : D)
+    (seats : List (Seat D G K)) (y : SessionShown) (end : Round (Seat D G K)) (before kept : KeptNotes) (words : List ℕ)
+    (r : Report) →
+    length seats ≡ s.clients →
+    HasOpened leads s state last y →
+    AreKept y.client.value.records before kept →
+    RoundHasRun leads (shown notes) s (s.rounds * s.tasks) y seats end →
+    AreVersioned end.client.value.records →
+    end.manager.size ≡ y.manager.size →
+    ClosesSomewhere end.manager end.client.value words →
+    ((x : State) → Shows words x → report x ≡ r) →
+    LoadedKept leads s (λ seat. seat.draws) state seats end.tally.tally r before kept (kept_at notes seats)
+    (kept_at notes end.seats.items)
+loaded_kept leads notes s state last seats y end before kept words r n opened keeps all versioned size closed shows =
+    let ran = opened.ran in
+    let closes = closed.1 in
+    let added = ran.answered.added in
+    let after = end.client.value in
+    let left = end.seats.items in
+    let n_of = s.rounds * s.tasks in
+    let records : y.client.value.records ≡ added = ran.answered.records ∙
+    ap (λ (c : CallerShown). c.value.records ++ added) opened.opens.client_is in
+    let capacity : capacity_of end.manager ≡ s.blocks = ap (λ (k : ℕ). (k - 16) / 8) size ∙
+    opened.opens.capacity in
+    let count : s.clients * (s.rounds * s.tasks) ≡ s.rounds * s.clients * s.tasks = grind arith in
+    record {
+      loaded = record {
+        history = after.records;
+        last = closes.last;
+        legal = subst (λ (k : ℕ). IsLegal (empty_state k) after.records closes.last) capacity closes.legal;
+        shown = shows closes.last closes.shown;
+        opened = ran.answered.added;
+        rest = all.rest;
+        opening_first = all.behind ∙ ap (λ (l : List Record). l ++ all.rest) records;
+        in_order = closes.ends.sorted;
+        versioned = versioned;
+        commands = ran.commands;
+        drawn = last;
+        opening_is = ran.drawn;
+        opened_are = ran.answered.are_of;
+        shares = map drawn_share all.shares;
+        each = each_drawn leads s (shown notes) n_of seats all.shares all.each;
+        each_once = once_drawn all.shares all.rest all.each_once;
+        tallies = all.tallies ∙ sym (tallies_drawn all.shares);
+        all = ran_total leads s (shown notes) n_of y.client.value.records after.records seats left end.tally.tally all ∙
+            (ap (λ (k : ℕ). k * (s.rounds * s.tasks)) n ∙ count);
+        alone = λ one. all.alone (n ∙ one);
+        in_time = λ one time. all.in_time (n ∙ one) time;
+      };
+      opening_kept = subst (λ (l : List Record). AreKept l before kept) records keeps;
+      clients_kept = kept_drawn leads s (shown notes) n_of seats all.shares left all.each all.left_are;
+    }
+
+-- what holds between images and elements holds between the list of images and the elements
+paired_map : {A B X : Type 0} (f : A → B) (related : B → X → Type 0) (ks : List A) (xs : List X) →
+    Paired (λ a x. related (f a) x) ks xs → Paired related (map f ks) xs
+paired_map f related [] [] none = none
+paired_map f related (a ∷ ks) (x ∷ xs) (both h hs) = both h (paired_map f related ks xs hs)
+paired_map f related [] (x ∷ xs) hs = elim hs [ ]
+paired_map f related (a ∷ ks) [] hs = elim hs [ ]
+
+paired_unmap : {A B X : Type 0} (f : A → B) (related : B → X → Type 0) (ks : List A) (xs : List X) →
+    Paired related (map f ks) xs → Paired (λ a x. related (f a) x) ks xs
+paired_unmap f related [] [] none = none
+paired_unmap f related (a ∷ ks) (x ∷ xs) (both h hs) = both h (paired_unmap f related ks xs hs)
+paired_unmap f related [] (x ∷ xs) hs = elim hs [ ]
+paired_unmap f related (a ∷ ks) [] hs = elim hs [ ]
+
+-- a load is one of whatever its clients' draws begin with
+pub kept_on : {D P Q : Type 0} (leads : D → ℕ → D → Type 0) (s : Settings) (draws_of : P → D) (drawing : Q →
+    D) (state : D) (ps : List P) (qs : List Q) (t : Tally) (r : Report) (before after : KeptNotes)
+    (befores afters : List KeptNotes) →
+    map draws_of ps ≡ map drawing qs → LoadedKept leads s draws_of state ps t r before after befores afters →
+    LoadedKept leads s drawing state qs t r before after befores afters
+kept_on leads s draws_of drawing state ps qs t r before after befores afters e h = record {
+  loaded = record {
+    history = h.loaded.history;
+    last = h.loaded.last;
+    legal = h.loaded.legal;
+    shown = h.loaded.shown;
+    opened = h.loaded.opened;
+    rest = h.loaded.rest;
+    opening_first = h.loaded.opening_first;
+    in_order = h.loaded.in_order;
+    versioned = h.loaded.versioned;
+    commands = h.loaded.commands;
+    drawn = h.loaded.drawn;
+    opening_is = h.loaded.opening_is;
+    opened_are = h.loaded.opened_are;
+    shares = h.loaded.shares;
+    each = paired_unmap drawing (λ d x. HasShare leads s (s.rounds * s.tasks) d x) qs h.loaded.shares
+        (subst (λ ds. Paired (λ d x. HasShare leads s (s.rounds * s.tasks) d x) ds h.loaded.shares) e
+        (paired_map draws_of (λ d x. HasShare leads s (s.rounds * s.tasks) d x) ps h.loaded.shares h.loaded.each));
+    each_once = h.loaded.each_once;
+    tallies = h.loaded.tallies;
+    all = h.loaded.all;
+    alone = h.loaded.alone;
+    in_time = h.loaded.in_time;
+  };
+  opening_kept = h.opening_kept;
+  clients_kept = h.clients_kept;
+}
+
+map_same : {A : Type 0} (xs : List A) → map (λ x. x) xs ≡ xs
+map_same [] = refl
+map_same (x ∷ xs) = ap (λ (l : List _). x ∷ l) (map_same xs)
+
+map_both : {A B C : Type 0} (f : A → B) (g : B → C) (xs : List A) → map (λ x. g (f x)) xs ≡ map g (map f xs)
+map_both f g [] = refl
+map_both f g (x ∷ xs) = ap (λ (l : List _). g (f x) ∷ l) (map_both f g xs)
+
+-- a load that can be run has settings in their ranges
+pub load_settings : (s : Settings) (n : ℕ) → true ≡ is_load s n → is_settings s ≡ true
+load_settings s n e = first_true (is_settings s) (nat_eq n s.clients) (sym e)
+
+-- a load that can be run is not refused for its arguments
+pub can_be_run : {R : Type 0} (s : Settings) (n m : ℕ) (r : Result R LoadFault) → n ≡ m → true ≡ is_load s n →
+    (IsErrOf r load.Arguments → ⊥) → IsErrOf r load.Arguments ↔ (is_load s m ≡ false)
+can_be_run s n m r e b never =
+    (λ x. absurd (never x), λ x. absurd (let k : true ≡ false = b ∙ (ap (λ (k : ℕ). is_load s k) e ∙ x) in cc))
+
+pub was_done : {R : Type 0} (r : Result R LoadFault) (x : R) → r ≡ Ok x → IsErrOf r load.Arguments → ⊥
+was_done r x done e = cc
+
+pub had_no_memory : {R : Type 0} (r : Result R LoadFault) → r ≡ Err load.Memory → IsErrOf r load.Arguments → ⊥
+had_no_memory r refused e = cc
+
+-- a load that can be run has as many clients as its settings say
+pub load_count : (s : Settings) (n m : ℕ) (b : Bool) → m ≡ n → b ≡ is_load s m → b ≡ true → n ≡ s.clients
+load_count s n m b same is holds =
+    let can : is_load s m ≡ true = sym is ∙ holds in
+    let here : m ≡ s.clients = grind (arith, nat_tests, can) in
+    sym same ∙ here
+
+-- the same by the streams of a seed, with the keepers of the seats
+pub kept_by_seed : {P K : Type 0} (draws_of : P → Lcg) (keep_of : P → K) (notes : K →
+    KeptNotes) (s : Settings) (t : Tally) (r : Report) (state : Lcg) (n : ℕ) (seats left : List P)
+    (before after : Keepers K)
+    →
+    state ≡ stream_of s.seed 0 → map draws_of seats ≡ streams_of s.seed n → n ≡ s.clients →
+    map keep_of seats ≡ before.clients.items → after.clients.items ≡ map keep_of left →
+    LoadedKept gives s draws_of state seats t r (notes before.opening) (notes after.opening)
+    (map (λ p. notes (keep_of p)) seats) (map (λ p. notes (keep_of p)) left) →
+    KeptBySeed notes s t r before after
+kept_by_seed draws_of keep_of notes s t r state n seats left before after begins are number come go h =
+    let streams = streams_of s.seed s.clients in
+    let first : map (λ p. notes (keep_of p)) seats ≡ map notes before.clients.items =
+    map_both keep_of notes seats ∙ ap (λ (l : List _). map notes l) come in
+    let last : map (λ p. notes (keep_of p)) left ≡ map notes after.clients.items =
+    map_both keep_of notes left ∙ sym (ap (λ (l : List _). map notes l) go) in
+    kept_on gives s draws_of (λ d. d) (stream_of s.seed 0) seats streams t r _ _ _ _
+    (are ∙ (ap (λ (k : ℕ). streams_of s.seed k) number ∙ sym (map_same streams)))
+    (subst (λ (d : Lcg). LoadedKept gives s draws_of d seats t r (notes before.opening) (notes after.opening)
+    (map notes before.clients.items) (map notes after.clients.items)) begins
+    (subst (λ (l : List KeptNotes). LoadedKept gives s draws_of state seats t r (notes before.opening)
+    (notes after.opening) l (map notes after.clients.items)) first
+    (subst (λ (l : List KeptNotes). LoadedKept gives s draws_of state seats t r (notes before.opening)
+    (notes after.opening)
+    (map (λ p. notes (keep_of p)) seats) l) last h)))
+
+too_short : {D : Type 0} (leads : D → ℕ → D → Type 0) (s : Settings) (renewal : ℕ) (e : Fault) (v v' : Client)
+    (state left : D) → v.floor ≡ 0 → Stopped leads renewal s.last (opening s) e v v' state left → IsTooShort s e
+too_short leads s renewal fault.Arguments v v' state left first p = p.why
+too_short leads s renewal fault.Memory v v' state left first p = tt
+too_short leads s renewal (fault.Busy conflict) v v' state left first p = p.why
+too_short leads s renewal (fault.Spent version) v v' state left first p =
+    let b = p.begun in
+    let long = long_opening s ((b.words ++ b.more) ++ []) ((p.asked ++ (p.refused ∷ [])) ++ b.rest) [] (b.reads []) in
+    let some = length-append (p.asked ++ (p.refused ∷ [])) b.rest in
+    let asked = length-append p.asked (p.refused ∷ []) in
+    let floor = p.why.1 in
+    (p.why.0, omega (arith, long, some, asked, floor, first, p.near))
+
+-- the manager of a load was made, and its opening stopped
+pub was_stopped : {D : Type 0} (leads : D → ℕ → D → Type 0) (s : Settings) (e : Fault) (state left : D) (stripes : ℕ)
+    (region : RegionShown) (opener : CallerShown) (after : Client) →
+    Opens s.blocks s.last stripes region opener → Stopped leads region.renewal region.last
+    (opening s) e opener.value after state left → WasStopped leads s e state left
+was_stopped leads s e state left stripes region opener after opens stopped =
+    let at : Stopped leads region.renewal s.last (opening s) e opener.value after state left =
+    subst (λ (n : ℕ). Stopped leads region.renewal n (opening s) e opener.value after state left) opens.last_is
+    stopped in
+    record {
+      stripes = stripes;
+      region = region;
+      opener = opener;
+      opens = opens;
+      after = after;
+      stopped = at;
+      short = too_short leads s region.renewal e opener.value after state left
+          (ap (λ (c : CallerShown). c.value.floor) opens.client_is) at;
+    }
+
+-- a load by a seed that stopped is one that was not run to its end
+pub stop_by_seed : (s : Settings) (state left : Lcg) (e : LoadFault) → state ≡ stream_of s.seed 0 →
+    IsStopOfLoad gives s state left e → IsLoadFault gives s (stream_of s.seed 0) e
+stop_by_seed s state left e begins h = inr (left, subst (λ (d : Lcg). IsStopOfLoad gives s d left e) begins h)
+
+-- where memory or a thread is wanting once the opening was answered
+pub stop_behind : {D : Type 0} (leads : D → ℕ → D → Type 0) (s : Settings) (state left : D) (e : LoadFault) →
+    WasOpened leads s state left → (e ≡ load.Memory) ⊎ (e ≡ load.Spawn) → IsStopOfLoad leads s state left e
+stop_behind leads s state left e opened (inl memory) = subst (λ (f : LoadFault). IsStopOfLoad leads s state left f)
+    (sym memory) (inr opened)
+stop_behind leads s state left e opened (inr spawn) = subst (λ (f : LoadFault). IsStopOfLoad leads s state left f)
+    (sym spawn) opened

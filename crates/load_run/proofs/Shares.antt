@@ -1,0 +1,337 @@
+-- What each client did, from its client before and after.
+use Rattle.std.proofs.Common.{◌≡◌, ◌∙◌, ℕ, suc, ◌+◌, ◌*◌, ◌-◌, ◌≤◌, List, [], ◌∷◌, ◌++◌, length, All, inl, inr, refl}
+use Rattle.std.proofs.Common.{sym, ap, subst, arith}
+use Rattle.tx_memory.specs.Image.{In}
+use Rattle.stm_core.specs.Client.{Client, Record, merged}
+use Rattle.stm_core.specs.Invariant.{Sorted}
+use Rattle.stm_core.proofs.Orders.{in_merged}
+use Rattle.stm_core.proofs.Whole.{merged_sorted}
+use Rattle.stm_region.specs.Shown.{RegionShown}
+use Rattle.vac_manager.specs.Called.{CallerShown, Splits}
+use Rattle.vac_manager.specs.Session.{SessionShown}
+use Rattle.load_draws.specs.declared.settings.Settings.{Settings}
+use Rattle.load_client.specs.declared.tally.Tally.{Tally}
+use Rattle.load_run.specs.declared.workers.Worker.{Worker}
+use Rattle.load_run.specs.declared.workers.Crew.{Crew}
+use Rattle.load_draws.specs.Draws.{Drawn, times_over}
+use Rattle.load_draws.specs.Tasks.{task_of}
+use Rattle.load_client.specs.Keeping.{AreKept}
+use Rattle.load_run.specs.Seats.{SeatShown}
+use Rattle.load_client.specs.Looping.{AreKnown, plus}
+use Rattle.load_run.specs.Several.{sum_of, added_up, Interleaved}
+use Rattle.load_client.specs.Lists.{Paired, none, both}
+use Rattle.load_run.specs.Load.{InterleavedAll, all_merged, Gathered, DidWork, DidAllWork, IsWorker, IsCrew}
+use Rattle.load_run.specs.Load.{IsMember, CanGather, Share, HasKeptShare, RanAll}
+use Rattle.load_run.specs.Alone.{IsInRenewal, IsReadyForRound}
+use Rattle.load_client.proofs.Clocking.{clocked_in_time}
+use Rattle.load_run.proofs.Eras.{more_in}
+use Rattle.load_client.proofs.Order.{IsLater, added_later, known_first}
+use Rattle.load_run.proofs.Merging.{merged_behind, interleaved_alone, regrouped, merged_interleaved}
+use Rattle.load_client.proofs.Notes.{kept_added}
+use Rattle.load_run.proofs.Pairs.{paired_through, paired_length, all_cons}
+
+-- a worker whose session was split off
+pub split_worker : {W : Type 0} (y before after : SessionShown) (w : Worker W) →
+    Splits before.client after.client w.session.client → w.session.manager ≡ before.manager →
+    before.manager ≡ y.manager → before.client.value.floor ≡ y.client.value.floor →
+    IsWorker y.manager [] y.client.value.floor w.seat w
+split_worker y before after w s m t f = record {
+  manager_is = m ∙ t;
+  records_are = ap (λ (x : CallerShown). x.value.records) s.theirs;
+  knows = ap (λ (x : CallerShown). x.value.floor) s.theirs ∙ f;
+  seat_is = refl;
+}
+
+-- the client that another was split off from
+pub record SplitKeeps (before after : CallerShown) : Type 0 where
+  pub records : after.value.records ≡ before.value.records
+  pub floor : after.value.floor ≡ before.value.floor
+  pub grants : after.value.grants + 1 ≡ before.value.grants
+
+pub split_keeps : (before after other : CallerShown) → Splits before after other → SplitKeeps before after
+split_keeps before after other s = record {
+  records = ap (λ (x : CallerShown). x.value.records) s.mine;
+  floor = ap (λ (x : CallerShown). x.value.floor) s.mine;
+  grants = let q : after.value.grants ≡ before.value.grants - 1 = ap (λ (x : CallerShown). x.value.grants) s.mine in
+      omega (arith, q, s.some);
+}
+
+-- what follows for each element of the second list
+pub paired_each : {A B : Type 0} (related : A → B → Type 0) (P : B → Type 0) → ((x : A) (y : B) → related x y → P y) →
+    (xs : List A) (ys : List B) → Paired related xs ys → All P ys
+paired_each related P f [] [] none = λ k d less. absurd (omega (arith, less))
+paired_each related P f (x ∷ xs) (y ∷ ys) (both r p) = all_cons P y ys (f x y r) (paired_each related P f xs ys p)
+paired_each related P f [] (y ∷ ys) p = elim p [ ]
+paired_each related P f (x ∷ xs) [] p = elim p [ ]
+
+-- what follows for each element, from what is known of the element before it
+pub paired_both : {A B : Type 0} (related : A → B → Type 0) (P : A → Type 0) (Q : B → Type 0) →
+    ((x : A) (y : B) → P x → related x y → Q y) → (xs : List A) (ys : List B) → All P xs → Paired related xs ys →
+    All Q ys
+paired_both related P Q f [] [] h none = λ k d less. absurd (omega (arith, less))
+paired_both related P Q f (x ∷ xs) (y ∷ ys) h (both r p) = all_cons Q y ys (f x y (h 0 x (omega arith)) r)
+    (paired_both related P Q f xs ys (λ j e l. h (suc j) e (omega (arith, l))) p)
+paired_both related P Q f [] (y ∷ ys) h p = elim p [ ]
+paired_both related P Q f (x ∷ xs) [] h p = elim p [ ]
+
+-- the records that a client added, and that they stand behind those that it had
+pub record Did {D : Type 0} (leads : D → ℕ → D → Type 0) (s : Settings) (renewal floor : ℕ) (before : List Record)
+    (state left : SeatShown D) (after : CallerShown) (t : Tally) : Type 0 where
+  pub added : List Record
+  pub records_are : after.value.records ≡ before ++ added
+  pub sorted : Sorted added
+  pub later : (r : Record) → In r added → IsLater renewal floor r
+  pub has : HasKeptShare leads s s.tasks state (record { records = added; tally = t; left = left })
+
+pub did : {W D : Type 0} (leads : D → ℕ → D → Type 0) (shown_of : W →
+    SeatShown D) (s : Settings) (manager : RegionShown)
+    (floor : ℕ) (before : List Record) (seat : W) (w : Worker W) (r : Worker W) →
+    IsWorker manager before floor seat w → DidWork leads shown_of s w r →
+    Did leads s manager.renewal floor before (shown_of seat) (shown_of r.seat) r.session.client
+    r.tally.tally
+did leads shown_of s manager floor before seat w r h k =
+    let y = w.session in
+    let y' = r.session in
+    let left = shown_of r.seat in
+    let same = ap (λ (x : _). shown_of x) h.seat_is in
+    let l = k.looped in
+    let a = l.answered in
+    record {
+      added = a.added;
+      records_are = a.records ∙ ap (λ (rs : List Record). rs ++ a.added) h.records_are;
+      sorted = a.sorted;
+      later = λ r i. subst (λ (m : RegionShown). IsLater m.renewal floor r) h.manager_is
+          (added_later y.manager.renewal floor y.client.value.floor y'.client.value.floor r (omega (arith, h.knows))
+          (a.each r i));
+      has = record {
+        has = record {
+          tasks = l.tasks;
+          drawn = subst (λ (x : SeatShown _). Drawn leads (times_over s.tasks (task_of s)) x.draws l.tasks left.draws)
+              same l.drawn;
+          answered = l.done;
+          among = l.among;
+          number = l.number;
+          are_of = a.are_of;
+          all = l.all;
+        };
+        kept = subst (λ (x : SeatShown _). AreKept a.added x.kept left.kept) same
+            (kept_added y.client.value y'.client.value a.added (shown_of w.seat).kept left.kept a.records k.kept);
+      };
+    }
+
+-- each share's records stand in order, behind all that is known
+abbrev AreLater : {D : Type 0} → ℕ → ℕ → List (Share D) → Type 0
+AreLater renewal floor [] = Unit {0}
+AreLater renewal floor (x ∷ xs) = (Sorted x.records × ((r : Record) → In r x.records → IsLater renewal floor r)) ×
+    AreLater renewal floor xs
+
+-- they are merged behind all that is known
+merged_front : {D : Type 0} (renewal floor : ℕ) (o l : List Record) (xs : List (Share D)) → AreKnown renewal floor o →
+    AreLater renewal floor xs →
+    all_merged (λ (x : Share D). x.records) (o ++ l) xs ≡ o ++ all_merged (λ (x : Share D). x.records) l xs
+merged_front renewal floor o l [] k h = refl
+merged_front {D} renewal floor o l (x ∷ xs) k h =
+    ap (λ (m : List Record). all_merged (λ (y : Share D). y.records) m xs)
+    (merged_behind o l x.records (λ a b i j. known_first renewal floor a b (k a i) (h.0.1 b j)))
+    ∙ merged_front renewal floor o (merged l x.records) xs k h.1
+
+-- merged lists stand in the merge, each in its order, and it has no others
+within : {D : Type 0} (renewal floor : ℕ) (l : List Record) (xs : List (Share D)) → Sorted l →
+    AreLater renewal floor xs →
+    (others : List Record) × Interleaved l others (all_merged (λ (x : Share D). x.records) l xs) ×
+    InterleavedAll (λ (x : Share D). x.records) xs others
+within renewal floor l [] s h = ([], interleaved_alone l, refl)
+within renewal floor l (x ∷ xs) s h =
+    let m = within renewal floor (merged l x.records) xs (merged_sorted l x.records s) h.1 in
+    let r = regrouped m.1 (merged_interleaved l x.records s h.0.0) in
+    (r.later, r.whole, (m.0, r.lasts, m.2))
+
+-- all of them are of this renewal
+of_this : {D : Type 0} (renewal floor : ℕ) (l : List Record) (xs : List (Share D)) →
+    ((r : Record) → In r l → IsLater renewal floor r) → AreLater renewal floor xs →
+    (r : Record) → In r (all_merged (λ (x : Share D). x.records) l xs) → r.renewal ≡ renewal
+of_this renewal floor l [] f h r i = (f r i).renewal_is
+of_this renewal floor l (x ∷ xs) f h r i =
+    of_this renewal floor (merged l x.records) xs (λ y j. elim (in_merged l x.records y j) [
+      | inl k ↦ f y k
+      | inr k ↦
+          h.0.1 y k
+    ]) h.1 r i
+
+no_sum : {X : Type 0} (f : X → ℕ) (xs : List X) → length xs ≡ 0 → sum_of f xs ≡ 0
+no_sum f [] e = refl
+no_sum f (x ∷ xs) e = absurd (omega (arith, e))
+
+module _ {W D : Type 0} (leads : D → ℕ → D → Type 0) (shown_of : W → SeatShown D)
+    (s : Settings) (opener : SessionShown) where
+  -- how the tasks ended
+  abbrev tally_of : Worker W → Tally
+  tally_of r = r.tally.tally
+
+  -- the records of the client
+  abbrev records_of : Worker W → List Record
+  records_of r = r.session.client.value.records
+
+  -- the shares of the clients that began without records
+  record Shared (floor : ℕ) (ps : List W) (rs : List (Worker W)) : Type 0 where
+    shares : List (Share (SeatShown D))
+    each : Paired (λ p x. HasKeptShare leads s s.tasks (shown_of p) x) ps shares
+    left_are : Paired (λ x r. shown_of r.seat ≡ x.left) shares rs
+    later : AreLater opener.manager.renewal floor shares
+    merges : (l : List Record) → all_merged records_of l rs ≡ all_merged
+        (λ (x : Share (SeatShown D)). x.records) l shares
+    tallies : added_up tally_of rs ≡ added_up (λ (x : Share (SeatShown D)). x.tally) shares
+
+  shared : (floor : ℕ) (ps : List W) (ws : List (Worker W)) (rs : List (Worker W)) →
+      Paired (IsWorker opener.manager [] floor) ps ws → Paired (DidWork leads shown_of s) ws rs → Shared floor ps rs
+  shared floor [] [] [] none none = record {
+    shares = [];
+    each = none;
+    left_are = none;
+    later = tt;
+    merges = λ l. refl;
+    tallies = refl;
+  }
+  shared floor (p ∷ ps) (w ∷ ws) (r ∷ rs) (both h hs) (both k ks) =
+      let d = did leads shown_of s opener.manager floor [] p w r h k in
+      let more = shared floor ps ws rs hs ks in
+      record {
+        shares = record { records = d.added; tally = tally_of r; left = shown_of r.seat } ∷ more.shares;
+        each = both d.has more.each;
+        left_are = both refl more.left_are;
+        later = ((d.sorted, d.later), more.later);
+        merges = λ l. ap (λ (m : List Record). all_merged records_of (merged l m) rs) d.records_are
+            ∙ more.merges (merged l d.added);
+        tallies = ap (λ (t : Tally). plus (tally_of r) t) more.tallies;
+      }
+  shared floor [] [] (r ∷ rs) hs ks = elim ks [ ]
+  shared floor [] (w ∷ ws) rs hs ks = elim hs [ ]
+  shared floor (p ∷ ps) [] rs hs ks = elim hs [ ]
+  shared floor (p ∷ ps) (w ∷ ws) [] hs ks = elim ks [ ]
+
+  -- what a seat that was handed back shows
+  handed : (x : Share (SeatShown D)) (r : Worker W) (p : W) → shown_of r.seat ≡ x.left → p ≡ r.seat →
+      shown_of p ≡ x.left
+  handed x r p e f = ap (λ (y : W). shown_of y) f ∙ e
+
+  -- what the first one added, and the others behind it
+  record Round (seats : List W) (crew : Crew W) (done : Crew W) (all : List Record)
+      (h : IsCrew opener s.tries seats crew) : Type 0 where
+    mine : Did leads s opener.manager.renewal opener.client.value.floor opener.client.value.records
+        (shown_of h.seat) (shown_of done.first.seat) done.first.session.client
+        done.first.tally.tally
+    more : Shared opener.client.value.floor h.rest done.others.items
+    behind : all ≡ opener.client.value.records
+        ++ all_merged (λ (x : Share (SeatShown D)). x.records) mine.added more.shares
+
+  round : (seats : List W) (crew : Crew W) (done : Crew W) (all : List Record)
+      (t : Tally) → IsReadyForRound s opener → (h : IsCrew opener s.tries seats crew) →
+      DidAllWork leads shown_of s crew done →
+      Gathered records_of tally_of done.first done.others.items all t → Round seats crew done all h
+  round seats crew done all t ready h k g =
+      let floor = opener.client.value.floor in
+      let before = opener.client.value.records in
+      let d = did leads shown_of s opener.manager floor before h.seat crew.first done.first h.opening k.first in
+      let more = shared floor h.rest crew.others.items done.others.items h.others_are k.others in
+      record {
+        mine = d;
+        more = more;
+        behind = g.records_are ∙ (ap (λ (m : List Record). all_merged records_of m done.others.items) d.records_are
+            ∙ (more.merges (before ++ d.added)
+            ∙ merged_front opener.manager.renewal floor before d.added more.shares ready.known more.later));
+      }
+
+  pub ran_all : (seats left : List W) (crew : Crew W) (done : Crew W)
+      (after : Client) (t : Tally) → IsReadyForRound s opener → IsCrew opener s.tries seats crew →
+      DidAllWork leads shown_of s crew done →
+      Gathered records_of tally_of done.first done.others.items after.records t →
+      Paired (λ r p. p ≡ r.seat) (done.first ∷ done.others.items) left →
+      RanAll leads s shown_of s.tasks opener.client.value.records seats after.records left t
+  ran_all seats left crew done after t ready h k g lefts =
+      let r = round seats crew done after.records t ready h k g in
+      let d = r.mine in
+      let more = r.more in
+      let mine : Share (SeatShown D) = record {
+        records = d.added;
+        tally = tally_of done.first;
+        left = shown_of done.first.seat;
+      } in
+      -- with one client there are no others
+      let none : length seats ≡ 1 → length crew.others.items ≡ 0 = λ one. (
+      let long : length seats ≡ suc (length h.rest) = ap (λ (l : List W). length l) h.seats_are in
+      let same = paired_length _ h.rest crew.others.items h.others_are in
+      omega (arith, one, long, same)) in
+      let quiet : (f : Worker W → ℕ) → length seats ≡ 1 → sum_of f done.others.items ≡ 0 = λ f one. (
+      let same = paired_length _ crew.others.items done.others.items k.others in
+      no_sum f done.others.items (omega (arith, none one, same))) in
+      let grants : length seats ≡ 1 → crew.first.session.client.value.grants ≡ 63 = λ one. (
+      let held : crew.first.session.client.value.grants + crew.others.len ≡ 63 = h.grants in
+      omega (arith, none one, held, crew.others.ok.0)) in
+      record {
+        shares = mine ∷ more.shares;
+        each = subst (λ (l : List W). Paired (λ p x. HasKeptShare leads s s.tasks (shown_of p) x) l
+            (mine ∷ more.shares)) (sym h.seats_are) (both d.has more.each);
+        left_are = paired_through (λ x r. shown_of r.seat ≡ x.left) (λ r p. p ≡ r.seat)
+            (λ x p. shown_of p ≡ x.left) handed (mine ∷ more.shares) (done.first ∷ done.others.items) left
+            (both refl more.left_are) lefts;
+        rest = all_merged (λ (x : Share (SeatShown D)). x.records) d.added more.shares;
+        behind = r.behind;
+        each_once = within opener.manager.renewal opener.client.value.floor d.added more.shares d.sorted more.later;
+        tallies = g.tallies ∙ ap (λ (u : Tally). plus (tally_of done.first) u) more.tallies;
+        alone = λ one. (
+            let first = k.first.looped.alone (grants one) in
+            let busy : t.busy ≡ (tally_of done.first).busy + sum_of (λ r. (tally_of r).busy) done.others.items =
+            ap (λ (u : Tally). u.busy) g.tallies in
+            omega (arith, first, quiet (λ r. (tally_of r).busy) one, busy));
+        in_time = λ one time. (
+            let clock = k.first.clock (grants one) in
+            let ends : crew.first.session.manager.last ≡ s.last =
+            ap (λ (m : RegionShown). m.last) h.opening.manager_is ∙ ready.last in
+            let first = clocked_in_time _ _ _ _ s.tasks (4 * s.items) clock k.first.looped.all
+            (omega (arith, h.opening.knows, ready.early)) (omega (arith, ends, time)) in
+            let spent : t.spent ≡ (tally_of done.first).spent + sum_of (λ r. (tally_of r).spent) done.others.items =
+            ap (λ (u : Tally). u.spent) g.tallies in
+            omega (arith, first, quiet (λ r. (tally_of r).spent) one, spent));
+      }
+
+  -- what they added is of this renewal
+  pub ran_in : (seats : List W) (crew : Crew W) (done : Crew W) (after : Client)
+      (t : Tally) → IsReadyForRound s opener → IsCrew opener s.tries seats crew →
+      DidAllWork leads shown_of s crew done →
+      Gathered records_of tally_of done.first done.others.items after.records t →
+      IsInRenewal opener.manager.renewal opener.client.value.records → IsInRenewal opener.manager.renewal after.records
+  ran_in seats crew done after t ready h k g in_it =
+      let r = round seats crew done after.records t ready h k g in
+      more_in opener.manager.renewal opener.client.value.records
+      (all_merged (λ (x : Share (SeatShown D)). x.records) r.mine.added r.more.shares) after.records in_it r.behind
+      (of_this opener.manager.renewal opener.client.value.floor r.mine.added r.more.shares r.mine.later r.more.later)
+
+  -- workers that ran their tasks can be gathered
+  pub can_gather : (seats : List W) (crew : Crew W) (done : Crew W) →
+      s.clients ≤ 64 → s.tasks ≤ 1000000 → length seats ≡ s.clients → IsCrew opener s.tries seats crew →
+      DidAllWork leads shown_of s crew done → CanGather done
+  can_gather seats crew done clients tasks number h k =
+      let first = ap (λ (y : SessionShown). y.manager) k.first.session ∙ h.opening.manager_is in
+      let same = paired_length _ crew.others.items done.others.items k.others in
+      let there = done.others.ok.0 in
+      let managers = paired_each (IsWorker opener.manager [] opener.client.value.floor)
+      (λ w. w.session.manager ≡ opener.manager) (λ p w i. i.manager_is) h.rest crew.others.items h.others_are in
+      record {
+        grants = (
+            let held = k.first.looped.answered.grants in
+            let all : crew.first.session.client.value.grants + crew.others.len ≡ 63 = h.grants in
+            omega (arith, held, same, crew.others.ok.0, there, all));
+        few = (
+            let long : length seats ≡ suc (length h.rest) = ap (λ (l : List W). length l) h.seats_are in
+            let pairs = paired_length _ h.rest crew.others.items h.others_are in
+            omega (arith, long, pairs, same, there, number, clients));
+        tasks = (let all = k.first.looped.all in omega (arith, all, tasks));
+        others = paired_both (DidWork leads shown_of s)
+            (λ w. (w.session.manager ≡ opener.manager) × (w.session.client.value.grants ≡ 0)) (IsMember done.first)
+            (λ w r e d. record {
+              one = ap (λ (y : SessionShown). y.manager) d.session ∙ (e.0 ∙ sym first);
+              grants = d.looped.answered.grants ∙ e.1;
+              tasks = (let all = d.looped.all in omega (arith, all, tasks));
+              tries = d.tries ∙ sym k.first.tries;
+            }) crew.others.items done.others.items (λ j x l. (managers j x l, h.others_grants j x l)) k.others;
+      }

@@ -1,0 +1,115 @@
+use Rattle.std.proofs.Common.{rules, ◌≡◌, ◌∙◌, sym, ◌≤◌, ◌<◌, ◌+◌, ◌*◌, ◌^◌, ℕ, [], ◌∷◌, List, ap, subst, refl, arith}
+use Rattle.std.specs.Vec.Iter.{into_iter_items, into_iter_len}
+use Rattle.stm_region.specs.Shown.{RegionShown}
+use Rattle.load_client.specs.declared.tally.Tally.{Tally}
+use Rattle.load_client.specs.Attempted.{TaskCountsShown}
+use Rattle.load_client.specs.Looping.{total, plus}
+use Rattle.load_client.specs.Lists.{Paired}
+use Rattle.load_run.specs.Load.{Gathered, IsMember}
+use Rattle.load_run.proofs.Pairs.{all_met, paired_none, paired_step, one_on, all_same, all_but_first, all_first}
+use Rattle.load_run.proofs.Pairs.{room_left, room_taken, held_back, nothing_left}
+use Rattle.load_run.proofs.Gatherings.{gathered_one, gathered_more, took_in}
+use Rattle.load_run.proofs.gathering.gather_all.Goals as goal
+
+-- so many more workers have no more tasks
+few_left : (n k t : ℕ) → k ≡ n → n < 64 → t ≤ 1000000 → t + k * 1000000 ≤ 65000000
+few_left n k t e few one = omega arith
+
+few_both : (t u k : ℕ) → u ≤ 1000000 → t + k * 1000000 ≤ 65000000 → t + u < 2 ^ 43
+few_both t u k one few = omega arith
+
+few_more : (t u v : Tally) (k k' : ℕ) → v ≡ plus t u → k' + 1 ≡ k → total u ≤ 1000000 →
+    total t + k * 1000000 ≤ 65000000 → total v + k' * 1000000 ≤ 65000000
+few_more t u v k k' e less one few = let q : total v ≡ total (plus t u) = ap (λ (x : Tally). total x) e in omega arith
+
+pub loop-worker-init : goal.loop-worker-init
+loop-worker-init g c =
+    let made = c.into_iter-worker-iterator.ensures.into_iter_gives in
+    let pushed = c.push_reserved.ensures in
+    record {
+      all = sym made.0;
+      manager = refl;
+      grants = ap (λ (k : ℕ). c.args.crew.first.session.client.value.grants + k) made.1 ∙ c.requires.can.grants;
+      others = all_same (IsMember c.args.crew.first) c.args.crew.others.items
+          (into_iter_items c.into_iter-worker-iterator.result) made.0 c.requires.can.others;
+      tries = refl;
+      gathered = gathered_one (λ w. w.session.client.value.records) (λ w. w.tally.tally) c.args.crew.first;
+      handed = paired_step (λ w seat. seat ≡ w.seat) []
+          c.args.seats.items c.push_reserved.new.self.items c.args.crew.first c.args.crew.first.seat pushed.items
+          (paired_none (λ w seat. seat ≡ w.seat) c.args.seats.items
+          c.requires.empty) refl;
+      room = room_left c.args.crew.others.len (into_iter_len c.into_iter-worker-iterator.result) c.args.seats.len
+          c.push_reserved.new.self.len c.args.seats.cap c.push_reserved.new.self.cap made.1 pushed.len pushed.capacity
+          (search rules) c.requires.room;
+      bound = few_left c.args.crew.others.len (into_iter_len c.into_iter-worker-iterator.result)
+          (total c.args.crew.first.tally.tally) made.1 c.requires.can.few c.requires.can.tasks;
+    }
+
+pub gather-requires : goal.gather-requires
+gather-requires g c =
+    let one = all_first (IsMember c.args.crew.first) (into_iter_items c.loop-worker.worker-iterator)
+    (into_iter_items c.next.new.self) c.in-Some.worker c.in-Some.ensures.steps.0 c.loop-worker.invariant.others in
+    record { own = ap (λ (m : RegionShown). m.table) (one.one ∙ sym c.loop-worker.invariant.manager) }
+
+pub plus-tally-requires : goal.plus-tally-requires
+plus-tally-requires g c =
+    let one = all_first (IsMember c.args.crew.first) (into_iter_items c.loop-worker.worker-iterator)
+    (into_iter_items c.next.new.self) c.in-Some.worker c.in-Some.ensures.steps.0 c.loop-worker.invariant.others in
+    record {
+      fits = few_both (total c.loop-worker.tally.tally) (total c.in-Some.worker.tally.tally) (into_iter_len
+          c.loop-worker.worker-iterator) one.tasks c.loop-worker.invariant.bound;
+      same = one.tries ∙ sym c.loop-worker.invariant.tries;
+    }
+
+pub loop-worker-preserved : goal.loop-worker-preserved
+loop-worker-preserved g c =
+    let i = c.loop-worker.invariant in
+    let split = c.in-Some.ensures.steps.0 in
+    let less = c.in-Some.ensures.steps.1 in
+    let pushed = c.push_reserved-in-loop-worker.ensures in
+    let taken = took_in c.loop-worker.session c.in-Some.worker.session c.gather.new.self c.gather.ensures.session
+    in
+    let one = all_first (IsMember c.args.crew.first) (into_iter_items c.loop-worker.worker-iterator)
+    (into_iter_items c.next.new.self) c.in-Some.worker split i.others in
+    record {
+      all = one_on c.args.crew.others.items c.loop-worker.yielded (into_iter_items c.loop-worker.worker-iterator)
+          (into_iter_items c.next.new.self) c.in-Some.worker i.all split;
+      manager = taken.manager ∙ i.manager;
+      grants = held_back c.loop-worker.session.client.value.grants c.in-Some.worker.session.client.value.grants
+          c.gather.new.self.client.value.grants (into_iter_len c.loop-worker.worker-iterator)
+          (into_iter_len c.next.new.self) less one.grants taken.grants i.grants;
+      others = all_but_first (IsMember c.args.crew.first) (into_iter_items c.loop-worker.worker-iterator)
+          (into_iter_items c.next.new.self) c.in-Some.worker split i.others;
+      tries = ap (λ (x : TaskCountsShown). x.tries) c.plus-tally.ensures ∙ i.tries;
+      gathered = gathered_more (λ w. w.session.client.value.records)
+          (λ w. w.tally.tally) c.args.crew.first c.loop-worker.yielded c.in-Some.worker
+          c.loop-worker.session.client.value c.gather.new.self.client.value c.loop-worker.tally.tally
+          c.plus-tally.result.tally
+          i.gathered taken.records (ap (λ (x : TaskCountsShown). x.tally) c.plus-tally.ensures);
+      handed = paired_step (λ w seat. seat ≡ w.seat)
+          (c.args.crew.first ∷ c.loop-worker.yielded) c.loop-worker.seats.items
+          c.push_reserved-in-loop-worker.new.self.items c.in-Some.worker c.in-Some.worker.seat pushed.items
+          i.handed refl;
+      room = room_taken c.loop-worker.seats.len c.push_reserved-in-loop-worker.new.self.len
+          (into_iter_len c.loop-worker.worker-iterator) (into_iter_len c.next.new.self) c.loop-worker.seats.cap
+          c.push_reserved-in-loop-worker.new.self.cap less pushed.len pushed.capacity i.room;
+      bound = few_more c.loop-worker.tally.tally c.in-Some.worker.tally.tally c.plus-tally.result.tally
+          (into_iter_len c.loop-worker.worker-iterator) (into_iter_len c.next.new.self)
+          (ap (λ (x : TaskCountsShown). x.tally) c.plus-tally.ensures) less one.tasks i.bound;
+    }
+
+pub returns-clause-gathered : goal.returns-clause-gathered
+returns-clause-gathered g c =
+    rw c.into_client.ensures.client (subst (λ (l : List _). Gathered (λ w. w.session.client.value.records)
+    (λ w. w.tally.tally) c.args.crew.first l c.loop-worker.session.client.value.records c.loop-worker.tally.tally)
+    (all_met c.args.crew.others.items c.loop-worker.yielded (into_iter_items c.loop-worker.worker-iterator)
+    c.loop-worker.invariant.all (nothing_left c.loop-worker.worker-iterator c.in-None.ensures.steps.0))
+    c.loop-worker.invariant.gathered)
+
+pub returns-clause-seats : goal.returns-clause-seats
+returns-clause-seats g c =
+    subst (λ (l : List _). Paired (λ w seat. seat ≡ w.seat)
+    (c.args.crew.first ∷ l) c.loop-worker.seats.items)
+    (all_met c.args.crew.others.items c.loop-worker.yielded (into_iter_items c.loop-worker.worker-iterator)
+    c.loop-worker.invariant.all (nothing_left c.loop-worker.worker-iterator c.in-None.ensures.steps.0))
+    c.loop-worker.invariant.handed

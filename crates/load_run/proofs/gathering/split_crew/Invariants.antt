@@ -1,0 +1,21 @@
+use Rattle.std.proofs.Common.{◌≡◌, ◌≤◌, ◌+◌, ◌++◌, [], All, vec_len, vec_capacity}
+use Rattle.stm_core.specs.declared.limits.TheConstants.{MOST_GRANTS}
+use Rattle.std.specs.Vec.Iter.{into_iter_items, into_iter_len}
+use Rattle.load_client.specs.Lists.{Paired}
+use Rattle.load_client.specs.Attempted.{uncounted}
+use Rattle.load_run.specs.Load.{IsWorker}
+use Rattle.load_run.proofs.gathering.split_crew.Given as goal
+
+abbrev pub invariant-loop-another : goal.invariant-loop-another
+invariant-loop-another g l = record {
+  all : into_iter_items l.initial.another-iterator ≡ l.yielded ++ into_iter_items l.another-iterator;
+  manager : l.session.manager ≡ l.fn.session.manager;
+  records : l.session.client.value.records ≡ l.fn.session.client.value.records;
+  floor : l.session.client.value.floor ≡ l.fn.session.client.value.floor;
+  grants : l.session.client.value.grants + vec_len l.others ≡ MOST_GRANTS;
+  others_grants : All (λ w. w.session.client.value.grants ≡ 0) l.others.items;
+  tallies : All (λ w. w.tally ≡ uncounted l.fn.tries) l.others.items;
+  count : vec_len l.others + into_iter_len l.another-iterator + 1 ≡ vec_len l.fn.seats;
+  room : vec_len l.others + into_iter_len l.another-iterator ≤ vec_capacity l.others;
+  crew : Paired (IsWorker l.fn.session.manager [] l.fn.session.client.value.floor) l.yielded l.others.items;
+}

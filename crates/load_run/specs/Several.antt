@@ -1,0 +1,36 @@
+-- The combined results of several clients: records, recorded calls and counts.
+use Rattle.std.specs.Prelude.{ℕ, ◌+◌, List, [], ◌∷◌}
+use Rattle.stm_core.specs.Client.{Record}
+use Rattle.load_client.specs.declared.tally.Tally.{Tally}
+use Rattle.load_client.specs.Keeping.{KeptNotes, AreKept}
+
+-- the third list has exactly the elements of the first two, each once, and those of each list in
+-- their order
+pub data Interleaved {A : Type 0} : List A → List A → List A → Type 0 where
+  no_more : Interleaved [] [] []
+  of_first : (x : A) {xs ys zs : List A} → Interleaved xs ys zs → Interleaved (x ∷ xs) ys (x ∷ zs)
+  of_second : (y : A) {xs ys zs : List A} → Interleaved xs ys zs →
+      Interleaved xs (y ∷ ys) (y ∷ zs)
+
+-- for each element, the recorder at the same position appended the calls of exactly the element's
+-- records
+pub data AllKept {X : Type 0} (records_of : X → List Record)
+    : List X → List KeptNotes → List KeptNotes → Type 0 where
+  none_kept : AllKept records_of [] [] []
+  one_kept : {x : X} {k k' : KeptNotes} {xs : List X} {ks ks' : List KeptNotes} →
+      AreKept (records_of x) k k' → AllKept records_of xs ks ks' →
+      AllKept records_of (x ∷ xs) (k ∷ ks) (k' ∷ ks')
+
+-- the sum of f over the elements
+abbrev pub sum_of : {X : Type 0} → (X → ℕ) → List X → ℕ
+sum_of f [] = 0
+sum_of f (x ∷ xs) = f x + sum_of f xs
+
+-- the counts of all elements added up
+abbrev pub added_up : {X : Type 0} → (X → Tally) → List X → Tally
+added_up f xs = record {
+  answered = sum_of (λ x. (f x).answered) xs;
+  busy = sum_of (λ x. (f x).busy) xs;
+  memory = sum_of (λ x. (f x).memory) xs;
+  spent = sum_of (λ x. (f x).spent) xs;
+}

@@ -1,9 +1,0 @@
-use Rattle.stm_rows.specs.Laws.{HasNulls}
-use Rattle.stm_rows.proofs.Begun.{held_begun}
-use Rattle.stm_rows.proofs.lengths.hang_in_an_attempt.Goals as goal
-
-pub take_and_hang-requires : goal.take_and_hang-requires
-take_and_hang-requires c = record {
-  nulls = held_begun HasNulls 96 _ _ _ _ _ c.begin-attempt.ensures.empty.2 c.begin-attempt.ensures.region
-      c.requires.size c.begin-attempt.ensures.empty.1;
-}

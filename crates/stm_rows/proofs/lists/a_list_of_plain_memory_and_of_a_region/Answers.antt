@@ -1,5 +1,0 @@
-use Rattle.stock_rows.proofs.Stocked.{stock_flat}
-use Rattle.stm_rows.proofs.lists.a_list_of_plain_memory_and_of_a_region.Goals as goal
-
-pub change-requires : goal.change-requires
-change-requires g c = record { stock = stock_flat _ _ c.new-flat.ensures c.in_ok-words.ensures }

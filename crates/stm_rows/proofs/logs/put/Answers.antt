@@ -1,5 +1,0 @@
-use Rattle.stm_logs.proofs.StripeLemmas.{striped_put}
-use Rattle.stm_rows.proofs.logs.put.Goals as goal
-
-pub returns : goal.returns
-returns g c = striped_put c.put.result c.args.log.now c.put.new.self 1000 c.args.addr 7 c.put.ensures.answer c.requires

@@ -1,5 +1,0 @@
-use Rattle.stm_rows.proofs.Tabled.{table_fits}
-use Rattle.stm_rows.proofs.tables.table_region.Goals as goal
-
-pub new-requires : goal.new-requires
-new-requires c = table_fits _ _ c.as_slice.ensures.value c.in_ok-words.ensures

@@ -1,0 +1,85 @@
+//! Loads of one client, and arguments that are refused.
+
+use crate::loading::{load_of_zeros, seeded_load};
+use crate::same::same;
+use crate::small_load::{SETTINGS, THREE_TRIPS, all_answered, spent_at};
+use load_run::{FixedDraws, LoadFault, LoadReport, MOST_ROUNDS, Settings, run_load, run_load_with};
+use stm_attempt::NoGate;
+use vac_model::Report;
+
+#[test]
+fn trips_of_one_client(rt: HostRuntime) {
+    let wants = LoadReport {
+        tally: all_answered(3),
+        report: THREE_TRIPS,
+    };
+    same(&rt, &load_of_zeros(&rt, &SETTINGS), &Ok(wants));
+}
+
+#[test]
+fn three_tasks_of_a_seed(rt: HostRuntime) {
+    let report = Report {
+        cars: 2,
+        flights: 2,
+        rooms: 2,
+        customers: 1,
+        bookings: 1,
+        used: 1,
+        free: 1599,
+        total: 1600,
+        billed: 90,
+    };
+    let wants = LoadReport {
+        tally: all_answered(3),
+        report,
+    };
+    same(&rt, &seeded_load(&rt, &SETTINGS), &wants);
+}
+
+#[test]
+fn one_client_asks_a_thousand_times(rt: HostRuntime) {
+    let settings = Settings {
+        tasks: 1_000,
+        tries: 1,
+        items: 16,
+        user: 80,
+        ..SETTINGS
+    };
+    let LoadReport { tally, report } = seeded_load(&rt, &settings);
+    same(&rt, &tally, &all_answered(1_000));
+    same(&rt, &report.used, &report.bookings);
+}
+
+/// Returns the version at which the setup phase found the clock spent, if that ended the load.
+fn spent_in_opening(loaded: Result<LoadReport, LoadFault>) -> Option<u64> {
+    match loaded {
+        Err(LoadFault::Opening(fault)) => spent_at(fault),
+        _ => None,
+    }
+}
+
+#[test]
+fn an_opening_finds_its_clock_spent(rt: HostRuntime) {
+    for (last, spent) in [(5, Some(5)), (7, Some(7)), (8, None)] {
+        let settings = Settings { last, ..SETTINGS };
+        let found = spent_in_opening(load_of_zeros(&rt, &settings));
+        same(&rt, &(last, found), &(last, spent));
+    }
+}
+
+#[test]
+fn arguments_are_looked_at(rt: HostRuntime) {
+    let none = Vec::<(FixedDraws, NoGate)>::new(rt.alloc());
+    let refused = run_load_with(&rt, &SETTINGS, FixedDraws(0), none);
+    same(&rt, &refused, &Err(LoadFault::Arguments));
+    for (items, rounds) in [(300, 1), (2, 0), (2, MOST_ROUNDS.saturating_add(1))] {
+        let settings = Settings {
+            items,
+            rounds,
+            ..SETTINGS
+        };
+        let refused = run_load(&rt, &settings);
+        let wants = (items, rounds, Err(LoadFault::Arguments));
+        same(&rt, &(items, rounds, refused), &wants);
+    }
+}

@@ -1,0 +1,7 @@
+use Rattle.std.proofs.Common.{sym, subst}
+use Rattle.stm_logs.specs.Log.{IsStriped}
+use Rattle.stm_logs.proofs.StripeLemmas.{striped_empty}
+use Rattle.test_core.proofs.logs.clear.Goals as goal
+
+pub returns : goal.returns
+returns g c = λ stripes. subst (λ w. IsStriped w stripes) (sym c.clear.ensures) (striped_empty stripes)

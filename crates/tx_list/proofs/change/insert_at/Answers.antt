@@ -1,6 +1,0 @@
-use Rattle.tx_list.proofs.Changing.{hung}
-use Rattle.tx_list.proofs.change.insert_at.Goals as goal
-
-pub returns-clause-answer : goal.returns-clause-answer
-returns-clause-answer g c = hung _ _ _ _ _ (rw c.word.ensures at c.in_ok-store.ensures.answer)
-    (rw c.addr.ensures at c.in_ok-store-2.ensures.answer)

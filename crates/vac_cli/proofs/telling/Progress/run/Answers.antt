@@ -1,8 +1,0 @@
-use Rattle.vac_cli.proofs.telling.Progress.run.Goals as goal
-
-pub returns : goal.returns
-returns g c = record {
-  arguments = c.run_load_kept-loaded.ensures.arguments;
-  kept = c.run_load_kept-loaded.ensures.kept;
-  refused = c.run_load_kept-loaded.ensures.refused;
-}

@@ -1,4 +1,0 @@
-use Rattle.vac_judge.proofs.judge.Judge.new.Goals as goal
-
-pub returns-clause-empty : goal.returns-clause-empty
-returns-clause-empty c = record { heap = c.in_ok-new.ensures; spans = c.new-2.ensures }

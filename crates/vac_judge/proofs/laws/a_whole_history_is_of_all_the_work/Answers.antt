@@ -1,5 +1,0 @@
-use Rattle.vac_judge.proofs.Done.{legal_is_whole}
-use Rattle.vac_judge.proofs.laws.a_whole_history_is_of_all_the_work.Goals as goal
-
-pub returns : goal.returns
-returns c = legal_is_whole c.a_verdict_finds_the_linearizations.ensures

@@ -1,5 +1,0 @@
-use Rattle.vac_order.proofs.Lawful.{no_order_means_none}
-use Rattle.vac_order.proofs.laws.where_none_is_found_there_is_none.Goals as goal
-
-pub returns : goal.returns
-returns c = no_order_means_none

@@ -1,7 +1,0 @@
-use Rattle.std.proofs.Common.{◌≡◌}
-use Rattle.vac_rows.proofs.random.in_turns.Given as goal
-
-abbrev pub invariant-loop : goal.invariant-loop
-invariant-loop g l = (l.a.manager ≡ l.initial.a.manager)
-    × (l.b.manager ≡ l.initial.b.manager)
-    × (l.c.manager ≡ l.initial.c.manager)
