@@ -12,8 +12,11 @@ use judge_time::Span;
 use std::alloc::AllocError;
 use vac_lines::{LineFault, has_bad_byte};
 
-/// Largest number of bytes of a line, without its line end.
-pub const ATTEMPT_BYTES: usize = 1_048_576;
+/// Largest number of bytes of a line, without its line end: 64 MiB.
+///
+/// The largest reservation system has 2,097,168 words. An audit reads each word at most once, and a
+/// read has at most 31 bytes, so the line of an audit has at most 65 million bytes.
+pub const ATTEMPT_BYTES: usize = 67_108_864;
 
 /// A read or a write of a word.
 #[derive(Clone, Copy, Debug, PartialEq, Eq)]
