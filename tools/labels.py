@@ -11,7 +11,7 @@ from ledger import ROOT, closing, functions, listed_crates, masked, sources, sta
 
 LABEL = re.compile(r"(?:clause (?:`(?P<clause>\w+)` )?of (?P<owner>\w+::)?(?P<function>\w+)"
                    r"|row (?P<rows>\w+): (?P<module>\w+::)?(?P<test>\w+)"
-                   r"|script tests/(?P<script>\w+)"
+                   r"|script tests/(?P<script>[\w.]+)"
                    r"|harmless)(?:: .*)?")
 
 # A crate, and a line of a plant of it that names nothing.

@@ -10,8 +10,8 @@ from pathlib import Path
 from .runner import ROOT, python, run, say
 
 # The scripts of tests/ that together end within some five minutes; the others are for the gate.
-QUICK = ("rows", "examples", "pages", "library_page", "load", "tasks", "check", "judge", "order", "opaque", "history",
-         "attempts", "stats", "progress")
+QUICK = ("rows.sh", "examples.py", "pages.py", "library_page.py", "load.py", "tasks.py", "check.py", "judge.py",
+         "order.py", "opaque.py", "history.py", "attempts.py", "stats.py", "progress.py")
 
 
 def main(words: Sequence[str]) -> int:

@@ -10,7 +10,7 @@ A part has at least as many free units as the history. A reply that depends on h
 if the item is *closed*: all customers who may ever have booked it belong to the scope. A bill is kept only if the
 scope has all items that the bill may hold. `full` depends on all entries and is never kept.
 
-Not proved: that the part of a legal history is legal rests on this argument and on tests/explain."""
+Not proved: that the part of a legal history is legal rests on this argument and on tests/explain.py."""
 
 from __future__ import annotations
 

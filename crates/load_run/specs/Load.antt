@@ -281,7 +281,7 @@ IsLoadFault {D} leads s state e =
 -- that gates go on from round to round, or stay with their clients.
 -- Not said: that threads run at once; that a thread is refused only if it could not be started.
 -- Not said: that the history is that of a manager's clients. It is any legal history with these
--- tasks; `tests/history` has the histories of loads judged.
+-- tasks; `tests/history.py` has the histories of loads judged.
 pub record HasLoaded {D P : Type 0} (leads : D → ℕ → D → Type 0) (s : Settings) (draws_of : P → D)
     (state : D) (pairs : List P) (t : Tally) (r : Report) : Type 0 where
   pub history : List Record

@@ -1,6 +1,6 @@
 //! Loads with memory refused. Such a load names its fault or counts the task that was refused, and
 //! the load that is run again afterwards gives the correct replies. The script
-//! `tests/refused_calls` runs this test with each allocation refused in turn, and reads the lines
+//! `tests/refused_calls.sh` runs this test with each allocation refused in turn, and reads lines
 //! that the test prints. In any other run no allocation is refused.
 
 use crate::loading::load_of_zeros;

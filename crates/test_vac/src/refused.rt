@@ -1,5 +1,5 @@
 //! Memory refused to a call: the state is as before, and the repeated call returns its proper
-//! reply. The script `tests/refused_calls` runs this test with each allocation refused in turn,
+//! reply. The script `tests/refused_calls.sh` runs this test with each allocation refused in turn,
 //! and reads the lines that it prints; in any other run no memory is refused. Another client is
 //! out while the calls are made, and each call has two attempts: a call that is refused memory
 //! does not make the second.

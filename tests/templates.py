@@ -22,7 +22,7 @@ failed, skipped = [], []
 
 # Each template: what must be there, and how its mistake is made: what stands in the command that builds or
 # runs it, and what takes its place.
-# The template that tests/maps tries.
+# The template that tests/maps.py tries.
 TRIED_BY_MAPS = "java/Maps.java"
 TABLE = {
     "c/tl2.c": (["cc"], ("cc -O2", "cc -O2 -DMISTAKE=1")),

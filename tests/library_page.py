@@ -30,7 +30,7 @@ def faults(page, tool, crate, least):
         shutil.copy(f"{ROOT}/crates.txt", made)
         subprocess.run([f"{ROOT}/tools/{tool}", crate, made], check=True, stdout=subprocess.DEVNULL)
         for _, name, piece in pieces:
-            root = made if re.match(rf"crates/{crate}(_\w+)?/", name) else ROOT
+            root = made if re.match(rf"crates/(test_)?{crate}(_\w+)?/", name) else ROOT
             if not name or not os.path.isfile(os.path.join(root, name)):
                 print(f"{page}: a piece names no file: {piece.splitlines()[0]}")
                 bad += 1

@@ -38,7 +38,7 @@ def load(name):
     return module
 
 
-STORE = load("store")
+STORE = load("store.py")
 
 
 class Drawn:
@@ -96,7 +96,7 @@ class Drawn:
         self.free.append(process)
 
     def calls(self):
-        """The calls that had or may have had an effect, as tests/store has them."""
+        """The calls that had or may have had an effect, as tests/store.py has them."""
         begun, calls = {}, []
         for time, (process, type_, operation, reply) in enumerate(self.events):
             name, key, values = operation
