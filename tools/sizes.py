@@ -17,8 +17,8 @@ HOP = re.compile(r"^\d+\. (a closure in )?`([\w:]+)` \(`(\w+/src/\w+\.rt)`\)", r
 
 # The crates of objects; the calls that users of these make; the definition by which the core theorem enters.
 OBJECTS = ("stm_object", "vac_manager", "ex_bank", "ex_ring")
-CALLS = (("vac_manager/src/manager.rt", "Manager::call"), ("stm_object/src/shared.rt", "Shared::call"),
-         ("stm_object/src/shared.rt", "Shared::run"))
+CALLS = (("vac_manager/src/calls.rt", "call"), ("stm_object/src/caller.rt", "Caller::call"),
+         ("stm_object/src/caller.rt", "Caller::run"))
 CORE = ("WasDecided",)
 TESTS = re.compile(r"^test_|_day$|^vacation$")
 DEFINED = re.compile(r"^(?:pub (?:record|data|inductive)|(?:abbrev|record|data) pub|pub abbrev) ([^\s:({]+)", re.M)

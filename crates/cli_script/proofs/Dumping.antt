@@ -8,7 +8,7 @@ use Rattle.vac_lines.specs.Memory.{word_line, dump_text}
 use Rattle.vac_model.specs.State.{State}
 use Rattle.vac_manager.specs.Law.{Shows}
 use Rattle.vac_lines.specs.Writing.{AppendsPrefix}
-use Rattle.vac_manager.specs.Session.{SessionShown}
+use Rattle.vac_manager.specs.Called.{CallerShown}
 use Rattle.cli_script.specs.System.{StandsInState, RanScript}
 use Rattle.cli_script.specs.Dump.{Dumped, DumpStopped}
 use Rattle.vac_streams.specs.Sent.{Sent}
@@ -64,7 +64,7 @@ word_sent held holds grown hand new after words word i s e f t =
     (sent_text holds grown hand new after (word_line word) e t))
 
 -- a dump that was written
-pub dumped : (n : ℕ) (y : SessionShown) (unread left said says held holds : Option (List ℕ)) (words given : List ℕ)
+pub dumped : (n : ℕ) (y : CallerShown) (unread left said says held holds : Option (List ℕ)) (words given : List ℕ)
     → RanScript n y unread left said says
     → ((s : State) → StandsInState y s → Shows words s) → given ≡ words → Appends held holds (dump_text given)
     → Dumped n unread left held holds
@@ -78,7 +78,7 @@ dumped n y unread left said says held holds words given r shown e w = record {
 }
 
 -- a dump that stopped while it wrote
-pub dumped_prefix : (n : ℕ) (y : SessionShown) (unread left said says held holds : Option (List ℕ))
+pub dumped_prefix : (n : ℕ) (y : CallerShown) (unread left said says held holds : Option (List ℕ))
     (words given : List ℕ) → RanScript n y unread left said says
     → ((s : State) → StandsInState y s → Shows words s) → given ≡ words → AppendsPrefix held holds (dump_text given)
     → DumpStopped n unread left held holds

@@ -1,6 +1,5 @@
 pub mod Running
 pub mod Opening
-pub mod Applying
 pub mod Answering
 pub mod Closing
 pub mod Dumping

@@ -16,8 +16,8 @@ use Rattle.vac_lines.specs.Text.{Extends}
 use Rattle.vac_lines.specs.Writing.{AppendsPrefix}
 use Rattle.vac_lines.proofs.Extends.{extends_more, extends_longer}
 use Rattle.vac_manager.specs.Legal.{capacity_of}
+use Rattle.vac_manager.specs.Called.{ClientShown}
 use Rattle.vac_manager.specs.Called.{CallerShown}
-use Rattle.vac_manager.specs.Session.{SessionShown}
 use Rattle.vac_streams.specs.declared.fault.StreamFault.{StreamFault}
 use Rattle.vac_streams.specs.declared.next.Next.{Next}
 use Rattle.vac_streams.specs.declared.next.Next.TheVariants.{GoOn, Stop}
@@ -113,14 +113,14 @@ extends_behind : (prefix xs ys : List ℕ) → Extends xs ys → Extends (prefix
 extends_behind [] xs ys h = h
 extends_behind (x ∷ prefix) xs ys h = ap (λ t. x ∷ t) (extends_behind prefix xs ys h)
 
-module _ {S O : Type 0} (system : S → SessionShown) (out : S → List ℕ) (contents : O → Option (List ℕ)) where
+module _ {S O : Type 0} (system : S → CallerShown) (out : S → List ℕ) (contents : O → Option (List ℕ)) where
   -- what being told something makes of a script and its output
   abbrev hears : S → O → Told → Result Next StreamFault → S → O → Type 0
   hears x o told answer y p = Hears (system x) (out x) (contents o) told answer (system y) (out y) (contents p)
 
   -- the script ran these lines
   record RanLines (x : S) (o : O) (lines : List Told) (y : S) (p : O) : Type 0 where
-    pub same : (system y).manager ≡ (system x).manager
+    pub same : (system y).shared ≡ (system x).shared
     pub stands : (s : State) → StandsInState (system x) s → StandsInState (system y) (leaves s lines)
     pub sent : (s : State) → StandsInState (system x) s → Sent (contents o) (contents p) (out x) (out y)
         (answers s lines)
@@ -150,7 +150,7 @@ module _ {S O : Type 0} (system : S → SessionShown) (out : S → List ℕ) (co
       → HearsPause (system x) (out x) (contents o) (Ok GoOn) (system u) (out u) (contents q)
       → RanLines u q lines y p → RanLines x o lines y p
   ran_pause x o lines u q y p h r = record {
-    same = r.same ∙ ap (λ z. z.manager) h.1;
+    same = r.same ∙ ap (λ z. z.shared) h.1;
     stands = λ s st. r.stands s (subst (λ z. StandsInState z s) (sym h.1) st);
     sent = λ s st. sent_both (contents o) (contents q) (contents p) (out x) (out u) (out y) [] (answers s lines)
         (sent_hand (contents o) (contents q) (out x) (out u) h.3 h.2)
@@ -247,21 +247,21 @@ module _ {S O : Type 0} (system : S → SessionShown) (out : S → List ℕ) (co
   heard_all Stop unread left x o y p h = absurd (never_stops h.heard.sink h.heard.output h.heard.last y p h.heard.then)
 
   -- it is the same manager
-  pub same_manager : (y0 : SessionShown) (next : Next) (unread left : Option (List ℕ)) (x : S) (o : O) (y : S) (p : O)
+  pub same_manager : (y0 : CallerShown) (next : Next) (unread left : Option (List ℕ)) (x : S) (o : O) (y : S) (p : O)
       → system x ≡ y0 → Heard hears 1024 (Ok next) unread left x o y p
-      → (system y).manager ≡ y0.manager
+      → (system y).shared ≡ y0.shared
   same_manager y0 next unread left x o y p e k =
       let h = heard_all next unread left x o y p k in
-      (ran_told x o h.told y p h.heard).same ∙ ap (λ z. z.manager) e
+      (ran_told x o h.told y p h.heard).same ∙ ap (λ z. z.shared) e
 
   -- a new script, with nothing at hand
   record IsFirst (n : ℕ) (x : S) : Type 0 where
     pub stands : StandsInState (system x) (empty_state n)
     pub empty : out x ≡ []
 
-  is_first : (y : SessionShown) (x : S) → IsNew y → system x ≡ y → out x ≡ [] → IsFirst (capacity_of y.manager) x
+  is_first : (y : CallerShown) (x : S) → IsNew y → system x ≡ y → out x ≡ [] → IsFirst (capacity_of y.shared) x
   is_first y x new e f = record {
-    stands = subst (λ z. StandsInState z (empty_state (capacity_of y.manager)))
+    stands = subst (λ z. StandsInState z (empty_state (capacity_of y.shared)))
         (sym e) new.stands;
     empty = f;
   }
@@ -274,30 +274,30 @@ module _ {S O : Type 0} (system : S → SessionShown) (out : S → List ℕ) (co
       (subst (λ t. Extends h.text (t ++ answers (empty_state n) lines)) i.empty h.prefix)
 
   -- the reading ended by a fault
-  pub heard_in_part : (y0 : SessionShown) (fault : StreamFault) (unread left : Option (List ℕ)) (x : S) (o : O)
+  pub heard_in_part : (y0 : CallerShown) (fault : StreamFault) (unread left : Option (List ℕ)) (x : S) (o : O)
       (y : S) (p : O) → IsNew y0 → system x ≡ y0 → out x ≡ []
       → Heard hears 1024 (Err fault) unread left x o y p
-      → WrotePrefix (capacity_of y0.manager) unread left (contents o) (contents p)
+      → WrotePrefix (capacity_of y0.shared) unread left (contents o) (contents p)
   heard_in_part y0 fault unread left x o y p new e f (inl h) =
       let i = is_first y0 x new e f in
-      prefix_first (capacity_of y0.manager) x o (lines_in h.told) p unread left h.bytes i h.consumed h.first
-      (cut_told x o h.told fault y p (empty_state (capacity_of y0.manager)) h.heard i.stands)
+      prefix_first (capacity_of y0.shared) x o (lines_in h.told) p unread left h.bytes i h.consumed h.first
+      (cut_told x o h.told fault y p (empty_state (capacity_of y0.shared)) h.heard i.stands)
   heard_in_part y0 fault unread left x o y p new e f (inr h) =
       let i = is_first y0 x new e f in
       let r = ran_told x o h.1.told y p h.1.heard in
-      prefix_first (capacity_of y0.manager) x o (lines_in h.1.told) p unread left h.1.bytes i h.1.consumed
+      prefix_first (capacity_of y0.shared) x o (lines_in h.1.told) p unread left h.1.bytes i h.1.consumed
       (inr h.1.first)
-      (cut_sent x o (lines_in h.1.told) y p (empty_state (capacity_of y0.manager))
-      (r.sent (empty_state (capacity_of y0.manager)) i.stands))
+      (cut_sent x o (lines_in h.1.told) y p (empty_state (capacity_of y0.shared))
+      (r.sent (empty_state (capacity_of y0.shared)) i.stands))
 
   -- all was run, and the rest was written in part
-  pub rest_in_part : (y0 : SessionShown) (next : Next) (unread left holds : Option (List ℕ)) (hand : List ℕ) (x : S)
+  pub rest_in_part : (y0 : CallerShown) (next : Next) (unread left holds : Option (List ℕ)) (hand : List ℕ) (x : S)
       (o : O) (y : S) (p : O) → IsNew y0 → system x ≡ y0 → out x ≡ []
       → Heard hears 1024 (Ok next) unread left x o y p → hand ≡ out y → AppendsPrefix (contents p) holds hand
-      → WrotePrefix (capacity_of y0.manager) unread left (contents o) holds
+      → WrotePrefix (capacity_of y0.shared) unread left (contents o) holds
   rest_in_part y0 next unread left holds hand x o y p new e f k g w =
       let h = heard_all next unread left x o y p k in
-      let n = capacity_of y0.manager in
+      let n = capacity_of y0.shared in
       let i = is_first y0 x new e f in
       let sent = (ran_told x o h.told y p h.heard).sent (empty_state n) i.stands in
       let w' = subst (AppendsPrefix (contents p) holds) g w in
@@ -312,15 +312,15 @@ module _ {S O : Type 0} (system : S → SessionShown) (out : S → List ℕ) (co
       (extends_more text (answers (empty_state n) (lines_in h.told)) (drop w'.0 (out y)) whole)
 
   -- all was run, and the rest was written
-  pub ran_all : (y0 : SessionShown) (next : Next) (client : CallerShown) (unread left holds : Option (List ℕ))
+  pub ran_all : (y0 : CallerShown) (next : Next) (client : ClientShown) (unread left holds : Option (List ℕ))
       (hand : List ℕ) (x : S) (o : O) (y : S) (p : O) → IsNew y0 → system x ≡ y0 → out x ≡ []
       → Heard hears 1024 (Ok next) unread left x o y p → hand ≡ out y → Appends (contents p) holds hand
-      → client ≡ (system y).client
-      → RanScript (capacity_of y0.manager) (record { manager = y0.manager; client = client }) unread left (contents o)
+      → client ≡ (system y).user
+      → RanScript (capacity_of y0.shared) (record { shared = y0.shared; user = client }) unread left (contents o)
       holds
   ran_all y0 next client unread left holds hand x o y p new e f k g w c =
       let h = heard_all next unread left x o y p k in
-      let n = capacity_of y0.manager in
+      let n = capacity_of y0.shared in
       let i = is_first y0 x new e f in
       let r = ran_told x o h.told y p h.heard in
       let sent = subst (λ t. Sent (contents o) (contents p) t (out y) (answers (empty_state n) (lines_in h.told)))
@@ -328,9 +328,9 @@ module _ {S O : Type 0} (system : S → SessionShown) (out : S → List ℕ) (co
       let stands : StandsInState (system y) (script_state n h.bytes) =
       subst (StandsInState (system y)) (ap (leaves (empty_state n)) h.lines ∙ sym (state_told n h.bytes))
       (r.stands (empty_state n) i.stands) in
-      let session : system y ≡ record { manager = y0.manager; client = client } =
-      ap (λ m. record { manager = m; client = (system y).client }) (r.same ∙ ap (λ z. z.manager) e)
-      ∙ ap (λ d. record { manager = y0.manager; client = d }) (sym c) in
+      let session : system y ≡ record { shared = y0.shared; user = client } =
+      ap (λ m. record { shared = m; user = (system y).user }) (r.same ∙ ap (λ z. z.shared) e)
+      ∙ ap (λ d. record { shared = y0.shared; user = d }) (sym c) in
       record {
         bytes = h.bytes;
         consumed = h.consumed;
@@ -341,15 +341,15 @@ module _ {S O : Type 0} (system : S → SessionShown) (out : S → List ℕ) (co
         stands = subst (λ z. StandsInState z (script_state n h.bytes)) session stands;
       }
 
-pub ran_on : (n : ℕ) (shown region : RegionShown) (client : CallerShown) (unread left held holds : Option (List ℕ))
+pub ran_on : (n : ℕ) (shown region : RegionShown) (client : ClientShown) (unread left held holds : Option (List ℕ))
     → shown ≡ region → capacity_of region ≡ n
-    → RanScript (capacity_of shown) (record { manager = shown; client = client }) unread left held holds
-    → RanScript n (record { manager = region; client = client }) unread left held holds
+    → RanScript (capacity_of shown) (record { shared = shown; user = client }) unread left held holds
+    → RanScript n (record { shared = region; user = client }) unread left held holds
 ran_on n shown region client unread left held holds e k r =
-    subst (λ i. RanScript i (record { manager = region; client = client }) unread left held holds) k
-    (subst (λ x. RanScript (capacity_of x) (record { manager = x; client = client }) unread left held holds) e r)
+    subst (λ i. RanScript i (record { shared = region; user = client }) unread left held holds) k
+    (subst (λ x. RanScript (capacity_of x) (record { shared = x; user = client }) unread left held holds) e r)
 
-pub wrote_all : (n m : ℕ) (y : SessionShown) (unread left held holds : Option (List ℕ)) → m ≡ n
+pub wrote_all : (n m : ℕ) (y : CallerShown) (unread left held holds : Option (List ℕ)) → m ≡ n
     → RanScript m y unread left held holds → WroteAll n unread left held holds
 wrote_all n m y unread left held holds e r = subst (λ k. WroteAll k unread left held holds) e
     (record { bytes = r.bytes; consumed = r.consumed; ended = r.ended; written = r.written })

@@ -2,14 +2,15 @@
 use Rattle.std.specs.Prelude.{◌≡◌, ℕ, List, [], ◌++◌, Option, Result, Ok, Err}
 use Rattle.std.specs.Io.KnownBytes.{Appends}
 use Rattle.vac_model.specs.State.{State}
+use Rattle.vac_model.specs.declared.replies.Reply.{Reply}
 use Rattle.vac_model.specs.declared.tasks.Task.{Task}
 use Rattle.vac_lines.specs.declared.fault.LineFault.{LineFault}
 use Rattle.vac_lines.specs.declared.fault.LineFault.TheVariants as fault
 use Rattle.vac_lines.specs.LineTable.{line_task}
-use Rattle.vac_lines.specs.Script.{answer}
-use Rattle.vac_lines.specs.Text.{Extends}
+use Rattle.vac_lines.specs.Script.{answer, as_line}
+use Rattle.vac_lines.specs.Text.{Extends, reply_text, fault_text}
 use Rattle.vac_lines.specs.Writing.{AppendsPrefix}
-use Rattle.vac_manager.specs.Session.{SessionShown}
+use Rattle.vac_manager.specs.Called.{CallerShown}
 use Rattle.vac_streams.specs.declared.fault.StreamFault.{StreamFault}
 use Rattle.vac_streams.specs.declared.next.Next.{Next}
 use Rattle.vac_streams.specs.declared.next.Next.TheVariants.{GoOn}
@@ -22,8 +23,27 @@ told_task (Line text) = line_task text
 told_task LongLine = Err fault.LongLine
 told_task Pause = Err fault.BadCommand
 
+-- the output line for a reply or for the fault of a line
+abbrev pub answer_line : Result Reply LineFault → List ℕ
+answer_line (Ok reply) = as_line (reply_text reply)
+answer_line (Err fault) = as_line (fault_text fault)
+
+-- a prefix of the text was written
+pub record WroteInPart (held holds : Option (List ℕ)) (whole : List ℕ) : Type 0 where
+  pub text : List ℕ
+  pub written : Appends held holds text
+  pub prefix : Extends text whole
+
+-- an output line was appended to the buffered text; or memory was refused, and no more was written
+-- than the buffered text and a part of the line
+abbrev pub Puts : List ℕ → List ℕ → Option (List ℕ) → Result Next StreamFault → List ℕ
+    → Option (List ℕ) → Type 0
+Puts out line held (Ok next) out' holds =
+    (next ≡ GoOn) × (out' ≡ out ++ line) × (holds ≡ held)
+Puts out line held (Err fault) out' holds = WroteInPart held holds (out ++ line)
+
 -- no more was written than the buffered text and a part of the output line
-pub record AnsweredCut (y : SessionShown) (out : List ℕ) (held holds : Option (List ℕ))
+pub record AnsweredCut (y : CallerShown) (out : List ℕ) (held holds : Option (List ℕ))
     (line : Result Task LineFault) : Type 0 where
   pub text : List ℕ
   pub written : Appends held holds text
@@ -31,22 +51,22 @@ pub record AnsweredCut (y : SessionShown) (out : List ℕ) (held holds : Option 
 
 -- a line was run and its output line was added to the buffered text, or memory was refused
 -- Not said: that the buffered text is written before the fault is returned.
-abbrev pub HearsLine : SessionShown → List ℕ → Option (List ℕ) → Result Task LineFault
-    → Result Next StreamFault → SessionShown → List ℕ → Option (List ℕ) → Type 0
+abbrev pub HearsLine : CallerShown → List ℕ → Option (List ℕ) → Result Task LineFault
+    → Result Next StreamFault → CallerShown → List ℕ → Option (List ℕ) → Type 0
 HearsLine y out held line (Ok next) y' out' holds =
     (next ≡ GoOn) × AnsweredLine y y' out out' line × (holds ≡ held)
 HearsLine y out held line (Err fault) y' out' holds = AnsweredCut y out held holds line
 
 -- the buffered text was written, or after a fault a part of it
-abbrev pub HearsPause : SessionShown → List ℕ → Option (List ℕ)
-    → Result Next StreamFault → SessionShown → List ℕ → Option (List ℕ) → Type 0
+abbrev pub HearsPause : CallerShown → List ℕ → Option (List ℕ)
+    → Result Next StreamFault → CallerShown → List ℕ → Option (List ℕ) → Type 0
 HearsPause y out held (Ok next) y' out' holds =
     (next ≡ GoOn) × (y' ≡ y) × (out' ≡ []) × Appends held holds out
 HearsPause y out held (Err fault) y' out' holds = AppendsPrefix held holds out
 
 -- the effect of an event of the line reader on the system, on the buffered text and on the output
-abbrev pub Hears : SessionShown → List ℕ → Option (List ℕ) → Told
-    → Result Next StreamFault → SessionShown → List ℕ → Option (List ℕ) → Type 0
+abbrev pub Hears : CallerShown → List ℕ → Option (List ℕ) → Told
+    → Result Next StreamFault → CallerShown → List ℕ → Option (List ℕ) → Type 0
 Hears y out held (Line text) answer y' out' holds =
     HearsLine y out held (told_task (Line text)) answer y' out' holds
 Hears y out held LongLine answer y' out' holds =

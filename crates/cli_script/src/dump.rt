@@ -13,7 +13,6 @@ use std::alloc::Global;
 use std::io;
 use std::io::{Read, Write};
 use vac_lines::print_word;
-use vac_manager::Session;
 use vac_streams::{StreamFault, send_chunk, send_rest};
 
 /// Runs a script for a system of `blocks` blocks, 1 to 262,144, and dumps its memory. Reads the
@@ -36,7 +35,7 @@ pub fn dump_script<R: Read, W: Write>(
 {
     let mut replies = io::sink();
     let (manager, client) = open(alloc, blocks)?;
-    let client = run_input(alloc, Session::of(&manager, client), input, &mut replies)?;
+    let client = run_input(alloc, manager.caller(client), input, &mut replies)?;
     let words = close(manager, client)?;
     write_words(alloc, words.as_slice(), output)
 }

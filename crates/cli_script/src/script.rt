@@ -1,110 +1,83 @@
 //! Running a script: lines in, output lines out.
 
-ghost use Rattle.std.specs.Prelude.{◌≡◌, true, OnOk, OnErr, IfOk, IfErr, IsErr, []};
-ghost use Rattle.vac_model.specs.Ranges.{is_block_count, is_task};
+ghost use Rattle.std.specs.Prelude.{◌≡◌, ◌⊎◌, ◌++◌, true, OnOk, OnErr, IfOk, IfErr, IsErr, []};
+ghost use Rattle.vac_model.specs.Ranges.{is_block_count};
 ghost use Rattle.vac_manager.specs.Called.{HasAllGrants};
 ghost use Rattle.vac_manager.specs.Legal.{capacity_of};
-ghost use Rattle.vac_lines.specs.LineTable.{line_task};
+ghost use Rattle.vac_lines.specs.Text.{Extends};
 ghost use Rattle.vac_lines.specs.Writing.{AppendsPrefix};
-ghost use Rattle.vac_streams.specs.declared.fault.StreamFault.TheVariants.{Memory};
-ghost use Rattle.cli_script.specs.System.{AnsweredLine, AnsweredInPart, RanScript, IsLoneSession, IsNew, Lasts};
+ghost use Rattle.vac_streams.specs.declared.fault.StreamFault.TheVariants.{Memory, Write};
+ghost use Rattle.cli_script.specs.Hearing.{answer_line, Puts};
+ghost use Rattle.cli_script.specs.System.{RanScript, IsLoneCaller, IsNew};
 ghost use Rattle.cli_script.specs.Script.{WroteAll, WrotePrefix};
 
-use crate::system::{apply, open};
+use crate::system::open;
 use std::alloc::{AllocError, Global};
 use std::io::{Read, Write};
 use vac_lines::{CHUNK_BYTES, LINE_BYTES, LineFault, print_fault, print_reply, read_line};
-use vac_manager::{Client, Session};
-use vac_model::Task;
+use vac_manager::{Caller, Client, Fault, call};
+use vac_model::Reply;
 use vac_streams::{Next, Sink, StreamFault, read_lines, send_all, send_rest};
 
 /// A running script.
 #[derive(Drop)]
 struct Script<'a> {
     alloc: Global,
-    session: Session<'a>,
+    caller: Caller<'a>,
     /// The output lines that are not yet written.
     out: Vec<u8>,
-    ghost lone: { IsLoneSession session },
+    ghost lone: { IsLoneCaller caller },
 }
 
-/// Runs the task of a line and prints its reply, or prints the fault of the line.
-fn run_read(
-    session: &mut Session<'_>,
-    read: &Result<Task, LineFault>,
-    out: &mut Vec<u8>,
-) -> Result<(), StreamFault>
-    requires in_range { IfOk read.now (λ task. is_task task ≡ true) }
-    requires lone { IsLoneSession session.old }
-    requires lasts { Lasts session.old 1 }
-    ensures lone { IsLoneSession session.new }
-    ensures ok { OnOk result
-        (AnsweredLine session.old session.new out.old.items out.new.items read.now) }
-    ensures err { OnErr result
-        (AnsweredInPart session.old out.old.items out.new.items read.now) }
-    ensures memory { IfErr result (λ fault. fault ≡ Memory) }
+/// Appends the output line for a reply or for the fault of a line. If memory is refused, appends a
+/// part of the line at most.
+fn print_answer(answer: &Result<Reply, LineFault>, out: &mut Vec<u8>) -> Result<(), AllocError>
+    ensures ok { OnOk result (out.new.items ≡ out.old.items ++ answer_line answer.now) }
+    ensures err { OnErr result (Extends out.new.items (out.old.items ++ answer_line answer.now)) }
 {
-    match read {
-        Ok(task) => {
-            let reply = apply(session, task)?;
-            print_reply(&reply, out)?;
-        }
+    match answer {
+        Ok(reply) => print_reply(reply, out)?,
         Err(fault) => print_fault(*fault, out)?,
     }
-    out.extend_from_slice(b"\n")?;
-    Ok(())
+    out.extend_from_slice(b"\n")
 }
 
-/// Reads and runs a line, and prints its output line.
-fn run_line(
-    alloc: Global,
-    session: &mut Session<'_>,
-    line: &[u8],
-    out: &mut Vec<u8>,
-) -> Result<(), StreamFault>
-    requires lone { IsLoneSession session.old }
-    requires lasts { Lasts session.old 1 }
-    ensures lone { IsLoneSession session.new }
-    ensures ok { OnOk result
-        (AnsweredLine session.old session.new out.old.items out.new.items (line_task line.now)) }
-    ensures err { OnErr result
-        (AnsweredInPart session.old out.old.items out.new.items (line_task line.now)) }
-    ensures memory { IfErr result (λ fault. fault ≡ Memory) }
-{
-    let read = read_line(alloc, line);
-    if matches!(read, Err(LineFault::Memory)) {
-        return Err(StreamFault::Memory);
-    }
-    run_read(session, &read, out)
-}
-
-/// Writes the buffered text before a fault ends the script.
-fn halt<W: Write>(
-    out: &mut Vec<u8>,
-    fault: StreamFault,
-    output: &mut W,
-) -> Result<Next, StreamFault>
+/// Writes the buffered text before refused memory ends the script.
+fn halt<W: Write>(out: &mut Vec<u8>, output: &mut W) -> Result<Next, StreamFault>
     ensures written { AppendsPrefix (W.contents output.old) (W.contents output.new)
         out.old.items }
     ensures err { IsErr result }
+    ensures fault { IfErr result (λ fault. (fault ≡ Memory) ⊎ (fault ≡ Write)) }
 {
     send_all(output, out)?;
-    Err(fault)
+    Err(StreamFault::Memory)
+}
+
+/// Appends the output line for a reply or for the fault of a line to the buffered text. If memory
+/// is refused, writes the buffered text and ends the script.
+fn put<W: Write>(
+    answer: Result<Reply, LineFault>,
+    out: &mut Vec<u8>,
+    output: &mut W,
+) -> Result<Next, StreamFault>
+    ensures { Puts out.old.items (answer_line answer) (W.contents output.old) result
+        out.new.items (W.contents output.new) }
+{
+    match print_answer(&answer, out) {
+        Ok(()) => Ok(Next::GoOn),
+        Err(_) => halt(out, output),
+    }
 }
 
 impl<'a> Script<'a> {
     /// Returns a script of which no line was read.
-    fn new(alloc: Global, session: Session<'a>) -> Result<Script<'a>, AllocError>
-        requires lone { IsLoneSession session }
-        ensures session { IfOk result (λ script. script.session ≡ session.entry) }
+    fn new(alloc: Global, caller: Caller<'a>) -> Result<Script<'a>, AllocError>
+        requires lone { IsLoneCaller caller }
+        ensures caller { IfOk result (λ script. script.caller ≡ caller.entry) }
         ensures out { IfOk result (λ script. script.out.items ≡ []) }
     {
         let out = Vec::with_capacity(alloc, CHUNK_BYTES)?;
-        Ok(Script {
-            alloc,
-            session,
-            out,
-        })
+        Ok(Script { alloc, caller, out })
     }
 }
 
@@ -113,23 +86,28 @@ impl<'a, W: Write> Sink<W> for Script<'a> {
     ghost use Rattle.cli_script.specs.declared.system.TheConstants.{LAST_VERSION};
     ghost use Rattle.cli_script.specs.Hearing.{Hears};
 
-    ghost room = { λ script. LAST_VERSION - script.session.client.value.floor };
+    ghost room = { λ script. LAST_VERSION - script.caller.user.value.floor };
 
-    ghost hears = { λ x o told answer y p. Hears x.session x.out.items (W.contents o) told answer
-        y.session y.out.items (W.contents p) };
+    ghost hears = { λ x o told answer y p. Hears x.caller x.out.items (W.contents o) told answer
+        y.caller y.out.items (W.contents p) };
 
+    /// Runs the task of a line as a transaction. A solo client meets no conflict, and the clock is
+    /// not spent while a version is left.
+    #[tactic(auto, using(crate::proofs::Causes::only_memory))]
     fn line(&mut self, line: &[u8], output: &mut W) -> Result<Next, StreamFault> {
-        match run_line(self.alloc, &mut self.session, line, &mut self.out) {
-            Ok(()) => Ok(Next::GoOn),
-            Err(fault) => halt(&mut self.out, fault, output),
+        match read_line(self.alloc, line) {
+            Ok(task) => match call(&mut self.caller, &task, 1) {
+                Ok(reply) => put(Ok(reply), &mut self.out, output),
+                Err(Fault::Memory) => halt(&mut self.out, output),
+                Err(_) => unreachable!(),
+            },
+            Err(LineFault::Memory) => halt(&mut self.out, output),
+            Err(fault) => put(Err(fault), &mut self.out, output),
         }
     }
 
     fn long_line(&mut self, output: &mut W) -> Result<Next, StreamFault> {
-        match run_read(&mut self.session, &Err(LineFault::LongLine), &mut self.out) {
-            Ok(()) => Ok(Next::GoOn),
-            Err(fault) => halt(&mut self.out, fault, output),
-        }
+        put(Err(LineFault::LongLine), &mut self.out, output)
     }
 
     fn pause(&mut self, output: &mut W) -> Result<Next, StreamFault> {
@@ -142,26 +120,26 @@ impl<'a, W: Write> Sink<W> for Script<'a> {
 /// of the input and writes an output line for each.
 pub(crate) fn run_input<R: Read, W: Write>(
     alloc: Global,
-    session: Session<'_>,
+    caller: Caller<'_>,
     input: &mut R,
     output: &mut W,
 ) -> Result<Client, StreamFault>
-    requires lone { IsLoneSession session }
-    requires fresh { IsNew session }
-    ensures own { IfOk result (λ client. client.table ≡ session.entry.manager.table) }
+    requires lone { IsLoneCaller caller }
+    requires fresh { IsNew caller }
+    ensures own { IfOk result (λ client. client.table ≡ caller.entry.shared.table) }
     ensures alone { IfOk result (λ client. HasAllGrants client.value) }
-    ensures ok { IfOk result (λ client. RanScript (capacity_of session.entry.manager)
-        (record { manager = session.entry.manager; client = client })
+    ensures ok { IfOk result (λ client. RanScript (capacity_of caller.entry.shared)
+        (record { shared = caller.entry.shared; user = client })
         (R.remaining input.old) (R.remaining input.new)
         (W.contents output.old) (W.contents output.new)) }
-    ensures err { OnErr result (WrotePrefix (capacity_of session.entry.manager)
+    ensures err { OnErr result (WrotePrefix (capacity_of caller.entry.shared)
         (R.remaining input.old) (R.remaining input.new)
         (W.contents output.old) (W.contents output.new)) }
 {
-    let mut script = Script::new(alloc, session)?;
+    let mut script = Script::new(alloc, caller)?;
     let _next = read_lines(alloc, LINE_BYTES, input, &mut script, output)?;
     send_rest(output, script.out.as_slice())?;
-    Ok(script.session.into_client())
+    Ok(script.caller.into_user())
 }
 
 /// Runs a script for a system of `blocks` blocks. Reads its lines to the end of the input and
@@ -182,6 +160,6 @@ pub fn run_script<R: Read, W: Write>(
         (W.contents output.old) (W.contents output.new)) }
 {
     let (manager, client) = open(alloc, blocks)?;
-    run_input(alloc, Session::of(&manager, client), input, output)?;
+    run_input(alloc, manager.caller(client), input, output)?;
     Ok(())
 }

@@ -74,17 +74,15 @@ opening_sum region v v' (Ok total) w =
     region.first (all_records w.decided.decides.core.clients) h.entries h.last w.adds.made h.history refl w.own in
     told_sum f.entry total.0 f.value (sym w.adds.tag_is ∙ f.told) f.found ∙ f.kept
 
-pub closes : {R X : Type 0} (region : RegionShown) (v : Client) (words : R → List ℕ) (version : R → ℕ)
-    (result : Result R X) → IfOk result (λ r. ClosesObject bank region v (words r) (version r)) →
-    IfOk result (λ r. ClosesBalanced region v (words r) (version r))
-closes region v words version (Err e) k = tt
-closes region v words version (Ok r) k =
+pub closes_balanced : (region : RegionShown) (v : Client) (words : List ℕ) (version : ℕ) →
+    ClosesObject bank region v words version → ClosesBalanced region v words version
+closes_balanced region v words version k =
     let first = fits_its_words ACCOUNTS IsBank IsEntry Finds after code region.first k.fitting.value k.fitting.shown in
     let h = k.lead region.first (shows_words ACCOUNTS IsBank IsEntry Finds after code region.first first) in
     record {
       closes = k;
-      total = ap (λ (ys : List ℕ). sum ys) (sym (shows_its_words ACCOUNTS IsBank IsEntry Finds after code (words r)
-          h.last h.shown))
+      total = ap (λ (ys : List ℕ). sum ys) (sym (shows_its_words ACCOUNTS IsBank IsEntry Finds after code words h.last
+          h.shown))
           ∙ kept bank (λ ys. sum ys ≡ sum region.first) (λ e xs is h s. same_sum e xs h ∙ s)
           region.first v.records h.entries h.last h.history refl;
     }

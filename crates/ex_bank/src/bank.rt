@@ -4,6 +4,7 @@ ghost use Rattle.std.specs.Prelude.{◌≡◌, ◌*◌, ◌<◌, ◌≤◌, IfOk
 ghost use Rattle.stm_core.specs.Event.{opener};
 ghost use Rattle.stm_region.specs.Shown.{opened_on};
 ghost use Rattle.stm_region.specs.Refused.{ClosesNot, IsLast, OpensNot};
+ghost use Rattle.stm_object.specs.Callers.{GoesOn};
 ghost use Rattle.stm_object.specs.History.{HasCalled, IsAlone};
 ghost use Rattle.ex_bank.specs.declared.entry.Entry.TheVariants.{Transfer, Sum};
 ghost use Rattle.ex_bank.specs.declared.law.TheConstants.{ACCOUNTS};
@@ -13,7 +14,7 @@ use crate::bodies::{AddUp, Move};
 use crate::law::{ACCOUNTS, BankObject};
 use std::alloc::Global;
 use stm_attempt::Stop;
-use stm_object::{Shared, User};
+use stm_object::{Caller, Shared, User};
 use stm_region::RegionFault;
 use stm_words::Version;
 
@@ -24,6 +25,9 @@ pub type Bank = Shared<BankObject>;
 /// lock.
 pub type Teller = User<BankObject>;
 
+/// A teller together with the bank.
+pub type BankCaller<'a> = Caller<'a, BankObject>;
+
 /// Opens a bank with `each` on each account, and returns the bank and its first teller. The
 /// version clock ends at `last`, 1 to 2^62 - 1.
 pub fn new_bank(alloc: Global, each: u32, last: u64) -> Result<(Bank, Teller), RegionFault>
@@ -31,45 +35,43 @@ pub fn new_bank(alloc: Global, each: u32, last: u64) -> Result<(Bank, Teller), R
         r.0 ≡ opened_on r.0.table (replicate ACCOUNTS each) last ACCOUNTS) }
     ensures first { IfOk result (λ r. r.0.first ≡ replicate ACCOUNTS each) }
     ensures total { IfOk result (λ r. sum r.0.first ≡ ACCOUNTS * each) }
-    ensures teller { IfOk result (λ r. r.1 ≡ record { table = r.0.table; value = opener }) }
+    ensures teller { IfOk result (λ r.
+        r.1 ≡ record { table = r.0.table; value = opener; own = tt }) }
     ensures range { IfOk result (λ _. IsLast last) }
     ensures refused { IfErr result (λ fault. OpensNot ACCOUNTS last ACCOUNTS fault) }
 {
     let image = [u64::from(each); ACCOUNTS as usize];
-    Shared::new(alloc, &image, last, ACCOUNTS)
+    Shared::new(alloc, &image, last, ACCOUNTS, ())
 }
 
 /// Moves an amount from one account to another as a transaction, in at most `tries` attempts, and
 /// returns whether there was enough. A transfer that stops with an error moves nothing.
 pub fn transfer(
-    shared: &Bank,
-    teller: &mut Teller,
+    caller: &mut BankCaller<'_>,
     from: u32,
     to: u32,
     amount: u64,
     tries: u32,
 ) -> Result<bool, Stop>
-    requires own { teller.old.table ≡ shared.now.table }
     requires range { (from < ACCOUNTS) × (to < ACCOUNTS) }
     requires tries { 1 ≤ tries }
-    ensures own { teller.new.table ≡ teller.old.table }
-    ensures call { HasCalled bank shared.now (λ moved. Transfer from to amount moved)
-        (λ moved. moved) false tries result teller.old.value teller.new.value }
+    ensures caller { GoesOn caller.old caller.new }
+    ensures call { HasCalled bank caller.old.shared (λ moved. Transfer from to amount moved)
+        (λ moved. moved) false tries result caller.old.user.value caller.new.user.value }
 {
-    shared.run(teller, &Move { from, to, amount }, tries)
+    caller.run(&Move { from, to, amount }, tries)
 }
 
 /// Adds up all balances as a transaction, in at most `tries` attempts. The sum is that of the
 /// opening, whatever the other tellers do.
-pub fn audit(shared: &Bank, teller: &mut Teller, tries: u32) -> Result<u64, Stop>
-    requires own { teller.old.table ≡ shared.now.table }
+pub fn audit(caller: &mut BankCaller<'_>, tries: u32) -> Result<u64, Stop>
     requires tries { 1 ≤ tries }
-    ensures own { teller.new.table ≡ teller.old.table }
-    ensures call { HasCalled bank shared.now (λ total. Sum total) (λ total. false) true tries
-        result teller.old.value teller.new.value }
-    ensures total { IfOk result (λ total. total ≡ sum shared.now.first) }
+    ensures caller { GoesOn caller.old caller.new }
+    ensures call { HasCalled bank caller.old.shared (λ total. Sum total) (λ total. false) true
+        tries result caller.old.user.value caller.new.user.value }
+    ensures total { IfOk result (λ total. total ≡ sum caller.old.shared.first) }
 {
-    shared.ask(teller, &AddUp, tries)
+    caller.ask(&AddUp, tries)
 }
 
 /// Closes a bank once every other teller was gathered, and returns its balances and its clock. The

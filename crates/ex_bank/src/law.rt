@@ -19,6 +19,8 @@ impl Object for BankObject {
 
     type Entry = Entry;
 
+    type Own = ();
+
     ghost is = { bank };
 
     ghost local = { λ m m' n xs same h. words_local IsBank m m' n xs same h };

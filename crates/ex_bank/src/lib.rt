@@ -7,6 +7,6 @@ mod bodies;
 mod entry;
 mod law;
 
-pub use bank::{Bank, Teller, audit, close_bank, new_bank, transfer};
+pub use bank::{Bank, BankCaller, Teller, audit, close_bank, new_bank, transfer};
 pub use entry::Entry;
 pub use law::{ACCOUNTS, BankObject, keeps_sum};

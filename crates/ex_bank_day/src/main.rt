@@ -5,7 +5,7 @@
 
 ghost use Rattle.std.specs.Prelude.{◌≡◌};
 
-use ex_bank::{ACCOUNTS, Bank, Teller, audit, close_bank, new_bank, transfer};
+use ex_bank::{ACCOUNTS, Bank, BankCaller, Teller, audit, close_bank, new_bank, transfer};
 use rand_core::Rng;
 use rand_pcg::Pcg32;
 use std::process::ExitCode;
@@ -39,40 +39,42 @@ struct Day {
 }
 
 /// Moves money between accounts, as this stream draws them.
-fn move_many(bank: &Bank, mut teller: Teller, stream: u64) -> (Teller, u32)
+fn move_many(bank: &Bank, teller: Teller, stream: u64) -> (Teller, u32)
     requires { teller.table ≡ bank.now.table }
     ensures { result.0.table ≡ bank.now.table }
 {
+    let mut caller = BankCaller::of(bank, teller);
     let mut random = Pcg32::new(1, stream);
     let mut moved = 0u32;
     for _ in 0..TURNS {
         let from = random.next_u32() % ACCOUNTS;
         let to = random.next_u32() % ACCOUNTS;
         let amount = u64::from(random.next_u32()) % MOST;
-        if transfer(bank, &mut teller, from, to, amount, TRIES) == Ok(true) {
+        if transfer(&mut caller, from, to, amount, TRIES) == Ok(true) {
             moved = moved.saturating_add(1);
         }
     }
-    (teller, moved)
+    (caller.into_user(), moved)
 }
 
 /// Adds up all accounts again and again, and counts the sums that are that of the opening.
-fn add_many(bank: &Bank, mut teller: Teller) -> (Teller, u32)
+fn add_many(bank: &Bank, teller: Teller) -> (Teller, u32)
     requires { teller.table ≡ bank.now.table }
     ensures { result.0.table ≡ bank.now.table }
 {
+    let mut caller = BankCaller::of(bank, teller);
     let mut sums = 0u32;
     for _ in 0..TURNS {
-        if audit(bank, &mut teller, TRIES) == Ok(TOTAL) {
+        if audit(&mut caller, TRIES) == Ok(TOTAL) {
             sums = sums.saturating_add(1);
         }
     }
-    (teller, sums)
+    (caller.into_user(), sums)
 }
 
 /// Runs a day with `movers` movers: the last of them runs beside those before it, and the adding
 /// teller beside them all. Returns the teller that has gathered all others.
-fn spend<R: Threads + Sync>(rt: &R, bank: &Bank, mut teller: Teller, movers: u64) -> (Teller, Day)
+fn spend<R: Threads + Sync>(rt: &R, bank: &Bank, teller: Teller, movers: u64) -> (Teller, Day)
     requires { teller.table ≡ bank.now.table }
     ensures { result.0.table ≡ bank.now.table }
 {
@@ -80,9 +82,11 @@ fn spend<R: Threads + Sync>(rt: &R, bank: &Bank, mut teller: Teller, movers: u64
         let (teller, sums) = add_many(bank, teller);
         return (teller, Day { moved: 0, sums });
     }
-    let Ok(own) = bank.split(&mut teller) else {
-        return (teller, Day { moved: 0, sums: 0 });
+    let mut caller = BankCaller::of(bank, teller);
+    let Ok(own) = caller.split() else {
+        return (caller.into_user(), Day { moved: 0, sums: 0 });
     };
+    let (teller, own) = (caller.into_user(), own.into_user());
     let fewer = movers - 1;
     let move_money = move || -> (Teller, u32)
         requires { own.table ≡ bank.now.table }
@@ -92,10 +96,11 @@ fn spend<R: Threads + Sync>(rt: &R, bank: &Bank, mut teller: Teller, movers: u64
         requires { teller.table ≡ bank.now.table }
         ensures { result.0.table ≡ bank.entry.now.table }
     { spend(rt, bank, teller, fewer) };
-    let ((own, moved), (mut teller, day)) = thread::join(rt, move_money, spend_others);
-    bank.gather(&mut teller, own);
+    let ((own, moved), (teller, day)) = thread::join(rt, move_money, spend_others);
+    let mut caller = BankCaller::of(bank, teller);
+    caller.gather(BankCaller::of(bank, own));
     let moved = day.moved.saturating_add(moved);
-    (teller, Day { moved, ..day })
+    (caller.into_user(), Day { moved, ..day })
 }
 
 fn main(rt: HostRuntime) -> ExitCode {

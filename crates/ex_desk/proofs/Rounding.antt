@@ -1,6 +1,7 @@
 -- Rounds of all desks, one after the other.
 use Rattle.std.proofs.Common.{◌≡◌, ◌∙◌, ℕ, zero, suc, ◌+◌, ◌-◌, ◌<◌, inl, inr, min, Bool, true, false, cond, List, []}
-use Rattle.std.proofs.Common.{◌∷◌, ◌++◌, Some, length, length-append, append-nil, refl, sym, ap, subst, arith}
+use Rattle.std.proofs.Common.{◌∷◌, ◌++◌, Option, Some, None, length, length-append, append-nil, refl, sym, ap, subst}
+use Rattle.std.proofs.Common.{arith}
 use Rattle.std.specs.List.{AllZip}
 use Rattle.std.proofs.lemmas.List.Elements.{All-nil, All-push, All-pop, AllZip-push}
 use Rattle.tx_memory.specs.Image.{In}
@@ -9,14 +10,14 @@ use Rattle.stm_core.specs.History.{Sub, done}
 use Rattle.stm_core.proofs.Merging.{sub_trans, sub_left, in_sub}
 use Rattle.stm_core.proofs.Orders.{in_merged}
 use Rattle.stm_region.specs.Shown.{RegionShown, with_gathered}
-use Rattle.vac_manager.specs.Called.{CallerShown, Splits}
+use Rattle.stm_object.specs.Callers.{gathered}
+use Rattle.vac_manager.specs.Called.{ClientShown, CallerShown, Splits}
 use Rattle.vac_manager.specs.Renewed.{ClosesSomewhere}
-use Rattle.vac_manager.specs.Session.{SessionShown}
 use Rattle.stm_object.proofs.Adding.{not_earlier}
 use Rattle.ex_desk.specs.declared.desk.Desk.{Desk}
 use Rattle.ex_desk.specs.declared.settings.DeskSettings.{DeskSettings}
-use Rattle.ex_desk.specs.Desks.{asked, cost_of_giving_up, AreOfRenewal, BookedTrips, HasBooked, MayServe}
-use Rattle.ex_desk.specs.Desks.{HasServed, new_desks}
+use Rattle.ex_desk.specs.Desks.{asked, AreOfRenewal, BookedTrips, HasBooked, MayServe}
+use Rattle.ex_desk.specs.Desks.{session_of, HasServed, new_desks}
 use Rattle.ex_desk.specs.Desks.{new_desk}
 use Rattle.ex_desk.specs.Rounds.{AreOld, ArePaid, WentOn, booked_by, RoundRan, MayRun, HasRunRound}
 use Rattle.ex_desk.specs.Run.{IsStock, Went}
@@ -116,7 +117,7 @@ round_more price n ds ds' d d' old now all x past h b paid new e s =
     }
 
 -- no desk is left
-pub has_run_none : (s : DeskSettings) (ds ds' : List Desk) (y : SessionShown) → length ds ≡ 0 → ds ≡ ds' ++ [] →
+pub has_run_none : (s : DeskSettings) (ds ds' : List Desk) (y : CallerShown) → length ds ≡ 0 → ds ≡ ds' ++ [] →
     HasRunRound s ds ds' y y
 has_run_none s [] [] y none e = record {
   manager = refl;
@@ -125,7 +126,7 @@ has_run_none s [] [] y none e = record {
   desks = All-nil (MayServe s);
   ran = record {
     rest = [];
-    behind = sym (append-nil y.client.value.records);
+    behind = sym (append-nil y.user.value.records);
     renewals = λ r i. absurd (in_none r i);
     each = tt;
     number = refl;
@@ -134,66 +135,92 @@ has_run_none s [] [] y none e = record {
 has_run_none s [] (d' ∷ ds') y none e = absurd (omega (arith, ap length e))
 has_run_none s (d ∷ ds) ds' y none e = absurd (omega (arith, none))
 
+pub has_run_end : (s : DeskSettings) (ds ds' : List Desk) (popped : Option Desk) (y : CallerShown) → popped ≡ None →
+    ds ≡ ds' ++ [] → length ds ≡ 0 → HasRunRound s ds ds' y y
+has_run_end s ds ds' popped y e f none = has_run_none s ds ds' y none f
+
+-- a client was split off, and both callers ended
+pub split_off : (m : RegionShown) (before after other : ClientShown) (x y z : CallerShown) → x ≡ session_of m before →
+    Splits x.user y.user z.user → after ≡ y.user → other ≡ z.user → Splits before after other
+split_off m before after other x y z ex h ey ez =
+    subst (λ (c : ClientShown). Splits before after c) (sym ez)
+    (subst (λ (c : ClientShown). Splits before c z.user) (sym ey)
+    (subst (λ (u : CallerShown). Splits u.user y.user z.user) ex h))
+
 -- the last desk's client is split off
-pub may_last : (s : DeskSettings) (all ds : List Desk) (d : Desk) (y : SessionShown) → all ≡ ds ++ d ∷ [] →
+pub may_last : (s : DeskSettings) (all ds : List Desk) (d : Desk) (y : CallerShown) → all ≡ ds ++ d ∷ [] →
     MayRun s all y → MayServe s d
 may_last s all ds d y e h = (All-pop (MayServe s) all ds (Some d) e h.desks).1
 
-pub may_rest : (s : DeskSettings) (all ds : List Desk) (d : Desk) (y a : SessionShown) (other : CallerShown) →
-    all ≡ ds ++ d ∷ [] → MayRun s all y → a.manager ≡ y.manager → Splits y.client a.client other → MayRun s ds a
+pub may_rest : (s : DeskSettings) (all ds : List Desk) (d : Desk) (y a : CallerShown) (other : ClientShown) →
+    all ≡ ds ++ d ∷ [] → MayRun s all y → a.shared ≡ y.shared → Splits y.user a.user other → MayRun s ds a
 may_rest s all ds d y a other e h same split =
     let more : length all ≡ length ds + 1 = ap length e ∙ length-append ds (d ∷ []) in
-    let left : a.client.value.grants ≡ y.client.value.grants - 1 =
-    ap (λ (x : CallerShown). x.value.grants) split.mine in
+    let left : a.user.value.grants ≡ y.user.value.grants - 1 =
+    ap (λ (x : ClientShown). x.value.grants) split.mine in
     record {
       desks = (All-pop (MayServe s) all ds (Some d) e h.desks).0;
       enough = omega (arith, more, left, h.enough);
       most = omega (arith, left, h.most);
       old = λ r i. subst (λ (m : RegionShown). r.renewal < m.renewal) (sym same)
-          (h.old r (subst (λ (x : CallerShown). In r x.value.records) split.mine i));
+          (h.old r (subst (λ (x : ClientShown). In r x.value.records) split.mine i));
     }
 
+-- a client of the manager took in another one
+pub took : (m : RegionShown) (r p t : ClientShown) (x y z : CallerShown) → x ≡ session_of m r → y ≡ session_of m p →
+    z ≡ gathered x y → t ≡ z.user → session_of m t ≡ gathered (session_of m r) (session_of m p)
+took m r p t x y z ex ey ez et =
+    let whole : z ≡ gathered (session_of m r) (session_of m p) =
+    ez ∙ (ap (λ (u : CallerShown). gathered u y) ex ∙ ap (λ (u : CallerShown). gathered (session_of m r) u) ey) in
+    ap (λ (c : ClientShown). session_of m c) (et ∙ ap (λ (u : CallerShown). u.user) whole)
+
+pub took_theirs : (m : RegionShown) (p t : ClientShown) (y z : CallerShown) → y ≡ session_of m p → t ≡ z.user →
+    Sub y.user.value.records z.user.value.records → Sub p.value.records t.value.records
+took_theirs m p t y z ey et h =
+    subst (λ (l : List Record). Sub p.value.records l) (sym (ap (λ (c : ClientShown). c.value.records) et))
+    (subst (λ (u : CallerShown). Sub u.user.value.records z.user.value.records) ey h)
+
 -- the last desk served beside the others, and its client was gathered
-pub has_run_more : (s : DeskSettings) (all ds ds' : List Desk) (d d' : Desk) (y a b c o o' : SessionShown) →
+pub has_run_more : (s : DeskSettings) (all ds ds' : List Desk) (d d' : Desk) (y a b c o o' : CallerShown) →
     all ≡ ds ++ d ∷ [] → MayRun s all y →
-    a.manager ≡ y.manager → Splits y.client a.client o.client → o.manager ≡ y.manager → HasServed s d d' o o' →
+    a.shared ≡ y.shared → Splits y.user a.user o.user → o.shared ≡ y.shared → HasServed s d d' o o' →
     HasRunRound s ds ds' a b →
-    c ≡ record b { client = record b.client { value = with_gathered b.client.value o'.client.value } } →
-    Sub o'.client.value.records c.client.value.records →
+    c ≡ record b { user = record b.user { value = with_gathered b.user.value o'.user.value } } →
+    Sub o'.user.value.records c.user.value.records →
     HasRunRound s all (ds' ++ d' ∷ []) y c
 has_run_more s all ds ds' d d' y a b c o o' e may am split om one run taken theirs =
-    let left : a.client.value.grants ≡ y.client.value.grants - 1 =
-    ap (λ (x : CallerShown). x.value.grants) split.mine in
-    let none : o.client.value.grants ≡ 0 = ap (λ (x : CallerShown). x.value.grants) split.theirs in
-    let held : c.client.value.grants ≡ min (b.client.value.grants + o'.client.value.grants + 1) 63 =
-    ap (λ (x : SessionShown). x.client.value.grants) taken in
-    let kept : a.client.value.records ≡ y.client.value.records = ap (λ (x : CallerShown). x.value.records) split.mine in
-    let fresh : o.client.value.records ≡ [] = ap (λ (x : CallerShown). x.value.records) split.theirs in
-    let mine : o'.client.value.records ≡ one.serves.done.records =
+    let left : a.user.value.grants ≡ y.user.value.grants - 1 =
+    ap (λ (x : ClientShown). x.value.grants) split.mine in
+    let none : o.user.value.grants ≡ 0 = ap (λ (x : ClientShown). x.value.grants) split.theirs in
+    let held : c.user.value.grants ≡ min (b.user.value.grants + o'.user.value.grants + 1) 63 =
+    ap (λ (x : CallerShown). x.user.value.grants) taken in
+    let kept : a.user.value.records ≡ y.user.value.records = ap (λ (x : ClientShown). x.value.records) split.mine in
+    let fresh : o.user.value.records ≡ [] = ap (λ (x : ClientShown). x.value.records) split.theirs in
+    let mine : o'.user.value.records ≡ one.serves.done.records =
     one.serves.records ∙ ap (λ (l : List Record). l ++ one.serves.done.records) fresh in
-    let gathered : c.client.value.records ≡ merged b.client.value.records one.serves.done.records =
-    ap (λ (x : SessionShown). x.client.value.records) taken ∙
-    ap (λ (l : List Record). merged b.client.value.records l) mine in
-    let ran : RoundRan (cost_of_giving_up s) y.manager.renewal ds ds' y.client.value.records b.client.value.records =
-    subst (λ (l : List Record). RoundRan (cost_of_giving_up s) y.manager.renewal ds ds' l b.client.value.records) kept
-    (subst (λ (m : RegionShown). RoundRan (cost_of_giving_up s) m.renewal ds ds' a.client.value.records
-    b.client.value.records)
+    let gathered : c.user.value.records ≡ merged b.user.value.records one.serves.done.records =
+    ap (λ (x : CallerShown). x.user.value.records) taken ∙
+    ap (λ (l : List Record). merged b.user.value.records l) mine in
+    let ran : RoundRan s.tries y.shared.renewal ds ds' y.user.value.records b.user.value.records =
+    subst (λ (l : List Record). RoundRan s.tries y.shared.renewal ds ds' l b.user.value.records) kept
+    (subst (λ (m : RegionShown). RoundRan s.tries m.renewal ds ds' a.user.value.records
+    b.user.value.records)
     am run.ran) in
-    let paid : ArePaid (cost_of_giving_up s) one.serves.done.trips one.serves.done.records =
-    paid_between (cost_of_giving_up s) o.client.value.attempt.number
+    let paid : ArePaid s.tries one.serves.done.trips one.serves.done.records =
+    paid_between s.tries o.user.value.attempt.number
     (asked d) one.serves.done.trips one.serves.done.records
-    (asked d') o'.client.value.attempt.number one.serves.paid in
+    (asked d') o'.user.value.attempt.number one.serves.paid in
     record {
-      manager = ap (λ (x : SessionShown). x.manager) taken ∙ (run.manager ∙ am);
-      own = ap (λ (x : SessionShown). x.client.table) taken ∙ (run.own ∙ ap (λ (x : CallerShown). x.table) split.mine);
+      manager = ap (λ (x : CallerShown). x.shared) taken ∙ (run.manager ∙ am);
+      own = ap (λ (x : CallerShown). x.user.table) taken ∙ (run.own ∙ ap (λ (x : ClientShown). x.table) split.mine);
       grants = omega (arith, held, run.grants, one.serves.grants, left, none, split.some, may.most);
       desks = All-push (MayServe s) ds' d' run.desks one.serves.may;
-      ran = subst (λ (l : List Desk). RoundRan (cost_of_giving_up s) y.manager.renewal l
-          (ds' ++ d' ∷ []) y.client.value.records c.client.value.records) (sym e)
-          (round_more (cost_of_giving_up s) y.manager.renewal ds ds' d d' y.client.value.records b.client.value.records
-          c.client.value.records one.serves.done may.old ran one.serves.booked paid
+      ran = subst (λ (l : List Desk). RoundRan s.tries y.shared.renewal l
+          (ds' ++ d' ∷ []) y.user.value.records c.user.value.records) (sym e)
+          (round_more s.tries y.shared.renewal ds ds' d d' y.user.value.records b.user.value.records
+          c.user.value.records one.serves.done may.old ran one.serves.booked paid
           (subst (λ (m : RegionShown). AreOfRenewal m.renewal one.serves.done.records) om one.serves.renewals)
-          gathered (subst (λ (l : List Record). Sub l c.client.value.records) mine theirs));
+          gathered (subst (λ (l : List Record). Sub l c.user.value.records) mine theirs));
     }
 
 -- a desk went on, and then on again, in other renewals
@@ -227,32 +254,32 @@ went_none s ds r records e h one = record {
   stock_is = h;
   rest = [];
   stock_first = one;
-  each = subst (λ (l : List Desk). AllZip (WentOn (cost_of_giving_up s) []) new_desks l) (sym e) (
+  each = subst (λ (l : List Desk). AllZip (WentOn s.tries []) new_desks l) (sym e) (
     none (new_desk 0),
     (none (new_desk 1), (none (new_desk 2), (none (new_desk 3), tt))),
   );
   number = sym (ap booked_by e);
 }
   where
-    none : (d : Desk) → WentOn (cost_of_giving_up s) [] d d
+    none : (d : Desk) → WentOn s.tries [] d d
     none d = record { done = record { trips = []; records = [] }; booked = booked_none d; among = done; paid = tt }
 
 -- one round more
 pub went_more : (s : DeskSettings) (n : ℕ) (ds ds' : List Desk) (old all : List Record) → AreOld n old → Went s ds old →
-    RoundRan (cost_of_giving_up s) n ds ds' old all → Went s ds' all
+    RoundRan s.tries n ds ds' old all → Went s ds' all
 went_more s n ds ds' old all past h k = record {
   stock = h.stock;
   stock_is = h.stock_is;
   rest = h.rest ++ k.rest;
   stock_first = k.behind ∙ ap (λ (l : List Record). l ++ k.rest) h.stock_first;
-  each = each_both (cost_of_giving_up s) new_desks ds ds' h.rest k.rest
+  each = each_both s.tries new_desks ds ds' h.rest k.rest
       (λ r q i j same. (let p = past r (subst (λ (l : List Record). In r l) (sym h.stock_first) (suc i.0, i.1)) in
       let o = k.renewals q j in omega (arith, p, o, same))) h.each k.each;
   number = omega (arith, length-append h.rest k.rest, h.number, k.number);
 }
 
 -- after a renewal all records are of earlier ones
-pub renewed_old : (region region' : RegionShown) (c c' : CallerShown) (words : List ℕ) →
+pub renewed_old : (region region' : RegionShown) (c c' : ClientShown) (words : List ℕ) →
     ClosesSomewhere region c.value words → region'.renewal ≡ region.renewal + 1 → c'.value.records ≡ c.value.records →
     AreOld region'.renewal c'.value.records
 renewed_old region region' c c' words h e same = λ r i. (let past =

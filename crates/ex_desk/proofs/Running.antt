@@ -15,16 +15,16 @@ use Rattle.vac_model.specs.Ranges.{is_task}
 use Rattle.vac_manager.specs.declared.fault.Fault.{Fault}
 use Rattle.vac_manager.specs.declared.fault.Fault.TheVariants as fault
 use Rattle.vac_manager.specs.Law.{Shows}
-use Rattle.vac_manager.specs.Called.{CallerShown, HasCalled}
+use Rattle.vac_manager.specs.Called.{ClientShown, HasCalled}
 use Rattle.vac_manager.specs.Opening.{Opens, ClosesInState}
 use Rattle.vac_manager.specs.Renewed.{ClosesSomewhere}
-use Rattle.vac_manager.specs.Session.{SessionShown}
+use Rattle.vac_manager.specs.Called.{CallerShown}
 use Rattle.ex_desk.specs.declared.desk.Desk.{Desk}
 use Rattle.ex_desk.specs.declared.settings.DeskSettings.{DeskSettings}
 use Rattle.ex_desk.specs.declared.rounds.OpenDesks.{OpenDesks}
 use Rattle.ex_desk.specs.declared.run.DeskReport.{DeskReport}
 use Rattle.ex_desk.specs.Trips.{stock_of}
-use Rattle.ex_desk.specs.Desks.{asked, cost_of_giving_up, MayServe, new_desk, new_desks}
+use Rattle.ex_desk.specs.Desks.{asked, MayServe, new_desk, new_desks}
 use Rattle.ex_desk.specs.Rounds.{WentOn, RoundRan, MayRun, HasRunRound}
 use Rattle.ex_desk.specs.Run.{AreOn, AreEnded, Desked}
 use Rattle.ex_desk.proofs.Rounding.{went_none, went_more, renewed_old}
@@ -42,14 +42,14 @@ new_may s = All-from_recursion (MayServe s) new_desks (
     may number l = record { number = l; within = omega arith }
 
 -- the stock was added by the first call
-pub on_first : (s : DeskSettings) (p : OpenDesks) (stripes : ℕ) (c : CallerShown) (t : Task) (reply : Reply) →
+pub on_first : (s : DeskSettings) (p : OpenDesks) (stripes : ℕ) (c : ClientShown) (t : Task) (reply : Reply) →
     Opens s.blocks s.last stripes p.manager c → HasCalled p.manager t 1 (Ok reply) c p.client →
     t ≡ stock_of s.units → p.desks.items ≡ new_desks → p.rounds ≡ 0 → AreOn s p
 on_first s p stripes c t reply opens call task desks rounds =
-    let none : c.value.records ≡ [] = ap (λ (x : CallerShown). x.value.records) opens.client_is in
+    let none : c.value.records ≡ [] = ap (λ (x : ClientShown). x.value.records) opens.client_is in
     record {
-      own = ap (λ (x : CallerShown). x.table) call.client ∙ ap (λ (x : CallerShown). x.table) opens.client_is;
-      alone = call.grants ∙ ap (λ (x : CallerShown). x.value.grants) opens.client_is;
+      own = ap (λ (x : ClientShown). x.table) call.client ∙ ap (λ (x : ClientShown). x.table) opens.client_is;
+      alone = call.grants ∙ ap (λ (x : ClientShown). x.value.grants) opens.client_is;
       room = opens.capacity;
       renewals = opens.renewal ∙ sym rounds;
       most = omega (arith, rounds);
@@ -62,32 +62,32 @@ on_first s p stripes c t reply opens call task desks rounds =
     }
 
 -- no other client was there to meet, and the clock was at its begin
-pub only_memory : (s : DeskSettings) (stripes : ℕ) (region : RegionShown) (c c' : CallerShown) (t : Task) (e : Fault) →
+pub only_memory : (s : DeskSettings) (stripes : ℕ) (region : RegionShown) (c c' : ClientShown) (t : Task) (e : Fault) →
     1 ≤ s.last → is_task t ≡ true → Opens s.blocks s.last stripes region c → HasCalled region t 1 (Err e) c c' →
     e ≡ fault.Memory
 only_memory s stripes region c c' t fault.Arguments some range opens call =
     absurd (some_false (is_task t && (nat_le 1 1 && nat_le 1 1048576)) (rw range refl) (call.arguments.0 refl))
 only_memory s stripes region c c' t fault.Memory some range opens call = refl
 only_memory s stripes region c c' t (fault.Busy conflict) some range opens call =
-    absurd (call.alone (ap (λ (x : CallerShown). x.value.grants) opens.client_is))
+    absurd (call.alone (ap (λ (x : ClientShown). x.value.grants) opens.client_is))
 only_memory s stripes region c c' t (fault.Spent version) some range opens call =
-    let at : c.value.floor ≡ region.last = call.next (ap (λ (x : CallerShown). x.value.grants) opens.client_is) in
-    let none : c.value.floor ≡ 0 = ap (λ (x : CallerShown). x.value.floor) opens.client_is in
+    let at : c.value.floor ≡ region.last = call.next (ap (λ (x : ClientShown). x.value.grants) opens.client_is) in
+    let none : c.value.floor ≡ 0 = ap (λ (x : ClientShown). x.value.floor) opens.client_is in
     absurd (omega (arith, at, none, opens.last_is, some))
 
 -- after a renewal all desks may serve
-pub may_run : (s : DeskSettings) (p : OpenDesks) (m : RegionShown) (c : CallerShown) (words : List ℕ) → AreOn s p →
+pub may_run : (s : DeskSettings) (p : OpenDesks) (m : RegionShown) (c : ClientShown) (words : List ℕ) → AreOn s p →
     ClosesSomewhere p.manager p.client.value words → m.renewal ≡ p.manager.renewal + 1 →
     c ≡ record p.client { table = m.table; value = renewing p.client.value } →
-    MayRun s p.desks.items (record { manager = m; client = c })
+    MayRun s p.desks.items (record { shared = m; user = c })
 may_run s p m c words on closes next same =
-    let four = length_all_zip (WentOn (cost_of_giving_up s) on.went.rest) new_desks p.desks.items on.went.each in
-    let all : c.value.grants ≡ p.client.value.grants = ap (λ (x : CallerShown). x.value.grants) same in
+    let four = length_all_zip (WentOn s.tries on.went.rest) new_desks p.desks.items on.went.each in
+    let all : c.value.grants ≡ p.client.value.grants = ap (λ (x : ClientShown). x.value.grants) same in
     record {
       desks = on.within;
       enough = omega (arith, four, all, on.alone);
       most = omega (arith, all, on.alone);
-      old = renewed_old p.manager m p.client c words closes next (ap (λ (x : CallerShown). x.value.records) same);
+      old = renewed_old p.manager m p.client c words closes next (ap (λ (x : ClientShown). x.value.records) same);
     }
 
 ended_each : (s : DeskSettings) (ds : List Desk) → AllByRecursion (MayServe s) ds →
@@ -108,26 +108,26 @@ all_ended s ds h e = All-from_recursion (λ d. asked d ≡ s.trips) ds
     (ended_each s ds (recursion_from_All (MayServe s) ds h) e)
 
 -- one round more was run after a renewal
-pub on_more : (s : DeskSettings) (p q : OpenDesks) (m : RegionShown) (c : CallerShown) (y : SessionShown)
+pub on_more : (s : DeskSettings) (p q : OpenDesks) (m : RegionShown) (c : ClientShown) (y : CallerShown)
     (words : List ℕ) → AreOn s p → p.rounds < s.rounds → ClosesSomewhere p.manager p.client.value words →
     m.size ≡ p.manager.size → m.renewal ≡ p.manager.renewal + 1 →
     c ≡ record p.client { table = m.table; value = renewing p.client.value } →
-    HasRunRound s p.desks.items q.desks.items (record { manager = m; client = c }) y → q.manager ≡ m →
-    q.client ≡ y.client →
+    HasRunRound s p.desks.items q.desks.items (record { shared = m; user = c }) y → q.manager ≡ m →
+    q.client ≡ y.user →
     q.rounds ≡ p.rounds + 1 → AreOn s q
 on_more s p q m c y words on less closes size next same run manager client rounds =
-    let grants : q.client.value.grants ≡ y.client.value.grants = ap (λ (x : CallerShown). x.value.grants) client in
-    let all : c.value.grants ≡ p.client.value.grants = ap (λ (x : CallerShown). x.value.grants) same in
-    let before : c.value.records ≡ p.client.value.records = ap (λ (x : CallerShown). x.value.records) same in
-    let ran : RoundRan (cost_of_giving_up s) m.renewal p.desks.items q.desks.items p.client.value.records
-    y.client.value.records
+    let grants : q.client.value.grants ≡ y.user.value.grants = ap (λ (x : ClientShown). x.value.grants) client in
+    let all : c.value.grants ≡ p.client.value.grants = ap (λ (x : ClientShown). x.value.grants) same in
+    let before : c.value.records ≡ p.client.value.records = ap (λ (x : ClientShown). x.value.records) same in
+    let ran : RoundRan s.tries m.renewal p.desks.items q.desks.items p.client.value.records
+    y.user.value.records
     =
-    subst (λ (l : List Record). RoundRan (cost_of_giving_up s) m.renewal p.desks.items q.desks.items l
-    y.client.value.records)
+    subst (λ (l : List Record). RoundRan s.tries m.renewal p.desks.items q.desks.items l
+    y.user.value.records)
     before run.ran in
     record {
-      own = ap (λ (x : CallerShown). x.table) client ∙ (run.own ∙
-          (ap (λ (x : CallerShown). x.table) same ∙ ap (λ (x : RegionShown). x.table) (sym manager)));
+      own = ap (λ (x : ClientShown). x.table) client ∙ (run.own ∙
+          (ap (λ (x : ClientShown). x.table) same ∙ ap (λ (x : RegionShown). x.table) (sym manager)));
       alone = grants ∙ (run.grants ∙ (all ∙ on.alone));
       room = ap (λ (x : RegionShown). (x.size - 16) / 8) manager ∙ (ap (λ (k : ℕ). (k - 16) / 8) size ∙ on.room);
       renewals = ap (λ (x : RegionShown). x.renewal) manager ∙
@@ -136,7 +136,7 @@ on_more s p q m c y words on less closes size next same run manager client round
       within = run.desks;
       went = went_more s m.renewal p.desks.items q.desks.items p.client.value.records q.client.value.records
           (renewed_old p.manager m p.client p.client words closes next refl) on.went
-          (subst (λ (x : CallerShown). RoundRan (cost_of_giving_up s) m.renewal p.desks.items q.desks.items
+          (subst (λ (x : ClientShown). RoundRan s.tries m.renewal p.desks.items q.desks.items
           p.client.value.records x.value.records) (sym client) ran);
     }
 

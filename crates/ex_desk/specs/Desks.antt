@@ -2,16 +2,12 @@
 use Rattle.std.specs.Prelude.{◌≡◌, ℕ, ◌+◌, ◌*◌, ◌<◌, ◌≤◌, ◌⊎◌}
 use Rattle.std.specs.Prelude.{List, [], ◌∷◌, ◌++◌, length}
 use Rattle.tx_memory.specs.Image.{In}
-use Rattle.stm_core.specs.Client.{Client, Record}
+use Rattle.stm_core.specs.Client.{Record}
 use Rattle.stm_region.specs.Shown.{RegionShown}
-use Rattle.vac_model.specs.declared.tasks.Task.{Task}
 use Rattle.vac_model.specs.declared.replies.Reply.{Reply}
 use Rattle.vac_model.specs.Code.{code}
-use Rattle.vac_manager.specs.Called.{CallerShown, IsFault}
-use Rattle.vac_manager.specs.Session.{SessionShown, GoesOn}
-use Rattle.vac_manager.specs.declared.fault.Fault.{Fault}
-use Rattle.vac_manager.specs.declared.fault.Fault.TheVariants as fault
-use Rattle.ex_desk.specs.declared.asking.TheConstants.{TRIES}
+use Rattle.stm_object.specs.Callers.{GoesOn}
+use Rattle.vac_manager.specs.Called.{ClientShown, CallerShown}
 use Rattle.ex_desk.specs.declared.desk.Desk.{Desk}
 use Rattle.ex_desk.specs.declared.settings.DeskSettings.{DeskSettings}
 use Rattle.ex_desk.specs.declared.trips.TheConstants.{DESKS}
@@ -66,18 +62,14 @@ pub record HasBooked (d d' : Desk) (x : BookedTrips) : Type 0 where
   pub given_up : d.given_up ≤ d'.given_up
   pub are_of : AreTrips d.number x.trips x.records
 
--- the session of a client with its manager
-abbrev pub session_of : RegionShown → CallerShown → SessionShown
-session_of region client = record { manager = region; client = client }
+-- a client with its manager
+abbrev pub session_of : RegionShown → ClientShown → CallerShown
+session_of region client = record { shared = region; user = client }
 
--- the number of attempts that a trip takes before it is given up: all attempts of all its calls
-abbrev pub cost_of_giving_up : DeskSettings → ℕ
-cost_of_giving_up s = s.asks * TRIES
-
--- the least number of attempts for the trips that a desk issued: one for each booked trip, and the
--- cost of giving up for each trip given up
+-- the least number of attempts for the trips that a desk issued: one for each booked trip, and all
+-- tries of its call for each trip given up
 abbrev pub cost_of : DeskSettings → Desk → ℕ
-cost_of s d = d.booked + d.given_up * cost_of_giving_up s
+cost_of s d = d.booked + d.given_up * s.tries
 
 -- the trips from `low` to `high` were issued one after the other, by the attempts from `from` to
 -- `to`: the trips in the list were booked, each by the attempt in its record, which comes after
@@ -89,38 +81,25 @@ Paid price from low (n ∷ ns) [] high to = ⊥
 Paid price from low (n ∷ ns) (r ∷ rs) high to =
     (from + n * price < r.attempt + low * price) × Paid price r.attempt (n + 1) ns rs high to
 
--- a desk went on with its trips in this session: the client's new records are exactly those of the
+-- a desk went on with its trips: its client's new records are exactly those of the
 -- trips it booked, in this renewal. Each booked trip cost an attempt of its own, and each trip
 -- given up cost all of its attempts
-pub record ServesTrips (s : DeskSettings) (d d' : Desk) (y y' : SessionShown) : Type 0 where
-  pub session : GoesOn y y'
-  pub grants : y'.client.value.grants ≡ y.client.value.grants
+pub record ServesTrips (s : DeskSettings) (d d' : Desk) (y y' : CallerShown) : Type 0 where
+  pub caller : GoesOn y y'
+  pub grants : y'.user.value.grants ≡ y.user.value.grants
   pub may : MayServe s d'
   pub done : BookedTrips
   pub booked : HasBooked d d' done
-  pub records : y'.client.value.records ≡ y.client.value.records ++ done.records
-  pub renewals : AreOfRenewal y.manager.renewal done.records
-  pub attempts : y.client.value.attempt.number + cost_of s d'
-      ≤ y'.client.value.attempt.number + cost_of s d
-  pub paid : Paid (cost_of_giving_up s) y.client.value.attempt.number (asked d) done.trips
+  pub records : y'.user.value.records ≡ y.user.value.records ++ done.records
+  pub renewals : AreOfRenewal y.shared.renewal done.records
+  pub attempts : y.user.value.attempt.number + cost_of s d'
+      ≤ y'.user.value.attempt.number + cost_of s d
+  pub paid : Paid s.tries y.user.value.attempt.number (asked d) done.trips
       done.records
-      (asked d') y'.client.value.attempt.number
+      (asked d') y'.user.value.attempt.number
 
 -- a desk served in a round: it went on until no trip was left, or until it found the clock at its
 -- last version
-pub record HasServed (s : DeskSettings) (d d' : Desk) (y y' : SessionShown) : Type 0 where
+pub record HasServed (s : DeskSettings) (d d' : Desk) (y y' : CallerShown) : Type 0 where
   pub serves : ServesTrips s d d' y y'
-  pub why : (asked d' ≡ s.trips) ⊎ (y'.client.value.attempt.next_from ≡ y.manager.last)
-
--- the reason why a trip was not booked: never its arguments; for Busy, all attempts of all calls
--- met a conflict, and the last attempt showed this one; for refused memory and a spent clock, the
--- reason that a call of the manager gives
--- Not said: that `Memory` is returned only if memory was refused.
-abbrev pub IsTripRefusal : RegionShown → Task → ℕ → Fault → Client → Client → Type 0
-IsTripRefusal region t asks fault.Arguments v v' = ⊥
-IsTripRefusal region t asks fault.Memory v v' = IsFault region t TRIES fault.Memory v v'
-IsTripRefusal region t asks (fault.Busy conflict) v v' =
-    (v'.attempt.number ≡ v.attempt.number + asks * TRIES)
-    × IsFault region t TRIES (fault.Busy conflict) v v'
-IsTripRefusal region t asks (fault.Spent version) v v' =
-    IsFault region t TRIES (fault.Spent version) v v'
+  pub why : (asked d' ≡ s.trips) ⊎ (y'.user.value.attempt.next_from ≡ y.shared.last)

@@ -5,10 +5,10 @@ use Rattle.tx_memory.specs.Image.{In}
 use Rattle.stm_core.specs.Client.{Record}
 use Rattle.stm_core.specs.History.{Sub}
 use Rattle.stm_core.specs.declared.limits.TheConstants.{MOST_GRANTS}
-use Rattle.vac_manager.specs.Session.{SessionShown}
+use Rattle.vac_manager.specs.Called.{CallerShown}
 use Rattle.ex_desk.specs.declared.desk.Desk.{Desk}
 use Rattle.ex_desk.specs.declared.settings.DeskSettings.{DeskSettings}
-use Rattle.ex_desk.specs.Desks.{MayServe, AreOfRenewal, BookedTrips, HasBooked, cost_of_giving_up}
+use Rattle.ex_desk.specs.Desks.{MayServe, AreOfRenewal, BookedTrips, HasBooked}
 
 -- the records are of renewals before this one
 abbrev pub AreOld : ℕ → List Record → Type 0
@@ -53,20 +53,20 @@ pub record RoundRan (price renewal : ℕ) (ds ds' : List Desk) (before after : L
   pub each : AllZip (WentOn price rest) ds ds'
   pub number : length rest + booked_by ds ≡ booked_by ds'
 
--- a round of the desks can be run: each desk may go on, the session's client has a grant for each
+-- a round of the desks can be run: each desk may go on, the client has a grant for each
 -- desk, and its records are of earlier renewals
-pub record MayRun (s : DeskSettings) (ds : List Desk) (y : SessionShown) : Type 0 where
+pub record MayRun (s : DeskSettings) (ds : List Desk) (y : CallerShown) : Type 0 where
   pub desks : All (MayServe s) ds
-  pub enough : length ds ≤ y.client.value.grants
-  pub most : y.client.value.grants ≤ MOST_GRANTS
-  pub old : AreOld y.manager.renewal y.client.value.records
+  pub enough : length ds ≤ y.user.value.grants
+  pub most : y.user.value.grants ≤ MOST_GRANTS
+  pub old : AreOld y.shared.renewal y.user.value.records
 
--- one round of the desks ran, whose clients were split off from the session's client and gathered
+-- one round of the desks ran, whose clients were split off from the client and gathered
 -- into it again
-pub record HasRunRound (s : DeskSettings) (ds ds' : List Desk) (y y' : SessionShown) : Type 0 where
-  pub manager : y'.manager ≡ y.manager
-  pub own : y'.client.table ≡ y.client.table
-  pub grants : y'.client.value.grants ≡ y.client.value.grants
+pub record HasRunRound (s : DeskSettings) (ds ds' : List Desk) (y y' : CallerShown) : Type 0 where
+  pub manager : y'.shared ≡ y.shared
+  pub own : y'.user.table ≡ y.user.table
+  pub grants : y'.user.value.grants ≡ y.user.value.grants
   pub desks : All (MayServe s) ds'
-  pub ran : RoundRan (cost_of_giving_up s) y.manager.renewal ds ds'
-      y.client.value.records y'.client.value.records
+  pub ran : RoundRan s.tries y.shared.renewal ds ds'
+      y.user.value.records y'.user.value.records

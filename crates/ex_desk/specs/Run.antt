@@ -14,7 +14,7 @@ use Rattle.ex_desk.specs.declared.settings.DeskSettings.{DeskSettings}
 use Rattle.ex_desk.specs.declared.rounds.OpenDesks.{OpenDesks}
 use Rattle.ex_desk.specs.declared.run.DeskReport.{DeskReport}
 use Rattle.ex_desk.specs.Trips.{stock_of}
-use Rattle.ex_desk.specs.Desks.{asked, new_desks, MayServe, cost_of_giving_up}
+use Rattle.ex_desk.specs.Desks.{asked, new_desks, MayServe}
 use Rattle.ex_desk.specs.Rounds.{WentOn, booked_by}
 
 -- the record is of the stock, with this number of units of each item, and of some reply
@@ -32,7 +32,7 @@ pub record Went (s : DeskSettings) (ds : List Desk) (records : List Record) : Ty
   pub stock_is : IsStock s.units stock
   pub rest : List Record
   pub stock_first : records ≡ stock ∷ rest
-  pub each : AllZip (WentOn (cost_of_giving_up s) rest) new_desks ds
+  pub each : AllZip (WentOn s.tries rest) new_desks ds
   pub number : length rest ≡ booked_by ds
 
 -- the desks after some of the allowed rounds: each desk may go on; the manager has room for as

@@ -16,7 +16,7 @@ pub struct Desk {
     pub number: u32,
     /// Trips that a call completed.
     pub booked: u32,
-    /// Trips that met a conflict in each of their calls.
+    /// Trips that met a conflict in each of their attempts.
     pub given_up: u32,
 }
 

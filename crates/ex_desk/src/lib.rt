@@ -12,5 +12,5 @@ mod trips;
 pub use asking::{Served, serve};
 pub use desk::Desk;
 pub use run::{DeskFault, DeskReport, run_desks};
-pub use settings::{DeskSettings, MOST_ASKS, MOST_ROUNDS, MOST_TRIPS};
+pub use settings::{DeskSettings, MOST_ROUNDS, MOST_TRIPS};
 pub use trips::{DESKS, ITEMS, PRICE};

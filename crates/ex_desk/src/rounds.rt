@@ -40,7 +40,7 @@ fn serve_all<R: Threads + Sync>(
     alloc: Global,
     manager: &Manager,
     settings: DeskSettings,
-    mut client: Client,
+    client: Client,
     mut desks: Vec<Desk>,
 ) -> Result<Round, DeskFault>
     requires own { client.table ≡ manager.now.table }
@@ -53,16 +53,18 @@ fn serve_all<R: Threads + Sync>(
     let Some(desk) = desks.pop() else {
         return Ok(Round { client, desks });
     };
-    let Ok(own) = manager.split(&mut client) else {
+    let mut caller = manager.caller(client);
+    let Ok(own) = caller.split() else {
         unreachable!()
     };
+    let (client, own) = (caller.into_user(), own.into_user());
     let serve_one = move || -> Result<Served, DeskFault>
         requires { (own.table ≡ manager.now.table) × (is_desk_settings settings ≡ true)
             × MayServe settings desk }
         ensures { IfOk result (λ r. HasServed settings desk r.desk
             (session_of manager.entry.now own) (session_of manager.entry.now r.client))
             × IfErr result (λ fault. fault ≡ DeskFault.Memory) }
-    { serve(alloc, manager, settings, own, desk) };
+    { serve(alloc, settings, manager.caller(own), desk) };
     let serve_others = move || -> Result<Round, DeskFault>
         requires { (client.table ≡ manager.now.table) × (is_desk_settings settings ≡ true)
             × MayRun settings desks.items (session_of manager.now client) }
@@ -71,12 +73,16 @@ fn serve_all<R: Threads + Sync>(
             × IfErr result (λ fault. fault ≡ DeskFault.Memory) }
     { serve_all(rt, alloc, manager, settings, client, desks) };
     let (served, round) = thread::join(rt, serve_one, serve_others);
-    let (served, mut round) = (served?, round?);
-    manager.gather(&mut round.client, served.client);
-    let Ok(()) = round.desks.push(served.desk) else {
+    let (served, Round { client, mut desks }) = (served?, round?);
+    let mut caller = manager.caller(client);
+    caller.gather(manager.caller(served.client));
+    let Ok(()) = desks.push(served.desk) else {
         return Err(DeskFault::Memory);
     };
-    Ok(round)
+    Ok(Round {
+        client: caller.into_user(),
+        desks,
+    })
 }
 
 /// Renews the clock and runs one more round.
@@ -101,11 +107,18 @@ pub(crate) fn go_on<R: Threads + Sync>(
         }
         Err(RenewFault::Closed(..)) => return Err(DeskFault::Memory),
     };
-    let round = serve_all(rt, alloc, &manager, settings, client, open_desks.desks)?;
+    let Round { client, desks } = serve_all(
+        rt,
+        alloc,
+        &manager,
+        settings,
+        client,
+        open_desks.desks,
+    )?;
     Ok(OpenDesks {
         manager,
-        client: round.client,
-        desks: round.desks,
+        client,
+        desks,
         rounds: open_desks.rounds + 1,
     })
 }

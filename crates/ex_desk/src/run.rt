@@ -12,7 +12,7 @@ use std::alloc::Global;
 use std::thread::Threads;
 use stm_region::RegionFault;
 use thiserror::Error;
-use vac_manager::{Fault, Manager, report_of};
+use vac_manager::{Fault, Manager, call, report_of};
 use vac_model::Report;
 
 /// The results of the desks: the progress of each desk, the number of rounds, and the report of
@@ -47,10 +47,13 @@ fn open(alloc: Global, settings: DeskSettings) -> Result<OpenDesks, DeskFault>
     let Ok(desks) = new_desks(alloc) else {
         return Err(DeskFault::Memory);
     };
-    let Ok((manager, mut client)) = Manager::new(alloc, settings.blocks, settings.last) else {
+    let Ok((manager, client)) = Manager::new(alloc, settings.blocks, settings.last) else {
         return Err(DeskFault::Memory);
     };
-    match manager.call(&mut client, &task, 1) {
+    let mut caller = manager.caller(client);
+    let answer = call(&mut caller, &task, 1);
+    let client = caller.into_user();
+    match answer {
         Ok(_) => Ok(OpenDesks {
             manager,
             client,

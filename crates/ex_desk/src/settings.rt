@@ -5,13 +5,10 @@ ghost use Rattle.ex_desk.specs.Setting.{is_desk_settings};
 
 use stm_core::MOST_RENEWALS;
 use stm_words::VERSION_LIMIT;
-use vac_model::limits::{MOST_AMOUNT, MOST_BLOCKS};
+use vac_model::limits::{MOST_AMOUNT, MOST_BLOCKS, MOST_TRIES};
 
 /// Largest number of trips of a desk.
 pub const MOST_TRIPS: u32 = 1_000_000;
-
-/// Largest number of calls in which a desk issues one trip.
-pub const MOST_ASKS: u32 = 1_000_000;
 
 /// Largest number of rounds. Each round begins with a renewal.
 pub const MOST_ROUNDS: u32 = MOST_RENEWALS;
@@ -27,8 +24,8 @@ pub struct DeskSettings {
     pub units: u32,
     /// Trips that each desk has to book, 0 to 1,000,000.
     pub trips: u32,
-    /// Calls in which a desk issues a trip before the desk gives it up, 1 to 1,000,000.
-    pub asks: u32,
+    /// Attempts after which a desk gives a trip up, 1 to 1,048,576.
+    pub tries: u32,
     /// Largest number of rounds, 0 to 65,535.
     pub rounds: u32,
 }
@@ -42,7 +39,7 @@ impl DeskSettings {
             && (1..VERSION_LIMIT).contains(&self.last)
             && self.units <= MOST_AMOUNT
             && self.trips <= MOST_TRIPS
-            && (1..=MOST_ASKS).contains(&self.asks)
+            && (1..=MOST_TRIES).contains(&self.tries)
             && self.rounds <= MOST_ROUNDS
     }
 }

@@ -13,7 +13,7 @@ const SETTINGS: DeskSettings = DeskSettings {
     last: (1 << 62) - 1,
     units: 100,
     trips: 25,
-    asks: 100_000,
+    tries: 1_000_000,
     rounds: 10_000,
 };
 

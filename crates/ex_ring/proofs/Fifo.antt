@@ -10,7 +10,8 @@ use Rattle.ex_ring.specs.Keeping.{pushing_head, pushing_tail, popping_head, popp
 use Rattle.stm_region.specs.Shown.{RegionShown}
 use Rattle.stm_core.specs.Client.{Client, Record}
 use Rattle.stm_object.specs.History.{IsHistory, Closes}
-use Rattle.stm_object.specs.Steps.{shows_its_words, shows_words, fits_its_words}
+use Rattle.stm_object.specs.Object.{IsBeginning}
+use Rattle.stm_object.specs.Steps.{shows_its_words, shows_words, fits_its_words, begins_words}
 use Rattle.ex_ring.specs.Turns.{IsFifo, ClosesInOrder}
 
 -- values whose slots are all the same are the same
@@ -93,8 +94,11 @@ flows xs (r ∷ rs) (Pop v ∷ es) last b h =
 flows xs (r ∷ rs) (Empty ∷ es) last b h = flows xs rs es last b h.3
 flows xs (r ∷ rs) (Len n ∷ es) last b h = flows xs rs es last b h.3
 
-pub empty_ring : IsRing (replicate WORDS 0)
+empty_ring : IsRing (replicate WORDS 0)
 empty_ring = record { size = refl; order = omega arith; bound = omega arith }
+
+pub begins_empty : IsBeginning ring (replicate WORDS 0)
+begins_empty = begins_words WORDS IsRing (λ e. Unit {0}) Finds after code (replicate WORDS 0) empty_ring
 
 -- no answer of a ring that was opened empty is out of its turn
 pub fifo : IsFifo

@@ -26,6 +26,8 @@ impl Object for RingObject {
 
     type Entry = Entry;
 
+    type Own = ();
+
     ghost is = { ring };
 
     ghost local = { λ m m' n xs same h. words_local IsRing m m' n xs same h };

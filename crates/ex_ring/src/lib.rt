@@ -9,4 +9,6 @@ mod ring;
 pub use bodies::{Count, Pop, Push};
 pub use entry::Entry;
 pub use law::{HEAD, RingObject, SLOTS, TAIL, WORDS};
-pub use ring::{Ring, RingUser, close_ring, first_in_first_out, lone_user_takes_its_own, new_ring};
+pub use ring::{
+    Ring, RingCaller, RingUser, close_ring, first_in_first_out, lone_user_takes_its_own, new_ring,
+};

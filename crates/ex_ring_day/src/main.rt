@@ -6,7 +6,7 @@
 ghost use Rattle.std.specs.Prelude.{◌≡◌};
 
 use crossbeam_utils::Backoff;
-use ex_ring::{Count, Pop, Push, Ring, RingUser, close_ring, new_ring};
+use ex_ring::{Count, Pop, Push, Ring, RingCaller, RingUser, close_ring, new_ring};
 use std::process::ExitCode;
 use std::thread;
 use std::thread::Threads;
@@ -31,13 +31,12 @@ struct Day {
 }
 
 /// Puts a number in once there is room, and returns whether that succeeded.
-fn put(ring: &Ring, user: &mut RingUser, value: u64) -> bool
-    requires { user.old.table ≡ ring.now.table }
-    ensures { user.new.table ≡ user.old.table }
+fn put(caller: &mut RingCaller<'_>, value: u64) -> bool
+    ensures { caller.new.shared ≡ caller.old.shared }
 {
     let backoff = Backoff::new();
     for _ in 0..PATIENCE {
-        if ring.run(user, &Push(value), TRIES) == Ok(true) {
+        if caller.run(&Push(value), TRIES) == Ok(true) {
             return true;
         }
         backoff.snooze();
@@ -46,13 +45,12 @@ fn put(ring: &Ring, user: &mut RingUser, value: u64) -> bool
 }
 
 /// Takes a number out once there is one.
-fn take(ring: &Ring, user: &mut RingUser) -> Option<u64>
-    requires { user.old.table ≡ ring.now.table }
-    ensures { user.new.table ≡ user.old.table }
+fn take(caller: &mut RingCaller<'_>) -> Option<u64>
+    ensures { caller.new.shared ≡ caller.old.shared }
 {
     let backoff = Backoff::new();
     for _ in 0..PATIENCE {
-        if let Ok(Some(value)) = ring.run(user, &Pop, TRIES) {
+        if let Ok(Some(value)) = caller.run(&Pop, TRIES) {
             return Some(value);
         }
         backoff.snooze();
@@ -61,40 +59,41 @@ fn take(ring: &Ring, user: &mut RingUser) -> Option<u64>
 }
 
 /// Returns the number of values in the queue, or the greatest number if the question was stopped.
-fn count(ring: &Ring, user: &mut RingUser) -> u64
-    requires { user.old.table ≡ ring.now.table }
-    ensures { user.new.table ≡ user.old.table }
+fn count(caller: &mut RingCaller<'_>) -> u64
+    ensures { caller.new.shared ≡ caller.old.shared }
 {
-    match ring.ask(user, &Count, TRIES) {
+    match caller.ask(&Count, TRIES) {
         Ok(count) => count,
         Err(_) => u64::MAX,
     }
 }
 
 /// Puts numbers in, from `first` on, and counts them.
-fn put_many(ring: &Ring, mut user: RingUser, first: u64) -> (RingUser, u32)
+fn put_many(ring: &Ring, user: RingUser, first: u64) -> (RingUser, u32)
     requires { user.table ≡ ring.now.table }
     ensures { result.0.table ≡ ring.now.table }
 {
+    let mut caller = RingCaller::of(ring, user);
     let mut done = 0u32;
     for i in 0..NUMBERS {
-        if put(ring, &mut user, first.saturating_add(u64::from(i))) {
+        if put(&mut caller, first.saturating_add(u64::from(i))) {
             done = done.saturating_add(1);
         }
     }
-    (user, done)
+    (caller.into_user(), done)
 }
 
 /// Takes out the numbers of both users, and counts those that come in their turn.
-fn take_many(ring: &Ring, mut user: RingUser) -> (RingUser, u32)
+fn take_many(ring: &Ring, user: RingUser) -> (RingUser, u32)
     requires { user.table ≡ ring.now.table }
     ensures { result.0.table ≡ ring.now.table }
 {
+    let mut caller = RingCaller::of(ring, user);
     let mut in_turn = 0u32;
     let mut first = 0u64;
     let mut second = SECOND;
     for _ in 0..2 * NUMBERS {
-        let value = take(ring, &mut user);
+        let value = take(&mut caller);
         if value == Some(first) {
             first = first.saturating_add(1);
             in_turn = in_turn.saturating_add(1);
@@ -103,7 +102,7 @@ fn take_many(ring: &Ring, mut user: RingUser) -> (RingUser, u32)
             in_turn = in_turn.saturating_add(1);
         }
     }
-    (user, in_turn)
+    (caller.into_user(), in_turn)
 }
 
 /// Lets both users put their numbers in, side by side. Returns the first user, which has gathered
@@ -125,25 +124,28 @@ fn put_both<R: Threads + Sync>(
         requires { other.table ≡ ring.now.table }
         ensures { result.0.table ≡ ring.entry.now.table }
     { put_many(ring, other, SECOND) };
-    let ((mut one, some), (other, more)) = thread::join(rt, put_first, put_second);
-    ring.gather(&mut one, other);
-    (one, some.saturating_add(more))
+    let ((one, some), (other, more)) = thread::join(rt, put_first, put_second);
+    let mut caller = RingCaller::of(ring, one);
+    caller.gather(RingCaller::of(ring, other));
+    (caller.into_user(), some.saturating_add(more))
 }
 
 /// Runs a day: one user takes numbers out while the others put them in. Returns the user, which
 /// has gathered all others.
-fn spend<R: Threads + Sync>(rt: &R, ring: &Ring, mut user: RingUser) -> (RingUser, Day)
+fn spend<R: Threads + Sync>(rt: &R, ring: &Ring, user: RingUser) -> (RingUser, Day)
     requires { user.table ≡ ring.now.table }
     ensures { result.0.table ≡ ring.now.table }
 {
     let none = Day { put: 0, in_turn: 0 };
-    let Ok(one) = ring.split(&mut user) else {
-        return (user, none);
+    let mut caller = RingCaller::of(ring, user);
+    let Ok(one) = caller.split() else {
+        return (caller.into_user(), none);
     };
-    let Ok(other) = ring.split(&mut user) else {
-        ring.gather(&mut user, one);
-        return (user, none);
+    let Ok(other) = caller.split() else {
+        caller.gather(one);
+        return (caller.into_user(), none);
     };
+    let (user, one, other) = (caller.into_user(), one.into_user(), other.into_user());
     let put_in = move || -> (RingUser, u32)
         requires { (one.table ≡ ring.now.table) × (other.table ≡ ring.now.table) }
         ensures { result.0.table ≡ ring.entry.now.table }
@@ -152,9 +154,10 @@ fn spend<R: Threads + Sync>(rt: &R, ring: &Ring, mut user: RingUser) -> (RingUse
         requires { user.table ≡ ring.now.table }
         ensures { result.0.table ≡ ring.entry.now.table }
     { take_many(ring, user) };
-    let ((one, put), (mut user, in_turn)) = thread::join(rt, put_in, take_out);
-    ring.gather(&mut user, one);
-    (user, Day { put, in_turn })
+    let ((one, put), (user, in_turn)) = thread::join(rt, put_in, take_out);
+    let mut caller = RingCaller::of(ring, user);
+    caller.gather(RingCaller::of(ring, one));
+    (caller.into_user(), Day { put, in_turn })
 }
 
 fn main(rt: HostRuntime) -> ExitCode {
@@ -162,8 +165,10 @@ fn main(rt: HostRuntime) -> ExitCode {
         let _ = eprintln!(rt; "the queue could not be opened");
         return ExitCode::FAILURE;
     };
-    let (mut user, day) = spend(&rt, &ring, user);
-    let left = count(&ring, &mut user);
+    let (user, day) = spend(&rt, &ring, user);
+    let mut caller = RingCaller::of(&ring, user);
+    let left = count(&mut caller);
+    let user = caller.into_user();
     let Ok(_) = close_ring(ring, user) else {
         let _ = eprintln!(rt; "the queue could not be closed");
         return ExitCode::FAILURE;

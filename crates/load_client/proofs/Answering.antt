@@ -16,7 +16,7 @@ use Rattle.load_draws.specs.declared.settings.Settings.{Settings}
 use Rattle.load_client.specs.declared.tally.Tally.{Tally}
 use Rattle.load_draws.specs.Tasks.{task_of, DrawnTask}
 use Rattle.load_client.specs.Looping.{AreOfTasks, IsAdded, Answered, total, nothing, counted, least_attempts}
-use Rattle.load_client.specs.Looping.{least_attempts_of, answered_by, RanOne, Looped}
+use Rattle.load_client.specs.Looping.{least_attempts_of, answered_by, Looped}
 use Rattle.load_draws.proofs.Drawing.{drawn_always, drawn_times}
 use Rattle.load_client.proofs.Order.{added_known, added_later, known_first}
 
@@ -134,6 +134,15 @@ busy_counted (Err fault.Arguments) t = omega arith
 busy_counted (Err fault.Memory) t = omega arith
 busy_counted (Err (fault.Busy conflict)) t = omega arith
 busy_counted (Err (fault.Spent version)) t = omega arith
+
+-- a task that was built was issued and had this result, with a conflict only if other clients were
+-- out; a task that could not be built has the result that memory was refused
+abbrev pub RanOne : {R E : Type 0} → ℕ → Result Task E → ℕ → Result R Fault → Client → Client
+    → Type 0
+RanOne renewal (Ok t) tries end v v' = Answered renewal (answered_by t end) v v'
+    × (v.attempt.number + least_attempts_of tries end ≤ v'.attempt.number)
+    × (HasAllGrants v → (counted end nothing).busy ≡ 0)
+RanOne renewal (Err e) tries end v v' = (end ≡ Err fault.Memory) × (v' ≡ v)
 
 -- what one task adds to a loop
 record Turn {R : Type 0} (n : ℕ) (t : Task) (end : Result R Fault) (tries : ℕ) (v v' : Client) : Type 0 where

@@ -9,21 +9,21 @@ use Rattle.vac_model.specs.declared.commands.Command.{Command}
 use Rattle.vac_model.specs.declared.replies.Reply.{Reply}
 use Rattle.vac_model.specs.declared.tasks.Task.{Task}
 use Rattle.vac_model.specs.declared.tasks.Task.TheVariants.{One}
-use Rattle.vac_manager.specs.Called.{CallerShown, HasAllGrants, IsFault, IsNext, IsNotBusy, Attempts, is_try_count}
+use Rattle.vac_manager.specs.Called.{ClientShown, HasAllGrants, IsFault, IsNext, IsNotBusy, Attempts, is_try_count}
 use Rattle.vac_manager.specs.Keeping.{HasKept}
 use Rattle.vac_manager.specs.Placed.{HasCalledPlaced, nothing_done, replied}
-use Rattle.vac_manager.specs.Session.{SessionShown}
+use Rattle.vac_manager.specs.Called.{CallerShown}
 use Rattle.vac_manager.specs.Tracing.{HasTraced, Trace}
 use Rattle.vac_manager.specs.declared.fault.Fault.{Fault}
 use Rattle.vac_manager.specs.declared.fault.Fault.TheVariants as fault
 use Rattle.vac_manager.specs.declared.placed.Effort.{Effort}
 use Rattle.vac_manager.specs.declared.placed.Placed.{Placed}
-use Rattle.load_client.specs.Asking.{WasAsked}
+use Rattle.load_client.specs.Asking.{WasAsked, WasIssued}
 use Rattle.load_client.specs.Attempted.{IsEffort, no_effort, with_call}
-use Rattle.load_client.specs.Keeping.{KeptNotes}
-use Rattle.load_client.specs.Looping.{Answered, AreOfTasks, RanOne, answered_by, counted, least_attempts_of, nothing}
+use Rattle.load_client.specs.Keeping.{KeptNotes, HasKeptAdded}
+use Rattle.load_client.specs.Looping.{Answered, AreOfTasks, Clocked, counted, least_attempts_of, nothing}
 use Rattle.load_client.specs.Opening.{IsOpeningFault, WasAnswered, WasRefused}
-use Rattle.load_client.proofs.Answering.{answered_one, answered_quiet}
+use Rattle.load_client.proofs.Answering.{RanOne, answered_one, answered_quiet}
 use Rattle.load_client.proofs.Attempting.{took_answered, took_none, took_refused}
 use Rattle.load_client.proofs.Clocking.{clocked_answered, clocked_quiet, clocked_refused}
 use Rattle.load_client.proofs.Notes.{kept_none, kept_one}
@@ -52,30 +52,48 @@ asked_none region t tries e v a b some none same = record {
   refused = λ h. tt;
 }
 
--- the task was not built
-pub not_built : (tries : ℕ) (e : Effort) → is_try_count tries ≡ true → e ≡ nothing_done →
-    IsEffort tries (counted {R = Unit {0}} (Err fault.Memory) nothing) (with_call e no_effort)
-not_built tries e some none = took_none tries e (one_try tries some) none
+-- a task that was built was issued
+pub issued_built : {E : Type 0} (region : RegionShown) (built : Result Task E) (t : Task) (tries : ℕ)
+    (end : Result (Unit {0}) Fault) (e : Effort) (v v' : Client) (a b : KeptNotes) → built ≡ Ok t →
+    WasAsked region t tries end e v v' a b → WasIssued region built tries end e v v' a b
+issued_built region built t tries end e v v' a b is h =
+    subst (λ (x : Result Task _). WasIssued region x tries end e v v' a b) (sym is) h
 
-pub ran_unbuilt : {E : Type 0} (n tries : ℕ) (built : Result Task E) (e : E) (v : Client) → built ≡ Err e →
-    RanOne {R = Unit {0}} n built tries (Err fault.Memory) v v
-ran_unbuilt n tries built e v is = subst (λ (b : Result Task _). RanOne {R = Unit {0}} n b tries (Err fault.Memory) v v)
-    (sym is) (refl, refl)
+-- what a loop needs of a task that was issued
+pub record Issued {E : Type 0} (region : RegionShown) (built : Result Task E) (tries : ℕ)
+    (end : Result (Unit {0}) Fault) (e : Effort) (v v' : Client) (a b : KeptNotes) : Type 0 where
+  pub in_range : IfErr end (λ why. why ≢ fault.Arguments)
+  pub one : RanOne region.renewal built tries end v v'
+  pub clock : HasAllGrants v → Clocked region.last v v' (counted end nothing)
+  pub took : IsEffort tries (counted end nothing) (with_call e no_effort)
+  pub kept : HasKeptAdded v v' a b
 
--- the task was built
-pub ran_built : {R E : Type 0} (n tries : ℕ) (built : Result Task E) (t : Task) (end : Result R Fault) (v v' : Client) →
-    built ≡ Ok t → Answered n (answered_by t end) v v' →
-    v.attempt.number + least_attempts_of tries end ≤ v'.attempt.number →
-    (HasAllGrants v → (counted end nothing).busy ≡ 0) → RanOne n built tries end v v'
-ran_built n tries built t end v v' is answered attempts alone =
-    subst (λ (b : Result Task _). RanOne n b tries end v v') (sym is) (answered, attempts, alone)
+pub issued : {E : Type 0} (region : RegionShown) (built : Result Task E) (tries : ℕ) (end : Result (Unit {0}) Fault)
+    (e : Effort) (v v' : Client) (a b : KeptNotes) → is_try_count tries ≡ true →
+    WasIssued region built tries end e v v' a b → Issued region built tries end e v v' a b
+issued region (Ok t) tries end e v v' a b some h = record {
+  in_range = h.in_range;
+  one = (h.answered, h.attempts, h.alone);
+  clock = h.clock;
+  took = h.took;
+  kept = h.kept;
+}
+issued region (Err f) tries end e v v' a b some h = record {
+  in_range = subst (λ (r : Result (Unit {0}) Fault). IfErr r (λ why. why ≢ fault.Arguments)) (sym h.0) (λ q. cc);
+  one = (h.0, h.2);
+  clock = λ alone. subst (λ (r : Result (Unit {0}) Fault). Clocked region.last v v' (counted r nothing)) (sym h.0)
+      (clocked_quiet region.last v v' h.2);
+  took = subst (λ (r : Result (Unit {0}) Fault). IsEffort tries (counted r nothing) (with_call e no_effort)) (sym h.0)
+      (took_none tries e (one_try tries some) h.1);
+  kept = kept_none v v' a b (ap (λ (x : Client). x.records) h.2) h.3;
+}
 
 attempt_more : (n m tries : ℕ) → n < m → n + least_attempts_of {R = Unit {0}} tries (Ok tt) ≤ m
 attempt_more n m tries less = omega arith
 
 -- the call was answered, and kept
 pub asked_answered : (region : RegionShown) (t : Task) (tries : ℕ) (end : Result Placed Fault) (p : Placed) (e : Effort)
-    (c c' : CallerShown) (a b k : KeptNotes) (before traced : Option (List Trace)) →
+    (c c' : ClientShown) (a b k : KeptNotes) (before traced : Option (List Trace)) →
     end ≡ Ok p → HasCalledPlaced region t tries end e c c' → HasTraced (replied end) c.value c'.value before traced →
     b ≡ a → HasKept t p traced b k → WasAsked region t tries (Ok tt) e c.value c'.value a k
 asked_answered region t tries end p e c c' a b k before traced is h told same kept =
@@ -124,7 +142,7 @@ opening_fault region t tries (fault.Spent version) v v' known next why = (why.1.
 
 -- the call was refused
 pub asked_refused : (region : RegionShown) (t : Task) (tries : ℕ) (end : Result Placed Fault) (f : Fault) (e : Effort)
-    (c c' : CallerShown) (a b : KeptNotes) → is_task t ≡ true → is_try_count tries ≡ true → end ≡ Err f →
+    (c c' : ClientShown) (a b : KeptNotes) → is_task t ≡ true → is_try_count tries ≡ true → end ≡ Err f →
     HasCalledPlaced region t tries end e c c' → b ≡ a → WasAsked region t tries (Err f) e c.value c'.value a b
 asked_refused region t tries end f e c c' a b range some is h same =
     let called : HasCalledPlaced region t tries (Err f) e c c' =
@@ -155,9 +173,9 @@ no_record n v v' a = a.records ∙ (ap (λ (l : List Record). v.records ++ l) (n
     append-nil v.records)
 
 -- a command of the opening was answered
-pub command_answered : (command : Command) (e : Effort) (y y' : SessionShown) (a b : KeptNotes)
-    (end : Result (Unit {0}) Fault) → HasAllGrants y.client.value →
-    WasAsked y.manager (One command) 1 end e y.client.value y'.client.value a b →
+pub command_answered : (command : Command) (e : Effort) (y y' : CallerShown) (a b : KeptNotes)
+    (end : Result (Unit {0}) Fault) → HasAllGrants y.user.value →
+    WasAsked y.shared (One command) 1 end e y.user.value y'.user.value a b →
     IfOk end (λ _. WasAnswered command y y' a b)
 command_answered command e y y' a b (Ok x) alone h = record {
   answered = h.answered;
@@ -168,12 +186,12 @@ command_answered command e y y' a b (Ok x) alone h = record {
 command_answered command e y y' a b (Err f) alone h = tt
 
 -- it was refused
-pub command_refused : (command : Command) (e : Effort) (y y' : SessionShown) (a b : KeptNotes)
-    (end : Result (Unit {0}) Fault) → HasAllGrants y.client.value →
-    WasAsked y.manager (One command) 1 end e y.client.value y'.client.value a b →
+pub command_refused : (command : Command) (e : Effort) (y y' : CallerShown) (a b : KeptNotes)
+    (end : Result (Unit {0}) Fault) → HasAllGrants y.user.value →
+    WasAsked y.shared (One command) 1 end e y.user.value y'.user.value a b →
     IfErr end (λ why. WasRefused why y y')
 command_refused command e y y' a b (Ok x) alone h = tt
 command_refused command e y y' a b (Err f) alone h = record {
   why = h.refused alone;
-  same = no_record y.manager.renewal y.client.value y'.client.value h.answered;
+  same = no_record y.shared.renewal y.user.value y'.user.value h.answered;
 }

@@ -1,7 +1,7 @@
 pub mod Order
 pub mod Ranges
 mod Asked
-mod Sessions
+mod Callers
 mod Attempting
 pub mod Clocking
 pub mod Answering

@@ -3,6 +3,7 @@ use Rattle.std.proofs.Common.{◌≡◌, ◌≤◌, Bool, true, false, ◌&&◌,
 use Rattle.std.proofs.lemmas.Bool.Decides.{nat_tests}
 use Rattle.load_draws.specs.declared.settings.Settings.{Settings}
 use Rattle.load_draws.specs.Setting.{is_settings, is_work, is_system}
+use Rattle.vac_manager.specs.Called.{is_try_count}
 
 -- what both say
 pub first_true : (a b : Bool) → (a && b) ≡ true → a ≡ true
@@ -37,3 +38,7 @@ some_items s e = let h : is_system s ≡ true = second_true (is_work s) (is_syst
 -- a task gets so many tries at most
 pub few_tries : (s : Settings) → is_settings s ≡ true → s.tries ≤ 1048576
 few_tries s e = let h : is_system s ≡ true = second_true (is_work s) (is_system s) e in grind (arith, nat_tests, h)
+
+-- a task may have so many tries
+pub some_tries : (s : Settings) → is_settings s ≡ true → is_try_count s.tries ≡ true
+some_tries s e = let h : is_system s ≡ true = second_true (is_work s) (is_system s) e in grind (arith, nat_tests, h)

@@ -1,5 +1,5 @@
 -- The effect of issuing one task and of recording its call.
-use Rattle.std.specs.Prelude.{◌≡◌, ◌≢◌, ℕ, ◌+◌, ◌≤◌, Result, IfOk, IfErr}
+use Rattle.std.specs.Prelude.{◌≡◌, ◌≢◌, ℕ, ◌+◌, ◌≤◌, Result, Ok, Err, IfOk, IfErr}
 use Rattle.stm_core.specs.Client.{Client}
 use Rattle.stm_region.specs.Shown.{RegionShown}
 use Rattle.vac_model.specs.declared.tasks.Task.{Task}
@@ -7,6 +7,7 @@ use Rattle.vac_manager.specs.Called.{HasAllGrants}
 use Rattle.vac_manager.specs.declared.fault.Fault.{Fault}
 use Rattle.vac_manager.specs.declared.fault.Fault.TheVariants as fault
 use Rattle.vac_manager.specs.declared.placed.Effort.{Effort}
+use Rattle.vac_manager.specs.Placed.{nothing_done}
 use Rattle.load_client.specs.Attempted.{IsEffort, no_effort, with_call}
 use Rattle.load_client.specs.Keeping.{KeptNotes, HasKeptAdded}
 use Rattle.load_client.specs.Looping.{Answered, Clocked, answered_by, counted, least_attempts_of}
@@ -29,3 +30,12 @@ pub record WasAsked (region : RegionShown) (t : Task) (tries : ℕ) (end : Resul
   pub kept : HasKeptAdded v v' before after
   pub ready : HasAllGrants v → IfOk end (λ _. IsAnswered region v')
   pub refused : HasAllGrants v → IfErr end (λ why. IsOpeningFault region.last v.floor why)
+
+-- a drawn task was issued if it could be built; otherwise nothing was issued, and the result is
+-- that memory was refused, after no attempt
+abbrev pub WasIssued : {E : Type 0} → RegionShown → Result Task E → ℕ → Result (Unit {0}) Fault
+    → Effort → Client → Client → KeptNotes → KeptNotes → Type 0
+WasIssued region (Ok t) tries end e v v' before after =
+    WasAsked region t tries end e v v' before after
+WasIssued region (Err refused) tries end e v v' before after =
+    (end ≡ Err fault.Memory) × (e ≡ nothing_done) × (v' ≡ v) × (after ≡ before)

@@ -116,12 +116,3 @@ least_attempts_of tries end = least_attempts tries (counted end nothing)
 abbrev pub answered_by : {R : Type 0} → Task → Result R Fault → List Task
 answered_by t (Ok reply) = t ∷ []
 answered_by t (Err e) = []
-
--- a task that was built was issued and had this result, with a conflict only if other clients were
--- out; a task that could not be built has the result that memory was refused
-abbrev pub RanOne : {R E : Type 0} → ℕ → Result Task E → ℕ → Result R Fault → Client → Client
-    → Type 0
-RanOne renewal (Ok t) tries end v v' = Answered renewal (answered_by t end) v v'
-    × (v.attempt.number + least_attempts_of tries end ≤ v'.attempt.number)
-    × (HasAllGrants v → (counted end nothing).busy ≡ 0)
-RanOne renewal (Err e) tries end v v' = (end ≡ Err fault.Memory) × (v' ≡ v)

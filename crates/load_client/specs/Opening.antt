@@ -6,9 +6,9 @@ use Rattle.stm_region.specs.Shown.{RegionShown}
 use Rattle.vac_model.specs.declared.commands.Command.{Command}
 use Rattle.vac_model.specs.declared.tasks.Task.{Task}
 use Rattle.vac_model.specs.declared.tasks.Task.TheVariants as task
-use Rattle.vac_manager.specs.Called.{HasAllGrants, HasWholeHistory}
+use Rattle.vac_manager.specs.Called.{HasAllGrants, HasWholeHistory, CallerShown}
 use Rattle.vac_manager.specs.Legal.{WasLegal}
-use Rattle.vac_manager.specs.Session.{SessionShown, GoesOn}
+use Rattle.stm_object.specs.Callers.{GoesOn}
 use Rattle.vac_manager.specs.declared.fault.Fault.{Fault}
 use Rattle.vac_manager.specs.declared.fault.Fault.TheVariants as fault
 use Rattle.load_draws.specs.Draws.{Reader, Reads, Drew, Drawn}
@@ -30,11 +30,11 @@ pub record RanDrawn {D : Type 0} (leads : D → ℕ → D → Type 0) (renewal :
   pub answered : Answered renewal (as_tasks commands) v v'
   pub near : v'.floor ≤ v.floor + length commands
 
--- the client of a session ran the commands of this reader, in the renewal of its manager
+-- a caller ran the commands of this reader, in the renewal of its manager
 abbrev pub RanIn : {D : Type 0} → (D → ℕ → D → Type 0) → Reader (List Command)
-    → SessionShown → SessionShown → D → D → Type 0
+    → CallerShown → CallerShown → D → D → Type 0
 RanIn leads reader y y' state last =
-    RanDrawn leads y.manager.renewal reader y.client.value y'.client.value state last
+    RanDrawn leads y.shared.renewal reader y.user.value y'.user.value state last
 
 -- the last call of a solo client was completed by the manager of this region: the client's records
 -- are a complete history, and the last of them was decided in a state of the region's core
@@ -63,17 +63,17 @@ IsOpeningFault last floor (fault.Spent version) = (version ≡ last) × (floor �
 
 -- a solo client completed this command, and its recorder kept the call: the command added its
 -- record, and raised the version that the client knows by at most one
-pub record WasAnswered (command : Command) (y y' : SessionShown) (before after : KeptNotes)
+pub record WasAnswered (command : Command) (y y' : CallerShown) (before after : KeptNotes)
     : Type 0 where
-  pub answered : Answered y.manager.renewal (task.One command ∷ []) y.client.value y'.client.value
-  pub near : y'.client.value.floor ≤ y.client.value.floor + 1
-  pub ready : IsAnswered y.manager y'.client.value
-  pub kept : HasKeptAdded y.client.value y'.client.value before after
+  pub answered : Answered y.shared.renewal (task.One command ∷ []) y.user.value y'.user.value
+  pub near : y'.user.value.floor ≤ y.user.value.floor + 1
+  pub ready : IsAnswered y.shared y'.user.value
+  pub kept : HasKeptAdded y.user.value y'.user.value before after
 
 -- a command of the setup phase was refused to a solo client for this reason, and added no record
-pub record WasRefused (e : Fault) (y y' : SessionShown) : Type 0 where
-  pub why : IsOpeningFault y.manager.last y.client.value.floor e
-  pub same : y'.client.value.records ≡ y.client.value.records
+pub record WasRefused (e : Fault) (y y' : CallerShown) : Type 0 where
+  pub why : IsOpeningFault y.shared.last y.user.value.floor e
+  pub same : y'.user.value.records ≡ y.user.value.records
 
 -- the setup phase stopped with this fault: commands were read from the front of drawn words, in
 -- their order; those before the last one were issued and completed, and the last one was refused
@@ -90,26 +90,25 @@ pub record Stopped {D : Type 0} (leads : D → ℕ → D → Type 0) (renewal la
   pub kept : v'.records ≡ between.records
   pub why : IsOpeningFault last between.floor e
 
--- the client of a session stopped within the commands of this reader, with the clock of its
--- manager
+-- a caller stopped within the commands of this reader, with the clock of its manager
 abbrev pub StoppedIn : {D : Type 0} → (D → ℕ → D → Type 0) → Reader (List Command) → Fault
-    → SessionShown → SessionShown → D → D → Type 0
-StoppedIn leads reader e y y' state left = Stopped leads y.manager.renewal y.manager.last reader e
-    y.client.value y'.client.value state left
+    → CallerShown → CallerShown → D → D → Type 0
+StoppedIn leads reader e y y' state left = Stopped leads y.shared.renewal y.shared.last reader e
+    y.user.value y'.user.value state left
 
--- a solo client issued the commands of this reader with this result: its session went on, and the
--- client still has all grants; it ran all commands, or stopped within them
+-- a solo client issued the commands of this reader with this result: the caller went on, and
+-- still has all grants; it ran all commands, or stopped within them
 pub record RanOrStopped {D : Type 0} (leads : D → ℕ → D → Type 0) (reader : Reader (List Command))
-    (result : Result (Unit {0}) Fault) (y y' : SessionShown) (state last : D) : Type 0 where
-  pub session : GoesOn y y'
-  pub grants : HasAllGrants y'.client.value
+    (result : Result (Unit {0}) Fault) (y y' : CallerShown) (state last : D) : Type 0 where
+  pub caller : GoesOn y y'
+  pub grants : HasAllGrants y'.user.value
   pub ran : IfOk result (λ _. RanIn leads reader y y' state last)
   pub stopped : IfErr result (λ fault. StoppedIn leads reader fault y y' state last)
 
--- a solo client issued the commands of a load's setup phase with this result: its session went on,
--- and the client still has all grants; it ran all commands and its last call completed, or it
+-- a solo client issued the commands of a load's setup phase with this result: the caller went on,
+-- and still has all grants; it ran all commands and its last call completed, or it
 -- stopped within them
 pub record OpeningEnded {D : Type 0} (leads : D → ℕ → D → Type 0) (s : Settings)
-    (result : Result (Unit {0}) Fault) (y y' : SessionShown) (state last : D) : Type 0 where
+    (result : Result (Unit {0}) Fault) (y y' : CallerShown) (state last : D) : Type 0 where
   pub asked : RanOrStopped leads (opening s) result y y' state last
-  pub ready : IfOk result (λ _. IsAnswered y.manager y'.client.value)
+  pub ready : IfOk result (λ _. IsAnswered y.shared y'.user.value)

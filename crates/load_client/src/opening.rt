@@ -3,7 +3,7 @@
 ghost use Rattle.std.specs.Prelude.{◌≡◌, ◌≤◌, true, IfOk, IfErr};
 ghost use Rattle.vac_model.specs.Ranges.{is_command};
 ghost use Rattle.vac_manager.specs.Called.{HasAllGrants};
-ghost use Rattle.vac_manager.specs.Session.{GoesOn};
+ghost use Rattle.stm_object.specs.Callers.{GoesOn};
 ghost use Rattle.load_draws.specs.Setting.{is_settings};
 ghost use Rattle.load_client.specs.Keeping.{HasKeptAdded};
 ghost use Rattle.load_draws.specs.Tasks.{stock, stocks};
@@ -12,7 +12,7 @@ ghost use Rattle.load_client.specs.Opening.{RanOrStopped, OpeningEnded, WasAnswe
 use crate::asking::ask_kept;
 use load_draws::{Draws, Settings, draw_stock};
 use stm_attempt::NoGate;
-use vac_manager::{Fault, Keep, Session, Unkept};
+use vac_manager::{Caller, Fault, Keep, Unkept};
 use vac_model::{Command, Kind, Task};
 
 /// Attempts that a command of the setup phase may make at most.
@@ -20,56 +20,56 @@ const TRIES: u32 = 1;
 
 /// Issues a command, and records the call if it completes. If the recorder has no room, the
 /// command is not issued.
-fn ask_for<K: Keep>(session: &mut Session<'_>, command: Command, keep: &mut K) -> Result<(), Fault>
-    requires alone { HasAllGrants session.old.client.value }
+fn ask_for<K: Keep>(caller: &mut Caller<'_>, command: Command, keep: &mut K) -> Result<(), Fault>
+    requires alone { HasAllGrants caller.old.user.value }
     requires range { is_command command ≡ true }
-    ensures session { GoesOn session.old session.new }
-    ensures grants { HasAllGrants session.new.client.value }
-    ensures answered { IfOk result (λ _. WasAnswered command session.old session.new
+    ensures caller { GoesOn caller.old caller.new }
+    ensures grants { HasAllGrants caller.new.user.value }
+    ensures answered { IfOk result (λ _. WasAnswered command caller.old caller.new
         (K.notes keep.old) (K.notes keep.new)) }
-    ensures refused { IfErr result (λ fault. WasRefused fault session.old session.new) }
+    ensures refused { IfErr result (λ fault. WasRefused fault caller.old caller.new) }
 {
     let task = Task::One(command);
-    let (end, _effort) = ask_kept(session, task, TRIES, &mut NoGate, keep);
+    let (end, _effort) = ask_kept(caller, Ok(task), TRIES, &mut NoGate, keep);
     end
 }
 
 /// Adds an item of this kind.
 fn add_item<D: Draws, K: Keep>(
-    session: &mut Session<'_>,
+    caller: &mut Caller<'_>,
     draws: &mut D,
     id: u32,
     kind: Kind,
     keep: &mut K,
 ) -> Result<(), Fault>
-    requires alone { HasAllGrants session.old.client.value }
+    requires alone { HasAllGrants caller.old.user.value }
     requires id { 1 ≤ id }
     ensures asked { RanOrStopped D.leads (stock id kind) result
-        session.old session.new draws.old draws.new }
-    ensures kept { IfOk result (λ _. HasKeptAdded session.old.client.value session.new.client.value
+        caller.old caller.new draws.old draws.new }
+    ensures kept { IfOk result (λ _. HasKeptAdded caller.old.user.value caller.new.user.value
         (K.notes keep.old) (K.notes keep.new)) }
 {
     let command = draw_stock(draws, id, kind);
-    ask_for(session, command, keep)
+    ask_for(caller, command, keep)
 }
 
 /// Adds an item of each kind.
 fn add_items<D: Draws, K: Keep>(
-    session: &mut Session<'_>,
+    caller: &mut Caller<'_>,
     draws: &mut D,
     id: u32,
     keep: &mut K,
 ) -> Result<(), Fault>
-    requires alone { HasAllGrants session.old.client.value }
+    requires alone { HasAllGrants caller.old.user.value }
     requires id { 1 ≤ id }
     ensures asked { RanOrStopped D.leads (stocks id) result
-        session.old session.new draws.old draws.new }
-    ensures kept { IfOk result (λ _. HasKeptAdded session.old.client.value session.new.client.value
+        caller.old caller.new draws.old draws.new }
+    ensures kept { IfOk result (λ _. HasKeptAdded caller.old.user.value caller.new.user.value
         (K.notes keep.old) (K.notes keep.new)) }
 {
-    add_item(session, draws, id, Kind::Car, keep)?;
-    add_item(session, draws, id, Kind::Flight, keep)?;
-    add_item(session, draws, id, Kind::Room, keep)
+    add_item(caller, draws, id, Kind::Car, keep)?;
+    add_item(caller, draws, id, Kind::Flight, keep)?;
+    add_item(caller, draws, id, Kind::Room, keep)
 }
 
 /// Makes the items and the customers of a load, one command after the other, each in one attempt,
@@ -79,24 +79,24 @@ fn add_items<D: Draws, K: Keep>(
 ///
 /// Not said: which calls the recorder keeps if the setup phase stopped.
 pub fn open_kept<D: Draws, K: Keep>(
-    session: &mut Session<'_>,
+    caller: &mut Caller<'_>,
     draws: &mut D,
     settings: &Settings,
     keep: &mut K,
 ) -> Result<(), Fault>
-    requires alone { HasAllGrants session.old.client.value }
+    requires alone { HasAllGrants caller.old.user.value }
     requires settings { is_settings settings.now ≡ true }
     ensures opened { OpeningEnded D.leads settings.now result
-        session.old session.new draws.old draws.new }
-    ensures kept { IfOk result (λ _. HasKeptAdded session.old.client.value session.new.client.value
+        caller.old caller.new draws.old draws.new }
+    ensures kept { IfOk result (λ _. HasKeptAdded caller.old.user.value caller.new.user.value
         (K.notes keep.old) (K.notes keep.new)) }
 {
     'items: for place in 0..settings.items {
-        add_items(session, draws, place + 1, keep)?;
+        add_items(caller, draws, place + 1, keep)?;
     }
     'customers: for place in 0..settings.items {
         let command = Command::NewCustomer { id: place + 1 };
-        ask_for(session, command, keep)?;
+        ask_for(caller, command, keep)?;
     }
     Ok(())
 }
@@ -105,14 +105,14 @@ pub fn open_kept<D: Draws, K: Keep>(
 /// The client must be solo: it has all grants. The first fault ends the setup phase: refused
 /// memory or a spent clock. What completed before the fault stays.
 pub fn open<D: Draws>(
-    session: &mut Session<'_>,
+    caller: &mut Caller<'_>,
     draws: &mut D,
     settings: &Settings,
 ) -> Result<(), Fault>
-    requires alone { HasAllGrants session.old.client.value }
+    requires alone { HasAllGrants caller.old.user.value }
     requires settings { is_settings settings.now ≡ true }
     ensures { OpeningEnded D.leads settings.now result
-        session.old session.new draws.old draws.new }
+        caller.old caller.new draws.old draws.new }
 {
-    open_kept(session, draws, settings, &mut Unkept)
+    open_kept(caller, draws, settings, &mut Unkept)
 }

@@ -7,7 +7,7 @@ use Rattle.stm_core.proofs.Lists.{nothing_in}
 use Rattle.stm_core.proofs.Eras.{in_append, of_padded}
 use Rattle.stm_region.specs.Shown.{RegionShown}
 use Rattle.vac_manager.specs.Legal.{HaveOneWriter, AreVersioned}
-use Rattle.vac_manager.specs.Called.{CallerShown}
+use Rattle.vac_manager.specs.Called.{ClientShown}
 use Rattle.vac_manager.specs.Renewed.{ClosesSomewhere}
 use Rattle.load_draws.specs.Draws.{Reader}
 use Rattle.vac_model.specs.declared.commands.Command.{Command}
@@ -79,7 +79,7 @@ opened_in leads renewal reader v v' state last empty ran =
     more_in renewal v.records a.added v'.records none a.records (λ r i. (a.each r i).renewal_is)
 
 -- after a renewal all are of earlier ones
-pub renewed_in : (region region' : RegionShown) (c c' : CallerShown) (words : List ℕ) →
+pub renewed_in : (region region' : RegionShown) (c c' : ClientShown) (words : List ℕ) →
     ClosesSomewhere region c.value words → region'.renewal ≡ region.renewal + 1 → c'.value.records ≡ c.value.records →
     IsInRenewal region.renewal c.value.records → IsInRenewal region'.renewal c'.value.records
 renewed_in region region' c c' words h e same in_it =

@@ -2,7 +2,7 @@
 use Rattle.std.proofs.Common.{◌≡◌, ◌∙◌, ℕ, ◌+◌, min, List, [], ◌∷◌, ◌++◌, refl, sym, ap, arith}
 use Rattle.stm_core.specs.Client.{Client, Record, merged}
 use Rattle.stm_region.specs.Shown.{with_gathered}
-use Rattle.vac_manager.specs.Session.{SessionShown}
+use Rattle.vac_manager.specs.Called.{CallerShown}
 use Rattle.load_client.specs.declared.tally.Tally.{Tally}
 use Rattle.load_client.specs.Looping.{plus}
 use Rattle.load_run.specs.Several.{sum_of, added_up}
@@ -52,17 +52,17 @@ gathered_more records_of tally_of x xs y v v' t t' h e f = record {
   tallies = f ∙ (ap (λ (u : Tally). plus u (tally_of y)) h.tallies ∙ sym (added_more tally_of (x ∷ xs) y));
 }
 
--- a session after it took in another
-pub record TookIn (y other after : SessionShown) : Type 0 where
-  pub manager : after.manager ≡ y.manager
-  pub records : after.client.value.records ≡ merged y.client.value.records other.client.value.records
-  pub grants : after.client.value.grants ≡ min (y.client.value.grants + other.client.value.grants + 1) 63
+-- a caller after it took in another
+pub record TookIn (y other after : CallerShown) : Type 0 where
+  pub manager : after.shared ≡ y.shared
+  pub records : after.user.value.records ≡ merged y.user.value.records other.user.value.records
+  pub grants : after.user.value.grants ≡ min (y.user.value.grants + other.user.value.grants + 1) 63
 
-pub took_in : (y other after : SessionShown) → after ≡ record y {
-  client = record y.client { value = with_gathered y.client.value other.client.value };
+pub took_in : (y other after : CallerShown) → after ≡ record y {
+  user = record y.user { value = with_gathered y.user.value other.user.value };
 } → TookIn y other after
 took_in y other after e = record {
-  manager = ap (λ (x : SessionShown). x.manager) e;
-  records = ap (λ (x : SessionShown). x.client.value.records) e;
-  grants = ap (λ (x : SessionShown). x.client.value.grants) e;
+  manager = ap (λ (x : CallerShown). x.shared) e;
+  records = ap (λ (x : CallerShown). x.user.value.records) e;
+  grants = ap (λ (x : CallerShown). x.user.value.grants) e;
 }

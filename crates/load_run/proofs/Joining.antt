@@ -5,9 +5,8 @@ use Rattle.std.proofs.Math.Nat.{mul-le-mul}
 use Rattle.tx_memory.specs.Image.{In}
 use Rattle.stm_core.specs.Client.{Record}
 use Rattle.stm_region.specs.Shown.{RegionShown}
-use Rattle.vac_manager.specs.Called.{CallerShown}
+use Rattle.vac_manager.specs.Called.{ClientShown, CallerShown}
 use Rattle.vac_manager.specs.Renewed.{ClosesSomewhere}
-use Rattle.vac_manager.specs.Session.{SessionShown}
 use Rattle.stm_core.specs.History.{Sub, done, keep, skip}
 use Rattle.load_draws.specs.declared.settings.Settings.{Settings}
 use Rattle.load_run.specs.declared.rounds.Round.{Round}
@@ -154,15 +153,15 @@ module _ {D P : Type 0} (leads : D → ℕ → D → Type 0) (s : Settings) (sho
 
 -- one round more
 pub ran_more : {W D : Type 0} (leads : D → ℕ → D → Type 0) (shown_of : W → SeatShown D) (s : Settings) (rounds : ℕ)
-    (y ready : SessionShown) (seats : List W) (r more : Round W) (t : Tally) →
+    (y ready : CallerShown) (seats : List W) (r more : Round W) (t : Tally) →
     RoundHasRun leads shown_of s (rounds * s.tasks) y seats r →
-    ready.client.value.records ≡ r.client.value.records →
+    ready.user.value.records ≡ r.client.value.records →
     RoundHasRun leads shown_of s s.tasks ready r.seats.items more → t ≡ plus r.tally.tally more.tally.tally →
-    RanAll leads s shown_of ((rounds + 1) * s.tasks) y.client.value.records seats
+    RanAll leads s shown_of ((rounds + 1) * s.tasks) y.user.value.records seats
     more.client.value.records more.seats.items t
 ran_more leads shown_of s rounds y ready seats r more t h same k e =
     let n : rounds * s.tasks + s.tasks ≡ (rounds + 1) * s.tasks = grind arith in
-    let first = y.client.value.records in
+    let first = y.user.value.records in
     let middle = r.client.value.records in
     let last = more.client.value.records in
     let next : RanAll leads s shown_of s.tasks middle r.seats.items last more.seats.items more.tally.tally =
@@ -217,7 +216,7 @@ few_all n pairs clients rounds tasks e f a b c = let p = few_tasks pairs rounds 
     omega (arith, e, p)
 
 -- after a renewal all records are of earlier ones
-pub renewed_known : (region region' : RegionShown) (c c' : CallerShown) (words : List ℕ) →
+pub renewed_known : (region region' : RegionShown) (c c' : ClientShown) (words : List ℕ) →
     ClosesSomewhere region c.value words → region'.renewal ≡ region.renewal + 1 → c'.value.records ≡ c.value.records →
     AreKnown region'.renewal c'.value.floor c'.value.records
 renewed_known region region' c c' words h e same = λ r i.

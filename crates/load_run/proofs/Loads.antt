@@ -10,10 +10,9 @@ use Rattle.vac_model.specs.declared.replies.Report.{Report}
 use Rattle.vac_model.specs.State.{State, empty_state, report}
 use Rattle.vac_manager.specs.Law.{Shows}
 use Rattle.vac_manager.specs.Legal.{IsLegal, AreVersioned, capacity_of}
-use Rattle.vac_manager.specs.Called.{CallerShown}
+use Rattle.vac_manager.specs.Called.{ClientShown, CallerShown}
 use Rattle.vac_manager.specs.Opening.{Opens}
 use Rattle.vac_manager.specs.Renewed.{ClosesSomewhere}
-use Rattle.vac_manager.specs.Session.{SessionShown}
 use Rattle.load_draws.specs.declared.settings.Settings.{Settings}
 use Rattle.load_client.specs.declared.tally.Tally.{Tally}
 use Rattle.load_draws.specs.Tasks.{opening}
@@ -43,18 +42,18 @@ use Rattle.load_client.proofs.Beginning.{long_opening}
 
 -- after the opening the first round can begin: what the opening added is known to its client, and it
 -- took the clock on by at most one for each of its commands
-pub opened_ready : {D : Type 0} (leads : D → ℕ → D → Type 0) (s : Settings) (state left : D) (y : SessionShown) →
+pub opened_ready : {D : Type 0} (leads : D → ℕ → D → Type 0) (s : Settings) (state left : D) (y : CallerShown) →
     HasOpened leads s state left y → IsReadyForRound s y
 opened_ready leads s state left y h =
     let a = h.ran.answered in
-    let all : y.client.value.records ≡ a.added = a.records ∙
-    ap (λ (c : CallerShown). c.value.records ++ a.added) h.opens.client_is in
-    let first : h.opener.value.floor ≡ 0 = ap (λ (c : CallerShown). c.value.floor) h.opens.client_is in
+    let all : y.user.value.records ≡ a.added = a.records ∙
+    ap (λ (c : ClientShown). c.value.records ++ a.added) h.opens.client_is in
+    let first : h.opener.value.floor ≡ 0 = ap (λ (c : ClientShown). c.value.floor) h.opens.client_is in
     let d = h.ran.drawn in
     let long = long_opening s (d.words ++ []) h.ran.commands [] (d.reads []) in
     record {
       last = h.opens.last_is;
-      known = λ r i. added_known y.manager.renewal h.opener.value.floor y.client.value.floor r
+      known = λ r i. added_known y.shared.renewal h.opener.value.floor y.user.value.floor r
           (a.each r (subst (λ (l : List Record). In r l) all i));
       early = omega (arith, long, first, h.ran.near);
     }
@@ -104,14 +103,14 @@ module _ {D P : Type 0} (leads : D → ℕ → D → Type 0) (s : Settings) (sho
   kept_drawn (p ∷ ps) (x ∷ xs) [] hs ks = elim ks [ ]
 
 pub loaded_kept : {D G K : Type 0} (leads : D → ℕ → D → Type 0) (notes : K → KeptNotes) (s : Settings) (state last : D)
-    (seats : List (Seat D G K)) (y : SessionShown) (end : Round (Seat D G K)) (before kept : KeptNotes) (words : List ℕ)
+    (seats : List (Seat D G K)) (y : CallerShown) (end : Round (Seat D G K)) (before kept : KeptNotes) (words : List ℕ)
     (r : Report) →
     length seats ≡ s.clients →
     HasOpened leads s state last y →
-    AreKept y.client.value.records before kept →
+    AreKept y.user.value.records before kept →
     RoundHasRun leads (shown notes) s (s.rounds * s.tasks) y seats end →
     AreVersioned end.client.value.records →
-    end.manager.size ≡ y.manager.size →
+    end.manager.size ≡ y.shared.size →
     ClosesSomewhere end.manager end.client.value words →
     ((x : State) → Shows words x → report x ≡ r) →
     LoadedKept leads s (λ seat. seat.draws) state seats end.tally.tally r before kept (kept_at notes seats)
@@ -123,8 +122,8 @@ loaded_kept leads notes s state last seats y end before kept words r n opened ke
     let after = end.client.value in
     let left = end.seats.items in
     let n_of = s.rounds * s.tasks in
-    let records : y.client.value.records ≡ added = ran.answered.records ∙
-    ap (λ (c : CallerShown). c.value.records ++ added) opened.opens.client_is in
+    let records : y.user.value.records ≡ added = ran.answered.records ∙
+    ap (λ (c : ClientShown). c.value.records ++ added) opened.opens.client_is in
     let capacity : capacity_of end.manager ≡ s.blocks = ap (λ (k : ℕ). (k - 16) / 8) size ∙
     opened.opens.capacity in
     let count : s.clients * (s.rounds * s.tasks) ≡ s.rounds * s.clients * s.tasks = grind arith in
@@ -147,7 +146,7 @@ loaded_kept leads notes s state last seats y end before kept words r n opened ke
         each = each_drawn leads s (shown notes) n_of seats all.shares all.each;
         each_once = once_drawn all.shares all.rest all.each_once;
         tallies = all.tallies ∙ sym (tallies_drawn all.shares);
-        all = ran_total leads s (shown notes) n_of y.client.value.records after.records seats left end.tally.tally all ∙
+        all = ran_total leads s (shown notes) n_of y.user.value.records after.records seats left end.tally.tally all ∙
             (ap (λ (k : ℕ). k * (s.rounds * s.tasks)) n ∙ count);
         alone = λ one. all.alone (n ∙ one);
         in_time = λ one time. all.in_time (n ∙ one) time;
@@ -278,7 +277,7 @@ too_short leads s renewal (fault.Spent version) v v' state left first p =
 
 -- the manager of a load was made, and its opening stopped
 pub was_stopped : {D : Type 0} (leads : D → ℕ → D → Type 0) (s : Settings) (e : Fault) (state left : D) (stripes : ℕ)
-    (region : RegionShown) (opener : CallerShown) (after : Client) →
+    (region : RegionShown) (opener : ClientShown) (after : Client) →
     Opens s.blocks s.last stripes region opener → Stopped leads region.renewal region.last
     (opening s) e opener.value after state left → WasStopped leads s e state left
 was_stopped leads s e state left stripes region opener after opens stopped =
@@ -293,7 +292,7 @@ was_stopped leads s e state left stripes region opener after opens stopped =
       after = after;
       stopped = at;
       short = too_short leads s region.renewal e opener.value after state left
-          (ap (λ (c : CallerShown). c.value.floor) opens.client_is) at;
+          (ap (λ (c : ClientShown). c.value.floor) opens.client_is) at;
     }
 
 -- a load by a seed that stopped is one that was not run to its end

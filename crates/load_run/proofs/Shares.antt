@@ -7,8 +7,7 @@ use Rattle.stm_core.specs.Invariant.{Sorted}
 use Rattle.stm_core.proofs.Orders.{in_merged}
 use Rattle.stm_core.proofs.Whole.{merged_sorted}
 use Rattle.stm_region.specs.Shown.{RegionShown}
-use Rattle.vac_manager.specs.Called.{CallerShown, Splits}
-use Rattle.vac_manager.specs.Session.{SessionShown}
+use Rattle.vac_manager.specs.Called.{ClientShown, Splits, CallerShown}
 use Rattle.load_draws.specs.declared.settings.Settings.{Settings}
 use Rattle.load_client.specs.declared.tally.Tally.{Tally}
 use Rattle.load_run.specs.declared.workers.Worker.{Worker}
@@ -30,29 +29,29 @@ use Rattle.load_run.proofs.Merging.{merged_behind, interleaved_alone, regrouped,
 use Rattle.load_client.proofs.Notes.{kept_added}
 use Rattle.load_run.proofs.Pairs.{paired_through, paired_length, all_cons}
 
--- a worker whose session was split off
-pub split_worker : {W : Type 0} (y before after : SessionShown) (w : Worker W) →
-    Splits before.client after.client w.session.client → w.session.manager ≡ before.manager →
-    before.manager ≡ y.manager → before.client.value.floor ≡ y.client.value.floor →
-    IsWorker y.manager [] y.client.value.floor w.seat w
+-- a worker whose caller was split off
+pub split_worker : {W : Type 0} (y before after : CallerShown) (w : Worker W) →
+    Splits before.user after.user w.caller.user → w.caller.shared ≡ before.shared →
+    before.shared ≡ y.shared → before.user.value.floor ≡ y.user.value.floor →
+    IsWorker y.shared [] y.user.value.floor w.seat w
 split_worker y before after w s m t f = record {
   manager_is = m ∙ t;
-  records_are = ap (λ (x : CallerShown). x.value.records) s.theirs;
-  knows = ap (λ (x : CallerShown). x.value.floor) s.theirs ∙ f;
+  records_are = ap (λ (x : ClientShown). x.value.records) s.theirs;
+  knows = ap (λ (x : ClientShown). x.value.floor) s.theirs ∙ f;
   seat_is = refl;
 }
 
 -- the client that another was split off from
-pub record SplitKeeps (before after : CallerShown) : Type 0 where
+pub record SplitKeeps (before after : ClientShown) : Type 0 where
   pub records : after.value.records ≡ before.value.records
   pub floor : after.value.floor ≡ before.value.floor
   pub grants : after.value.grants + 1 ≡ before.value.grants
 
-pub split_keeps : (before after other : CallerShown) → Splits before after other → SplitKeeps before after
+pub split_keeps : (before after other : ClientShown) → Splits before after other → SplitKeeps before after
 split_keeps before after other s = record {
-  records = ap (λ (x : CallerShown). x.value.records) s.mine;
-  floor = ap (λ (x : CallerShown). x.value.floor) s.mine;
-  grants = let q : after.value.grants ≡ before.value.grants - 1 = ap (λ (x : CallerShown). x.value.grants) s.mine in
+  records = ap (λ (x : ClientShown). x.value.records) s.mine;
+  floor = ap (λ (x : ClientShown). x.value.floor) s.mine;
+  grants = let q : after.value.grants ≡ before.value.grants - 1 = ap (λ (x : ClientShown). x.value.grants) s.mine in
       omega (arith, q, s.some);
 }
 
@@ -76,7 +75,7 @@ paired_both related P Q f (x ∷ xs) [] h p = elim p [ ]
 
 -- the records that a client added, and that they stand behind those that it had
 pub record Did {D : Type 0} (leads : D → ℕ → D → Type 0) (s : Settings) (renewal floor : ℕ) (before : List Record)
-    (state left : SeatShown D) (after : CallerShown) (t : Tally) : Type 0 where
+    (state left : SeatShown D) (after : ClientShown) (t : Tally) : Type 0 where
   pub added : List Record
   pub records_are : after.value.records ≡ before ++ added
   pub sorted : Sorted added
@@ -87,11 +86,11 @@ pub did : {W D : Type 0} (leads : D → ℕ → D → Type 0) (shown_of : W →
     SeatShown D) (s : Settings) (manager : RegionShown)
     (floor : ℕ) (before : List Record) (seat : W) (w : Worker W) (r : Worker W) →
     IsWorker manager before floor seat w → DidWork leads shown_of s w r →
-    Did leads s manager.renewal floor before (shown_of seat) (shown_of r.seat) r.session.client
+    Did leads s manager.renewal floor before (shown_of seat) (shown_of r.seat) r.caller.user
     r.tally.tally
 did leads shown_of s manager floor before seat w r h k =
-    let y = w.session in
-    let y' = r.session in
+    let y = w.caller in
+    let y' = r.caller in
     let left = shown_of r.seat in
     let same = ap (λ (x : _). shown_of x) h.seat_is in
     let l = k.looped in
@@ -101,7 +100,7 @@ did leads shown_of s manager floor before seat w r h k =
       records_are = a.records ∙ ap (λ (rs : List Record). rs ++ a.added) h.records_are;
       sorted = a.sorted;
       later = λ r i. subst (λ (m : RegionShown). IsLater m.renewal floor r) h.manager_is
-          (added_later y.manager.renewal floor y.client.value.floor y'.client.value.floor r (omega (arith, h.knows))
+          (added_later y.shared.renewal floor y.user.value.floor y'.user.value.floor r (omega (arith, h.knows))
           (a.each r i));
       has = record {
         has = record {
@@ -115,7 +114,7 @@ did leads shown_of s manager floor before seat w r h k =
           all = l.all;
         };
         kept = subst (λ (x : SeatShown _). AreKept a.added x.kept left.kept) same
-            (kept_added y.client.value y'.client.value a.added (shown_of w.seat).kept left.kept a.records k.kept);
+            (kept_added y.user.value y'.user.value a.added (shown_of w.seat).kept left.kept a.records k.kept);
       };
     }
 
@@ -163,27 +162,27 @@ no_sum f [] e = refl
 no_sum f (x ∷ xs) e = absurd (omega (arith, e))
 
 module _ {W D : Type 0} (leads : D → ℕ → D → Type 0) (shown_of : W → SeatShown D)
-    (s : Settings) (opener : SessionShown) where
+    (s : Settings) (opener : CallerShown) where
   -- how the tasks ended
   abbrev tally_of : Worker W → Tally
   tally_of r = r.tally.tally
 
   -- the records of the client
   abbrev records_of : Worker W → List Record
-  records_of r = r.session.client.value.records
+  records_of r = r.caller.user.value.records
 
   -- the shares of the clients that began without records
   record Shared (floor : ℕ) (ps : List W) (rs : List (Worker W)) : Type 0 where
     shares : List (Share (SeatShown D))
     each : Paired (λ p x. HasKeptShare leads s s.tasks (shown_of p) x) ps shares
     left_are : Paired (λ x r. shown_of r.seat ≡ x.left) shares rs
-    later : AreLater opener.manager.renewal floor shares
+    later : AreLater opener.shared.renewal floor shares
     merges : (l : List Record) → all_merged records_of l rs ≡ all_merged
         (λ (x : Share (SeatShown D)). x.records) l shares
     tallies : added_up tally_of rs ≡ added_up (λ (x : Share (SeatShown D)). x.tally) shares
 
   shared : (floor : ℕ) (ps : List W) (ws : List (Worker W)) (rs : List (Worker W)) →
-      Paired (IsWorker opener.manager [] floor) ps ws → Paired (DidWork leads shown_of s) ws rs → Shared floor ps rs
+      Paired (IsWorker opener.shared [] floor) ps ws → Paired (DidWork leads shown_of s) ws rs → Shared floor ps rs
   shared floor [] [] [] none none = record {
     shares = [];
     each = none;
@@ -193,7 +192,7 @@ module _ {W D : Type 0} (leads : D → ℕ → D → Type 0) (shown_of : W → S
     tallies = refl;
   }
   shared floor (p ∷ ps) (w ∷ ws) (r ∷ rs) (both h hs) (both k ks) =
-      let d = did leads shown_of s opener.manager floor [] p w r h k in
+      let d = did leads shown_of s opener.shared floor [] p w r h k in
       let more = shared floor ps ws rs hs ks in
       record {
         shares = record { records = d.added; tally = tally_of r; left = shown_of r.seat } ∷ more.shares;
@@ -217,11 +216,11 @@ module _ {W D : Type 0} (leads : D → ℕ → D → Type 0) (shown_of : W → S
   -- what the first one added, and the others behind it
   record Round (seats : List W) (crew : Crew W) (done : Crew W) (all : List Record)
       (h : IsCrew opener s.tries seats crew) : Type 0 where
-    mine : Did leads s opener.manager.renewal opener.client.value.floor opener.client.value.records
-        (shown_of h.seat) (shown_of done.first.seat) done.first.session.client
+    mine : Did leads s opener.shared.renewal opener.user.value.floor opener.user.value.records
+        (shown_of h.seat) (shown_of done.first.seat) done.first.caller.user
         done.first.tally.tally
-    more : Shared opener.client.value.floor h.rest done.others.items
-    behind : all ≡ opener.client.value.records
+    more : Shared opener.user.value.floor h.rest done.others.items
+    behind : all ≡ opener.user.value.records
         ++ all_merged (λ (x : Share (SeatShown D)). x.records) mine.added more.shares
 
   round : (seats : List W) (crew : Crew W) (done : Crew W) (all : List Record)
@@ -229,16 +228,16 @@ module _ {W D : Type 0} (leads : D → ℕ → D → Type 0) (shown_of : W → S
       DidAllWork leads shown_of s crew done →
       Gathered records_of tally_of done.first done.others.items all t → Round seats crew done all h
   round seats crew done all t ready h k g =
-      let floor = opener.client.value.floor in
-      let before = opener.client.value.records in
-      let d = did leads shown_of s opener.manager floor before h.seat crew.first done.first h.opening k.first in
+      let floor = opener.user.value.floor in
+      let before = opener.user.value.records in
+      let d = did leads shown_of s opener.shared floor before h.seat crew.first done.first h.opening k.first in
       let more = shared floor h.rest crew.others.items done.others.items h.others_are k.others in
       record {
         mine = d;
         more = more;
         behind = g.records_are ∙ (ap (λ (m : List Record). all_merged records_of m done.others.items) d.records_are
             ∙ (more.merges (before ++ d.added)
-            ∙ merged_front opener.manager.renewal floor before d.added more.shares ready.known more.later));
+            ∙ merged_front opener.shared.renewal floor before d.added more.shares ready.known more.later));
       }
 
   pub ran_all : (seats left : List W) (crew : Crew W) (done : Crew W)
@@ -246,7 +245,7 @@ module _ {W D : Type 0} (leads : D → ℕ → D → Type 0) (shown_of : W → S
       DidAllWork leads shown_of s crew done →
       Gathered records_of tally_of done.first done.others.items after.records t →
       Paired (λ r p. p ≡ r.seat) (done.first ∷ done.others.items) left →
-      RanAll leads s shown_of s.tasks opener.client.value.records seats after.records left t
+      RanAll leads s shown_of s.tasks opener.user.value.records seats after.records left t
   ran_all seats left crew done after t ready h k g lefts =
       let r = round seats crew done after.records t ready h k g in
       let d = r.mine in
@@ -264,8 +263,8 @@ module _ {W D : Type 0} (leads : D → ℕ → D → Type 0) (shown_of : W → S
       let quiet : (f : Worker W → ℕ) → length seats ≡ 1 → sum_of f done.others.items ≡ 0 = λ f one. (
       let same = paired_length _ crew.others.items done.others.items k.others in
       no_sum f done.others.items (omega (arith, none one, same))) in
-      let grants : length seats ≡ 1 → crew.first.session.client.value.grants ≡ 63 = λ one. (
-      let held : crew.first.session.client.value.grants + crew.others.len ≡ 63 = h.grants in
+      let grants : length seats ≡ 1 → crew.first.caller.user.value.grants ≡ 63 = λ one. (
+      let held : crew.first.caller.user.value.grants + crew.others.len ≡ 63 = h.grants in
       omega (arith, none one, held, crew.others.ok.0)) in
       record {
         shares = mine ∷ more.shares;
@@ -276,7 +275,7 @@ module _ {W D : Type 0} (leads : D → ℕ → D → Type 0) (shown_of : W → S
             (both refl more.left_are) lefts;
         rest = all_merged (λ (x : Share (SeatShown D)). x.records) d.added more.shares;
         behind = r.behind;
-        each_once = within opener.manager.renewal opener.client.value.floor d.added more.shares d.sorted more.later;
+        each_once = within opener.shared.renewal opener.user.value.floor d.added more.shares d.sorted more.later;
         tallies = g.tallies ∙ ap (λ (u : Tally). plus (tally_of done.first) u) more.tallies;
         alone = λ one. (
             let first = k.first.looped.alone (grants one) in
@@ -285,7 +284,7 @@ module _ {W D : Type 0} (leads : D → ℕ → D → Type 0) (shown_of : W → S
             omega (arith, first, quiet (λ r. (tally_of r).busy) one, busy));
         in_time = λ one time. (
             let clock = k.first.clock (grants one) in
-            let ends : crew.first.session.manager.last ≡ s.last =
+            let ends : crew.first.caller.shared.last ≡ s.last =
             ap (λ (m : RegionShown). m.last) h.opening.manager_is ∙ ready.last in
             let first = clocked_in_time _ _ _ _ s.tasks (4 * s.items) clock k.first.looped.all
             (omega (arith, h.opening.knows, ready.early)) (omega (arith, ends, time)) in
@@ -299,27 +298,27 @@ module _ {W D : Type 0} (leads : D → ℕ → D → Type 0) (shown_of : W → S
       (t : Tally) → IsReadyForRound s opener → IsCrew opener s.tries seats crew →
       DidAllWork leads shown_of s crew done →
       Gathered records_of tally_of done.first done.others.items after.records t →
-      IsInRenewal opener.manager.renewal opener.client.value.records → IsInRenewal opener.manager.renewal after.records
+      IsInRenewal opener.shared.renewal opener.user.value.records → IsInRenewal opener.shared.renewal after.records
   ran_in seats crew done after t ready h k g in_it =
       let r = round seats crew done after.records t ready h k g in
-      more_in opener.manager.renewal opener.client.value.records
+      more_in opener.shared.renewal opener.user.value.records
       (all_merged (λ (x : Share (SeatShown D)). x.records) r.mine.added r.more.shares) after.records in_it r.behind
-      (of_this opener.manager.renewal opener.client.value.floor r.mine.added r.more.shares r.mine.later r.more.later)
+      (of_this opener.shared.renewal opener.user.value.floor r.mine.added r.more.shares r.mine.later r.more.later)
 
   -- workers that ran their tasks can be gathered
   pub can_gather : (seats : List W) (crew : Crew W) (done : Crew W) →
       s.clients ≤ 64 → s.tasks ≤ 1000000 → length seats ≡ s.clients → IsCrew opener s.tries seats crew →
       DidAllWork leads shown_of s crew done → CanGather done
   can_gather seats crew done clients tasks number h k =
-      let first = ap (λ (y : SessionShown). y.manager) k.first.session ∙ h.opening.manager_is in
+      let first = ap (λ (y : CallerShown). y.shared) k.first.caller ∙ h.opening.manager_is in
       let same = paired_length _ crew.others.items done.others.items k.others in
       let there = done.others.ok.0 in
-      let managers = paired_each (IsWorker opener.manager [] opener.client.value.floor)
-      (λ w. w.session.manager ≡ opener.manager) (λ p w i. i.manager_is) h.rest crew.others.items h.others_are in
+      let managers = paired_each (IsWorker opener.shared [] opener.user.value.floor)
+      (λ w. w.caller.shared ≡ opener.shared) (λ p w i. i.manager_is) h.rest crew.others.items h.others_are in
       record {
         grants = (
             let held = k.first.looped.answered.grants in
-            let all : crew.first.session.client.value.grants + crew.others.len ≡ 63 = h.grants in
+            let all : crew.first.caller.user.value.grants + crew.others.len ≡ 63 = h.grants in
             omega (arith, held, same, crew.others.ok.0, there, all));
         few = (
             let long : length seats ≡ suc (length h.rest) = ap (λ (l : List W). length l) h.seats_are in
@@ -327,9 +326,9 @@ module _ {W D : Type 0} (leads : D → ℕ → D → Type 0) (shown_of : W → S
             omega (arith, long, pairs, same, there, number, clients));
         tasks = (let all = k.first.looped.all in omega (arith, all, tasks));
         others = paired_both (DidWork leads shown_of s)
-            (λ w. (w.session.manager ≡ opener.manager) × (w.session.client.value.grants ≡ 0)) (IsMember done.first)
+            (λ w. (w.caller.shared ≡ opener.shared) × (w.caller.user.value.grants ≡ 0)) (IsMember done.first)
             (λ w r e d. record {
-              one = ap (λ (y : SessionShown). y.manager) d.session ∙ (e.0 ∙ sym first);
+              one = ap (λ (y : CallerShown). y.shared) d.caller ∙ (e.0 ∙ sym first);
               grants = d.looped.answered.grants ∙ e.1;
               tasks = (let all = d.looped.all in omega (arith, all, tasks));
               tries = d.tries ∙ sym k.first.tries;

@@ -3,8 +3,8 @@ use Rattle.std.specs.Prelude.{◌≡◌, ◌≤◌, ◌<◌, ◌+◌, ◌*◌, �
 use Rattle.tx_memory.specs.Image.{In}
 use Rattle.stm_core.specs.Client.{Record}
 use Rattle.stm_region.specs.Shown.{RegionShown}
-use Rattle.vac_manager.specs.Called.{CallerShown, HasAllGrants}
-use Rattle.vac_manager.specs.Session.{SessionShown, IsOwn}
+use Rattle.vac_manager.specs.Called.{ClientShown, HasAllGrants, CallerShown}
+use Rattle.stm_object.specs.Callers.{IsOwn}
 use Rattle.vac_manager.specs.Legal.{AreVersioned}
 use Rattle.load_draws.specs.declared.settings.Settings.{Settings}
 use Rattle.load_client.specs.Looping.{AreKnown}
@@ -19,29 +19,29 @@ pub record IsInRenewal (renewal : ℕ) (records : List Record) : Type 0 where
   pub earlier : (r : Record) → In r past → r.renewal < renewal
   pub now : (r : Record) → In r present → r.renewal ≡ renewal
 
--- a manager with its client, as the contracts of a session see both
-abbrev pub session_of : RegionShown → CallerShown → SessionShown
-session_of region client = record { manager = region; client = client }
+-- a manager and its client as one caller
+abbrev pub caller_of : RegionShown → ClientShown → CallerShown
+caller_of region client = record { shared = region; user = client }
 
 -- the client is solo: it belongs to this manager and has all grants; its records are of the
 -- present renewal and of earlier ones
-pub record IsAloneInRenewal (y : SessionShown) : Type 0 where
+pub record IsAloneInRenewal (y : CallerShown) : Type 0 where
   pub own : IsOwn y
-  pub alone : HasAllGrants y.client.value
-  pub era : IsInRenewal y.manager.renewal y.client.value.records
+  pub alone : HasAllGrants y.user.value
+  pub era : IsInRenewal y.shared.renewal y.user.value.records
 
 -- a round of a load with these settings can begin: the records that its clients will add come
 -- after all present records, and the client knows no version above the number of commands in the
 -- setup phase
-pub record IsReadyForRound (s : Settings) (y : SessionShown) : Type 0 where
-  pub last : y.manager.last ≡ s.last
-  pub known : AreKnown y.manager.renewal y.client.value.floor y.client.value.records
-  pub early : y.client.value.floor ≤ 4 * s.items
+pub record IsReadyForRound (s : Settings) (y : CallerShown) : Type 0 where
+  pub last : y.shared.last ≡ s.last
+  pub known : AreKnown y.shared.renewal y.user.value.floor y.user.value.records
+  pub early : y.user.value.floor ≤ 4 * s.items
 
 -- the manager was renewed with the records of its solo client, and the next round can begin
-pub record IsRenewed (s : Settings) (y y' : SessionShown) : Type 0 where
-  pub renewal : y'.manager.renewal ≡ y.manager.renewal + 1
-  pub size : y'.manager.size ≡ y.manager.size
-  pub records : y'.client.value.records ≡ y.client.value.records
+pub record IsRenewed (s : Settings) (y y' : CallerShown) : Type 0 where
+  pub renewal : y'.shared.renewal ≡ y.shared.renewal + 1
+  pub size : y'.shared.size ≡ y.shared.size
+  pub records : y'.user.value.records ≡ y.user.value.records
   pub alone : IsAloneInRenewal y'
   pub ready : IsReadyForRound s y'

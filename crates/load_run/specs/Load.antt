@@ -7,9 +7,9 @@ use Rattle.stm_core.specs.declared.limits.TheConstants.{MOST_GRANTS}
 use Rattle.stm_core.specs.History.{Sub}
 use Rattle.stm_core.specs.Invariant.{Sorted}
 use Rattle.stm_region.specs.Shown.{RegionShown}
-use Rattle.vac_manager.specs.Called.{CallerShown, HasAllGrants}
+use Rattle.vac_manager.specs.Called.{ClientShown, HasAllGrants, CallerShown}
 use Rattle.vac_manager.specs.Opening.{Opens}
-use Rattle.vac_manager.specs.Session.{SessionShown, GoesOn}
+use Rattle.stm_object.specs.Callers.{GoesOn}
 use Rattle.vac_manager.specs.declared.fault.Fault.{Fault}
 use Rattle.vac_manager.specs.declared.fault.Fault.TheVariants as fault
 use Rattle.load_draws.specs.declared.settings.Settings.{Settings}
@@ -19,7 +19,7 @@ use Rattle.load_run.specs.declared.workers.Worker.{Worker}
 use Rattle.load_run.specs.declared.workers.WorkOf.{WorkOf}
 use Rattle.load_run.specs.declared.workers.Crew.{Crew}
 use Rattle.load_run.specs.declared.rounds.Round.{Round}
-use Rattle.load_run.specs.Alone.{IsAloneInRenewal, session_of}
+use Rattle.load_run.specs.Alone.{IsAloneInRenewal, caller_of}
 use Rattle.load_client.specs.Attempted.{TaskCountsShown, uncounted}
 use Rattle.load_client.specs.Looping.{Looped, Clocked, AreOfTasks, total}
 use Rattle.load_client.specs.Lists.{Paired}
@@ -42,27 +42,27 @@ use Rattle.load_draws.specs.Tasks.{task_of, opening}
 abbrev pub HasTime : Settings → Type 0
 HasTime s = 4 * s.items + s.tasks ≤ s.last
 
--- the worker with this client slot ran its tasks of a round in session `y`, with the limit on
--- attempts that the settings give; `z` and `left` are the session and the slot afterwards, and the
--- counts are those of the tasks: the session went on, the loop had its effect on the client's
+-- the worker with this client slot ran its tasks of a round as caller `y`, with the limit on
+-- attempts that the settings give; `z` and `left` are the caller and the slot afterwards, and the
+-- counts are those of the tasks: the caller went on, the loop had its effect on the client's
 -- value, the clock of a solo client advanced accordingly, and the recorder kept the completed
 -- calls
 pub record RanTasks {W D : Type 0} (leads : D → ℕ → D → Type 0) (shown_of : W → SeatShown D)
-    (s : Settings) (y : SessionShown) (seat : W) (z : SessionShown) (left : W) (c : TaskCountsShown)
+    (s : Settings) (y : CallerShown) (seat : W) (z : CallerShown) (left : W) (c : TaskCountsShown)
     : Type 0 where
-  pub session : GoesOn y z
-  pub looped : Looped leads s y.manager.renewal s.tasks y.client.value z.client.value
+  pub caller : GoesOn y z
+  pub looped : Looped leads s y.shared.renewal s.tasks y.user.value z.user.value
       (shown_of seat).draws (shown_of left).draws c.tally
-  pub clock : HasAllGrants y.client.value → Clocked y.manager.last y.client.value z.client.value
+  pub clock : HasAllGrants y.user.value → Clocked y.shared.last y.user.value z.user.value
       c.tally
   pub tries : c.tries ≡ s.tries
-  pub kept : HasKeptAdded y.client.value z.client.value (shown_of seat).kept (shown_of left).kept
+  pub kept : HasKeptAdded y.user.value z.user.value (shown_of seat).kept (shown_of left).kept
 
 -- a worker ran its tasks of a round, and this is the worker afterwards
 abbrev pub DidWork : {W D : Type 0} → (D → ℕ → D → Type 0) → (W → SeatShown D) → Settings
     → Worker W → Worker W → Type 0
 DidWork leads shown_of s w d =
-    RanTasks leads shown_of s w.session w.seat d.session d.seat d.tally
+    RanTasks leads shown_of s w.caller w.seat d.caller d.seat d.tally
 
 -- each worker of a crew ran its tasks of a round; the workers stay in their order
 pub record DidAllWork {W D : Type 0} (leads : D → ℕ → D → Type 0) (shown_of : W → SeatShown D)
@@ -94,44 +94,44 @@ pub record Gathered {X : Type 0} (records_of : X → List Record) (tally_of : X 
   pub records_are : all ≡ all_merged records_of (records_of first) others
   pub tallies : t ≡ added_up tally_of (first ∷ others)
 
--- the worker's session is with this manager, its client starts with these records and this floor,
+-- the worker calls this manager, its client starts with these records and this floor,
 -- and the worker has this client slot
 pub record IsWorker {W : Type 0} (manager : RegionShown) (records : List Record) (floor : ℕ)
     (seat : W) (w : Worker W) : Type 0 where
-  pub manager_is : w.session.manager ≡ manager
-  pub records_are : w.session.client.value.records ≡ records
-  pub knows : w.session.client.value.floor ≡ floor
+  pub manager_is : w.caller.shared ≡ manager
+  pub records_are : w.caller.user.value.records ≡ records
+  pub knows : w.caller.user.value.floor ≡ floor
   pub seat_is : w.seat ≡ seat
 
--- each client slot got a session with the manager of the setup phase: the first slot got the
--- session of the setup phase, the others sessions of clients without records. The first session
--- holds all grants that are left. No worker has counted a task, and each task may make at most
--- `tries` attempts
-pub record IsCrew {W : Type 0} (opener : SessionShown) (tries : ℕ) (seats : List W)
+-- each client slot got a caller of the manager of the setup phase: the first slot got the caller
+-- of the setup phase, the others callers whose clients have no records. The first caller holds all
+-- grants that are left. No worker has counted a task, and each task may make at most `tries`
+-- attempts
+pub record IsCrew {W : Type 0} (opener : CallerShown) (tries : ℕ) (seats : List W)
     (crew : Crew W) : Type 0 where
   pub seat : W
   pub rest : List W
   pub seats_are : seats ≡ seat ∷ rest
-  pub opening : IsWorker opener.manager opener.client.value.records opener.client.value.floor
+  pub opening : IsWorker opener.shared opener.user.value.records opener.user.value.floor
       seat crew.first
-  pub others_are : Paired (IsWorker opener.manager [] opener.client.value.floor)
+  pub others_are : Paired (IsWorker opener.shared [] opener.user.value.floor)
       rest crew.others.items
-  pub grants : crew.first.session.client.value.grants + vec_len crew.others ≡ MOST_GRANTS
-  pub others_grants : All (λ w. w.session.client.value.grants ≡ 0) crew.others.items
+  pub grants : crew.first.caller.user.value.grants + vec_len crew.others ≡ MOST_GRANTS
+  pub others_grants : All (λ w. w.caller.user.value.grants ≡ 0) crew.others.items
   pub tally : crew.first.tally ≡ uncounted tries
   pub others_tallies : All (λ w. w.tally ≡ uncounted tries) crew.others.items
 
--- the first worker can gather this one: its session is with the same manager, it has no grants,
+-- the first worker can gather this one: it calls the same manager, it has no grants,
 -- and its counts can be added
 pub record IsMember {W : Type 0} (first w : Worker W) : Type 0 where
-  pub one : w.session.manager ≡ first.session.manager
-  pub grants : w.session.client.value.grants ≡ 0
+  pub one : w.caller.shared ≡ first.caller.shared
+  pub grants : w.caller.user.value.grants ≡ 0
   pub tasks : total w.tally.tally ≤ MOST_TASKS
   pub tries : w.tally.tries ≡ first.tally.tries
 
 -- the workers of a crew can be gathered: the first one holds all grants that are left
 pub record CanGather {W : Type 0} (crew : Crew W) : Type 0 where
-  pub grants : crew.first.session.client.value.grants + vec_len crew.others ≡ MOST_GRANTS
+  pub grants : crew.first.caller.user.value.grants + vec_len crew.others ≡ MOST_GRANTS
   pub few : vec_len crew.others < MOST_CLIENTS
   pub tasks : total crew.first.tally.tally ≤ MOST_TASKS
   pub others : All (IsMember crew.first) crew.others.items
@@ -184,10 +184,10 @@ pub record RanAll {D P : Type 0} (leads : D → ℕ → D → Type 0) (s : Setti
   pub in_time : length seats ≡ 1 → HasTime s → t.spent ≡ 0
 
 -- all clients ran n tasks each, in one round or several, starting from the records of this
--- session's client and from these slots; the round has the results
+-- caller's client and from these slots; the round has the results
 abbrev pub RoundHasRun : {W D : Type 0} → (D → ℕ → D → Type 0) → (W → SeatShown D) → Settings → ℕ
-    → SessionShown → List W → Round W → Type 0
-RoundHasRun leads shown_of s n y seats r = RanAll leads s shown_of n y.client.value.records seats
+    → CallerShown → List W → Round W → Type 0
+RoundHasRun leads shown_of s n y seats r = RanAll leads s shown_of n y.user.value.records seats
     r.client.value.records r.seats.items r.tally.tally
 
 -- a round of a load with these settings has a slot for each client, the limit on attempts of the
@@ -195,7 +195,7 @@ RoundHasRun leads shown_of s n y seats r = RanAll leads s shown_of n y.client.va
 pub record IsRound {W : Type 0} (s : Settings) (r : Round W) : Type 0 where
   pub number : vec_len r.seats ≡ s.clients
   pub tries : r.tally.tries ≡ s.tries
-  pub alone : IsAloneInRenewal (session_of r.manager r.client)
+  pub alone : IsAloneInRenewal (caller_of r.manager r.client)
 
 -- a load can be run with these settings and this number of clients
 abbrev pub is_load : Settings → ℕ → Bool
@@ -215,17 +215,17 @@ RunsCrew leads shown_of s crew result =
 -- the setup phase completed: all its commands were drawn from this state on, and each of them was
 -- issued and completed. The records of the client are then a complete history of this manager
 pub record HasOpened {D : Type 0} (leads : D → ℕ → D → Type 0) (s : Settings) (state left : D)
-    (y : SessionShown) : Type 0 where
+    (y : CallerShown) : Type 0 where
   pub stripes : ℕ
-  pub opener : CallerShown
-  pub opens : Opens s.blocks s.last stripes y.manager opener
-  pub ran : RanDrawn leads y.manager.renewal (opening s) opener.value y.client.value state left
-  pub answered : IsAnswered y.manager y.client.value
+  pub opener : ClientShown
+  pub opens : Opens s.blocks s.last stripes y.shared opener
+  pub ran : RanDrawn leads y.shared.renewal (opening s) opener.value y.user.value state left
+  pub answered : IsAnswered y.shared y.user.value
 
 -- some manager was made in this way, and its client completed the setup phase
 -- Not said: that this manager was the manager of this load.
 abbrev pub WasOpened : {D : Type 0} → (D → ℕ → D → Type 0) → Settings → D → D → Type 0
-WasOpened leads s state left = (y : SessionShown) × HasOpened leads s state left y
+WasOpened leads s state left = (y : CallerShown) × HasOpened leads s state left y
 
 -- the fault is refused memory, or a spent clock whose version is the last one of the settings and
 -- smaller than the number of commands in the setup phase
@@ -242,7 +242,7 @@ pub record WasStopped {D : Type 0} (leads : D → ℕ → D → Type 0) (s : Set
     (state left : D) : Type 0 where
   pub stripes : ℕ
   pub region : RegionShown
-  pub opener : CallerShown
+  pub opener : ClientShown
   pub opens : Opens s.blocks s.last stripes region opener
   pub after : Client
   pub stopped : Stopped leads region.renewal s.last (opening s) e opener.value after state left

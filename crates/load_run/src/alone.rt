@@ -5,7 +5,7 @@ ghost use Rattle.vac_manager.specs.Legal.{AreVersioned};
 ghost use Rattle.vac_manager.specs.Renewed.{ClosesSomewhere};
 ghost use Rattle.load_draws.specs.Setting.{is_settings};
 ghost use Rattle.load_draws.specs.declared.settings.TheConstants.{MOST_ROUNDS};
-ghost use Rattle.load_run.specs.Alone.{IsAloneInRenewal, IsRenewed, session_of};
+ghost use Rattle.load_run.specs.Alone.{IsAloneInRenewal, IsRenewed, caller_of};
 
 use crate::load::LoadFault;
 use load_draws::Settings;
@@ -18,11 +18,11 @@ pub(crate) fn renewed(
     client: Client,
     settings: &Settings,
 ) -> Result<(Manager, Client), LoadFault>
-    requires alone { IsAloneInRenewal (session_of manager client) }
+    requires alone { IsAloneInRenewal (caller_of manager client) }
     requires renewals { manager.renewal < MOST_ROUNDS }
     requires settings { is_settings settings.now ≡ true }
-    ensures renewed { IfOk result (λ r. IsRenewed settings.now (session_of manager client)
-        (session_of r.0 r.1)) }
+    ensures renewed { IfOk result (λ r. IsRenewed settings.now (caller_of manager client)
+        (caller_of r.0 r.1)) }
     ensures refused { IfErr result (λ fault. fault ≡ LoadFault.Memory) }
 {
     match manager.renew(client, settings.last) {
@@ -37,7 +37,7 @@ pub(crate) fn renewed(
 
 /// Closes the manager with its client, and returns its words. Fails only if memory is refused.
 pub(crate) fn close(manager: Manager, client: Client) -> Result<Vec<u64>, LoadFault>
-    requires alone { IsAloneInRenewal (session_of manager client) }
+    requires alone { IsAloneInRenewal (caller_of manager client) }
     ensures closes { IfOk result (λ words. ClosesSomewhere manager client.value words.items) }
     ensures versioned { IfOk result (λ _. AreVersioned client.value.records) }
     ensures refused { IfErr result (λ fault. fault ≡ LoadFault.Memory) }

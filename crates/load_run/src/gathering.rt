@@ -1,4 +1,4 @@
-//! Sessions that are split off for a round and gathered after it.
+//! Callers that are split off for a round and gathered after it.
 
 ghost use Rattle.std.specs.Prelude.{◌≡◌, ◌≤◌, ◌<◌, ◌+◌, ◌∷◌, [], vec_len, vec_capacity, IfOk, IfErr};
 ghost use Rattle.vac_manager.specs.Called.{HasAllGrants};
@@ -11,7 +11,7 @@ use crate::load::LoadFault;
 use crate::workers::{Crew, Worker};
 use load_client::TaskCounts;
 use std::alloc::Global;
-use vac_manager::{Client, Session};
+use vac_manager::{Caller, Client};
 
 /// Gathers the clients of all workers into that of the first, in their order, returns their slots,
 /// and adds up their counts. `seats` is an empty vector with reserved room for the slots, so that
@@ -23,9 +23,9 @@ pub(crate) fn gather_all<W: Drop>(
     requires can { CanGather crew }
     requires room { vec_len crew.others < vec_capacity seats }
     requires empty { seats.items ≡ [] }
-    ensures own { result.0.table ≡ crew.entry.first.session.manager.table }
+    ensures own { result.0.table ≡ crew.entry.first.caller.shared.table }
     ensures alone { HasAllGrants result.0.value }
-    ensures gathered { Gathered (λ w. w.session.client.value.records) (λ w. w.tally.tally)
+    ensures gathered { Gathered (λ w. w.caller.user.value.records) (λ w. w.tally.tally)
         crew.entry.first crew.entry.others.items result.0.value.records
         result.2.tally }
     ensures tries { result.2.tries ≡ crew.entry.first.tally.tries }
@@ -34,37 +34,37 @@ pub(crate) fn gather_all<W: Drop>(
 {
     let Crew { first, others } = crew;
     let Worker {
-        mut session,
+        mut caller,
         seat,
         mut tally,
     } = first;
     seats.push_reserved(seat);
     for worker in others {
         let Worker {
-            session: other,
+            caller: other,
             seat,
             tally: more,
         } = worker;
-        session.gather(other);
+        caller.gather(other);
         seats.push_reserved(seat);
         tally = tally.plus(more);
     }
-    (session.into_client(), seats, tally)
+    (caller.into_user(), seats, tally)
 }
 
-/// Splits off a session for each client slot but the first, which gets the session of the setup
+/// Splits off a caller for each client slot but the first, which gets the caller of the setup
 /// phase. No worker has run a task yet.
 pub(crate) fn split_crew<'m, W: Drop>(
     alloc: Global,
-    mut session: Session<'m>,
+    mut caller: Caller<'m>,
     seats: Vec<W>,
     tries: u32,
 ) -> Result<Crew<'m, W>, LoadFault>
-    requires alone { HasAllGrants session.client.value }
+    requires alone { HasAllGrants caller.user.value }
     requires some { 0 < vec_len seats }
     requires few { vec_len seats ≤ MOST_CLIENTS }
     requires tries { tries ≤ MOST_TRIES }
-    ensures crew { IfOk result (λ crew. IsCrew session.entry tries seats.items crew) }
+    ensures crew { IfOk result (λ crew. IsCrew caller.entry tries seats.items crew) }
     ensures number { IfOk result (λ crew. vec_len crew.others + 1 ≡ vec_len seats) }
     ensures refused { IfErr result (λ fault. fault ≡ LoadFault.Memory) }
 {
@@ -76,18 +76,18 @@ pub(crate) fn split_crew<'m, W: Drop>(
         unreachable!()
     };
     for another in seats {
-        let Ok(other) = session.split() else {
+        let Ok(other) = caller.split() else {
             unreachable!()
         };
         let worker = Worker {
-            session: other,
+            caller: other,
             seat: another,
             tally: TaskCounts::new(tries),
         };
         others.push_reserved(worker);
     }
     let first = Worker {
-        session,
+        caller,
         seat,
         tally: TaskCounts::new(tries),
     };

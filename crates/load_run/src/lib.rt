@@ -9,7 +9,6 @@ mod gathering;
 mod load;
 mod plan;
 mod rounds;
-mod running;
 mod seats;
 mod workers;
 

@@ -3,14 +3,14 @@
 ghost use Rattle.std.specs.Prelude.{◌≡◌, ◌↔◌, true, false, vec_len, IfOk, IfErr, IsErrOf};
 ghost use Rattle.load_draws.specs.Setting.{is_settings};
 ghost use Rattle.load_client.specs.Keeping.{AreKept};
-ghost use Rattle.load_run.specs.Alone.{IsAloneInRenewal, session_of};
+ghost use Rattle.load_run.specs.Alone.{IsAloneInRenewal, caller_of};
 ghost use Rattle.load_run.specs.Seats.{kept_at};
 ghost use Rattle.load_run.specs.Load.{HasOpened, HasLoaded, LoadedKept, is_load, IsLoadFault, IsStopOfLoad};
 ghost use Rattle.load_draws.specs.Streams.{gives, stream_of};
 ghost use Rattle.load_run.specs.Streams.{LoadedBySeed, KeptBySeed};
 ghost use Rattle.load_client.specs.Attempted.{IsEffort};
 
-use crate::alone::close;
+use crate::alone::{close, renewed};
 use crate::plan::Plan;
 use crate::rounds::Round;
 use crate::seats::{Keepers, Seat, Sent, keepers_of, no_keepers, seats_by_seed, seats_unkept};
@@ -21,7 +21,7 @@ use std::sync::Wait;
 use std::thread::Threads;
 use stm_attempt::{Gate, NoGate};
 use thiserror::Error;
-use vac_manager::{Client, Fault, Keep, Manager, Report, Session, Unkept, report_of};
+use vac_manager::{Client, Fault, Keep, Manager, Report, Unkept, report_of};
 
 /// The result of a load: the counts of its tasks over all rounds, and the report of the words
 /// after all clients were gathered for the last time.
@@ -58,8 +58,8 @@ fn open_load<D: Draws, K: Keep>(
 ) -> Result<(Manager, Client), LoadFault>
     requires settings { is_settings settings.now ≡ true }
     ensures opened { IfOk result (λ r. HasOpened D.leads settings.now opening.old opening.new
-        (session_of r.0 r.1)) }
-    ensures alone { IfOk result (λ r. IsAloneInRenewal (session_of r.0 r.1)) }
+        (caller_of r.0 r.1)) }
+    ensures alone { IfOk result (λ r. IsAloneInRenewal (caller_of r.0 r.1)) }
     ensures kept { IfOk result (λ r. AreKept r.1.value.records
         (K.notes keep.old) (K.notes keep.new)) }
     ensures stopped { IfErr result (λ fault.
@@ -68,16 +68,16 @@ fn open_load<D: Draws, K: Keep>(
     let Ok((manager, client)) = Manager::new(alloc, settings.blocks, settings.last) else {
         return Err(LoadFault::Memory);
     };
-    let mut session = Session::of(&manager, client);
-    if let Err(fault) = open_kept(&mut session, opening, settings, keep) {
+    let mut caller = manager.caller(client);
+    if let Err(fault) = open_kept(&mut caller, opening, settings, keep) {
         return Err(LoadFault::Opening(fault));
     }
-    let client = session.into_client();
+    let client = caller.into_user();
     Ok((manager, client))
 }
 
 /// Runs a load whose arguments are in their ranges, with this recorder of the setup phase, and
-/// returns the slots.
+/// returns the slots, which go on from round to round. Between two rounds the manager is renewed.
 fn run_in_range<R: Threads + Wait, D: Draws + Sent, G: Gate + Sent, K: Keep + Sent>(
     rt: &R,
     alloc: Global,
@@ -103,7 +103,23 @@ where
         alloc,
         settings: *settings,
     };
-    let round = plan.run_rounds(rt, manager, client, seats)?;
+    let mut round = plan.run_round(rt, manager, client, seats)?;
+    'rounds: for done in 1..settings.rounds {
+        let Round {
+            manager,
+            client,
+            seats,
+            tally,
+        } = round;
+        let (manager, client) = renewed(manager, client, settings)?;
+        let more = plan.run_round(rt, manager, client, seats)?;
+        round = Round {
+            manager: more.manager,
+            client: more.client,
+            seats: more.seats,
+            tally: tally.plus(more.tally),
+        };
+    }
     let Round {
         manager,
         client,

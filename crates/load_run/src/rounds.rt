@@ -1,19 +1,22 @@
-//! The rounds of a load, with a renewal of the clock between two of them.
+//! One round of a load.
 
-ghost use Rattle.std.specs.Prelude.{◌≡◌, ◌*◌, vec_len, IfOk, IfErr};
-ghost use Rattle.load_run.specs.Alone.{IsAloneInRenewal, IsReadyForRound, session_of};
-ghost use Rattle.load_run.specs.Load.{RoundHasRun, IsLoadRefusal, IsRound};
+ghost use Rattle.std.specs.Prelude.{◌≡◌, vec_len, IfOk, IfErr};
+ghost use Rattle.load_run.specs.Alone.{IsAloneInRenewal, IsReadyForRound, caller_of};
+ghost use Rattle.load_run.specs.Seats.{shown};
+ghost use Rattle.load_run.specs.Load.{RoundHasRun, IsLoadRefusal, IsRound, RunsCrew};
 
-use crate::alone::renewed;
 use crate::gathering::{gather_all, split_crew};
 use crate::load::LoadFault;
 use crate::plan::Plan;
-use crate::running::RunTasks;
-use crate::seats::Sent;
+use crate::seats::{Seat, Sent};
+use crate::workers::{Crew, join_all};
 use load_client::TaskCounts;
+use load_draws::Draws;
 use std::sync::Wait;
+use std::thread;
 use std::thread::Threads;
-use vac_manager::{Client, Manager, Session};
+use stm_attempt::Gate;
+use vac_manager::{Client, Keep, Manager};
 
 /// The result of one round or of several: the manager with the client that gathered all others,
 /// the slots of the clients in their order, and the counts of the tasks.
@@ -26,30 +29,56 @@ pub(crate) struct Round<W> {
 }
 
 impl Plan {
-    /// Runs one round: splits off a session for each slot, lets all of them run their tasks in
-    /// threads of their own, and gathers their clients into the first.
-    fn run_round<R: Threads + Wait, W: RunTasks + Sent>(
+    /// Runs one round: splits off a caller for each slot, lets all of them run their tasks at once,
+    /// each in a thread of its own, and gathers their clients into the first. Memory for the
+    /// threads is allocated before the first thread starts. If a thread cannot be started, those
+    /// that were started are joined first.
+    pub(crate) fn run_round<R: Threads + Wait, D: Draws + Sent, G: Gate + Sent, K: Keep + Sent>(
         self,
         rt: &R,
         manager: Manager,
         client: Client,
-        seats: Vec<W>,
-    ) -> Result<Round<W>, LoadFault>
+        seats: Vec<Seat<D, G, K>>,
+    ) -> Result<Round<Seat<D, G, K>>, LoadFault>
+    where
+        K::Tracing: Send,
         requires number { vec_len seats ≡ self.settings.clients }
-        requires alone { IsAloneInRenewal (session_of manager client) }
-        requires ready { IsReadyForRound self.settings (session_of manager client) }
+        requires alone { IsAloneInRenewal (caller_of manager client) }
+        requires ready { IsReadyForRound self.settings (caller_of manager client) }
         ensures manager { IfOk result (λ r. r.manager ≡ manager) }
         ensures round { IfOk result (λ r. IsRound self.settings r) }
-        ensures ran { IfOk result (λ r. RoundHasRun W.leads W.shown self.settings
-            self.settings.tasks (session_of manager client) seats.items r) }
+        ensures ran { IfOk result (λ r. RoundHasRun D.leads (shown K.notes) self.settings
+            self.settings.tasks (caller_of manager client) seats.items r) }
         ensures refused { IfErr result (λ fault. IsLoadRefusal fault) }
     {
         let Ok(left) = Vec::with_capacity(self.alloc, seats.len()) else {
             return Err(LoadFault::Memory);
         };
-        let session = Session::of(&manager, client);
-        let crew = split_crew(self.alloc, session, seats, self.settings.tries)?;
-        let crew = self.run_all(rt, crew)?;
+        let caller = manager.caller(client);
+        let crew = split_crew(self.alloc, caller, seats, self.settings.tries)?;
+        let crew = thread::scope(
+            thread::scope_env(),
+            rt,
+            move |scope| -> Result<Crew<'_, Seat<D, G, K>>, LoadFault>
+                ensures { RunsCrew D.leads (shown K.notes) self.settings crew.entry result }
+            {
+                // Moved whole, so that the closure does not capture single fields.
+                let workers = crew;
+                let Crew { first, others } = workers;
+                let Ok(mut handles) = Vec::with_capacity(self.alloc, others.len()) else {
+                    return Err(LoadFault::Memory);
+                };
+                let Ok(done) = Vec::with_capacity(self.alloc, others.len()) else {
+                    return Err(LoadFault::Memory);
+                };
+                let first = self.start(scope, first)?;
+                let started = self.start_all(scope, others, &mut handles);
+                let first = first.join(rt);
+                let others = join_all(rt, handles, done);
+                started?;
+                Ok(Crew { first, others })
+            },
+        )?;
         let (client, seats, tally) = gather_all(crew, left);
         Ok(Round {
             manager,
@@ -57,44 +86,5 @@ impl Plan {
             seats,
             tally,
         })
-    }
-
-    /// Runs all rounds of a load with the same slots. Between two rounds the manager is renewed.
-    pub(crate) fn run_rounds<R: Threads + Wait, W: RunTasks + Sent>(
-        self,
-        rt: &R,
-        manager: Manager,
-        client: Client,
-        seats: Vec<W>,
-    ) -> Result<Round<W>, LoadFault>
-        requires renewals { manager.renewal ≡ 0 }
-        requires number { vec_len seats ≡ self.settings.clients }
-        requires alone { IsAloneInRenewal (session_of manager client) }
-        requires ready { IsReadyForRound self.settings (session_of manager client) }
-        ensures size { IfOk result (λ r. r.manager.size ≡ manager.size) }
-        ensures round { IfOk result (λ r. IsRound self.settings r) }
-        ensures ran { IfOk result (λ r. RoundHasRun W.leads W.shown self.settings
-            (self.settings.rounds * self.settings.tasks) (session_of manager client)
-            seats.items r) }
-        ensures refused { IfErr result (λ fault. IsLoadRefusal fault) }
-    {
-        let mut round = self.run_round(rt, manager, client, seats)?;
-        'rounds: for done in 1..self.settings.rounds {
-            let Round {
-                manager,
-                client,
-                seats,
-                tally,
-            } = round;
-            let (manager, client) = renewed(manager, client, &self.settings)?;
-            let more = self.run_round(rt, manager, client, seats)?;
-            round = Round {
-                manager: more.manager,
-                client: more.client,
-                seats: more.seats,
-                tally: tally.plus(more.tally),
-            };
-        }
-        Ok(round)
     }
 }

@@ -2,42 +2,44 @@
 
 ghost use Rattle.std.specs.Prelude.{◌≡◌, ◌≤◌, [], IfOk, IfErr, vec_len, vec_capacity};
 ghost use Rattle.load_client.specs.Lists.{Paired};
-ghost use Rattle.load_run.specs.Load.{DidWork, IsPromise, RunsCrew};
+ghost use Rattle.load_run.specs.Seats.{shown};
+ghost use Rattle.load_run.specs.Load.{DidWork, IsPromise};
 
 use crate::load::LoadFault;
 use crate::plan::Plan;
-use crate::running::RunTasks;
-use crate::seats::Sent;
-use load_client::TaskCounts;
-use load_draws::Settings;
+use crate::seats::{Seat, Sent};
+use load_client::{TaskCounts, count_loop};
+use load_draws::{Draws, Settings};
 use std::snapshot::Snapshot;
-use std::sync::Wait;
-use std::thread;
 use std::thread::{Promise, PromisedHandle, Scope, Threads};
-use vac_manager::Session;
+use stm_attempt::Gate;
+use vac_manager::{Caller, Keep};
 
-/// A worker: a client in a session with its manager, its slot, and the counts of the tasks that it
-/// ran in this round.
+/// A worker: a client together with its manager, its slot, and the counts of the tasks that it ran
+/// in this round.
 #[derive(Drop)]
 pub(crate) struct Worker<'m, W> {
-    pub(crate) session: Session<'m>,
+    pub(crate) caller: Caller<'m>,
     pub(crate) seat: W,
     pub(crate) tally: TaskCounts,
 }
 
 /// The promise of a worker's thread: the worker ran its tasks.
 #[derive(Drop)]
-struct WorkOf<'m, W> {
+pub(crate) struct WorkOf<'m, W> {
     settings: Settings,
     worker: Snapshot<Worker<'m, W>>,
 }
 
-impl<'m, W: RunTasks> Promise<Worker<'m, W>> for WorkOf<'m, W> {
-    ghost kept_by = { λ p r. DidWork W.leads W.shown p.settings p.worker.value r };
+impl<'m, D: Draws, G, K: Keep> Promise<Worker<'m, Seat<D, G, K>>> for WorkOf<'m, Seat<D, G, K>> {
+    ghost kept_by = { λ p r. DidWork D.leads (shown K.notes) p.settings p.worker.value r };
 }
 
 /// The thread of a worker.
-type Handle<'m, W> = PromisedHandle<Worker<'m, W>, WorkOf<'m, W>>;
+pub(crate) type Handle<'m, D, G, K> = PromisedHandle<
+    Worker<'m, Seat<D, G, K>>,
+    WorkOf<'m, Seat<D, G, K>>,
+>;
 
 /// The workers of a round, before or after their tasks; the first worker stands apart.
 #[derive(Drop)]
@@ -48,15 +50,15 @@ pub(crate) struct Crew<'m, W> {
 
 /// Joins the threads in their order. `done` is an empty vector with reserved room, so that joining
 /// cannot fail.
-fn join_all<'m, R: Threads, W: RunTasks + Drop>(
+pub(crate) fn join_all<'m, R: Threads, D: Draws + Drop, G: Drop, K: Keep + Drop>(
     rt: &R,
-    handles: Vec<Handle<'m, W>>,
-    mut done: Vec<Worker<'m, W>>,
-) -> Vec<Worker<'m, W>>
+    handles: Vec<Handle<'m, D, G, K>>,
+    mut done: Vec<Worker<'m, Seat<D, G, K>>>,
+) -> Vec<Worker<'m, Seat<D, G, K>>>
     requires room { vec_len handles ≤ vec_capacity done }
     requires empty { done.items ≡ [] }
     ensures { Paired
-        (λ h r. DidWork W.leads W.shown h.promise.settings h.promise.worker.value r)
+        (λ h r. DidWork D.leads (shown K.notes) h.promise.settings h.promise.worker.value r)
         handles.entry.items result.items }
 {
     for handle in handles {
@@ -66,29 +68,23 @@ fn join_all<'m, R: Threads, W: RunTasks + Drop>(
 }
 
 impl Plan {
-    /// Lets a worker run its tasks.
-    fn work<'m, W: RunTasks>(self, worker: Worker<'m, W>) -> Worker<'m, W>
-        ensures { DidWork W.leads W.shown self.settings worker.entry result }
-    {
-        let Worker {
-            mut session,
-            mut seat,
-            ..
-        } = worker;
-        let tally = seat.run_tasks(self.alloc, &mut session, &self.settings);
-        Worker {
-            session,
-            seat,
-            tally,
-        }
-    }
-
-    /// Starts the thread of a worker.
-    fn start<'s, 'm: 's, E, W: RunTasks + Sent + 's>(
+    /// Starts the thread of a worker, which runs the tasks of its client. The thread reports to
+    /// the gate before the first task that the client is ready, and after the last task that the
+    /// client is done.
+    pub(crate) fn start<
+        's,
+        'm: 's,
+        E,
+        D: Draws + Sent + 's,
+        G: Gate + Sent + 's,
+        K: Keep + Sent + 's,
+    >(
         self,
         scope: &Scope<'s, E>,
-        worker: Worker<'m, W>,
-    ) -> Result<Handle<'m, W>, LoadFault>
+        worker: Worker<'m, Seat<D, G, K>>,
+    ) -> Result<Handle<'m, D, G, K>, LoadFault>
+    where
+        K::Tracing: Send,
         ensures promise { IfOk result (λ handle.
             IsPromise self.settings worker.entry handle.promise) }
         ensures refused { IfErr result (λ fault. fault ≡ LoadFault.Spawn) }
@@ -97,9 +93,32 @@ impl Plan {
             settings: self.settings,
             worker: Snapshot::of(&worker),
         };
-        let run = move || -> Worker<'_, W>
-            ensures { DidWork W.leads W.shown self.settings worker.entry result }
-        { self.work(worker) };
+        let run = move || -> Worker<'_, Seat<D, G, K>>
+            ensures { DidWork D.leads (shown K.notes) self.settings worker.entry result }
+        {
+            // Moved whole, so that the closure does not capture single fields of both.
+            let (plan, worker) = (self, worker);
+            let Worker {
+                mut caller,
+                mut seat,
+                ..
+            } = worker;
+            seat.gate.ready();
+            let tally = count_loop(
+                plan.alloc,
+                &mut caller,
+                &mut seat.draws,
+                &plan.settings,
+                &mut seat.gate,
+                &mut seat.keep,
+            );
+            seat.gate.done();
+            Worker {
+                caller,
+                seat,
+                tally,
+            }
+        };
         match scope.spawn_with(promise, run) {
             Ok(handle) => Ok(handle),
             Err(_refused) => Err(LoadFault::Spawn),
@@ -108,12 +127,21 @@ impl Plan {
 
     /// Starts a thread for each worker, and adds the threads that were started to `handles`. The
     /// vector is empty and has reserved room, so that no started thread can be lost.
-    fn start_all<'s, 'm: 's, E, W: RunTasks + Sent + 's>(
+    pub(crate) fn start_all<
+        's,
+        'm: 's,
+        E,
+        D: Draws + Sent + 's,
+        G: Gate + Sent + 's,
+        K: Keep + Sent + 's,
+    >(
         self,
         scope: &Scope<'s, E>,
-        workers: Vec<Worker<'m, W>>,
-        handles: &mut Vec<Handle<'m, W>>,
+        workers: Vec<Worker<'m, Seat<D, G, K>>>,
+        handles: &mut Vec<Handle<'m, D, G, K>>,
     ) -> Result<(), LoadFault>
+    where
+        K::Tracing: Send,
         requires room { vec_len workers ≤ vec_capacity handles.old }
         requires empty { handles.old.items ≡ [] }
         ensures promises { IfOk result (λ _.
@@ -127,48 +155,5 @@ impl Plan {
             handles.push_reserved(handle);
         }
         Ok(())
-    }
-
-    /// Starts a thread for each worker and joins them all, in the order of the workers. Memory for
-    /// the handles is allocated before the first thread starts.
-    fn run_in<'s, 'm: 's, E, R: Threads, W: RunTasks + Sent + 's>(
-        self,
-        scope: &Scope<'s, E>,
-        rt: &R,
-        crew: Crew<'m, W>,
-    ) -> Result<Crew<'m, W>, LoadFault>
-        ensures { RunsCrew W.leads W.shown self.settings crew.entry result }
-    {
-        let Crew { first, others } = crew;
-        let Ok(mut handles) = Vec::with_capacity(self.alloc, others.len()) else {
-            return Err(LoadFault::Memory);
-        };
-        let Ok(done) = Vec::with_capacity(self.alloc, others.len()) else {
-            return Err(LoadFault::Memory);
-        };
-        let first = self.start(scope, first)?;
-        let started = self.start_all(scope, others, &mut handles);
-        let first = first.join(rt);
-        let others = join_all(rt, handles, done);
-        started?;
-        Ok(Crew { first, others })
-    }
-
-    /// Lets each worker run its tasks in a thread of its own, all at once, and returns the workers
-    /// in their order. If a thread cannot be started, those that were started are joined first.
-    pub(crate) fn run_all<'m, R: Threads + Wait, W: RunTasks + Sent>(
-        self,
-        rt: &R,
-        crew: Crew<'m, W>,
-    ) -> Result<Crew<'m, W>, LoadFault>
-        ensures { RunsCrew W.leads W.shown self.settings crew.entry result }
-    {
-        thread::scope(
-            thread::scope_env(),
-            rt,
-            move |scope| -> Result<Crew<'_, W>, LoadFault>
-                ensures { RunsCrew W.leads W.shown self.settings crew.entry result }
-            { self.run_in(scope, rt, crew) },
-        )
     }
 }

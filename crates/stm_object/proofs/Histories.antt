@@ -16,10 +16,15 @@ use Rattle.stm_core.proofs.Whole.{all_grants, own_sorted}
 use Rattle.stm_region.specs.Shown.{RegionShown}
 use Rattle.stm_region.specs.Closed.{Ends}
 use Rattle.stm_attempt.specs.Committing.{DecidesWith, WasDecided, commit_record}
-use Rattle.stm_object.specs.Object.{Specification, Shows, IsFitting, Does, IsLawfulEntry, keeps_fitting}
+use Rattle.stm_object.specs.Object.{Specification, Shows, IsFitting, IsBeginning, Does, IsLawfulEntry}
+use Rattle.stm_object.specs.Object.{keeps_fitting}
 use Rattle.stm_object.specs.History.{Lead, LeadTo, AddsRecord, AddsWithoutWrites}
 use Rattle.stm_object.specs.History.{WasInOrder, IsAlone, words_after, LeadsOn, Closes}
 use Rattle.stm_object.proofs.Adding.{in_snoc, inserted_last, record_reads, record_writes}
+
+-- an image on which a memory may be opened fits
+pub fits_beginning : {E : Type 0} (o : Specification E) (image : List ℕ) → IsBeginning o image → IsFitting o image
+fits_beginning o image h = record { value = h.value; shown = h.shown }
 
 -- the record of a commit that wrote nothing is a reader's
 record_reader : (region : RegionShown) (tag : List ℕ) (v : Client) (pairs : List (ℕ × ℕ)) (version : ℕ) → pairs ≡ []

@@ -1,6 +1,7 @@
 -- The records of all clients in terms of an object's entries, and the attempts of a call.
 use Rattle.std.specs.Prelude.{◌≡◌, ◌≢◌, ◌⊎◌, ℕ, zero, suc, ◌+◌, ◌*◌, ◌<◌, ◌≤◌, Bool, true, false}
-use Rattle.std.specs.Prelude.{List, [], ◌∷◌, ◌++◌, Result, Ok, Err, IfOk, IfErr, MatchResult}
+use Rattle.std.specs.Prelude.{List, [], ◌∷◌, ◌++◌, length, Result, Ok, Err, IfOk, IfErr}
+use Rattle.std.specs.Prelude.{MatchResult}
 use Rattle.tx_memory.specs.Image.{In}
 use Rattle.stm_core.specs.Client.{Client, Record, rank}
 use Rattle.stm_core.specs.Core.{IsFreeHanded}
@@ -17,7 +18,8 @@ use Rattle.stm_attempt.specs.declared.conflict.Conflict.{Conflict as ConflictMet
 use Rattle.stm_attempt.specs.declared.conflict.Stop.{Stop}
 use Rattle.stm_attempt.specs.declared.conflict.Stop.TheVariants.{Memory, Conflict, Spent}
 use Rattle.stm_object.specs.declared.place.Place.{Place}
-use Rattle.stm_object.specs.Object.{Specification, Shows, IsFitting, Does, IsLawfulEntry}
+use Rattle.stm_object.specs.Object.{Specification, Shows, IsFitting, IsBeginning, Does}
+use Rattle.stm_object.specs.Object.{IsLawfulEntry}
 use Rattle.stm_object.specs.Places.{place_of}
 
 -- the records, one after the other, are those of these entries: each entry is one of the object's
@@ -43,11 +45,12 @@ pub record LeadTo {E : Type 0} (o : Specification E) (x : o.Value) (rs : List Re
 abbrev pub Lead : {E : Type 0} (o : Specification E) → List ℕ → List Record → Type 0
 Lead o first rs = (x : o.Value) → Shows o first x → LeadTo o x rs (image_after first rs)
 
--- the region has a size that the object allows, and was first opened on a fitting image
-pub record IsOpenedOnFitting {E : Type 0} (o : Specification E) (region : RegionShown)
-    : Type 0 where
+-- the region has a size that the object allows, and was first opened on an image on which a memory
+-- may be opened
+pub record IsOpened {E : Type 0} (o : Specification E) (region : RegionShown) : Type 0 where
   pub size : o.IsSize region.size
-  pub first : IsFitting o region.first
+  pub words : region.size ≡ length region.first
+  pub first : IsBeginning o region.first
 
 -- no record of the client has a position in a list of events
 pub record IsUnplaced (v : Client) : Type 0 where
@@ -73,13 +76,13 @@ pub record AddsAt (region : RegionShown) (tag : List ℕ) (place : Place) (v v' 
     pub adds : AddsRecord region tag v v'
     pub place_is : place ≡ place_of adds.made
 
--- the client may begin an attempt: it belongs to the region, which was opened on a fitting image;
--- it holds no lock, and none of its records has a position in a list of events
+-- the client may begin an attempt: it belongs to the region, which was opened as a memory of the
+-- object; it holds no lock, and none of its records has a position in a list of events
 pub record MayAttempt {E : Type 0} (o : Specification E) (region : RegionShown)
     (client : ClientShown) : Type 0 where
   pub own : client.table ≡ region.table
   pub free_handed : IsFreeHanded client.value
-  pub opened : IsOpenedOnFitting o region
+  pub opened : IsOpened o region
   pub unplaced : IsUnplaced client.value
 
 -- exactly one record was added, as the last one; it is the record of a reader and writes nothing

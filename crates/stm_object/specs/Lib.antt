@@ -2,6 +2,7 @@ pub mod Object
 pub mod Bodies
 pub mod Places
 pub mod History
+pub mod Callers
 pub mod Tracing
 pub mod Renewed
 pub mod Steps

@@ -3,7 +3,7 @@
 use Rattle.std.proofs.Common.{◌≡◌, ℕ, suc, ◌<◌, ◌≤◌, inl, inr, List, [], ◌∷◌, length, slice_index, slice_set, refl, sym, subst, ◌∙◌, arith, length-set, get_or-set_same, get_or-set_other}
 use Rattle.tx_memory.specs.View.{View, Sees, RestsOn, IsWrite, Kept, Loaded, Stored, mem}
 use Rattle.tx_memory.specs.Seen.{same_or, some_le}
-use Rattle.stm_object.specs.Object.{Specification, Shows, IsFitting}
+use Rattle.stm_object.specs.Object.{Specification, Shows, IsFitting, IsBeginning}
 use Rattle.stm_object.specs.Bodies.{HasValue, Did}
 
 -- the first n words of the memory are these
@@ -20,6 +20,7 @@ words_object size E fits is finds after code = record {
   Value = List ℕ;
   IsSize = λ n. n ≡ size;
   Holds = λ m n xs. fits xs × Are xs m n;
+  Begins = λ xs. Unit {0};
   IsEntry = is;
   Finds = finds;
   after = after;
@@ -191,3 +192,8 @@ module _ {E : Type 0} (n : ℕ) (fits : List ℕ → Type 0) (is : E → Type 0)
   pub fits_words : (image : List ℕ) → fits image →
       IsFitting (words_object n E fits is finds after code) image
   fits_words image f = record { value = image; shown = shows_words image f }
+
+  -- a memory may be opened on an image that fits
+  pub begins_words : (image : List ℕ) → fits image →
+      IsBeginning (words_object n E fits is finds after code) image
+  begins_words image f = record { value = image; shown = shows_words image f; begins = tt }

@@ -86,10 +86,10 @@ pub trait Body<S: Object> {
             (M.view memory.new).writes ≡ (M.view memory.old).writes)) };
 }
 
-/// An update as a body.
+/// An update as a body, for a call with a gate or a tracer.
 #[derive(Drop)]
-pub(crate) struct Updating<'a, U> {
-    pub(crate) update: &'a U,
+pub struct Updating<'a, U> {
+    pub update: &'a U,
 }
 
 impl<'a, S: Object, U: Update<S>> Body<S> for Updating<'a, U> {
@@ -119,10 +119,10 @@ impl<'a, S: Object, U: Update<S>> Body<S> for Updating<'a, U> {
     }
 }
 
-/// A query as a body.
+/// A query as a body, for a call with a gate or a tracer.
 #[derive(Drop)]
-pub(crate) struct Asking<'a, Q> {
-    pub(crate) query: &'a Q,
+pub struct Asking<'a, Q> {
+    pub query: &'a Q,
 }
 
 impl<'a, S: Object, Q: Query<S>> Body<S> for Asking<'a, Q> {

@@ -3,6 +3,7 @@
 
 mod attempts;
 mod body;
+mod caller;
 mod object;
 mod pauses;
 mod place;
@@ -11,8 +12,9 @@ mod search;
 mod shared;
 mod tracer;
 
-pub use body::{Body, Query, Update};
-pub use object::{Object, ObjectLaw};
+pub use body::{Asking, Body, Query, Update, Updating};
+pub use caller::Caller;
+pub use object::{Object, ObjectLaw, Own};
 pub use place::Place;
 pub use renew::RenewFault;
 pub use search::{find, seek};

@@ -5,6 +5,25 @@ ghost use Rattle.stm_object.specs.Object.{Specification, IsLocal, IsDetermined};
 use std::marker::PhantomData;
 use stm_words::Law;
 
+/// A state that each user of an object keeps for itself, outside the shared words.
+pub trait Own: Drop {
+    /// The relation between a state before a split, the state after the split, and the state of
+    /// the new user.
+    ghost splits: { Self → Self → Self → Type 0 };
+
+    /// Makes the state of a user that is split off.
+    fn split(&mut self) -> Self
+        ensures { splits self.old self.new result };
+}
+
+/// The state of users that keep nothing for themselves.
+impl Own for () {
+    ghost splits = { λ _ _ _. Unit {0} };
+
+    #[inline]
+    fn split(&mut self) {}
+}
+
 /// A shared object by its sequential specification: its values, the words that hold them, and for
 /// each operation with its answer the statement about the value before and the value after. An
 /// object has two laws. Whether words hold a value depends only on these words. The code of an
@@ -13,6 +32,9 @@ pub trait Object {
     /// An operation with its answer, which a record carries as its tag. No code makes a value of
     /// this type.
     type Entry;
+
+    /// The state that each user keeps for itself.
+    type Own: Own;
 
     ghost is: { Specification Self.Entry };
 

@@ -22,7 +22,8 @@ pub enum RenewFault<S: Object> {
 
 impl<S: Object> Shared<S> {
     /// Renews the memory once every other user was gathered: keeps its value and starts a new
-    /// version clock, which ends at `last`. The user keeps its records and its grants.
+    /// version clock, which ends at `last`. The user keeps its records, its grants and its own
+    /// state.
     pub fn renew(self, user: User<S>, last: u64) -> Result<(Shared<S>, User<S>), RenewFault<S>>
         requires { user.table ≡ self.table }
         ensures region { IfOk result (λ r. r.0 ≡ record self {
@@ -33,7 +34,7 @@ impl<S: Object> Shared<S> {
           start = renewing user.value;
         }) }
         ensures user { IfOk result (λ r. r.1
-            ≡ record { table = r.0.table; value = renewing user.value }) }
+            ≡ record user { table = r.0.table; value = renewing user.value }) }
         ensures words { IfOk result (λ r. ClosesSomewhere S.is self user.value r.0.opening) }
         ensures refused { IfErr result (λ fault. StaysUnrenewed S.is self user last fault) }
         ensures ranges { IfOk result (λ _. MayRenew self.renewal last user.value.grants) }
@@ -43,6 +44,7 @@ impl<S: Object> Shared<S> {
             client,
             logs,
             pauses,
+            own,
         } = user;
         match region.renew(alloc, client, last) {
             Ok((region, client)) => Ok((
@@ -51,6 +53,7 @@ impl<S: Object> Shared<S> {
                     client,
                     logs,
                     pauses,
+                    own,
                 },
             )),
             Err(RegionRenewFault::Kept(region, client, fault)) => Err(RenewFault::Kept(
@@ -59,6 +62,7 @@ impl<S: Object> Shared<S> {
                     client,
                     logs,
                     pauses,
+                    own,
                 },
                 fault,
             )),

@@ -1,27 +1,27 @@
 //! A memory for many users at once, with transactions over an object.
 
-ghost use Rattle.std.specs.Prelude.{◌≡◌, ◌≤◌, ◌⊎◌, IfOk, IfErr, length, true, false};
+ghost use Rattle.std.specs.Prelude.{◌≡◌, ◌≤◌, ◌⊎◌, IfOk, IfErr, length};
 ghost use Rattle.tx_memory.specs.Image.{In};
 ghost use Rattle.stm_core.specs.Client.{Record};
 ghost use Rattle.stm_core.specs.History.{Sub};
 ghost use Rattle.stm_core.specs.Event.{opener};
-ghost use Rattle.stm_region.specs.Shown.{HasSplit, with_gathered, opened_on};
+ghost use Rattle.stm_region.specs.Shown.{with_gathered, opened_on};
 ghost use Rattle.stm_region.specs.Refused.{ClosesNot, IsLast, OpensNot};
-ghost use Rattle.stm_region.specs.declared.fault.RegionFault.TheVariants.{Clients};
-ghost use Rattle.stm_object.specs.Object.{IsFitting};
+ghost use Rattle.stm_object.specs.Object.{IsBeginning};
+ghost use Rattle.stm_object.specs.Callers.{Splits, SplitsNot};
 ghost use Rattle.stm_object.specs.History.{Closes, ConflictWasShown, IsAlone};
-ghost use Rattle.stm_object.specs.History.{HasCalled, HasCalledAt, answer_in};
+ghost use Rattle.stm_object.specs.History.{HasCalledAt, answer_in};
 ghost use Rattle.stm_object.specs.Tracing.{HasTraced, HasTallied};
 
 use crate::attempts::try_once;
-use crate::body::{Asking, Body, Query, Update, Updating};
-use crate::object::{Object, ObjectLaw};
+use crate::body::Body;
+use crate::object::{Object, ObjectLaw, Own};
 use crate::pauses::Pauses;
 use crate::place::Place;
-use crate::tracer::{Tracer, Untraced};
+use crate::tracer::Tracer;
 use std::alloc::Global;
 use std::marker::Model;
-use stm_attempt::{Gate, Logs, NoGate, Stop};
+use stm_attempt::{Gate, Logs, Stop};
 use stm_region::{Client, Region, RegionFault};
 use stm_words::Version;
 
@@ -34,38 +34,42 @@ pub struct Shared<S: Object> {
 
 impl<S: Object> Model for Shared<S> {
     ghost use Rattle.stm_region.specs.Shown.{RegionShown};
-    ghost use Rattle.stm_object.specs.History.{IsOpenedOnFitting};
+    ghost use Rattle.stm_object.specs.History.{IsOpened};
 
     ghost Value = { RegionShown };
 
     ghost view = { λ b. b.region };
 
-    ghost invariant = { λ b. IsOpenedOnFitting S.is b.region };
+    ghost invariant = { λ b. IsOpened S.is b.region };
 }
 
 /// A user: the right to use the memory, from one thread at a time. Between calls a user holds no
 /// lock.
+///
+/// A user that is dropped without being gathered stays out for good. Its memory can then be
+/// neither closed nor renewed.
 #[derive(Drop)]
 pub struct User<S: Object> {
     pub(crate) client: Client<ObjectLaw<S>>,
     pub(crate) logs: Logs,
     pub(crate) pauses: Pauses,
+    pub(crate) own: S::Own,
 }
 
 impl<S: Object> Model for User<S> {
     ghost use Rattle.stm_core.specs.Core.{IsFreeHanded};
-    ghost use Rattle.stm_region.specs.Shown.{ClientShown};
+    ghost use Rattle.stm_object.specs.Callers.{UserShown};
     ghost use Rattle.stm_object.specs.History.{IsUnplaced};
 
-    ghost Value = { ClientShown };
+    ghost Value = { UserShown S.Own };
 
-    ghost view = { λ t. t.client };
+    ghost view = { λ t. record { table = t.client.table; value = t.client.value; own = t.own } };
 
     ghost invariant = { λ t. IsFreeHanded t.client.value × IsUnplaced t.client.value };
 }
 
 /// Returns the answer of a call without the commit position of its record.
-fn answer_of<A: Drop>(placed: Result<(A, Place), Stop>) -> Result<A, Stop>
+pub(crate) fn answer_of<A: Drop>(placed: Result<(A, Place), Stop>) -> Result<A, Stop>
     ensures { result ≡ answer_in placed }
 {
     match placed {
@@ -75,20 +79,21 @@ fn answer_of<A: Drop>(placed: Result<(A, Place), Stop>) -> Result<A, Stop>
 }
 
 impl<S: Object> Shared<S> {
-    /// Opens a memory on these words, and returns the memory and its first user. The version clock
-    /// ends at `last`.
+    /// Opens a memory on these words, and returns the memory and its first user, which keeps the
+    /// state `own`. The version clock ends at `last`.
     pub fn new(
         alloc: Global,
         words: &[u64],
         last: u64,
         stripes: u32,
+        own: S::Own,
     ) -> Result<(Shared<S>, User<S>), RegionFault>
         requires size { S.is.IsSize (length words.now) }
-        requires fits { IsFitting S.is words.now }
+        requires begins { IsBeginning S.is words.now }
         ensures region { IfOk result (λ r.
             r.0 ≡ opened_on r.0.table words.now last stripes) }
         ensures user { IfOk result (λ r.
-            r.1 ≡ record { table = r.0.table; value = opener }) }
+            r.1 ≡ record { table = r.0.table; value = opener; own = own }) }
         ensures range { IfOk result (λ _. IsLast last) }
         ensures refused { IfErr result (λ fault. OpensNot (length words.now) last stripes fault) }
     {
@@ -97,48 +102,9 @@ impl<S: Object> Shared<S> {
             client,
             logs: Logs::new(alloc),
             pauses: Pauses::new(0),
+            own,
         };
         Ok((Shared { alloc, region }, user))
-    }
-
-    /// Runs an update as a transaction, in at most `tries` attempts. An update that stops with an
-    /// error changes nothing.
-    ///
-    /// Not said: that a call terminates.
-    pub fn run<U: Update<S>>(
-        &self,
-        user: &mut User<S>,
-        update: &U,
-        tries: u32,
-    ) -> Result<U::Answer, Stop>
-        requires own { user.old.table ≡ self.now.table }
-        requires tries { 1 ≤ tries }
-        ensures own { user.new.table ≡ user.old.table }
-        ensures call { HasCalled S.is self.now (λ a. U.entry_of update.now a)
-            (λ a. U.changes update.now a) false tries result user.old.value user.new.value }
-    {
-        let body = Updating { update };
-        answer_of(self.call(user, &body, tries, &mut NoGate, &mut Untraced))
-    }
-
-    /// Runs a query as a transaction, in at most `tries` attempts. Only a conflict stops the
-    /// query.
-    ///
-    /// Not said: that a call terminates.
-    pub fn ask<Q: Query<S>>(
-        &self,
-        user: &mut User<S>,
-        query: &Q,
-        tries: u32,
-    ) -> Result<Q::Answer, Stop>
-        requires own { user.old.table ≡ self.now.table }
-        requires tries { 1 ≤ tries }
-        ensures own { user.new.table ≡ user.old.table }
-        ensures call { HasCalled S.is self.now (λ a. Q.entry_of query.now a) (λ a. false) true
-            tries result user.old.value user.new.value }
-    {
-        let body = Asking { query };
-        answer_of(self.call(user, &body, tries, &mut NoGate, &mut Untraced))
     }
 
     /// Runs a transaction, in at most `tries` attempts, and returns its answer and the commit
@@ -147,7 +113,7 @@ impl<S: Object> Shared<S> {
     /// its reads are done. The tracer traces the attempts.
     ///
     /// Not said: that a gate never waits; that a call terminates.
-    pub fn call<B: Body<S>, G: Gate, T: Tracer>(
+    pub(crate) fn call<B: Body<S>, G: Gate, T: Tracer>(
         &self,
         user: &mut User<S>,
         body: &B,
@@ -157,7 +123,7 @@ impl<S: Object> Shared<S> {
     ) -> Result<(B::Answer, Place), Stop>
         requires own { user.old.table ≡ self.now.table }
         requires tries { 1 ≤ tries }
-        ensures own { user.new.table ≡ user.old.table }
+        ensures user { user.new ≡ record user.old { value = user.new.value } }
         ensures frame { T.frame tracer.new ≡ T.frame tracer.old }
         ensures call { HasCalledAt S.is self.now (λ a. B.entry_of body.now a)
             (λ a. B.changes body.now a) (B.reads body.now) tries result
@@ -181,22 +147,22 @@ impl<S: Object> Shared<S> {
     }
 
     /// Splits off a new user for one grant; a memory has 63 grants.
-    pub fn split(&self, user: &mut User<S>) -> Result<User<S>, RegionFault>
+    pub(crate) fn split(&self, user: &mut User<S>) -> Result<User<S>, RegionFault>
         requires { user.old.table ≡ self.now.table }
-        ensures ok { IfOk result (λ other. HasSplit user.old user.new other) }
-        ensures refused { IfErr result (λ fault.
-            (fault ≡ Clients) × (user.old.value.grants ≡ 0) × (user.new ≡ user.old)) }
+        ensures ok { IfOk result (λ other. Splits S.Own.splits user.old user.new other) }
+        ensures refused { IfErr result (λ fault. SplitsNot fault user.old user.new) }
     {
         let client = self.region.split(&mut user.client)?;
         Ok(User {
             client,
             logs: Logs::new(self.alloc),
             pauses: user.pauses.split(),
+            own: user.own.split(),
         })
     }
 
     /// Gathers another user: takes over its records and its grants, and gets one more grant.
-    pub fn gather(&self, user: &mut User<S>, other: User<S>)
+    pub(crate) fn gather(&self, user: &mut User<S>, other: User<S>)
         requires { (user.old.table ≡ self.now.table) × (other.table ≡ self.now.table) }
         ensures user { user.new
             ≡ record user.old { value = with_gathered user.old.value other.value } }
@@ -209,6 +175,7 @@ impl<S: Object> Shared<S> {
             client,
             logs: _,
             pauses: _,
+            own: _,
         } = other;
         self.region.gather(&mut user.client, client);
     }
@@ -229,6 +196,7 @@ impl<S: Object> Shared<S> {
             client,
             logs,
             pauses,
+            own,
         } = user;
         match region.close(alloc, client) {
             Ok(closed) => Ok(closed),
@@ -238,6 +206,7 @@ impl<S: Object> Shared<S> {
                     client,
                     logs,
                     pauses,
+                    own,
                 },
                 fault,
             )),

@@ -13,7 +13,7 @@ use std::thread;
 use std::thread::Threads;
 use stm_attempt::{Gate, Point};
 use vac_audit::{AuditFault, audit_words};
-use vac_manager::{Client, Manager, Session};
+use vac_manager::{Client, Manager, call};
 use vac_model::{Command, Reply, Report, Task};
 
 /// Number of loops.
@@ -104,12 +104,12 @@ fn run_loop(alloc: Global, manager: &Manager, client: Client, shown: &Shown, str
     requires { client.table ≡ manager.now.table }
     ensures { result.0.table ≡ manager.now.table }
 {
-    let mut session = Session::of(manager, client);
+    let mut caller = manager.caller(client);
     let mut draws = PcgDraws::new(TRIPS.seed, stream);
     let mut gate = Paced { shown, answers: 0 };
-    let tally = client_loop(alloc, &mut session, &mut draws, &TRIPS, &mut gate);
+    let tally = client_loop(alloc, &mut caller, &mut draws, &TRIPS, &mut gate);
     shown.over.fetch_add(1, Ordering::SeqCst);
-    (session.into_client(), tally)
+    (caller.into_user(), tally)
 }
 
 /// Counts of the completed reports.
@@ -139,7 +139,7 @@ fn ask_for_reports(manager: &Manager, client: Client, shown: &Shown) -> (Client,
     requires { client.table ≡ manager.now.table }
     ensures { result.0.table ≡ manager.now.table }
 {
-    let mut session = Session::of(manager, client);
+    let mut caller = manager.caller(client);
     let mut reports = Reports {
         sound: 0,
         others: 0,
@@ -149,12 +149,12 @@ fn ask_for_reports(manager: &Manager, client: Client, shown: &Shown) -> (Client,
         if shown.over.load(Ordering::SeqCst) == LOOPS {
             break;
         }
-        if let Ok(Reply::Report(report)) = session.call(&Task::One(Command::Audit), TRIES) {
+        if let Ok(Reply::Report(report)) = call(&mut caller, &Task::One(Command::Audit), TRIES) {
             reports.count(&report);
             shown.reports.fetch_add(1, Ordering::SeqCst);
         }
     }
-    (session.into_client(), reports)
+    (caller.into_user(), reports)
 }
 
 /// Runs the loops of two clients in threads.
@@ -224,22 +224,24 @@ struct Left {
     reports: Reports,
 }
 
-/// Splits off a client.
-fn split(rt: &impl Abort, manager: &Manager, client: &mut Client) -> Client
-    requires { client.old.table ≡ manager.now.table }
-    ensures mine { client.new.table ≡ manager.now.table }
-    ensures other { result.table ≡ manager.now.table }
+/// Splits off a client. Returns the client from which it was split off, and the new client.
+fn split(rt: &impl Abort, manager: &Manager, client: Client) -> (Client, Client)
+    requires { client.table ≡ manager.now.table }
+    ensures { (result.0.table ≡ manager.now.table) × (result.1.table ≡ manager.now.table) }
 {
-    manager.split(client).expect(rt, "there are grants")
+    let mut caller = manager.caller(client);
+    let other = caller.split().expect(rt, "there are grants");
+    (caller.into_user(), other.into_user())
 }
 
-/// Gathers another client.
-fn gather(manager: &Manager, client: &mut Client, other: Client)
-    requires mine { client.old.table ≡ manager.now.table }
-    requires other { other.table ≡ manager.now.table }
-    ensures { client.new.table ≡ manager.now.table }
+/// Gathers another client. Returns the client that gathered it.
+fn gather(manager: &Manager, client: Client, other: Client) -> Client
+    requires { (client.table ≡ manager.now.table) × (other.table ≡ manager.now.table) }
+    ensures { result.table ≡ manager.now.table }
 {
-    manager.gather(client, other);
+    let mut caller = manager.caller(client);
+    caller.gather(manager.caller(other));
+    caller.into_user()
 }
 
 /// Runs the loops of four clients in threads, while a fifth client asks for reports.
@@ -253,11 +255,10 @@ fn four_loops_and_reports<R: Threads + Sync + Abort>(
     requires { a.table ≡ manager.now.table }
     ensures { result.client.table ≡ manager.now.table }
 {
-    let mut a = a;
-    let b = split(rt, manager, &mut a);
-    let c = split(rt, manager, &mut a);
-    let d = split(rt, manager, &mut a);
-    let e = split(rt, manager, &mut a);
+    let (a, b) = split(rt, manager, a);
+    let (a, c) = split(rt, manager, a);
+    let (a, d) = split(rt, manager, a);
+    let (a, e) = split(rt, manager, a);
     let ((first, second), ((third, fourth), (e, reports))) = thread::join(
         rt,
         move || -> (Looped, Looped)
@@ -273,13 +274,12 @@ fn four_loops_and_reports<R: Threads + Sync + Abort>(
                 × (result.1.0.table ≡ manager.entry.now.table) }
         { two_loops_and_reports(rt, alloc, manager, (c, d), e, shown) },
     );
-    let (mut client, tally) = first;
-    gather(manager, &mut client, second.0);
-    gather(manager, &mut client, third.0);
-    gather(manager, &mut client, fourth.0);
-    gather(manager, &mut client, e);
+    let (client, tally) = first;
+    let client = gather(manager, client, second.0);
+    let client = gather(manager, client, third.0);
+    let client = gather(manager, client, fourth.0);
     Left {
-        client,
+        client: gather(manager, client, e),
         tallies: [tally, second.1, third.1, fourth.1],
         reports,
     }

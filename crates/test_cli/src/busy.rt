@@ -8,7 +8,7 @@ use crate::small_load::SETTINGS;
 use load_run::{FixedDraws, Settings, Tally, client_loop};
 use std::alloc::Global;
 use stm_attempt::{Gate, Point};
-use vac_manager::Session;
+use vac_manager::{Caller, call};
 use vac_model::{Command, Kind, Task};
 
 const RIVAL: Task = Task::One(Command::Reserve {
@@ -21,30 +21,30 @@ const RIVAL: Task = Task::One(Command::Reserve {
 /// A gate at which another client books the car that the task is about to book.
 #[derive(Drop)]
 struct Rival<'a> {
-    other: Session<'a>,
+    other: Caller<'a>,
     answered: u32,
 }
 
 impl<'a> Gate for Rival<'a> {
     fn at(&mut self, point: Point) {
-        if point == Point::ReadsDone && self.other.call(&RIVAL, 1).is_ok() {
+        if point == Point::ReadsDone && call(&mut self.other, &RIVAL, 1).is_ok() {
             self.answered = self.answered.saturating_add(1);
         }
     }
 }
 
-/// Returns the counts of a session's tasks beside a rival session, and the number of the rival's
+/// Returns the counts of a client's tasks beside a rival client, and the number of the rival's
 /// bookings.
 fn loop_beside_rival(
     alloc: Global,
     settings: &Settings,
-    session: &mut Session<'_>,
-    other: Session<'_>,
+    caller: &mut Caller<'_>,
+    other: Caller<'_>,
 ) -> (Tally, u32)
     requires { is_settings settings.now ≡ true }
 {
     let mut gate = Rival { other, answered: 0 };
-    let tally = client_loop(alloc, session, &mut FixedDraws(0), settings, &mut gate);
+    let tally = client_loop(alloc, caller, &mut FixedDraws(0), settings, &mut gate);
     (tally, gate.answered)
 }
 
@@ -60,9 +60,9 @@ fn each_task_is_busy(rt: HostRuntime) {
         &rt,
         "there is memory",
     );
-    let mut session = Session::of(&manager, client);
-    let other = session.split().expect(&rt, "there are grants");
-    let found = loop_beside_rival(alloc, &settings, &mut session, other);
+    let mut caller = manager.caller(client);
+    let other = caller.split().expect(&rt, "there are grants");
+    let found = loop_beside_rival(alloc, &settings, &mut caller, other);
     let busy = Tally {
         busy: u64::from(settings.tasks),
         ..Tally::default()

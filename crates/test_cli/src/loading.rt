@@ -9,7 +9,7 @@ use std::process::Abort;
 use std::sync::Wait;
 use std::thread::Threads;
 use stm_attempt::{Gate, NoGate};
-use vac_manager::{Client, Fault, Manager, Session};
+use vac_manager::{Client, Fault, Manager};
 
 /// Runs a load of one client that draws only zeros.
 pub(crate) fn load_of_zeros<R: Threads + Wait + AllocGlobal>(
@@ -55,8 +55,8 @@ pub(crate) fn opened<D: Draws>(
     ensures { IfOk result (λ opened. opened.1.table ≡ opened.0.table) }
 {
     let (manager, client) = Manager::new(alloc, settings.blocks, settings.last)?;
-    let mut session = Session::of(&manager, client);
-    open(&mut session, draws, settings)?;
-    let client = session.into_client();
+    let mut caller = manager.caller(client);
+    open(&mut caller, draws, settings)?;
+    let client = caller.into_user();
     Ok((manager, client))
 }

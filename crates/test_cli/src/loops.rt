@@ -9,7 +9,7 @@ use crate::small_load::{SETTINGS, THREE_TRIPS, all_answered, spent_at};
 use load_run::{Draws, FixedDraws, PcgDraws, Settings, Tally, client_loop};
 use std::alloc::Global;
 use stm_attempt::{Gate, Point};
-use vac_manager::{Fault, Session};
+use vac_manager::{Fault, call};
 use vac_model::{Command, Reply, Task};
 
 /// A gate that counts the completed calls.
@@ -36,9 +36,9 @@ fn loop_alone<D: Draws>(
 {
     let mut gate = Answers(0);
     let (manager, client) = opened(alloc, settings, opening)?;
-    let mut session = Session::of(&manager, client);
-    let tally = client_loop(alloc, &mut session, draws, settings, &mut gate);
-    let audit = session.call(&Task::One(Command::Audit), 1)?;
+    let mut caller = manager.caller(client);
+    let tally = client_loop(alloc, &mut caller, draws, settings, &mut gate);
+    let audit = call(&mut caller, &Task::One(Command::Audit), 1)?;
     Ok((tally, gate.0, audit))
 }
 
@@ -63,9 +63,9 @@ fn drawn_tasks_are_answered(rt: HostRuntime) {
         &rt,
         "there is memory",
     );
-    let mut session = Session::of(&manager, client);
+    let mut caller = manager.caller(client);
     let (mut draws, mut gate) = (PcgDraws::new(1, 1), Answers(0));
-    let tally = client_loop(rt.alloc(), &mut session, &mut draws, &settings, &mut gate);
+    let tally = client_loop(rt.alloc(), &mut caller, &mut draws, &settings, &mut gate);
     same(&rt, &(tally, gate.0), &(all_answered(200), 200));
 }
 

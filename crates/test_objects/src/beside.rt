@@ -1,11 +1,10 @@
 //! A question beside a writer of one queue. One question meets the writer's locks. Another one is
 //! answered as before the writer, which commits while the question ends.
-ghost use Rattle.std.specs.Prelude.{◌≡◌};
 
-use ex_ring::{Count, Push, Ring, RingObject, RingUser, new_ring};
+use ex_ring::{Count, Push, RingCaller, RingObject, new_ring};
 use std::test::Fail;
 use stm_attempt::{Conflict, Gate, Point, Stop};
-use stm_object::{Body, Query, Untraced, Update};
+use stm_object::{Body, Caller, Query, Untraced, Update};
 use tx_memory::{TxMem, TxRead};
 
 /// A push as a body.
@@ -66,28 +65,19 @@ impl Body<RingObject> for Counting {
     }
 }
 
-/// A user that waits for a moment of another user's transaction.
-#[derive(Drop)]
-struct Waiting<'a> {
-    ring: &'a Ring,
-    user: RingUser,
-    ghost own: { user.table ≡ ring.now.table },
-}
-
 /// A gate that counts the values once, while the locks of another user's transaction are held.
 #[derive(Drop)]
 struct CountsAtLocked<'a> {
-    waiting: Option<Waiting<'a>>,
+    waiting: Option<RingCaller<'a>>,
     count: Option<Result<u64, Stop>>,
 }
 
 impl<'a> Gate for CountsAtLocked<'a> {
     fn at(&mut self, point: Point) {
         if point == Point::Locked
-            && let Some(Waiting { ring, user }) = self.waiting.take()
+            && let Some(mut caller) = self.waiting.take()
         {
-            let mut user = user;
-            self.count = Some(ring.ask(&mut user, &Count, 1));
+            self.count = Some(caller.ask(&Count, 1));
         }
     }
 }
@@ -95,17 +85,16 @@ impl<'a> Gate for CountsAtLocked<'a> {
 /// A gate that puts a value in once another user's question has done its reads.
 #[derive(Drop)]
 struct PushesAtReadsDone<'a> {
-    waiting: Option<Waiting<'a>>,
+    waiting: Option<RingCaller<'a>>,
     room: Option<Result<bool, Stop>>,
 }
 
 impl<'a> Gate for PushesAtReadsDone<'a> {
     fn at(&mut self, point: Point) {
         if point == Point::ReadsDone
-            && let Some(Waiting { ring, user }) = self.waiting.take()
+            && let Some(mut caller) = self.waiting.take()
         {
-            let mut user = user;
-            self.room = Some(ring.run(&mut user, &Push(5), 1));
+            self.room = Some(caller.run(&Push(5), 1));
         }
     }
 }
@@ -113,17 +102,15 @@ impl<'a> Gate for PushesAtReadsDone<'a> {
 /// Asks a question that meets a lock of the writer, and a later question that finds the value.
 #[test]
 fn a_question_while_a_writer_commits(rt: HostRuntime) -> Result<(), Fail> {
-    let (ring, mut user) = new_ring(rt.alloc(), 100)?;
-    let other = ring.split(&mut user)?;
+    let (ring, user) = new_ring(rt.alloc(), 100)?;
+    let mut caller = Caller::of(&ring, user);
+    let other = caller.split()?;
     let mut gate = CountsAtLocked {
-        waiting: Some(Waiting {
-            ring: &ring,
-            user: other,
-        }),
+        waiting: Some(other),
         count: None,
     };
-    let put = ring.call(&mut user, &Pushing(Push(5)), 1, &mut gate, &mut Untraced);
-    let after = ring.ask(&mut user, &Count, 1);
+    let put = caller.call(&Pushing(Push(5)), 1, &mut gate, &mut Untraced);
+    let after = caller.ask(&Count, 1);
     let Ok((room, place)) = put else {
         panic!(rt; "it was stopped")
     };
@@ -139,17 +126,15 @@ fn a_question_while_a_writer_commits(rt: HostRuntime) -> Result<(), Fail> {
 /// the writer, and the record has the version from before the writer.
 #[test]
 fn a_question_before_a_writer(rt: HostRuntime) -> Result<(), Fail> {
-    let (ring, mut user) = new_ring(rt.alloc(), 100)?;
-    let other = ring.split(&mut user)?;
+    let (ring, user) = new_ring(rt.alloc(), 100)?;
+    let mut caller = Caller::of(&ring, user);
+    let other = caller.split()?;
     let mut gate = PushesAtReadsDone {
-        waiting: Some(Waiting {
-            ring: &ring,
-            user: other,
-        }),
+        waiting: Some(other),
         room: None,
     };
-    let counted = ring.call(&mut user, &Counting(Count), 1, &mut gate, &mut Untraced);
-    let after = ring.ask(&mut user, &Count, 1);
+    let counted = caller.call(&Counting(Count), 1, &mut gate, &mut Untraced);
+    let after = caller.ask(&Count, 1);
     let Ok((count, place)) = counted else {
         panic!(rt; "it was stopped")
     };

@@ -18,7 +18,7 @@ fn settings(last: u64, units: u32) -> DeskSettings {
         last,
         units,
         trips: TRIPS,
-        asks: 100_000,
+        tries: 1_000_000,
         rounds: 10_000,
     }
 }
@@ -94,11 +94,11 @@ fn one_round_on_a_clock_that_ends_at_three(rt: HostRuntime) -> Result<(), Fail> 
 
 #[test]
 fn settings_out_of_range(rt: HostRuntime) {
-    let no_asks = DeskSettings {
-        asks: 0,
+    let no_tries = DeskSettings {
+        tries: 0,
         ..settings(7, 100)
     };
-    let found = [run_desks(&rt, settings(0, 100)), run_desks(&rt, no_asks)];
+    let found = [run_desks(&rt, settings(0, 100)), run_desks(&rt, no_tries)];
     assert_eq!(rt;
         found,
         [Err(DeskFault::Arguments), Err(DeskFault::Arguments)]

@@ -8,28 +8,26 @@ use std::alloc::{AllocError, Global};
 use std::process::Abort;
 use std::test::Fail;
 use stm_attempt::{Gate, Point};
-use vac_manager::{Client, Manager, Session};
+use vac_manager::{Caller, Manager, Placed, Untraced, call, trace_call};
 use vac_model::Kind::{Car, Flight, Room};
 use vac_model::{Command, Kind, Reply, Report, Task};
 
-/// Settings in which each trip is issued by one call.
+/// Settings in which each trip has sixteen attempts.
 const SETTINGS: DeskSettings = DeskSettings {
     blocks: 100,
     last: (1 << 62) - 1,
     units: 10,
     trips: 3,
-    asks: 1,
+    tries: 16,
     rounds: 1,
 };
 
 /// A desk that has issued no trip yet, with its client.
 #[derive(Drop)]
 struct Waiting<'a> {
-    manager: &'a Manager,
     settings: DeskSettings,
-    client: Client,
+    caller: Caller<'a>,
     desk: Desk,
-    ghost own: { client.table ≡ manager.now.table },
     ghost in_range: { is_desk_settings settings ≡ true },
     ghost may: { MayServe settings desk },
 }
@@ -47,14 +45,13 @@ impl<'a> Gate for ServesAtLocked<'a> {
         if point == Point::Locked
             && let Some(
                 Waiting {
-                    manager,
                     settings,
-                    client,
+                    caller,
                     desk,
                 },
             ) = self.waiting.take()
         {
-            self.served = Some(serve(self.alloc, manager, settings, client, desk));
+            self.served = Some(serve(self.alloc, settings, caller, desk));
         }
     }
 }
@@ -95,39 +92,33 @@ fn new_desk(number: u32) -> Desk
 fn serve_two(
     rt: &impl Abort,
     alloc: Global,
-    manager: &Manager,
-    client: Client,
+    mut caller: Caller<'_>,
     stock: &Task,
     more: &Task,
-) -> (Desk, Desk, Option<Reply>)
-    requires { client.table ≡ manager.now.table }
-{
-    let mut session = Session::of(manager, client);
-    let first = session.split().expect(rt, "there are grants");
-    let second = session.split().expect(rt, "there are grants");
-    session.call(stock, 1).expect(rt, "there is memory");
+) -> (Desk, Desk, Option<Reply>) {
+    let first = caller.split().expect(rt, "there are grants");
+    let second = caller.split().expect(rt, "there are grants");
+    call(&mut caller, stock, 1).expect(rt, "there is memory");
     let mut gate = ServesAtLocked {
         alloc,
         waiting: Some(Waiting {
-            manager,
             settings: SETTINGS,
-            client: first.into_client(),
+            caller: first,
             desk: new_desk(1),
         }),
         served: None,
     };
-    session
-        .call_gated(more, 1, &mut gate)
-        .expect(rt, "it commits");
+    let (placed, _) = trace_call(&mut caller, more, 1, &mut gate, &mut Untraced);
+    let Placed { reply: _, place: _ } = placed.expect(rt, "it commits");
     let served = gate.served.expect(rt, "the locks were held");
     let given_up = served.expect(rt, "there is memory").desk;
-    let served = serve(alloc, manager, SETTINGS, second.into_client(), new_desk(2));
+    let served = serve(alloc, SETTINGS, second, new_desk(2));
     let booked = served.expect(rt, "there is memory").desk;
-    let report = session.call(&Task::One(Command::Audit), 1).ok();
+    let report = call(&mut caller, &Task::One(Command::Audit), 1).ok();
     (given_up, booked, report)
 }
 
-/// Lets all attempts of the one call for each trip find the locks held. Once the locks are
+/// Lets all attempts of the call for each trip find the locks held. Once the locks are
 /// released, another desk books all of its trips.
 #[test]
 fn a_desk_gives_up_what_others_hold(rt: HostRuntime) -> Result<(), Fail> {
@@ -136,7 +127,7 @@ fn a_desk_gives_up_what_others_hold(rt: HostRuntime) -> Result<(), Fail> {
     let opened = Manager::new(alloc, SETTINGS.blocks, SETTINGS.last);
     let (given_up, booked, report) = {
         let (manager, client) = opened.expect(&rt, "it opens");
-        serve_two(&rt, alloc, &manager, client, &stock, &more)
+        serve_two(&rt, alloc, manager.caller(client), &stock, &more)
     };
     assert_eq!(rt;
         given_up,

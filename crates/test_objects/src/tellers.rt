@@ -5,6 +5,7 @@ use crate::rounds::{ROUNDS, TRIES};
 use ex_bank::{ACCOUNTS, Bank, Teller, audit, close_bank, new_bank, transfer};
 use std::test::Fail;
 use std::thread;
+use stm_object::Caller;
 use stm_region::RegionFault;
 
 /// Transfers from account to account. Returns the teller, with the number of transfers that moved.
@@ -12,17 +13,16 @@ fn move_many(bank: &Bank, teller: Teller) -> (Teller, u32)
     requires { teller.table ≡ bank.now.table }
     ensures { result.0.table ≡ bank.now.table }
 {
-    let mut teller = teller;
+    let mut caller = Caller::of(bank, teller);
     let mut moved = 0u32;
     for i in 0..ROUNDS {
         let from = i % ACCOUNTS;
         let to = (i / 3 + 7) % ACCOUNTS;
-        let answer = transfer(bank, &mut teller, from, to, u64::from(i % 10), TRIES);
-        if answer == Ok(true) {
+        if transfer(&mut caller, from, to, u64::from(i % 10), TRIES) == Ok(true) {
             moved = moved.saturating_add(1);
         }
     }
-    (teller, moved)
+    (caller.into_user(), moved)
 }
 
 /// Adds up all balances again and again. Returns the teller, with the number of sums equal to
@@ -31,23 +31,25 @@ fn add_many(bank: &Bank, teller: Teller, expected: u64) -> (Teller, u32)
     requires { teller.table ≡ bank.now.table }
     ensures { result.0.table ≡ bank.now.table }
 {
-    let mut teller = teller;
+    let mut caller = Caller::of(bank, teller);
     let mut same = 0u32;
     for _ in 0..ROUNDS {
-        if audit(bank, &mut teller, TRIES) == Ok(expected) {
+        if audit(&mut caller, TRIES) == Ok(expected) {
             same = same.saturating_add(1);
         }
     }
-    (teller, same)
+    (caller.into_user(), same)
 }
 
 #[test]
 fn sums_amid_transfers(rt: HostRuntime) -> Result<(), Fail> {
     let alloc = rt.alloc();
-    let (bank, mut first) = new_bank(alloc, 1_000, 1 << 40)?;
-    let second = bank.split(&mut first)?;
+    let (bank, teller) = new_bank(alloc, 1_000, 1 << 40)?;
+    let mut caller = Caller::of(&bank, teller);
+    let second = caller.split()?.into_user();
+    let first = caller.into_user();
     let shared = &bank;
-    let ((mut first, moved), (second, same)) = thread::join(
+    let ((first, moved), (second, same)) = thread::join(
         &rt,
         move || -> (Teller, u32)
             requires { first.table ≡ shared.now.table }
@@ -58,8 +60,10 @@ fn sums_amid_transfers(rt: HostRuntime) -> Result<(), Fail> {
             ensures { result.0.table ≡ shared.entry.now.table }
         { add_many(shared, second, 64_000) },
     );
-    bank.gather(&mut first, second);
-    let Ok((words, _)) = close_bank(bank, first) else {
+    let mut caller = Caller::of(&bank, first);
+    caller.gather(Caller::of(&bank, second));
+    let teller = caller.into_user();
+    let Ok((words, _)) = close_bank(bank, teller) else {
         panic!(rt; "it stayed open")
     };
     let sum = words.iter().fold(0u64, |sum, word| sum.wrapping_add(*word));
@@ -72,17 +76,21 @@ fn sums_amid_transfers(rt: HostRuntime) -> Result<(), Fail> {
 #[test]
 fn too_much_is_not_moved(rt: HostRuntime) -> Result<(), Fail> {
     let alloc = rt.alloc();
-    let (bank, mut teller) = new_bank(alloc, 5, 100)?;
-    let much = transfer(&bank, &mut teller, 3, 4, 6, 1);
-    let some = transfer(&bank, &mut teller, 3, 4, 5, 1);
-    let none = transfer(&bank, &mut teller, 3, 3, 1, 1);
-    let same = transfer(&bank, &mut teller, 4, 4, 10, 1);
-    let sum = audit(&bank, &mut teller, 1);
-    let other = bank.split(&mut teller)?;
-    let Err((bank, mut teller, fault)) = close_bank(bank, teller) else {
+    let (bank, teller) = new_bank(alloc, 5, 100)?;
+    let mut caller = Caller::of(&bank, teller);
+    let much = transfer(&mut caller, 3, 4, 6, 1);
+    let some = transfer(&mut caller, 3, 4, 5, 1);
+    let none = transfer(&mut caller, 3, 3, 1, 1);
+    let same = transfer(&mut caller, 4, 4, 10, 1);
+    let sum = audit(&mut caller, 1);
+    let other = caller.split()?;
+    let (teller, other) = (caller.into_user(), other.into_user());
+    let Err((bank, teller, fault)) = close_bank(bank, teller) else {
         panic!(rt; "it was closed")
     };
-    bank.gather(&mut teller, other);
+    let mut caller = Caller::of(&bank, teller);
+    caller.gather(Caller::of(&bank, other));
+    let teller = caller.into_user();
     let Ok((words, clock)) = close_bank(bank, teller) else {
         panic!(rt; "it stayed open")
     };

@@ -2,10 +2,11 @@
 ghost use Rattle.std.specs.Prelude.{◌≡◌};
 
 use crate::rounds::{ROUNDS, TRIES};
-use ex_ring::{Count, Pop, Push, Ring, RingUser, close_ring, new_ring};
+use ex_ring::{Count, Pop, Push, Ring, RingCaller, RingUser, close_ring, new_ring};
 use std::test::Fail;
 use std::thread;
 use stm_attempt::Stop;
+use stm_object::Caller;
 use stm_region::RegionFault;
 
 /// Puts numbers in, and takes one out after each. Returns the user, with the number of values put
@@ -14,30 +15,32 @@ fn put_and_take(ring: &Ring, user: RingUser) -> (RingUser, u32, u32)
     requires { user.table ≡ ring.now.table }
     ensures { result.0.table ≡ ring.now.table }
 {
-    let mut user = user;
+    let mut caller = Caller::of(ring, user);
     let mut put = 0u32;
     let mut taken = 0u32;
     for i in 0..ROUNDS {
-        if ring.run(&mut user, &Push(u64::from(i)), TRIES) == Ok(true) {
+        if caller.run(&Push(u64::from(i)), TRIES) == Ok(true) {
             put = put.saturating_add(1);
         }
-        if let Ok(Some(_)) = ring.run(&mut user, &Pop, TRIES) {
+        if let Ok(Some(_)) = caller.run(&Pop, TRIES) {
             taken = taken.saturating_add(1);
         }
     }
-    (user, put, taken)
+    (caller.into_user(), put, taken)
 }
 
 #[test]
 fn one_user_in_turn(rt: HostRuntime) -> Result<(), Fail> {
-    let (ring, mut user) = new_ring(rt.alloc(), 100)?;
-    let none = ring.run(&mut user, &Pop, 1);
-    let third = ring.run(&mut user, &Push(3), 1);
-    let first = ring.run(&mut user, &Push(1), 1);
-    let count = ring.ask(&mut user, &Count, 1);
-    let one = ring.run(&mut user, &Pop, 1);
-    let other = ring.run(&mut user, &Pop, 1);
-    let over = ring.run(&mut user, &Pop, 1);
+    let (ring, user) = new_ring(rt.alloc(), 100)?;
+    let mut caller = Caller::of(&ring, user);
+    let none = caller.run(&Pop, 1);
+    let third = caller.run(&Push(3), 1);
+    let first = caller.run(&Push(1), 1);
+    let count = caller.ask(&Count, 1);
+    let one = caller.run(&Pop, 1);
+    let other = caller.run(&Pop, 1);
+    let over = caller.run(&Pop, 1);
+    let user = caller.into_user();
     let Ok((words, clock)) = close_ring(ring, user) else {
         panic!(rt; "it stayed open")
     };
@@ -59,13 +62,12 @@ fn one_user_in_turn(rt: HostRuntime) -> Result<(), Fail> {
 }
 
 /// Puts `numbers` numbers in, from 100 on, and counts those that had room.
-fn fill(ring: &Ring, user: &mut RingUser, numbers: u64) -> u32
-    requires { user.old.table ≡ ring.now.table }
-    ensures { user.new.table ≡ user.old.table }
+fn fill(caller: &mut RingCaller<'_>, numbers: u64) -> u32
+    ensures { caller.new.shared ≡ caller.old.shared }
 {
     let mut put = 0u32;
     for i in 0..numbers {
-        if ring.run(user, &Push(i.saturating_add(100)), 1) == Ok(true) {
+        if caller.run(&Push(i.saturating_add(100)), 1) == Ok(true) {
             put = put.saturating_add(1);
         }
     }
@@ -74,17 +76,21 @@ fn fill(ring: &Ring, user: &mut RingUser, numbers: u64) -> u32
 
 #[test]
 fn room_for_sixteen(rt: HostRuntime) -> Result<(), Fail> {
-    let (ring, mut user) = new_ring(rt.alloc(), 100)?;
-    let put = fill(&ring, &mut user, 20);
-    let full = ring.ask(&mut user, &Count, 1);
-    let first = ring.run(&mut user, &Pop, 1);
-    let again = ring.run(&mut user, &Push(7), 1);
-    let second = ring.run(&mut user, &Pop, 1);
-    let other = ring.split(&mut user)?;
-    let Err((ring, mut user, fault)) = close_ring(ring, user) else {
+    let (ring, user) = new_ring(rt.alloc(), 100)?;
+    let mut caller = Caller::of(&ring, user);
+    let put = fill(&mut caller, 20);
+    let full = caller.ask(&Count, 1);
+    let first = caller.run(&Pop, 1);
+    let again = caller.run(&Push(7), 1);
+    let second = caller.run(&Pop, 1);
+    let other = caller.split()?;
+    let (user, other) = (caller.into_user(), other.into_user());
+    let Err((ring, user, fault)) = close_ring(ring, user) else {
         panic!(rt; "it was closed")
     };
-    ring.gather(&mut user, other);
+    let mut caller = Caller::of(&ring, user);
+    caller.gather(Caller::of(&ring, other));
+    let user = caller.into_user();
     let Ok((words, clock)) = close_ring(ring, user) else {
         panic!(rt; "it stayed open")
     };
@@ -106,16 +112,20 @@ fn room_for_sixteen(rt: HostRuntime) -> Result<(), Fail> {
 /// changes nothing. The numbers put in are there after the renewal.
 #[test]
 fn spent_clock_is_renewed(rt: HostRuntime) -> Result<(), Fail> {
-    let (ring, mut user) = new_ring(rt.alloc(), 2)?;
-    let put = fill(&ring, &mut user, 2);
-    let over = ring.run(&mut user, &Push(7), TRIES);
-    let still = ring.ask(&mut user, &Count, 1);
-    let Ok((ring, mut user)) = ring.renew(user, 100) else {
+    let (ring, user) = new_ring(rt.alloc(), 2)?;
+    let mut caller = Caller::of(&ring, user);
+    let put = fill(&mut caller, 2);
+    let over = caller.run(&Push(7), TRIES);
+    let still = caller.ask(&Count, 1);
+    let user = caller.into_user();
+    let Ok((ring, user)) = ring.renew(user, 100) else {
         panic!(rt; "it was not renewed")
     };
-    let again = ring.run(&mut user, &Push(7), 1);
-    let first = ring.run(&mut user, &Pop, 1);
-    let left = ring.ask(&mut user, &Count, 1);
+    let mut caller = Caller::of(&ring, user);
+    let again = caller.run(&Push(7), 1);
+    let first = caller.run(&Pop, 1);
+    let left = caller.ask(&Count, 1);
+    let user = caller.into_user();
     let Ok((_words, clock)) = ring.close(user) else {
         panic!(rt; "it stayed open")
     };
@@ -131,10 +141,12 @@ fn spent_clock_is_renewed(rt: HostRuntime) -> Result<(), Fail> {
 
 #[test]
 fn two_users_in_threads(rt: HostRuntime) -> Result<(), Fail> {
-    let (ring, mut first) = new_ring(rt.alloc(), 1 << 40)?;
-    let second = ring.split(&mut first)?;
+    let (ring, user) = new_ring(rt.alloc(), 1 << 40)?;
+    let mut caller = Caller::of(&ring, user);
+    let second = caller.split()?.into_user();
+    let first = caller.into_user();
     let shared = &ring;
-    let ((mut first, put, taken), (second, more_put, more_taken)) = thread::join(
+    let ((first, put, taken), (second, more_put, more_taken)) = thread::join(
         &rt,
         move || -> (RingUser, u32, u32)
             requires { first.table ≡ shared.now.table }
@@ -145,9 +157,11 @@ fn two_users_in_threads(rt: HostRuntime) -> Result<(), Fail> {
             ensures { result.0.table ≡ shared.entry.now.table }
         { put_and_take(shared, second) },
     );
-    ring.gather(&mut first, second);
-    let left = ring.ask(&mut first, &Count, 1);
-    let Ok(_) = close_ring(ring, first) else {
+    let mut caller = Caller::of(&ring, first);
+    caller.gather(Caller::of(&ring, second));
+    let left = caller.ask(&Count, 1);
+    let user = caller.into_user();
+    let Ok(_) = close_ring(ring, user) else {
         panic!(rt; "it stayed open")
     };
     assert_eq!(rt; put, ROUNDS);

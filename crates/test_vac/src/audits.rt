@@ -2,7 +2,7 @@
 ghost use Rattle.std.specs.Prelude.{◌≡◌};
 
 use crate::draws::{BLOCKS, draw_task};
-use crate::managers::open;
+use crate::managers::{gather, open, split};
 use crate::same::{holds, same};
 use crate::scripts::LAST;
 use rand_pcg::Pcg32;
@@ -11,7 +11,7 @@ use std::process::Abort;
 use std::thread;
 use std::thread::Threads;
 use vac_audit::audit_words;
-use vac_manager::{Client, Manager, Session};
+use vac_manager::{Client, Manager, call};
 use vac_model::{Command, Reply, Report, Task};
 
 /// Number of random tasks of each client, and number of reports that the auditing client requests.
@@ -38,14 +38,14 @@ fn run_tasks(alloc: Global, manager: &Manager, client: Client, seed: u64) -> Cli
     requires { client.table ≡ manager.now.table }
     ensures { result.table ≡ manager.now.table }
 {
-    let mut session = Session::of(manager, client);
+    let mut caller = manager.caller(client);
     let mut draws = Pcg32::new(seed, 5);
     for _ in 0..TASKS {
         if let Ok(task) = draw_task(alloc, &mut draws) {
-            let _ = session.call(&task, TRIES);
+            let _ = call(&mut caller, &task, TRIES);
         }
     }
-    session.into_client()
+    caller.into_user()
 }
 
 /// Requests reports, and counts those that are sound.
@@ -53,13 +53,13 @@ fn audit(manager: &Manager, client: Client) -> (Client, Reports)
     requires { client.table ≡ manager.now.table }
     ensures { result.0.table ≡ manager.now.table }
 {
-    let mut session = Session::of(manager, client);
+    let mut caller = manager.caller(client);
     let mut reports = Reports {
         sound: 0,
         others: 0,
     };
     for _ in 0..TASKS {
-        if let Ok(Reply::Report(report)) = session.call(&Task::One(Command::Audit), TRIES) {
+        if let Ok(Reply::Report(report)) = call(&mut caller, &Task::One(Command::Audit), TRIES) {
             if is_sound(&report) {
                 reports.sound = reports.sound.wrapping_add(1);
             } else {
@@ -67,7 +67,7 @@ fn audit(manager: &Manager, client: Client) -> (Client, Reports)
             }
         }
     }
-    (session.into_client(), reports)
+    (caller.into_user(), reports)
 }
 
 /// Runs random tasks of two clients, each in a thread.
@@ -137,12 +137,11 @@ fn four_and_another<R: Threads + Sync + Abort>(
     requires { a.table ≡ manager.now.table }
     ensures { result.0.table ≡ manager.now.table }
 {
-    let mut a = a;
-    let b = manager.split(&mut a).expect(rt, "there are grants");
-    let c = manager.split(&mut a).expect(rt, "there are grants");
-    let d = manager.split(&mut a).expect(rt, "there are grants");
-    let e = manager.split(&mut a).expect(rt, "there are grants");
-    let ((mut a, b), ((c, d), (e, reports))) = thread::join(
+    let (a, b) = split(rt, manager, a);
+    let (a, c) = split(rt, manager, a);
+    let (a, d) = split(rt, manager, a);
+    let (a, e) = split(rt, manager, a);
+    let ((a, b), ((c, d), (e, reports))) = thread::join(
         rt,
         move || -> (Client, Client)
             requires { (a.table ≡ manager.now.table) × (b.table ≡ manager.now.table) }
@@ -157,11 +156,8 @@ fn four_and_another<R: Threads + Sync + Abort>(
                 × (result.1.0.table ≡ manager.entry.now.table) }
         { two_and_another(rt, alloc, manager, (c, d), e) },
     );
-    manager.gather(&mut a, b);
-    manager.gather(&mut a, c);
-    manager.gather(&mut a, d);
-    manager.gather(&mut a, e);
-    (a, reports)
+    let (a, c) = (gather(manager, a, b), gather(manager, c, d));
+    (gather(manager, gather(manager, a, c), e), reports)
 }
 
 /// A report with one number from before a reservation and one from after it would not be sound.

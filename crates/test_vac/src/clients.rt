@@ -11,45 +11,40 @@ use crate::scripts::{
 use std::alloc::Global;
 use std::process::Abort;
 use stm_region::RegionFault;
-use vac_manager::{Client, Manager, Session};
+use vac_manager::{Caller, Client, Manager};
 use vac_model::Joined;
 use vac_model::Kind::{Car, Flight, Room};
 use vac_model::Reply::{Done, No};
 use vac_model::Why::Full;
 
-/// Creates a customer, and returns the client that did so.
-fn enter(rt: &impl Abort, alloc: Global, manager: &Manager, client: Client, id: u32) -> Client
-    requires { client.table ≡ manager.now.table }
-    ensures { result.table ≡ manager.now.table }
+/// Creates a customer.
+fn enter(rt: &impl Abort, alloc: Global, caller: &mut Caller<'_>, id: u32)
+    ensures { caller.new.shared ≡ caller.old.shared }
 {
-    let mut session = Session::of(manager, client);
-    expect(rt, alloc, &mut session, 1, &[(new_customer!(id), Ok(Done))]);
-    session.into_client()
+    expect(rt, alloc, caller, 1, &[(new_customer!(id), Ok(Done))]);
 }
 
 /// Splits off as many clients as there can be, each of which creates a customer of its own.
-fn crowd(rt: &impl Abort, alloc: Global, manager: &Manager, client: &mut Client) -> Vec<Client>
-    requires { client.old.table ≡ manager.now.table }
-    ensures mine { client.new.table ≡ manager.now.table }
-    ensures others { All (λ other. other.table ≡ manager.now.table) result.items }
+fn crowd<'a>(rt: &impl Abort, alloc: Global, caller: &mut Caller<'a>) -> Vec<Caller<'a>>
+    ensures mine { caller.new.shared ≡ caller.old.shared }
+    ensures others { All (λ other. other.shared ≡ caller.old.shared) result.items }
 {
     let mut others = Vec::new(alloc);
     for id in 2..=64 {
-        let other = manager.split(client).expect(rt, "there are grants");
-        let other = enter(rt, alloc, manager, other, id);
+        let mut other = caller.split().expect(rt, "there are grants");
+        enter(rt, alloc, &mut other, id);
         others.push(other).expect(rt, "there is memory");
     }
     others
 }
 
 /// Gathers the other clients.
-fn gather_all(manager: &Manager, client: &mut Client, others: Vec<Client>)
-    requires mine { client.old.table ≡ manager.now.table }
-    requires others { All (λ other. other.table ≡ manager.now.table) others.items }
-    ensures { client.new.table ≡ manager.now.table }
+fn gather_all(caller: &mut Caller<'_>, others: Vec<Caller<'_>>)
+    requires { All (λ other. other.shared ≡ caller.old.shared) others.items }
+    ensures { caller.new.shared ≡ caller.old.shared }
 {
     for other in others {
-        manager.gather(client, other);
+        caller.gather(other);
     }
 }
 
@@ -63,20 +58,14 @@ const SIXTY_FOUR: [Called; 1] = [(audit!(), Ok(report!([0, 0, 0, 64], 0, 0, 0)))
 #[test]
 fn sixty_four_clients(rt: HostRuntime) {
     let alloc = rt.alloc();
-    let (manager, mut client) = open(&rt, alloc, 64, LAST);
-    let others = crowd(&rt, alloc, &manager, &mut client);
-    same(
-        &rt,
-        &manager.split(&mut client).err(),
-        &Some(RegionFault::Clients),
-    );
-    let mut session = Session::of(&manager, client);
-    expect(&rt, alloc, &mut session, 1, &SIXTY_FIFTH);
-    let mut client = session.into_client();
-    gather_all(&manager, &mut client, others);
-    let mut session = Session::of(&manager, client);
-    expect(&rt, alloc, &mut session, 1, &SIXTY_FOUR);
-    let client = session.into_client();
+    let (manager, client) = open(&rt, alloc, 64, LAST);
+    let mut caller = manager.caller(client);
+    let others = crowd(&rt, alloc, &mut caller);
+    same(&rt, &caller.split().err(), &Some(RegionFault::Clients));
+    expect(&rt, alloc, &mut caller, 1, &SIXTY_FIFTH);
+    gather_all(&mut caller, others);
+    expect(&rt, alloc, &mut caller, 1, &SIXTY_FOUR);
+    let client = caller.into_user();
     holds(&rt, manager.close(client).is_ok());
 }
 
@@ -85,11 +74,13 @@ fn sixty_four_clients(rt: HostRuntime) {
 fn close_late(rt: &impl Abort, manager: Manager, client: Client, other: Client) -> (Vec<u64>, u64)
     requires { (client.table ≡ manager.table) × (other.table ≡ manager.table) }
 {
-    let Err((manager, mut client, fault)) = manager.close(client) else {
+    let Err((manager, client, fault)) = manager.close(client) else {
         panic!(rt; "it closed while a client was out")
     };
     same(rt, &fault, &RegionFault::StillOut { out: 1 });
-    manager.gather(&mut client, other);
+    let mut caller = manager.caller(client);
+    caller.gather(manager.caller(other));
+    let client = caller.into_user();
     let Ok((words, version)) = manager.close(client) else {
         panic!(rt; "it stayed open")
     };
@@ -109,12 +100,12 @@ const ONE_BLOCK_OF_THE_FIRST: [Called; 1] = [(new_customer!(4), Ok(Done))];
 fn one_block_and_two_clients(rt: HostRuntime) {
     let alloc = rt.alloc();
     let (manager, client) = open(&rt, alloc, 1, LAST);
-    let mut a = Session::of(&manager, client);
+    let mut a = manager.caller(client);
     let mut b = a.split().expect(&rt, "there are grants");
     expect(&rt, alloc, &mut b, 1, &ONE_BLOCK_OF_THE_OTHER);
     expect(&rt, alloc, &mut a, 1, &ONE_BLOCK_OF_THE_FIRST);
-    let first = a.into_client();
-    let second = b.into_client();
+    let first = a.into_user();
+    let second = b.into_user();
     let (words, version) = close_late(&rt, manager, first, second);
     same(&rt, &words.len(), &24);
     same(&rt, &words.get(4), &Some(&16));
@@ -151,12 +142,12 @@ const BY_THE_FIRST: [Called; 1] = [(new_customer!(7), Ok(Done))];
 /// of the first. Returns the words.
 fn words_after(rt: &impl Abort, alloc: Global, second: &[Called], first: &[Called]) -> Vec<u64> {
     let (manager, client) = open(rt, alloc, 16, LAST);
-    let mut a = Session::of(&manager, client);
+    let mut a = manager.caller(client);
     let mut b = a.split().expect(rt, "there are grants");
     expect(rt, alloc, &mut b, 1, second);
     expect(rt, alloc, &mut a, 1, first);
     a.gather(b);
-    let client = a.into_client();
+    let client = a.into_user();
     closed_words(rt, manager, client)
 }
 
@@ -210,7 +201,7 @@ fn tasks_keep_to_the_list_of_their_client(rt: HostRuntime) {
 #[test]
 fn grants_go_with_clients(rt: HostRuntime) {
     let (manager, client) = open(&rt, rt.alloc(), 8, LAST);
-    let mut a = Session::of(&manager, client);
+    let mut a = manager.caller(client);
     let mut b = a.split().expect(&rt, "there are grants");
     let c = a.split().expect(&rt, "there are grants");
     b.gather(c);
@@ -218,9 +209,9 @@ fn grants_go_with_clients(rt: HostRuntime) {
         .split()
         .expect(&rt, "there is the grant of the client taken in");
     same(&rt, &b.split().err(), &Some(RegionFault::Clients));
-    let first = a.into_client();
-    let _second = b.into_client();
-    let _fourth = d.into_client();
+    let first = a.into_user();
+    let _second = b.into_user();
+    let _fourth = d.into_user();
     let Err((_, _, fault)) = manager.close(first) else {
         panic!(rt; "it closed while clients were out")
     };

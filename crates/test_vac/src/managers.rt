@@ -25,3 +25,23 @@ pub(crate) fn open_striped(
 {
     Manager::with_stripes(alloc, blocks, last, stripes).expect(rt, "it opens")
 }
+
+/// Splits off a client. Returns the client from which it was split off, and the new client.
+pub(crate) fn split(rt: &impl Abort, manager: &Manager, client: Client) -> (Client, Client)
+    requires { client.table ≡ manager.now.table }
+    ensures { (result.0.table ≡ manager.now.table) × (result.1.table ≡ manager.now.table) }
+{
+    let mut caller = manager.caller(client);
+    let other = caller.split().expect(rt, "there are grants");
+    (caller.into_user(), other.into_user())
+}
+
+/// Gathers another client. Returns the client that gathered it.
+pub(crate) fn gather(manager: &Manager, client: Client, other: Client) -> Client
+    requires { (client.table ≡ manager.now.table) × (other.table ≡ manager.now.table) }
+    ensures { result.table ≡ manager.now.table }
+{
+    let mut caller = manager.caller(client);
+    caller.gather(manager.caller(other));
+    caller.into_user()
+}

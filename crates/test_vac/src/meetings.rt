@@ -1,14 +1,14 @@
 //! Two clients whose calls conflict over a region: one stops at a point of its commit, which its
 //! gate is told, while the other one calls.
-ghost use Rattle.std.specs.Prelude.{◌≡◌};
 
+use crate::calls::call_gated;
 use crate::managers::{open, open_striped};
 use crate::outcome::Outcome;
 use crate::same::same;
 use crate::scripts::{LAST, add_command};
 use std::process::Abort;
 use stm_attempt::{Gate, Point};
-use vac_manager::{Client, Manager, Session};
+use vac_manager::{Caller, call};
 use vac_model::Kind::{Car, Room};
 use vac_model::Reply::{Done, No, Number};
 use vac_model::Why::SoldOut;
@@ -42,15 +42,15 @@ struct Answers {
 #[derive(Drop)]
 struct Meanwhile<'a> {
     when: Point,
-    other: Session<'a>,
+    other: Caller<'a>,
     told: Option<Answers>,
 }
 
 impl<'a> Gate for Meanwhile<'a> {
     fn at(&mut self, point: Point) {
         if point == self.when && self.told.is_none() {
-            let room = Outcome::of(self.other.call(&FREE_ROOM, 1));
-            let car = Outcome::of(self.other.call(&reserve_car(4), 1));
+            let room = Outcome::of(call(&mut self.other, &FREE_ROOM, 1));
+            let car = Outcome::of(call(&mut self.other, &reserve_car(4), 1));
             self.told = Some(Answers { room, car });
         }
     }
@@ -66,44 +66,41 @@ struct Met {
 }
 
 /// Creates cars and two customers.
-fn fill(session: &mut Session<'_>, cars: u32) {
+fn fill(caller: &mut Caller<'_>, cars: u32) {
     let car = Task::One(add_command!(Car, 7, cars, Some(50)));
-    let _ = session.call(&car, 1);
-    let _ = session.call(&enter(3), 1);
-    let _ = session.call(&enter(4), 1);
+    let _ = call(caller, &car, 1);
+    let _ = call(caller, &enter(3), 1);
+    let _ = call(caller, &enter(4), 1);
 }
 
 /// Reserves a car with at most `tries` attempts, while the other client reserves a car at this
 /// point.
 fn meet<'a>(
-    session: &mut Session<'_>,
-    other: Session<'a>,
+    caller: &mut Caller<'_>,
+    other: Caller<'a>,
     when: Point,
     tries: u32,
-) -> (Met, Session<'a>) {
+) -> (Met, Caller<'a>) {
     let mut gate = Meanwhile {
         when,
         other,
         told: None,
     };
-    let mine = Outcome::of(session.call_gated(&reserve_car(3), tries, &mut gate));
+    let mine = Outcome::of(call_gated(caller, &reserve_car(3), tries, &mut gate));
     let Meanwhile {
         when: _,
         other,
         told,
     } = gate;
-    let free = Outcome::of(session.call(&FREE_CAR, 1));
+    let free = Outcome::of(call(caller, &FREE_CAR, 1));
     (Met { mine, told, free }, other)
 }
 
 /// Lets two clients reserve the last car, the first with at most `tries` attempts.
-fn last_car(rt: &impl Abort, manager: &Manager, client: Client, tries: u32) -> Met
-    requires { client.table ≡ manager.now.table }
-{
-    let mut session = Session::of(manager, client);
-    let other = session.split().expect(rt, "there are grants");
-    fill(&mut session, 1);
-    let (met, _) = meet(&mut session, other, Point::ReadsDone, tries);
+fn last_car(rt: &impl Abort, mut caller: Caller<'_>, tries: u32) -> Met {
+    let other = caller.split().expect(rt, "there are grants");
+    fill(&mut caller, 1);
+    let (met, _) = meet(&mut caller, other, Point::ReadsDone, tries);
     met
 }
 
@@ -124,43 +121,40 @@ fn lost_it(mine: Outcome) -> Met {
 #[test]
 fn the_last_car_by_two_tries(rt: HostRuntime) {
     let (manager, client) = open(&rt, rt.alloc(), 8, LAST);
-    let met = last_car(&rt, &manager, client, 2);
+    let met = last_car(&rt, manager.caller(client), 2);
     same(&rt, &met, &lost_it(Outcome::Replied(No(SoldOut))));
 }
 
 #[test]
 fn the_last_car_by_one_try(rt: HostRuntime) {
     let (manager, client) = open(&rt, rt.alloc(), 8, LAST);
-    let met = last_car(&rt, &manager, client, 1);
+    let met = last_car(&rt, manager.caller(client), 1);
     same(&rt, &met, &lost_it(Outcome::Newer { version: 4, rv: 3 }));
 }
 
 #[test]
 fn the_last_car_with_one_lock_word(rt: HostRuntime) {
     let (manager, client) = open_striped(&rt, rt.alloc(), 8, LAST, 1);
-    let met = last_car(&rt, &manager, client, 2);
+    let met = last_car(&rt, manager.caller(client), 2);
     same(&rt, &met, &lost_it(Outcome::Replied(No(SoldOut))));
 }
 
 #[test]
 fn the_last_car_takes_the_last_version(rt: HostRuntime) {
     let (manager, client) = open(&rt, rt.alloc(), 8, 4);
-    let met = last_car(&rt, &manager, client, 2);
+    let met = last_car(&rt, manager.caller(client), 2);
     same(&rt, &met, &lost_it(Outcome::Spent(4)));
 }
 
 /// Lets two clients reserve one of two cars each; the client that was busy calls again.
-fn two_cars(rt: &impl Abort, manager: &Manager, client: Client, when: Point) -> (Met, Outcome)
-    requires { client.table ≡ manager.now.table }
-{
-    let mut session = Session::of(manager, client);
-    let other = session.split().expect(rt, "there are grants");
-    fill(&mut session, 2);
-    let (met, mut other) = meet(&mut session, other, when, 1);
+fn two_cars(rt: &impl Abort, mut caller: Caller<'_>, when: Point) -> (Met, Outcome) {
+    let other = caller.split().expect(rt, "there are grants");
+    fill(&mut caller, 2);
+    let (met, mut other) = meet(&mut caller, other, when, 1);
     let again = if met.mine == Outcome::Replied(Done) {
-        other.call(&reserve_car(4), 1)
+        call(&mut other, &reserve_car(4), 1)
     } else {
-        session.call(&reserve_car(3), 1)
+        call(&mut caller, &reserve_car(3), 1)
     };
     (met, Outcome::of(again))
 }
@@ -181,7 +175,7 @@ const DONE: Outcome = Outcome::Replied(Done);
 fn at_each_point_one_of_two_clients_is_busy(rt: HostRuntime) {
     for (when, mine, car) in POINTS {
         let (manager, client) = open(&rt, rt.alloc(), 8, LAST);
-        let (met, again) = two_cars(&rt, &manager, client, when);
+        let (met, again) = two_cars(&rt, manager.caller(client), when);
         let told = Answers {
             room: Outcome::Replied(Number(None)),
             car,

@@ -4,7 +4,7 @@ use crate::calls::{Answer, Called, expect};
 use crate::managers::open;
 use crate::scripts::{LAST, Line, delete, free, new_customer};
 use std::alloc::Global;
-use vac_manager::{Fault, Manager, Session};
+use vac_manager::{Fault, Manager};
 use vac_model::Kind::{Car, Flight};
 use vac_model::Reply::Number;
 
@@ -24,11 +24,11 @@ const IN_RANGE: [Called; 1] = [(free!(Car, 7), Ok(Number(None)))];
 fn calls_out_of_range(rt: HostRuntime) {
     let alloc = rt.alloc();
     let (manager, client) = open(&rt, alloc, 8, LAST);
-    let mut session = Session::of(&manager, client);
-    expect(&rt, alloc, &mut session, 0, &WITHOUT_TRIES);
-    expect(&rt, alloc, &mut session, 1_048_577, &WITHOUT_TRIES);
-    expect(&rt, alloc, &mut session, 1, &OUT_OF_RANGE);
-    expect(&rt, alloc, &mut session, 1_048_576, &IN_RANGE);
+    let mut caller = manager.caller(client);
+    expect(&rt, alloc, &mut caller, 0, &WITHOUT_TRIES);
+    expect(&rt, alloc, &mut caller, 1_048_577, &WITHOUT_TRIES);
+    expect(&rt, alloc, &mut caller, 1, &OUT_OF_RANGE);
+    expect(&rt, alloc, &mut caller, 1_048_576, &IN_RANGE);
 }
 
 /// Returns the reason why a manager does not open, if it does not.

@@ -1,7 +1,7 @@
 //! The points that the gate of a call is told.
 ghost use Rattle.std.specs.Prelude.{◌≡◌};
 
-use crate::calls::Answer;
+use crate::calls::{Answer, call_gated};
 use crate::managers::open;
 use crate::same::{holds, same};
 use crate::scripts::{
@@ -11,7 +11,7 @@ use crate::scripts::{
 use std::alloc::Global;
 use std::process::Abort;
 use stm_attempt::{Gate, Point};
-use vac_manager::Session;
+use vac_manager::Caller;
 use vac_model::Kind::{Car, Room};
 
 /// Number of points that are kept; later ones are only counted.
@@ -57,15 +57,15 @@ impl Points {
 pub(crate) fn call_with_points(
     rt: &impl Abort,
     alloc: Global,
-    session: &mut Session<'_>,
+    caller: &mut Caller<'_>,
     tries: u32,
     line: &Line<'_>,
 ) -> (Answer, Points)
-    ensures { session.new.manager ≡ session.old.manager }
+    ensures { caller.new.shared ≡ caller.old.shared }
 {
     let task = task_of(alloc, line).expect(rt, "there is memory");
     let mut points = Points::none();
-    let answer = session.call_gated(&task, tries, &mut points);
+    let answer = call_gated(caller, &task, tries, &mut points);
     (answer, points)
 }
 
@@ -86,11 +86,11 @@ const WRITTEN: [Point; 5] = [
 fn expect_points(
     rt: &impl Abort,
     alloc: Global,
-    session: &mut Session<'_>,
+    caller: &mut Caller<'_>,
     script: &[(Line<'_>, &[Point])],
 ) {
     for (at, (line, points)) in script.iter().enumerate() {
-        let (answer, told) = call_with_points(rt, alloc, session, 1, line);
+        let (answer, told) = call_with_points(rt, alloc, caller, 1, line);
         assert!(rt; answer.is_ok(), "at line {at}");
         assert_eq!(rt; told, Points::of(points), "at line {at}");
     }
@@ -111,7 +111,7 @@ const QUESTIONS: &[(Line<'static>, &[Point])] = &[
 fn questions_tell_that_their_reads_are_done(rt: HostRuntime) {
     let alloc = rt.alloc();
     let (manager, client) = open(&rt, alloc, 8, LAST);
-    expect_points(&rt, alloc, &mut Session::of(&manager, client), QUESTIONS);
+    expect_points(&rt, alloc, &mut manager.caller(client), QUESTIONS);
 }
 
 const OTHER_CALLS: &[(Line<'static>, &[Point])] = &[
@@ -139,7 +139,7 @@ const OTHER_CALLS: &[(Line<'static>, &[Point])] = &[
 fn other_calls_tell_each_point_where_they_write(rt: HostRuntime) {
     let alloc = rt.alloc();
     let (manager, client) = open(&rt, alloc, 8, LAST);
-    expect_points(&rt, alloc, &mut Session::of(&manager, client), OTHER_CALLS);
+    expect_points(&rt, alloc, &mut manager.caller(client), OTHER_CALLS);
 }
 
 /// Lines with their number of attempts; none of these calls is made.
@@ -153,9 +153,9 @@ const NOT_MADE: [(u32, Line<'static>); 3] = [
 fn a_call_that_is_not_made_tells_nothing(rt: HostRuntime) {
     let alloc = rt.alloc();
     let (manager, client) = open(&rt, alloc, 8, LAST);
-    let mut session = Session::of(&manager, client);
+    let mut caller = manager.caller(client);
     for (tries, line) in NOT_MADE {
-        let (answer, told) = call_with_points(&rt, alloc, &mut session, tries, &line);
+        let (answer, told) = call_with_points(&rt, alloc, &mut caller, tries, &line);
         holds(&rt, answer.is_err());
         same(&rt, &told, &Points::none());
     }

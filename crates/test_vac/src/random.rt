@@ -9,7 +9,7 @@ use rand_core::Rng;
 use rand_pcg::Pcg32;
 use std::alloc::Global;
 use std::process::Abort;
-use vac_manager::Session;
+use vac_manager::{Caller, call};
 use vac_sequential::Sequential;
 
 /// The generator of the tasks, and the plain manager that runs them.
@@ -28,12 +28,12 @@ impl Plain {
     }
 
     /// Draws a task, and compares the client's reply with the plain manager's.
-    fn compare(&mut self, rt: &impl Abort, alloc: Global, session: &mut Session<'_>)
-        ensures { session.new.manager ≡ session.old.manager }
+    fn compare(&mut self, rt: &impl Abort, alloc: Global, caller: &mut Caller<'_>)
+        ensures { caller.new.shared ≡ caller.old.shared }
     {
         let task = draw_task(alloc, &mut self.draws).expect(rt, "there is memory");
         let wanted = self.manager.run(&task).expect(rt, "the task is in range");
-        same(rt, &session.call(&task, 1), &Ok(wanted));
+        same(rt, &call(caller, &task, 1), &Ok(wanted));
     }
 
     /// Draws a task, and compares the reply to the client whose turn it is.
@@ -42,13 +42,13 @@ impl Plain {
         rt: &impl Abort,
         alloc: Global,
         turn: u32,
-        a: &mut Session<'_>,
-        b: &mut Session<'_>,
-        c: &mut Session<'_>,
+        a: &mut Caller<'_>,
+        b: &mut Caller<'_>,
+        c: &mut Caller<'_>,
     )
-        ensures a { a.new.manager ≡ a.old.manager }
-        ensures b { b.new.manager ≡ b.old.manager }
-        ensures c { c.new.manager ≡ c.old.manager }
+        ensures a { a.new.shared ≡ a.old.shared }
+        ensures b { b.new.shared ≡ b.old.shared }
+        ensures c { c.new.shared ≡ c.old.shared }
     {
         match turn {
             0 => self.compare(rt, alloc, a),
@@ -60,10 +60,10 @@ impl Plain {
 
 /// Compares random tasks of one client, which is alone: each call returns a reply in its one
 /// attempt.
-fn alone(rt: &impl Abort, alloc: Global, session: &mut Session<'_>) {
+fn alone(rt: &impl Abort, alloc: Global, caller: &mut Caller<'_>) {
     let mut plain = Plain::new(rt, alloc, 7);
     for _ in 0..TASKS {
-        plain.compare(rt, alloc, session);
+        plain.compare(rt, alloc, caller);
     }
 }
 
@@ -71,7 +71,7 @@ fn alone(rt: &impl Abort, alloc: Global, session: &mut Session<'_>) {
 fn random_tasks_of_one_client(rt: HostRuntime) {
     let alloc = rt.alloc();
     let (manager, client) = open(&rt, alloc, BLOCKS, LAST);
-    alone(&rt, alloc, &mut Session::of(&manager, client));
+    alone(&rt, alloc, &mut manager.caller(client));
 }
 
 /// Each lock word covers fifty-two words.
@@ -79,20 +79,20 @@ fn random_tasks_of_one_client(rt: HostRuntime) {
 fn random_tasks_of_one_client_with_four_lock_words(rt: HostRuntime) {
     let alloc = rt.alloc();
     let (manager, client) = open_striped(&rt, alloc, BLOCKS, LAST, 4);
-    alone(&rt, alloc, &mut Session::of(&manager, client));
+    alone(&rt, alloc, &mut manager.caller(client));
 }
 
 /// Compares random tasks of three clients that take turns.
 fn in_turns(
     rt: &impl Abort,
     alloc: Global,
-    a: &mut Session<'_>,
-    b: &mut Session<'_>,
-    c: &mut Session<'_>,
+    a: &mut Caller<'_>,
+    b: &mut Caller<'_>,
+    c: &mut Caller<'_>,
 )
-    ensures a { a.new.manager ≡ a.old.manager }
-    ensures b { b.new.manager ≡ b.old.manager }
-    ensures c { c.new.manager ≡ c.old.manager }
+    ensures a { a.new.shared ≡ a.old.shared }
+    ensures b { b.new.shared ≡ b.old.shared }
+    ensures c { c.new.shared ≡ c.old.shared }
 {
     let mut plain = Plain::new(rt, alloc, 11);
     let mut turns = Pcg32::new(11, 2);
@@ -105,12 +105,12 @@ fn in_turns(
 fn random_tasks_of_three_clients_in_turns(rt: HostRuntime) {
     let alloc = rt.alloc();
     let (manager, client) = open_striped(&rt, alloc, BLOCKS, LAST, 16);
-    let mut a = Session::of(&manager, client);
+    let mut a = manager.caller(client);
     let mut b = a.split().expect(&rt, "there are grants");
     let mut c = a.split().expect(&rt, "there are grants");
     in_turns(&rt, alloc, &mut a, &mut b, &mut c);
     b.gather(c);
     a.gather(b);
-    let client = a.into_client();
+    let client = a.into_user();
     holds(&rt, manager.close(client).is_ok());
 }

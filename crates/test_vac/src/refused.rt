@@ -5,7 +5,7 @@
 //! does not make the second.
 ghost use Rattle.std.specs.Prelude.{◌≡◌, ◌*◌, IfOk};
 
-use crate::calls::Answer;
+use crate::calls::{Answer, call_gated};
 use crate::points::Points;
 use crate::same::{holds, same};
 use crate::scripts::{
@@ -16,7 +16,7 @@ use std::alloc::Global;
 use std::process::Abort;
 use stm_region::RegionFault;
 use vac_audit::{AuditFault, audit_words};
-use vac_manager::{Client, Fault, Manager, RenewFault, Session};
+use vac_manager::{Caller, Client, Fault, Manager, RenewFault, call};
 use vac_model::Kind::{Car, Room};
 use vac_model::Reply::Done;
 use vac_model::Why::Exists;
@@ -64,32 +64,32 @@ fn make(rt: &(impl Abort + Print), alloc: Global, line: &Line<'_>) -> Task {
 
 /// Calls a task and returns the answer. If memory was refused, asserts that the report is as
 /// before, and calls again.
-fn answer(rt: &(impl Abort + Print), session: &mut Session<'_>, task: &Task) -> Answer
-    ensures { session.new.manager ≡ session.old.manager }
+fn answer(rt: &(impl Abort + Print), caller: &mut Caller<'_>, task: &Task) -> Answer
+    ensures { caller.new.shared ≡ caller.old.shared }
 {
-    let before = session.call(&AUDIT, 1);
+    let before = call(caller, &AUDIT, 1);
     let mut told = Points::none();
-    let answer = session.call_gated(task, 2, &mut told);
+    let answer = call_gated(caller, task, 2, &mut told);
     if answer != Err(Fault::Memory) {
         return answer;
     }
     note(rt, "call");
     same(rt, &told, &Points::none());
-    same(rt, &session.call(&AUDIT, 1), &before);
-    session.call(task, 1)
+    same(rt, &call(caller, &AUDIT, 1), &before);
+    call(caller, task, 1)
 }
 
 fn expect(
     rt: &(impl Abort + Print),
     alloc: Global,
-    session: &mut Session<'_>,
+    caller: &mut Caller<'_>,
     script: &[(Line<'_>, Reply)],
 )
-    ensures { session.new.manager ≡ session.old.manager }
+    ensures { caller.new.shared ≡ caller.old.shared }
 {
     for (at, (line, want)) in script.iter().enumerate() {
         let task = make(rt, alloc, line);
-        assert_eq!(rt; answer(rt, session, &task), Ok(*want), "at line {at}");
+        assert_eq!(rt; answer(rt, caller, &task), Ok(*want), "at line {at}");
     }
 }
 
@@ -110,17 +110,17 @@ const ALL_DONE: Reply = Reply::Update(UpdateReply {
 });
 
 /// Adds 32 rooms, from this id on.
-fn enter_rooms(rt: &(impl Abort + Print), alloc: Global, session: &mut Session<'_>, first: u32)
-    ensures { session.new.manager ≡ session.old.manager }
+fn enter_rooms(rt: &(impl Abort + Print), alloc: Global, caller: &mut Caller<'_>, first: u32)
+    ensures { caller.new.shared ≡ caller.old.shared }
 {
     let changes = thirty_two_rooms(first);
     let script = [(Line::Update(&changes), ALL_DONE)];
-    expect(rt, alloc, session, &script);
+    expect(rt, alloc, caller, &script);
 }
 
 /// Makes a trip to the first 32 rooms.
-fn ask_for_rooms(rt: &(impl Abort + Print), alloc: Global, session: &mut Session<'_>)
-    ensures { session.new.manager ≡ session.old.manager }
+fn ask_for_rooms(rt: &(impl Abort + Print), alloc: Global, caller: &mut Caller<'_>)
+    ensures { caller.new.shared ≡ caller.old.shared }
 {
     let mut asks = [(Room, 1); 32];
     for (at, ask) in asks.iter_mut().enumerate() {
@@ -128,7 +128,7 @@ fn ask_for_rooms(rt: &(impl Abort + Print), alloc: Global, session: &mut Session
     }
     let picks = [None, None, pick!(32, 32, None)];
     let script = [(Line::Trip(3, &asks), trip!(Joined::Refused(Exists), picks))];
-    expect(rt, alloc, session, &script);
+    expect(rt, alloc, caller, &script);
 }
 
 const A_CAR: [Answered; 4] = [
@@ -142,15 +142,15 @@ const A_CAR: [Answered; 4] = [
 const COUNTS: Reply = report!([1, 0, 96, 1], 3, 98, 52);
 
 /// Adds rooms and a car, and reserves some.
-fn fill(rt: &(impl Abort + Print), alloc: Global, session: &mut Session<'_>)
-    ensures { session.new.manager ≡ session.old.manager }
+fn fill(rt: &(impl Abort + Print), alloc: Global, caller: &mut Caller<'_>)
+    ensures { caller.new.shared ≡ caller.old.shared }
 {
-    expect(rt, alloc, session, &A_CAR);
-    enter_rooms(rt, alloc, session, 0);
-    enter_rooms(rt, alloc, session, 32);
-    enter_rooms(rt, alloc, session, 64);
-    ask_for_rooms(rt, alloc, session);
-    expect(rt, alloc, session, &[(audit!(), COUNTS)]);
+    expect(rt, alloc, caller, &A_CAR);
+    enter_rooms(rt, alloc, caller, 0);
+    enter_rooms(rt, alloc, caller, 32);
+    enter_rooms(rt, alloc, caller, 64);
+    ask_for_rooms(rt, alloc, caller);
+    expect(rt, alloc, caller, &[(audit!(), COUNTS)]);
 }
 
 const COME_AND_GO: [Answered; 5] = [
@@ -162,30 +162,28 @@ const COME_AND_GO: [Answered; 5] = [
 ];
 
 /// Lets another client reserve and cancel, and create a customer who leaves.
-fn come_and_go(rt: &(impl Abort + Print), alloc: Global, session: &mut Session<'_>)
-    ensures { session.new.manager ≡ session.old.manager }
+fn come_and_go(rt: &(impl Abort + Print), alloc: Global, caller: &mut Caller<'_>)
+    ensures { caller.new.shared ≡ caller.old.shared }
 {
-    expect(rt, alloc, session, &COME_AND_GO);
+    expect(rt, alloc, caller, &COME_AND_GO);
 }
 
 /// Lets the first client fill the manager while a second client is out, which then comes and goes.
-fn two_clients(rt: &(impl Abort + Print), alloc: Global, session: &mut Session<'_>)
-    ensures { session.new.manager ≡ session.old.manager }
+fn two_clients(rt: &(impl Abort + Print), alloc: Global, caller: &mut Caller<'_>)
+    ensures { caller.new.shared ≡ caller.old.shared }
 {
-    let mut other = session.split().expect(rt, "there are grants");
-    fill(rt, alloc, session);
+    let mut other = caller.split().expect(rt, "there are grants");
+    fill(rt, alloc, caller);
     come_and_go(rt, alloc, &mut other);
-    session.gather(other);
+    caller.gather(other);
 }
 
 /// Asserts that nothing has changed.
-fn unchanged(rt: &impl Abort, manager: &Manager, client: Client) -> Client
-    requires { client.table ≡ manager.now.table }
-    ensures { result.table ≡ manager.now.table }
+fn unchanged(rt: &impl Abort, mut caller: Caller<'_>) -> Client
+    ensures { result.table ≡ caller.entry.shared.table }
 {
-    let mut session = Session::of(manager, client);
-    same(rt, &session.call(&AUDIT, 1), &Ok(COUNTS));
-    session.into_client()
+    same(rt, &call(&mut caller, &AUDIT, 1), &Ok(COUNTS));
+    caller.into_user()
 }
 
 /// Renews the manager. If the memory for the new words is refused, the manager is closed, and its
@@ -207,7 +205,7 @@ fn renew(
         Err(RenewFault::Kept(manager, client, fault)) => {
             same(rt, &fault, &RegionFault::Memory);
             note(rt, "renew, kept");
-            let client = unchanged(rt, &manager, client);
+            let client = unchanged(rt, manager.caller(client));
             let Ok(renewed) = manager.renew(client, LAST) else {
                 panic!(rt; "it was not renewed")
             };
@@ -225,7 +223,7 @@ fn close(rt: &(impl Abort + Print), manager: Manager, client: Client) -> Vec<u64
         Err((manager, client, fault)) => {
             same(rt, &fault, &RegionFault::Memory);
             note(rt, "close");
-            let client = unchanged(rt, &manager, client);
+            let client = unchanged(rt, manager.caller(client));
             let Ok((words, _)) = manager.close(client) else {
                 panic!(rt; "it stayed open")
             };
@@ -249,15 +247,15 @@ fn refused_calls_are_made_again(rt: HostRuntime) {
     let alloc = rt.alloc();
     open_with_one_lock_word(&rt, alloc);
     let (manager, client) = open(&rt, alloc);
-    let mut session = Session::of(&manager, client);
-    two_clients(&rt, alloc, &mut session);
-    let client = session.into_client();
+    let mut caller = manager.caller(client);
+    two_clients(&rt, alloc, &mut caller);
+    let client = caller.into_user();
     let words = match renew(&rt, manager, client) {
         Err(words) => words,
         Ok((manager, client)) => {
-            let mut session = Session::of(&manager, client);
-            come_and_go(&rt, alloc, &mut session);
-            let client = session.into_client();
+            let mut caller = manager.caller(client);
+            come_and_go(&rt, alloc, &mut caller);
+            let client = caller.into_user();
             close(&rt, manager, client)
         }
     };

@@ -10,17 +10,17 @@ use std::alloc::Global;
 use std::process::Abort;
 use stm_region::RegionFault;
 use vac_audit::audit_words;
-use vac_manager::{Client, Manager, RenewFault, Session};
+use vac_manager::{Caller, Client, Manager, RenewFault, call};
 use vac_model::Kind::Car;
 use vac_model::Reply::Done;
 use vac_model::{Reply, Task};
 
 /// Asserts that the clock is spent: no version is left for a reservation.
-fn expect_spent(rt: &impl Abort, session: &mut Session<'_>)
-    ensures { session.new.manager ≡ session.old.manager }
+fn expect_spent(rt: &impl Abort, caller: &mut Caller<'_>)
+    ensures { caller.new.shared ≡ caller.old.shared }
 {
     let task = Task::One(reserve_command!(3, Car, 1, 1));
-    same(rt, &Outcome::of(session.call(&task, 1)), &Outcome::Spent(2));
+    same(rt, &Outcome::of(call(caller, &task, 1)), &Outcome::Spent(2));
 }
 
 const SPENDING: [Called; 2] = [
@@ -29,14 +29,11 @@ const SPENDING: [Called; 2] = [
 ];
 
 /// Uses both versions of the clock for two calls.
-fn spend(rt: &impl Abort, alloc: Global, manager: &Manager, client: Client) -> Client
-    requires { client.table ≡ manager.now.table }
-    ensures { result.table ≡ manager.now.table }
+fn spend(rt: &impl Abort, alloc: Global, caller: &mut Caller<'_>)
+    ensures { caller.new.shared ≡ caller.old.shared }
 {
-    let mut session = Session::of(manager, client);
-    expect(rt, alloc, &mut session, 1, &SPENDING);
-    expect_spent(rt, &mut session);
-    session.into_client()
+    expect(rt, alloc, caller, 1, &SPENDING);
+    expect_spent(rt, caller);
 }
 
 const GOING_ON: [Called; 3] = [
@@ -46,14 +43,11 @@ const GOING_ON: [Called; 3] = [
 ];
 
 /// Uses both versions of the new clock for two more calls on the entries from before.
-fn go_on(rt: &impl Abort, alloc: Global, manager: &Manager, client: Client) -> Client
-    requires { client.table ≡ manager.now.table }
-    ensures { result.table ≡ manager.now.table }
+fn go_on(rt: &impl Abort, alloc: Global, caller: &mut Caller<'_>)
+    ensures { caller.new.shared ≡ caller.old.shared }
 {
-    let mut session = Session::of(manager, client);
-    expect(rt, alloc, &mut session, 1, &GOING_ON);
-    expect_spent(rt, &mut session);
-    session.into_client()
+    expect(rt, alloc, caller, 1, &GOING_ON);
+    expect_spent(rt, caller);
 }
 
 /// Tries a renewal that is refused. Returns the manager and the client as they were, and the
@@ -77,17 +71,25 @@ fn refused(
 fn a_spent_clock_is_renewed(rt: HostRuntime) {
     let alloc = rt.alloc();
     let (manager, client) = open(&rt, alloc, 8, 2);
-    let client = spend(&rt, alloc, &manager, client);
-    let (manager, mut client, fault) = refused(&rt, manager, client, 0);
+    let mut caller = manager.caller(client);
+    spend(&rt, alloc, &mut caller);
+    let client = caller.into_user();
+    let (manager, client, fault) = refused(&rt, manager, client, 0);
     same(&rt, &fault, &RegionFault::Last);
-    let other = manager.split(&mut client).expect(&rt, "there are grants");
-    let (manager, mut client, fault) = refused(&rt, manager, client, 2);
+    let mut caller = manager.caller(client);
+    let other = caller.split().expect(&rt, "there are grants");
+    let (client, other) = (caller.into_user(), other.into_user());
+    let (manager, client, fault) = refused(&rt, manager, client, 2);
     same(&rt, &fault, &RegionFault::StillOut { out: 1 });
-    manager.gather(&mut client, other);
+    let mut caller = manager.caller(client);
+    caller.gather(manager.caller(other));
+    let client = caller.into_user();
     let Ok((manager, client)) = manager.renew(client, 2) else {
         panic!(rt; "it was not renewed")
     };
-    let client = go_on(&rt, alloc, &manager, client);
+    let mut caller = manager.caller(client);
+    go_on(&rt, alloc, &mut caller);
+    let client = caller.into_user();
     let Ok((words, version)) = manager.close(client) else {
         panic!(rt; "it stayed open")
     };

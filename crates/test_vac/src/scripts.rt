@@ -2,7 +2,7 @@
 
 use std::alloc::{AllocError, Global};
 use std::process::Abort;
-use vac_manager::Manager;
+use vac_manager::{Manager, call};
 use vac_model::{Command, Kind, Reply, Task};
 use vac_sequential::Sequential;
 
@@ -38,10 +38,9 @@ pub(crate) const LAST: u64 = (1 << 62) - 1;
 /// a region. Compares each reply.
 pub(crate) fn play(rt: &impl Abort, alloc: Global, blocks: u32, script: &[(Line<'_>, Reply)]) {
     let mut manager = Sequential::new(alloc, blocks).expect(rt, "the blocks are in range");
-    let (shared, mut client) = Manager::new(alloc, blocks, LAST).expect(
-        rt,
-        "the blocks are in range",
-    );
+    let opened = Manager::new(alloc, blocks, LAST);
+    let (shared, client) = opened.expect(rt, "the blocks are in range");
+    let mut caller = shared.caller(client);
     for (at, (line, want)) in script.iter().enumerate() {
         let task = task_of(alloc, line).expect(rt, "there is memory");
         let times = match line {
@@ -51,7 +50,7 @@ pub(crate) fn play(rt: &impl Abort, alloc: Global, blocks: u32, script: &[(Line<
         for _ in 0..times {
             let reply = manager.run(&task).expect(rt, "the task is in range");
             assert_eq!(rt; reply, *want, "at line {at}");
-            let answer = shared.call(&mut client, &task, 1);
+            let answer = call(&mut caller, &task, 1);
             assert!(rt; answer == Ok(*want), "over a region, at line {at}");
         }
     }

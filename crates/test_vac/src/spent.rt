@@ -9,7 +9,7 @@ use crate::scripts::{add, free, new_customer, number, reserve, reserve_command};
 use std::alloc::Global;
 use std::process::Abort;
 use stm_attempt::Point;
-use vac_manager::Session;
+use vac_manager::{Caller, call};
 use vac_model::Kind::Car;
 use vac_model::Reply::{Done, No};
 use vac_model::Task;
@@ -26,11 +26,11 @@ const READING: [Called; 2] = [
 ];
 
 /// Uses the only two versions for two calls; a task that only reads still gets its reply.
-fn spend(rt: &impl Abort, alloc: Global, session: &mut Session<'_>) {
-    expect(rt, alloc, session, 1, &SPENDING);
+fn spend(rt: &impl Abort, alloc: Global, caller: &mut Caller<'_>) {
+    expect(rt, alloc, caller, 1, &SPENDING);
     let task = Task::One(reserve_command!(3, Car, 1, 1));
-    same(rt, &Outcome::of(session.call(&task, 1)), &Outcome::Spent(2));
-    expect(rt, alloc, session, 1, &READING);
+    same(rt, &Outcome::of(call(caller, &task, 1)), &Outcome::Spent(2));
+    expect(rt, alloc, caller, 1, &READING);
 }
 
 /// The call ends at once when it finds the clock spent, though another client is out and attempts
@@ -39,11 +39,11 @@ fn spend(rt: &impl Abort, alloc: Global, session: &mut Session<'_>) {
 fn a_spent_clock_ends_a_call_of_one_of_two_clients(rt: HostRuntime) {
     let alloc = rt.alloc();
     let (manager, client) = open(&rt, alloc, 8, 2);
-    let mut session = Session::of(&manager, client);
-    let mut other = session.split().expect(&rt, "there are grants");
+    let mut caller = manager.caller(client);
+    let mut other = caller.split().expect(&rt, "there are grants");
     spend(&rt, alloc, &mut other);
     let line = reserve!(3, Car, 1, 1);
-    let (answer, told) = call_with_points(&rt, alloc, &mut session, 3, &line);
+    let (answer, told) = call_with_points(&rt, alloc, &mut caller, 3, &line);
     same(&rt, &Outcome::of(answer), &Outcome::Spent(2));
     same(&rt, &told, &Points::of(&[Point::ReadsDone, Point::Locked]));
 }
@@ -52,12 +52,12 @@ fn a_spent_clock_ends_a_call_of_one_of_two_clients(rt: HostRuntime) {
 fn a_clock_that_ends_at_two(rt: HostRuntime) {
     let alloc = rt.alloc();
     let (manager, client) = open(&rt, alloc, 8, 2);
-    spend(&rt, alloc, &mut Session::of(&manager, client));
+    spend(&rt, alloc, &mut manager.caller(client));
 }
 
 #[test]
 fn a_clock_that_ends_at_two_with_four_lock_words(rt: HostRuntime) {
     let alloc = rt.alloc();
     let (manager, client) = open_striped(&rt, alloc, 8, 2, 4);
-    spend(&rt, alloc, &mut Session::of(&manager, client));
+    spend(&rt, alloc, &mut manager.caller(client));
 }

@@ -1,13 +1,13 @@
 //! Clients in threads.
 ghost use Rattle.std.specs.Prelude.{◌≡◌};
 
-use crate::managers::open;
+use crate::managers::{gather, open, split};
 use crate::same::{holds, same};
 use crate::scripts::LAST;
 use std::process::Abort;
 use std::thread;
 use std::thread::Threads;
-use vac_manager::{Client, Manager, Session};
+use vac_manager::{Caller, Client, Manager, call};
 use vac_model::{Command, Kind, Reply, Task};
 
 /// Number of calls of each client.
@@ -44,11 +44,11 @@ fn task_of(call: u32, seed: u32) -> Task {
 }
 
 /// Makes one call. Returns the number of units added.
-fn add(session: &mut Session<'_>, call: u32, seed: u32) -> u64
-    ensures { session.new.manager ≡ session.old.manager }
+fn add(caller: &mut Caller<'_>, number: u32, seed: u32) -> u64
+    ensures { caller.new.shared ≡ caller.old.shared }
 {
-    match session.call(&task_of(call, seed), TRIES) {
-        Ok(Reply::Done) => u64::from(units_of(call)),
+    match call(caller, &task_of(number, seed), TRIES) {
+        Ok(Reply::Done) => u64::from(units_of(number)),
         _ => 0,
     }
 }
@@ -58,12 +58,12 @@ fn add_units(manager: &Manager, client: Client, seed: u32) -> Added
     requires { client.table ≡ manager.now.table }
     ensures { result.0.table ≡ manager.now.table }
 {
-    let mut session = Session::of(manager, client);
+    let mut caller = manager.caller(client);
     let mut added = 0u64;
-    for call in 0..CALLS {
-        added = added.wrapping_add(add(&mut session, call, seed));
+    for number in 0..CALLS {
+        added = added.wrapping_add(add(&mut caller, number, seed));
     }
-    (session.into_client(), added)
+    (caller.into_user(), added)
 }
 
 fn two_clients<R: Threads + Sync>(
@@ -96,10 +96,9 @@ fn four_clients<R: Threads + Sync + Abort>(rt: &R, manager: &Manager, a: Client)
     requires { a.table ≡ manager.now.table }
     ensures { result.0.table ≡ manager.now.table }
 {
-    let mut a = a;
-    let b = manager.split(&mut a).expect(rt, "there are grants");
-    let c = manager.split(&mut a).expect(rt, "there are grants");
-    let d = manager.split(&mut a).expect(rt, "there are grants");
+    let (a, b) = split(rt, manager, a);
+    let (a, c) = split(rt, manager, a);
+    let (a, d) = split(rt, manager, a);
     let ((first, second), (third, fourth)) = thread::join(
         rt,
         move || -> (Added, Added)
@@ -113,27 +112,26 @@ fn four_clients<R: Threads + Sync + Abort>(rt: &R, manager: &Manager, a: Client)
                 × (result.1.0.table ≡ manager.entry.now.table) }
         { two_clients(rt, manager, c, d, 2) },
     );
-    gather(
+    add_up(
         manager,
-        gather(manager, gather(manager, first, second), third),
+        add_up(manager, add_up(manager, first, second), third),
         fourth,
     )
 }
 
 /// Gathers the second client, and adds up the units.
-fn gather(manager: &Manager, first: Added, second: Added) -> Added
+fn add_up(manager: &Manager, first: Added, second: Added) -> Added
     requires { (first.0.table ≡ manager.now.table) × (second.0.table ≡ manager.now.table) }
     ensures { result.0.table ≡ manager.now.table }
 {
-    let (mut client, added) = first;
+    let (client, added) = first;
     let (other, more) = second;
-    manager.gather(&mut client, other);
-    (client, added.wrapping_add(more))
+    (gather(manager, client, other), added.wrapping_add(more))
 }
 
 /// Returns the number of units of the cars.
-fn units(session: &mut Session<'_>) -> u64
-    ensures { session.new.manager ≡ session.old.manager }
+fn units(caller: &mut Caller<'_>) -> u64
+    ensures { caller.new.shared ≡ caller.old.shared }
 {
     let mut units = 0u64;
     for id in 1..=CARS {
@@ -141,7 +139,7 @@ fn units(session: &mut Session<'_>) -> u64
             kind: Kind::Car,
             id,
         });
-        if let Ok(Reply::Number(Some(n))) = session.call(&free, 1) {
+        if let Ok(Reply::Number(Some(n))) = call(caller, &free, 1) {
             units = units.wrapping_add(n);
         }
     }
@@ -152,10 +150,10 @@ fn units(session: &mut Session<'_>) -> u64
 fn four_clients_add_units(rt: HostRuntime) {
     let (manager, client) = open(&rt, rt.alloc(), 16, LAST);
     let (client, added) = four_clients(&rt, &manager, client);
-    let mut session = Session::of(&manager, client);
-    let units = units(&mut session);
+    let mut caller = manager.caller(client);
+    let units = units(&mut caller);
     holds(&rt, added > 0);
     same(&rt, &units, &added);
-    let client = session.into_client();
+    let client = caller.into_user();
     holds(&rt, manager.close(client).is_ok());
 }

@@ -4,7 +4,6 @@ use Rattle.std.proofs.Common.{ap}
 use Rattle.std.proofs.Common.{◌∙◌, arith, Option, List, [], append-nil, nat_le, ◌&&◌}
 use Rattle.std.specs.Prelude.{IsErrOf}
 use Rattle.std.proofs.lemmas.Bool.Decides.{nat_tests}
-use Rattle.atomic_table.specs.Seated.{TableId}
 use Rattle.stm_core.specs.Core.{IsFreeHanded}
 use Rattle.vac_model.specs.declared.limits.TheConstants.{MOST_TRIES}
 use Rattle.vac_manager.specs.declared.placed.Effort.{Effort}
@@ -26,7 +25,8 @@ use Rattle.vac_manager.specs.Law.{vacation}
 use Rattle.vac_manager.specs.Legal.{WasLegal}
 use Rattle.vac_manager.specs.Faults.{fault_of}
 use Rattle.vac_manager.specs.Ended.{reply_in, placed_in}
-use Rattle.vac_manager.specs.Called.{CallerShown, IsOpened, HasCalled, Records, Spares, Attempts, IsNext}
+use Rattle.stm_object.specs.Callers.{GoesOn}
+use Rattle.vac_manager.specs.Called.{CallerShown, ClientShown, IsOpened, HasCalled, Records, Spares, Attempts, IsNext}
 use Rattle.vac_manager.specs.Called.{IsFault, IsNotBusy, changes_nothing, is_call, is_try_count}
 use Rattle.vac_model.specs.Ranges.{is_task}
 use Rattle.vac_manager.specs.Placed.{IsAddedAtPlace, replied}
@@ -48,12 +48,8 @@ second : (a b : Bool) → (a && b) ≡ true → b ≡ true
 second true b e = e
 second false b e = absurd (let n : false ≡ true = e in cc)
 
-pub same_caller : (table table' : TableId) (v v' : Client) (start next : ℕ) → table' ≡ table →
-    let c : CallerShown = record { table = table; value = v; start = start; next = next } in
-    let c' : CallerShown = record { table = table'; value = v'; start = start; next = next } in
-    c' ≡ record c { value = c'.value }
-same_caller table table' v v' start next e =
-    ap (λ (x : TableId). let c : CallerShown = record { table = x; value = v'; start = start; next = next } in c) e
+pub same_client : (y y' : CallerShown) → GoesOn y y' → y'.user ≡ record y.user { value = y'.user.value }
+same_client y y' e = ap (λ (z : CallerShown). z.user) e
 
 pub few_tries : (t : Task) (tries : ℕ) → is_call t tries ≡ true → tries ≤ MOST_TRIES
 few_tries t tries e =
@@ -133,7 +129,7 @@ module _ (region : RegionShown) (t : Task) where
   no_arguments (Ok a) e = cc
   no_arguments (Err s) e = never s (let n : fault_of s ≡ fault.Arguments = cc in n)
 
-  pub has_called : (tries : ℕ) (result : Result (Reply × Place) Stop) (c c' : CallerShown) → IsOpened region →
+  pub has_called : (tries : ℕ) (result : Result (Reply × Place) Stop) (c c' : ClientShown) → IsOpened region →
       is_call t tries ≡ true → c' ≡ record c { value = c'.value } → Called tries result c.value c'.value →
       HasCalled region t tries (reply_in result) c c'
   has_called tries result c c' opened asked same g =
@@ -164,7 +160,7 @@ module _ (region : RegionShown) (t : Task) where
       }
 
   -- a call with numbers out of their range does nothing
-  pub not_asked : (tries : ℕ) (c : CallerShown) → is_call t tries ≡ false → IsFreeHanded c.value →
+  pub not_asked : (tries : ℕ) (c : ClientShown) → is_call t tries ≡ false → IsFreeHanded c.value →
       HasCalled region t tries (Err fault.Arguments) c c
   not_asked tries c out free = record {
     client = refl;
@@ -184,7 +180,7 @@ module _ (region : RegionShown) (t : Task) where
     alone = λ _. tt;
   }
 
-  pub not_asked_placed : (tries : ℕ) (c : CallerShown) (e : Effort) → is_call t tries ≡ false → IsFreeHanded c.value →
+  pub not_asked_placed : (tries : ℕ) (c : ClientShown) (e : Effort) → is_call t tries ≡ false → IsFreeHanded c.value →
       e ≡ nothing_done → HasCalledPlaced region t tries (Err fault.Arguments) e c c
   not_asked_placed tries c e out free none = record {
     call = not_asked tries c out free;
@@ -199,7 +195,7 @@ module _ (region : RegionShown) (t : Task) where
   }
 
   -- a call that also tells the place of its record and what it took
-  pub has_called_placed : (tries : ℕ) (result : Result (Reply × Place) Stop) (e : Effort) (c c' : CallerShown) →
+  pub has_called_placed : (tries : ℕ) (result : Result (Reply × Place) Stop) (e : Effort) (c c' : ClientShown) →
       IsOpened region → is_call t tries ≡ true → tries ≤ MOST_TRIES → c' ≡ record c { value = c'.value } →
       Called tries result c.value c'.value → Tallied region t tries result c.value c'.value e →
       HasCalledPlaced region t tries (placed_in result) e c c'

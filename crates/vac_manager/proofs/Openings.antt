@@ -2,16 +2,18 @@
 use Rattle.std.proofs.Common.{◌≡◌, ℕ, ◌+◌, ◌*◌, ◌≤◌, List, length, slice_index, refl, sym, ap, subst, ◌∙◌, arith}
 use Rattle.stm_core.specs.Client.{Client}
 use Rattle.stm_core.specs.Event.{opener}
-use Rattle.stm_region.specs.Shown.{RegionShown, ClientShown}
+use Rattle.stm_region.specs.Shown.{RegionShown}
 use Rattle.stm_region.specs.Closed.{Ends}
-use Rattle.vac_model.specs.State.{empty_state}
+use Rattle.stm_object.specs.Object.{IsBeginning}
+use Rattle.stm_object.specs.History.{IsOpened as IsOpenedObject}
+use Rattle.vac_model.specs.State.{State, empty_state}
 use Rattle.tx_alloc.specs.Pool.{IsPool}
 use Rattle.tx_alloc.specs.Spread.{IsSpreadHeap, spread_lists}
 use Rattle.vac_records.proofs.Fresh.{spread_state}
 use Rattle.vac_model.proofs.Empty.{empty-balanced}
-use Rattle.vac_manager.specs.Law.{Shows, IsFitting, IsLawful, vacation}
+use Rattle.vac_manager.specs.Law.{Shows, IsLawful, vacation}
 use Rattle.vac_manager.specs.Legal.{capacity_of}
-use Rattle.vac_manager.specs.Called.{IsOpened}
+use Rattle.vac_manager.specs.Called.{ClientShown, IsOpened}
 use Rattle.vac_manager.specs.Opening.{Opens, ClosesInState}
 use Rattle.vac_manager.proofs.Legality.{legal}
 use Rattle.vac_manager.proofs.Versions.{versioned}
@@ -28,9 +30,9 @@ fresh_shows xs ys n e h = subst (λ (zs : List ℕ). Shows zs (empty_state n)) (
   small = record { balanced = empty-balanced n; small = h.few };
 })
 
--- the words of an empty heap fit
-pub fresh_fits : (xs ys : List ℕ) (n : ℕ) → ys ≡ xs → IsFresh xs n → IsFitting ys
-fresh_fits xs ys n e h = record { value = empty_state n; shown = fresh_shows xs ys n e h }
+-- a manager may be opened on the words of an empty heap
+pub fresh_begins : (xs ys : List ℕ) (n : ℕ) → ys ≡ xs → IsFresh xs n → IsBeginning vacation ys
+fresh_begins xs ys n e h = record { value = empty_state n; shown = fresh_shows xs ys n e h; begins = refl }
 
 fresh_size : (xs ys : List ℕ) (n size : ℕ) → ys ≡ xs → IsFresh xs n → size ≡ length ys → size ≡ 16 + 8 * n
 fresh_size xs ys n size e h same = same ∙ (ap (λ (zs : List ℕ). length zs) e ∙ h.empty.size)
@@ -38,7 +40,7 @@ fresh_size xs ys n size e h same = same ∙ (ap (λ (zs : List ℕ). length zs) 
 capacity_is : (region : RegionShown) (n : ℕ) → region.size ≡ 16 + 8 * n → capacity_of region ≡ n
 capacity_is region n e = omega (arith, e)
 
--- and are so many
+-- the number of words of an empty heap is a size of the object
 pub fresh_words : (xs ys : List ℕ) (n : ℕ) → ys ≡ xs → IsFresh xs n → vacation.IsSize (length ys)
 fresh_words xs ys n e h =
     let all = fresh_size xs ys n (length ys) e h refl in
@@ -56,6 +58,20 @@ opened_on region xs ys n e h size first =
           (subst (λ (zs : List ℕ). Shows zs (empty_state n)) (sym first) (fresh_shows xs ys n e h));
     }
 
+-- a region that was opened as a memory of the object was opened as a region of a manager
+pub of_object : (region : RegionShown) → IsOpenedObject vacation region → IsOpened region
+of_object region h =
+    let s = h.first.value in
+    let all : region.size ≡ 16 + 8 * s.capacity = h.words ∙ h.first.shown.represents.size in
+    let capacity = capacity_is region s.capacity all in
+    let shown : Shows region.first (empty_state s.capacity) =
+    subst (λ (x : State). Shows region.first x) h.first.begins h.first.shown in
+    record {
+      size = omega (arith, all, capacity);
+      small = h.size.1;
+      shown = subst (λ (k : ℕ). Shows region.first (empty_state k)) (sym capacity) shown;
+    }
+
 pub opens : (region : RegionShown) (client : ClientShown) (xs ys : List ℕ) (n last stripes : ℕ) → ys ≡ xs →
     IsFresh xs n → region ≡ record {
       table = region.table;
@@ -67,8 +83,8 @@ pub opens : (region : RegionShown) (client : ClientShown) (xs ys : List ℕ) (n 
       renewal = 0;
       start = opener;
     } →
-    client ≡ record { table = region.table; value = opener } →
-    Opens n last stripes region (record { table = client.table; value = client.value; start = 0; next = 1 })
+    client ≡ record { table = region.table; value = opener; own = record { start = 0; next = 1 } } →
+    Opens n last stripes region client
 opens region client xs ys n last stripes e h is c =
     let all = fresh_size xs ys n region.size e h (ap (λ (r : RegionShown). r.size) is) in
     let opening : region.opening ≡ ys = ap (λ (r : RegionShown). r.opening) is in
@@ -81,7 +97,7 @@ opens region client xs ys n last stripes e h is c =
       start = ap (λ (r : RegionShown). r.start) is;
       first = ap (λ (r : RegionShown). r.first) is ∙ sym opening;
       shown = subst (λ (zs : List ℕ). Shows zs (empty_state n)) (sym opening) (fresh_shows xs ys n e h);
-      client_is = ap (λ (x : ClientShown). record { table = x.table; value = x.value; start = 0; next = 1 }) c;
+      client_is = c;
     }
 
 closes_in : (region : RegionShown) (v : Client) (words : List ℕ) (version : ℕ) → IsOpened region →

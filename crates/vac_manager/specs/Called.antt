@@ -2,17 +2,14 @@
 use Rattle.std.specs.Prelude.{◌≡◌, ℕ, ◌+◌, ◌*◌, ◌%◌, ◌<◌, ◌≤◌, ◌⊎◌, Bool, false, ◌&&◌, nat_le}
 use Rattle.std.specs.Prelude.{List, [], ◌∷◌, ◌++◌, Result, Ok, Err, ◌≢◌, ◌↔◌, IfOk, IfErr, IsErrOf}
 use Rattle.std.specs.Prelude.{true, is_some, is_none, ◌||◌, ◌==◌}
-use Rattle.atomic_table.specs.Seated.{TableId}
-use Rattle.tx_memory.specs.Image.{In}
 use Rattle.stm_core.specs.declared.limits.TheConstants.{MOST_WORDS, MOST_GRANTS}
 use Rattle.stm_core.specs.Client.{Client, Record, rank}
 use Rattle.stm_core.specs.Core.{IsFreeHanded}
 use Rattle.stm_logs.specs.Log.{LogValue}
-use Rattle.stm_core.specs.Event.{giving, fresh}
 use Rattle.stm_region.specs.Shown.{RegionShown}
 use Rattle.stm_core.specs.Guards.{stripe_of}
-use Rattle.stm_region.specs.declared.fault.RegionFault.{RegionFault}
-use Rattle.stm_region.specs.declared.fault.RegionFault.TheVariants.{Clients}
+use Rattle.stm_object.specs.Callers.{UserShown, CallerShown as CallerOfObject}
+use Rattle.stm_object.specs.Callers.{Splits as SplitsUser}
 use Rattle.stm_attempt.specs.Committing.{HasWonLock, HasLostTick}
 use Rattle.stm_attempt.specs.Conflicts.{IsReadConflict, IsCommitConflict}
 use Rattle.stm_attempt.specs.declared.conflict.Conflict.{Conflict}
@@ -27,6 +24,7 @@ use Rattle.vac_model.specs.State.{State, empty_state}
 use Rattle.vac_model.specs.Run.{run, refusal_of}
 use Rattle.vac_model.specs.Ranges.{is_task}
 use Rattle.vac_model.specs.Code.{code}
+use Rattle.vac_manager.specs.declared.client.Lists.{Lists}
 use Rattle.vac_manager.specs.declared.fault.Fault.{Fault}
 use Rattle.vac_manager.specs.declared.fault.Fault.TheVariants as fault
 use Rattle.vac_tasks.specs.Reading.{only_reads}
@@ -34,13 +32,18 @@ use Rattle.vac_model.specs.declared.limits.TheConstants.{MOST_TRIES}
 use Rattle.vac_manager.specs.Law.{Shows, IsLawful}
 use Rattle.vac_manager.specs.Legal.{capacity_of, IsHistoryTo, WasLegal}
 
--- a client of a manager as contracts see the client: the region, the value, the free list that its
--- new entries start with, and the free list for the next client that it splits off
-pub record CallerShown : Type 0 where
-  pub table : TableId
-  pub value : Client
-  pub start : ℕ
-  pub next : ℕ
+-- a client of a manager as contracts see the client: the region, the value and the free lists
+abbrev pub ClientShown : Type 0
+ClientShown = UserShown Lists
+
+-- a client together with the manager that it calls, which contracts see as its region
+abbrev pub CallerShown : Type 0
+CallerShown = CallerOfObject Lists
+
+-- the free lists at a split: the new client's entries start with the next free list
+pub record SplitsLists (before after other : Lists) : Type 0 where
+  pub mine : after ≡ record before { next = (before.next + 1) % LISTS }
+  pub theirs : other ≡ record { start = before.next; next = (before.next + 1) % LISTS }
 
 -- the region was first opened on words that represent the empty state
 pub record IsOpened (region : RegionShown) : Type 0 where
@@ -212,7 +215,7 @@ IsNotBusy (fault.Spent version) = Unit {0}
 -- number of attempts, the reason for a fault, and, for a solo client, the history that its records
 -- are
 pub record HasCalled (region : RegionShown) (t : Task) (tries : ℕ) (result : Result Reply Fault)
-    (c c' : CallerShown) : Type 0 where
+    (c c' : ClientShown) : Type 0 where
   pub client : c' ≡ record c { value = c'.value }
   pub grants : c'.value.grants ≡ c.value.grants
   pub floor : c.value.floor ≤ c'.value.floor
@@ -231,21 +234,5 @@ pub record HasCalled (region : RegionShown) (t : Task) (tries : ℕ) (result : R
   pub alone : HasAllGrants c.value → IfErr result (λ why. IsNotBusy why)
 
 -- a client was split off for one grant; the new client's entries start with the next free list
-pub record Splits (before after other : CallerShown) : Type 0 where
-  pub some : 0 < before.value.grants
-  pub mine : after ≡ record before { value = giving before.value; next = (before.next + 1) % LISTS }
-  pub theirs : other ≡ record before {
-    value = fresh before.value;
-    start = before.next;
-    next = (before.next + 1) % LISTS;
-  }
-
--- no client could be split off, because no grant was left
-pub record SplitsNot (fault : RegionFault) (before after : CallerShown) : Type 0 where
-  pub fault_is : fault ≡ Clients
-  pub none : before.value.grants ≡ 0
-  pub same : after ≡ before
-
--- each record of the client after the gather is a record of one of the two clients
-abbrev pub OnlyOf : Client → Client → Client → Type 0
-OnlyOf v w after = (r : Record) → In r after.records → In r v.records ⊎ In r w.records
+abbrev pub Splits : ClientShown → ClientShown → ClientShown → Type 0
+Splits before after other = SplitsUser SplitsLists before after other

@@ -5,7 +5,7 @@ use Rattle.stm_object.specs.Object.{Specification, IsFitting as IsFittingObject,
 use Rattle.tx_alloc.specs.declared.place.TheConstants.{FIRST_BLOCK}
 use Rattle.vac_model.specs.declared.tasks.Task.{Task}
 use Rattle.vac_model.specs.declared.replies.Reply.{Reply}
-use Rattle.vac_model.specs.State.{State}
+use Rattle.vac_model.specs.State.{State, empty_state}
 use Rattle.vac_model.specs.Run.{run}
 use Rattle.vac_model.specs.Ranges.{is_task}
 use Rattle.vac_model.specs.Code.{code}
@@ -25,6 +25,7 @@ vacation = record {
   Value = State;
   IsSize = λ n. (FIRST_BLOCK ≤ n) × (n ≤ MOST_WORDS);
   Holds = λ m n s. IsState m n s;
+  Begins = λ s. s ≡ empty_state s.capacity;
   IsEntry = λ e. is_task e.0 ≡ true;
   Finds = λ e s. (run s e.0).1 ≡ e.1;
   after = λ e s. (run s e.0).0;

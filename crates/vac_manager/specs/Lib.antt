@@ -8,5 +8,4 @@ pub mod Keeping
 pub mod Faults
 pub mod Opening
 pub mod Renewed
-pub mod Session
 pub mod Ended

@@ -11,7 +11,7 @@ use Rattle.stm_core.specs.declared.limits.TheConstants.{MOST_STRIPES}
 use Rattle.stm_words.specs.declared.version.TheConstants.{VERSION_LIMIT}
 use Rattle.vac_manager.specs.Law.{Shows, IsLawful}
 use Rattle.vac_manager.specs.Legal.{IsLegal, AreVersioned, capacity_of}
-use Rattle.vac_manager.specs.Called.{CallerShown}
+use Rattle.vac_manager.specs.Called.{ClientShown}
 
 -- the number may be the last version of a clock: 1 to 2^62 - 1
 abbrev pub is_last_version : ℕ → Bool
@@ -29,7 +29,7 @@ is_opening blocks last stripes =
 -- a manager's region was opened with this number of blocks and of lock words, with this last
 -- version, and with words that represent the empty state; the region was never renewed, and its
 -- first client has all grants and no record
-pub record Opens (blocks last stripes : ℕ) (region : RegionShown) (client : CallerShown) :
+pub record Opens (blocks last stripes : ℕ) (region : RegionShown) (client : ClientShown) :
     Type 0 where
   pub size : region.size ≡ heap_words blocks
   pub last_is : region.last ≡ last
@@ -39,7 +39,11 @@ pub record Opens (blocks last stripes : ℕ) (region : RegionShown) (client : Ca
   pub renewal : region.renewal ≡ 0
   pub start : region.start ≡ opener
   pub shown : Shows region.opening (empty_state blocks)
-  pub client_is : client ≡ record { table = region.table; value = opener; start = 0; next = 1 }
+  pub client_is : client ≡ record {
+    table = region.table;
+    value = opener;
+    own = record { start = 0; next = 1 };
+  }
 
 -- a region was closed with these words and this version: the closing client's records are legal
 -- from the empty state, the words represent their final state, and the records of the present

@@ -18,7 +18,7 @@ use Rattle.vac_manager.specs.declared.sites.Site.{Site}
 use Rattle.vac_manager.specs.declared.sites.Site.TheVariants.{Root, Head, Node, Use, Stock}
 use Rattle.vac_manager.specs.Sites.{site_of}
 use Rattle.vac_model.specs.declared.limits.TheConstants.{MOST_TRIES}
-use Rattle.vac_manager.specs.Called.{Adds, CallerShown, HasCalled, WasShown}
+use Rattle.vac_manager.specs.Called.{Adds, ClientShown, HasCalled, WasShown}
 
 -- exactly one record was added, with this tag and this commit position
 pub record AddsAt (renewal : ℕ) (tag : List ℕ) (place : Place) (v v' : Client) : Type 0 where
@@ -152,7 +152,7 @@ pub record TookEffort {R : Type 0} (region : RegionShown) (v v' : Client) (resul
 -- the effect of a call that also returns the commit position of its record and the statistics of
 -- its attempts
 pub record HasCalledPlaced (region : RegionShown) (t : Task) (tries : ℕ)
-    (result : Result Placed Fault) (e : Effort) (c c' : CallerShown) : Type 0 where
+    (result : Result Placed Fault) (e : Effort) (c c' : ClientShown) : Type 0 where
   pub call : HasCalled region t tries (replied result) c c'
   pub place : IsAddedAtPlace region t result c.value c'.value
   pub effort : TookEffort region c.value c'.value result e

@@ -4,7 +4,7 @@ use Rattle.stm_core.specs.Client.{Client}
 use Rattle.stm_core.specs.Event.{renewing}
 use Rattle.stm_region.specs.Shown.{RegionShown}
 use Rattle.stm_region.specs.Refused.{MayRenew, RenewsNot}
-use Rattle.vac_manager.specs.Called.{CallerShown}
+use Rattle.vac_manager.specs.Called.{ClientShown}
 use Rattle.vac_manager.specs.Opening.{ClosesInState}
 use Rattle.vac_manager.specs.declared.renew.RenewFault.{RenewFault}
 use Rattle.vac_manager.specs.declared.renew.RenewFault.TheVariants.{Kept, Closed}
@@ -16,8 +16,8 @@ ClosesSomewhere region v words = (version : ℕ) × ClosesInState region v words
 -- a manager was renewed with a clock that ends at this last version: the manager is the same
 -- except for one more renewal, the client has its value after a renewal, and the manager goes on
 -- with the words with which it was closed
-pub record Renews (last : ℕ) (region : RegionShown) (c : CallerShown) (region' : RegionShown)
-    (c' : CallerShown) : Type 0 where
+pub record Renews (last : ℕ) (region : RegionShown) (c : ClientShown) (region' : RegionShown)
+    (c' : ClientShown) : Type 0 where
   pub manager : region' ≡ record region {
     table = region'.table;
     last = last;
@@ -31,7 +31,7 @@ pub record Renews (last : ℕ) (region : RegionShown) (c : CallerShown) (region'
 
 -- a manager was not renewed: either the manager and its client are as they were, with the reason,
 -- or the manager was closed with these words at this version
-abbrev pub StaysUnrenewed : RegionShown → CallerShown → ℕ → RenewFault → Type 0
+abbrev pub StaysUnrenewed : RegionShown → ClientShown → ℕ → RenewFault → Type 0
 StaysUnrenewed region client last (Kept manager c fault) = (manager ≡ region) × (c ≡ client)
     × RenewsNot region.renewal last client.value.grants fault
 StaysUnrenewed region client last (Closed words version) =

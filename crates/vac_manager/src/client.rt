@@ -1,36 +1,36 @@
-//! A client of a manager.
+//! Clients of a manager.
 
 use crate::law::Vacation;
-use std::marker::Model;
-use stm_object::User;
+use stm_object::{Own, User};
 use tx_alloc::FreeList;
 
 /// A client of a manager: the right to call the manager, from one thread at a time. Between calls
-/// a client holds no lock. Contracts see the client's region, its value, and its two free lists.
-///
-/// A client that is dropped without being gathered stays out for good. Its manager can then be
-/// neither closed nor renewed.
-#[derive(Drop)]
-pub struct Client {
-    pub(crate) user: User<Vacation>,
+/// a client holds no lock. Contracts see the client's region, its value, and its free lists.
+pub type Client = User<Vacation>;
+
+/// A client together with the manager that it calls.
+pub type Caller<'a> = stm_object::Caller<'a, Vacation>;
+
+/// The free lists of a client.
+#[derive(Clone, Copy, Debug, PartialEq, Eq)]
+pub struct Lists {
     /// The free list that the client's new entries take their blocks from.
-    pub(crate) start: FreeList,
+    pub start: FreeList,
     /// The free list for the new entries of the next client that is split off from this one.
-    pub(crate) next: FreeList,
+    pub next: FreeList,
 }
 
-impl Model for Client {
-    ghost use Rattle.stm_core.specs.Core.{IsFreeHanded};
-    ghost use Rattle.vac_manager.specs.Called.{CallerShown};
+impl Own for Lists {
+    ghost use Rattle.vac_manager.specs.Called.{SplitsLists};
 
-    ghost Value = { CallerShown };
+    ghost splits = { λ before after other. SplitsLists before after other };
 
-    ghost view = { λ c. record {
-      table = c.user.table;
-      value = c.user.value;
-      start = c.start;
-      next = c.next;
-    } };
-
-    ghost invariant = { λ c. IsFreeHanded c.user.value };
+    fn split(&mut self) -> Lists {
+        let start = self.next;
+        self.next = start.next();
+        Lists {
+            start,
+            next: self.next,
+        }
+    }
 }

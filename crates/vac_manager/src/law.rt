@@ -2,6 +2,7 @@
 
 ghost use Rattle.vac_manager.specs.Legal.{SerialIsLegal};
 
+use crate::client::Lists;
 use stm_object::Object;
 use vac_model::{Reply, Task};
 
@@ -17,6 +18,8 @@ impl Object for Vacation {
     ghost use Rattle.vac_manager.specs.Law.{vacation};
 
     type Entry = (Task, Reply);
+
+    type Own = Lists;
 
     ghost is = { vacation };
 

@@ -5,6 +5,7 @@
 //! Kozyrakis, Olukotun, IISWC 2008). Their definitions are in `vac_model`.
 #![tactic(auto)]
 
+mod calls;
 mod client;
 mod fault;
 mod keep;
@@ -14,12 +15,12 @@ mod note;
 mod placed;
 mod renew;
 mod report;
-mod session;
 mod sites;
 mod watching;
 mod work;
 
-pub use client::Client;
+pub use calls::{call, trace_call};
+pub use client::{Caller, Client, Lists};
 pub use fault::Fault;
 pub use keep::{Keep, Unkept};
 pub use law::{Vacation, serial_records_are_legal};
@@ -28,7 +29,6 @@ pub use note::{AttemptNote, Note};
 pub use placed::{Effort, Placed};
 pub use renew::RenewFault;
 pub use report::report_of;
-pub use session::Session;
 pub use stm_object::{Body, Object, Place, Tracer, Untraced};
 pub use stm_region::MOST_STRIPES;
 pub use vac_model::limits::MOST_TRIES;

@@ -2,32 +2,22 @@
 
 ghost use Rattle.std.specs.Prelude.{◌≡◌, ◌↔◌, ◌+◌, ◌*◌, ◌⊎◌, min, false, IfOk, IfErr, IsErrOf};
 ghost use Rattle.stm_core.specs.declared.limits.TheConstants.{MOST_STRIPES};
-ghost use Rattle.stm_core.specs.History.{Sub};
-ghost use Rattle.stm_region.specs.Shown.{with_gathered};
 ghost use Rattle.stm_region.specs.Refused.{ClosesNot};
 ghost use Rattle.tx_alloc.specs.Pool.{heap_words};
-ghost use Rattle.vac_manager.specs.Called.{HasAllGrants, HasCalled, Splits, SplitsNot, OnlyOf, is_call};
-ghost use Rattle.vac_manager.specs.Ended.{reply_in, placed_in};
-ghost use Rattle.vac_manager.specs.Placed.{HasCalledPlaced, replied};
-ghost use Rattle.vac_manager.specs.Tracing.{HasTraced};
+ghost use Rattle.vac_manager.specs.Called.{HasAllGrants};
 ghost use Rattle.vac_manager.specs.Opening.{is_opening, Opens, ClosesInState};
 
-use crate::client::Client;
+use crate::client::{Caller, Client, Lists};
 use crate::fault::Fault;
 use crate::law::Vacation;
-use crate::placed::{Effort, Placed};
-use crate::watching::Counting;
-use crate::work::Work;
 use std::alloc::Global;
 use std::marker::Model;
-use stm_attempt::{Gate, NoGate, Stop};
-use stm_object::{Place, Shared, Tracer, Untraced};
+use stm_object::Shared;
 use stm_region::{MOST_STRIPES, RegionFault};
 use stm_words::{VERSION_LIMIT, Version};
 use tx_alloc::place::{BLOCK_WORDS, FIRST_BLOCK};
 use tx_alloc::{FreeList, spread_words};
-use vac_model::limits::{MOST_BLOCKS, MOST_TRIES};
-use vac_model::{Reply, Task};
+use vac_model::limits::MOST_BLOCKS;
 
 /// A manager that was not closed, with its client and the reason.
 type Kept = (Manager, Client, RegionFault);
@@ -47,34 +37,6 @@ impl Model for Manager {
     ghost view = { λ m. m.shared };
 
     ghost invariant = { λ m. IsOpened m.shared };
-}
-
-/// Returns whether the task can be issued with this limit on its attempts.
-fn can_ask(task: &Task, tries: u32) -> bool
-    ensures { result ≡ is_call task.now tries }
-{
-    task.is_in_range() && 1 <= tries && tries <= MOST_TRIES
-}
-
-/// Returns the result of a call without the commit position of its record.
-#[inline]
-fn reply_of(answer: Result<(Reply, Place), Stop>) -> Result<Reply, Fault>
-    ensures { result ≡ reply_in answer }
-{
-    match answer {
-        Ok((reply, _place)) => Ok(reply),
-        Err(stop) => Err(Fault::from(stop)),
-    }
-}
-
-/// Returns the result of a call with the commit position of its record.
-fn placed_of(answer: Result<(Reply, Place), Stop>) -> Result<Placed, Fault>
-    ensures { result ≡ placed_in answer }
-{
-    match answer {
-        Ok((reply, place)) => Ok(Placed { reply, place }),
-        Err(stop) => Err(Fault::from(stop)),
-    }
 }
 
 impl Manager {
@@ -117,106 +79,22 @@ impl Manager {
         let Ok(words) = spread_words(alloc, blocks as usize) else {
             return Err(Fault::Memory);
         };
-        let Ok((shared, user)) = Shared::new(alloc, words.as_slice(), last, stripes) else {
+        let lists = Lists {
+            start: FreeList::new(0),
+            next: FreeList::new(1),
+        };
+        let Ok((shared, client)) = Shared::new(alloc, words.as_slice(), last, stripes, lists) else {
             return Err(Fault::Memory);
         };
-        let (start, next) = (FreeList::new(0), FreeList::new(1));
-        Ok((Manager { shared }, Client { user, start, next }))
+        Ok((Manager { shared }, client))
     }
 
-    /// Runs a task as a transaction, in at most `tries` attempts, 1 to 1,048,576, and returns the
-    /// reply. After any fault the client may call again. A solo client meets no conflict, so its
-    /// call makes one attempt.
-    pub fn call(&self, client: &mut Client, task: &Task, tries: u32) -> Result<Reply, Fault>
-        requires own { client.old.table ≡ self.now.table }
-        ensures called { HasCalled self.now task.now tries result client.old client.new }
+    /// Returns the caller that a client and this manager are together.
+    pub fn caller(&self, client: Client) -> Caller<'_>
+        requires own { client.table ≡ self.now.table }
+        ensures { result ≡ record { shared = self.now; user = client } }
     {
-        self.call_gated(client, task, tries, &mut NoGate)
-    }
-
-    /// Runs a task as `call` does, and reports to the gate how far the commit of each attempt is.
-    /// An attempt that only reads reports to the gate when its reads are done.
-    ///
-    /// Not said: that a gate, which may hold anything its maker gave it, never waits; that a call
-    /// terminates.
-    pub fn call_gated<G: Gate>(
-        &self,
-        client: &mut Client,
-        task: &Task,
-        tries: u32,
-        gate: &mut G,
-    ) -> Result<Reply, Fault>
-        requires own { client.old.table ≡ self.now.table }
-        ensures called { HasCalled self.now task.now tries result client.old client.new }
-    {
-        let (user, start) = (&mut client.user, client.start);
-        if !can_ask(task, tries) {
-            return Err(Fault::Arguments);
-        }
-        let work = Work { task, start };
-        reply_of(self.shared.call(user, &work, tries, gate, &mut Untraced))
-    }
-
-    /// Runs a task as `call_gated` does, and also returns the commit position of the call's record
-    /// and the statistics of the call's attempts. The tracer traces the attempts.
-    pub fn trace_call<G: Gate, T: Tracer>(
-        &self,
-        client: &mut Client,
-        task: &Task,
-        tries: u32,
-        gate: &mut G,
-        tracer: &mut T,
-    ) -> (Result<Placed, Fault>, Effort)
-        requires own { client.old.table ≡ self.now.table }
-        ensures called { HasCalledPlaced self.now task.now tries result.0 result.1
-            client.old client.new }
-        ensures traced { HasTraced (replied result.0) client.old.value client.new.value
-            (T.ended tracer.old) (T.ended tracer.new) }
-    {
-        let (user, start) = (&mut client.user, client.start);
-        let effort = Effort::new();
-        if !can_ask(task, tries) {
-            return (Err(Fault::Arguments), effort);
-        }
-        let work = Work { task, start };
-        let mut counting = Counting { effort, tracer };
-        let answer = self.shared.call(user, &work, tries, gate, &mut counting);
-        let Counting { effort, tracer: _ } = counting;
-        (placed_of(answer), effort)
-    }
-
-    /// Splits off a new client for one grant; a region has 63 grants. The new client's entries
-    /// start with another free list.
-    pub fn split(&self, client: &mut Client) -> Result<Client, RegionFault>
-        requires { client.old.table ≡ self.now.table }
-        ensures ok { IfOk result (λ other. Splits client.old client.new other) }
-        ensures refused { IfErr result (λ fault. SplitsNot fault client.old client.new) }
-    {
-        let user = self.shared.split(&mut client.user)?;
-        let start = client.next;
-        client.next = start.next();
-        Ok(Client {
-            user,
-            start,
-            next: client.next,
-        })
-    }
-
-    /// Gathers another client: takes over its records and its grants, and gets one more grant.
-    pub fn gather(&self, client: &mut Client, other: Client)
-        requires { (client.old.table ≡ self.now.table) × (other.table ≡ self.now.table) }
-        ensures client { client.new
-            ≡ record client.old { value = with_gathered client.old.value other.value } }
-        ensures mine { Sub client.old.value.records client.new.value.records }
-        ensures theirs { Sub other.value.records client.new.value.records }
-        ensures only { OnlyOf client.old.value other.value client.new.value }
-    {
-        let Client {
-            user,
-            start: _,
-            next: _,
-        } = other;
-        self.shared.gather(&mut client.user, user);
+        stm_object::Caller::of(&self.shared, client)
     }
 
     /// Closes the manager once every other client was gathered, and returns its words and its
@@ -230,12 +108,9 @@ impl Manager {
             (λ r. (r.0 ≡ self) × (r.1 ≡ client) × ClosesNot client.value.grants r.2) }
     {
         let Manager { shared } = self;
-        let Client { user, start, next } = client;
-        match shared.close(user) {
+        match shared.close(client) {
             Ok(closed) => Ok(closed),
-            Err((shared, user, fault)) => {
-                Err((Manager { shared }, Client { user, start, next }, fault))
-            }
+            Err((shared, client, fault)) => Err((Manager { shared }, client, fault)),
         }
     }
 }

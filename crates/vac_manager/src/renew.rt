@@ -29,14 +29,11 @@ impl Manager {
         ensures refused { IfErr result (λ fault. StaysUnrenewed self client last fault) }
     {
         let Manager { shared } = self;
-        let Client { user, start, next } = client;
-        match shared.renew(user, last) {
-            Ok((shared, user)) => Ok((Manager { shared }, Client { user, start, next })),
-            Err(ObjectRenewFault::Kept(shared, user, fault)) => Err(RenewFault::Kept(
-                Manager { shared },
-                Client { user, start, next },
-                fault,
-            )),
+        match shared.renew(client, last) {
+            Ok((shared, client)) => Ok((Manager { shared }, client)),
+            Err(ObjectRenewFault::Kept(shared, client, fault)) => {
+                Err(RenewFault::Kept(Manager { shared }, client, fault))
+            }
             Err(ObjectRenewFault::Closed(words, last)) => Err(RenewFault::Closed(words, last)),
         }
     }

@@ -2,4 +2,4 @@ use Rattle.std.proofs.Common.{◌≡◌}
 use Rattle.ex_ring_day.proofs.put.Given as goal
 
 abbrev pub invariant-loop : goal.invariant-loop
-invariant-loop l = l.user.table ≡ l.ring.table
+invariant-loop l = l.caller.shared ≡ l.fn.caller.shared

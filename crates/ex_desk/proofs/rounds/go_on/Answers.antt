@@ -12,9 +12,9 @@ serve_all-requires-clause-may g c κs within = may_run c.args.settings c.args.op
 pub returns-clause-on : goal.returns-clause-on
 returns-clause-on g c =
     on_more c.args.settings c.args.open_desks _ c.in-Ok.renewed.0 c.in-Ok.renewed.1
-    (session_of c.in-Ok.renewed.0 c.in_ok-round.round.client) _ c.requires.on c.requires.rounds
+    (session_of c.in-Ok.renewed.0 c.in_ok-client.field-0.client) _ c.requires.on c.requires.rounds
     c.in-Ok.ensures.renewed.words
     (ap (λ (x : RegionShown). x.size) c.in-Ok.ensures.renewed.manager)
     (ap (λ (x : RegionShown). x.renewal) c.in-Ok.ensures.renewed.manager) c.in-Ok.ensures.renewed.client
-    c.in_ok-round.ensures.ran
+    c.in_ok-client.ensures.ran
     refl refl refl

@@ -4,9 +4,9 @@ use Rattle.load_client.proofs.opening.add_item.Goals as goal
 
 pub returns-clause-asked : goal.returns-clause-asked
 returns-clause-asked g c = asked_one g.D.Draws.leads (stock c.args.id c.args.kind) c.draw_stock-command.result
-    c.args.session.now c.ask_for.new.session _ _ _ _ c.ask_for.result c.ask_for.ensures.session c.ask_for.ensures.grants
+    c.args.caller.now c.ask_for.new.caller _ _ _ _ c.ask_for.result c.ask_for.ensures.caller c.ask_for.ensures.grants
     c.draw_stock-command.ensures.drawn c.ask_for.ensures.answered c.ask_for.ensures.refused
 
 pub returns-clause-kept : goal.returns-clause-kept
-returns-clause-kept g c = kept_if_ok c.draw_stock-command.result c.args.session.now c.ask_for.new.session _ _
+returns-clause-kept g c = kept_if_ok c.draw_stock-command.result c.args.caller.now c.ask_for.new.caller _ _
     c.ask_for.result c.ask_for.ensures.answered

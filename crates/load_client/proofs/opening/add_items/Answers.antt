@@ -11,19 +11,19 @@ pub returns-clause-asked : goal.returns-clause-asked
 returns-clause-asked g c =
     let leads = g.D.Draws.leads in
     let id = c.args.id in
-    let y = c.args.session.now in
-    let w = c.add_item-2.new.session in
-    asked_both leads (joined (stock id Car) (stock id Flight)) (stock id Room) y w c.add_item-3.new.session _ _ _ tt
+    let y = c.args.caller.now in
+    let w = c.add_item-2.new.caller in
+    asked_both leads (joined (stock id Car) (stock id Flight)) (stock id Room) y w c.add_item-3.new.caller _ _ _ tt
     c.add_item-3.result
-    (asked_both leads (stock id Car) (stock id Flight) y c.add_item.new.session w _ _ _ tt (Ok tt)
+    (asked_both leads (stock id Car) (stock id Flight) y c.add_item.new.caller w _ _ _ tt (Ok tt)
     c.in_ok-add_item.ensures.asked c.in_ok-add_item-2.ensures.asked) c.add_item-3.ensures.asked
 
 pub returns-in_err-add_item-clause-asked : goal.returns-in_err-add_item-clause-asked
 returns-in_err-add_item-clause-asked g c =
     let leads = g.D.Draws.leads in
     let id = c.args.id in
-    let y = c.args.session.now in
-    let z = c.add_item.new.session in
+    let y = c.args.caller.now in
+    let z = c.add_item.new.caller in
     asked_handed_on leads (stocks id) c.from_residual.result _ y z _ _ c.from_residual.ensures.1
     (asked_first leads (joined (stock id Car) (stock id Flight)) (stock id Room) _ y z _ _ (readable_stock id Room)
     (asked_first leads (stock id Car) (stock id Flight) _ y z _ _ (readable_stock id Flight)
@@ -33,12 +33,12 @@ pub returns-in_err-add_item-2-clause-asked : goal.returns-in_err-add_item-2-clau
 returns-in_err-add_item-2-clause-asked g c =
     let leads = g.D.Draws.leads in
     let id = c.args.id in
-    let y = c.args.session.now in
-    let w = c.add_item-2.new.session in
+    let y = c.args.caller.now in
+    let w = c.add_item-2.new.caller in
     asked_handed_on leads (stocks id) c.from_residual-in_err-add_item-2.result _ y w _ _
     c.from_residual-in_err-add_item-2.ensures.1
     (asked_first leads (joined (stock id Car) (stock id Flight)) (stock id Room) _ y w _ _ (readable_stock id Room)
-    (asked_both leads (stock id Car) (stock id Flight) y c.add_item.new.session w _ _ _ tt _
+    (asked_both leads (stock id Car) (stock id Flight) y c.add_item.new.caller w _ _ _ tt _
     c.in_ok-add_item.ensures.asked c.in_err-add_item-2.ensures.asked))
 
 pub returns-clause-kept : goal.returns-clause-kept

@@ -1,7 +1,7 @@
 use Rattle.std.proofs.Common.{Ok}
 use Rattle.std.specs.Prelude.{◌≡◌, ◌⊎◌}
 use Rattle.vac_manager.specs.Called.{HasAllGrants}
-use Rattle.vac_manager.specs.Session.{GoesOn}
+use Rattle.stm_object.specs.Callers.{GoesOn}
 use Rattle.load_draws.specs.Draws.{for_each}
 use Rattle.load_draws.specs.Tasks.{stocks}
 use Rattle.load_client.specs.Keeping.{HasKeptAdded}
@@ -11,18 +11,18 @@ use Rattle.load_client.proofs.opening.open_kept.Given as goal
 
 abbrev pub invariant-items : goal.invariant-items
 invariant-items g l = record {
-  asked : RanOrStopped g.D.Draws.leads (for_each l.place stocks) (Ok tt) l.fn.session l.session l.fn.draws l.draws;
-  kept : HasKeptAdded l.fn.session.client.value l.session.client.value (g.K.Keep.notes l.fn.keep)
+  asked : RanOrStopped g.D.Draws.leads (for_each l.place stocks) (Ok tt) l.fn.caller l.caller l.fn.draws l.draws;
+  kept : HasKeptAdded l.fn.caller.user.value l.caller.user.value (g.K.Keep.notes l.fn.keep)
       (g.K.Keep.notes l.keep);
 }
 
 abbrev pub invariant-customers : goal.invariant-customers
 invariant-customers g l = record {
-  session : GoesOn l.fn.session l.session;
-  grants : HasAllGrants l.session.client.value;
-  opening : Opening g.D.Draws.leads l.fn.session.manager.renewal l.fn.settings.items l.place l.fn.session.client.value
-      l.session.client.value l.fn.draws l.draws;
-  kept : HasKeptAdded l.fn.session.client.value l.session.client.value (g.K.Keep.notes l.fn.keep)
+  caller : GoesOn l.fn.caller l.caller;
+  grants : HasAllGrants l.caller.user.value;
+  opening : Opening g.D.Draws.leads l.fn.caller.shared.renewal l.fn.settings.items l.place l.fn.caller.user.value
+      l.caller.user.value l.fn.draws l.draws;
+  kept : HasKeptAdded l.fn.caller.user.value l.caller.user.value (g.K.Keep.notes l.fn.keep)
       (g.K.Keep.notes l.keep);
-  ready : (l.place ≡ 0) ⊎ IsAnswered l.fn.session.manager l.session.client.value;
+  ready : (l.place ≡ 0) ⊎ IsAnswered l.fn.caller.shared l.caller.user.value;
 }

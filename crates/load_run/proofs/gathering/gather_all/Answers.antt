@@ -29,11 +29,11 @@ loop-worker-init g c =
     record {
       all = sym made.0;
       manager = refl;
-      grants = ap (λ (k : ℕ). c.args.crew.first.session.client.value.grants + k) made.1 ∙ c.requires.can.grants;
+      grants = ap (λ (k : ℕ). c.args.crew.first.caller.user.value.grants + k) made.1 ∙ c.requires.can.grants;
       others = all_same (IsMember c.args.crew.first) c.args.crew.others.items
           (into_iter_items c.into_iter-worker-iterator.result) made.0 c.requires.can.others;
       tries = refl;
-      gathered = gathered_one (λ w. w.session.client.value.records) (λ w. w.tally.tally) c.args.crew.first;
+      gathered = gathered_one (λ w. w.caller.user.value.records) (λ w. w.tally.tally) c.args.crew.first;
       handed = paired_step (λ w seat. seat ≡ w.seat) []
           c.args.seats.items c.push_reserved.new.self.items c.args.crew.first c.args.crew.first.seat pushed.items
           (paired_none (λ w seat. seat ≡ w.seat) c.args.seats.items
@@ -67,7 +67,7 @@ loop-worker-preserved g c =
     let split = c.in-Some.ensures.steps.0 in
     let less = c.in-Some.ensures.steps.1 in
     let pushed = c.push_reserved-in-loop-worker.ensures in
-    let taken = took_in c.loop-worker.session c.in-Some.worker.session c.gather.new.self c.gather.ensures.session
+    let taken = took_in c.loop-worker.caller c.in-Some.worker.caller c.gather.new.self c.gather.ensures.caller
     in
     let one = all_first (IsMember c.args.crew.first) (into_iter_items c.loop-worker.worker-iterator)
     (into_iter_items c.next.new.self) c.in-Some.worker split i.others in
@@ -75,15 +75,15 @@ loop-worker-preserved g c =
       all = one_on c.args.crew.others.items c.loop-worker.yielded (into_iter_items c.loop-worker.worker-iterator)
           (into_iter_items c.next.new.self) c.in-Some.worker i.all split;
       manager = taken.manager ∙ i.manager;
-      grants = held_back c.loop-worker.session.client.value.grants c.in-Some.worker.session.client.value.grants
-          c.gather.new.self.client.value.grants (into_iter_len c.loop-worker.worker-iterator)
+      grants = held_back c.loop-worker.caller.user.value.grants c.in-Some.worker.caller.user.value.grants
+          c.gather.new.self.user.value.grants (into_iter_len c.loop-worker.worker-iterator)
           (into_iter_len c.next.new.self) less one.grants taken.grants i.grants;
       others = all_but_first (IsMember c.args.crew.first) (into_iter_items c.loop-worker.worker-iterator)
           (into_iter_items c.next.new.self) c.in-Some.worker split i.others;
       tries = ap (λ (x : TaskCountsShown). x.tries) c.plus-tally.ensures ∙ i.tries;
-      gathered = gathered_more (λ w. w.session.client.value.records)
+      gathered = gathered_more (λ w. w.caller.user.value.records)
           (λ w. w.tally.tally) c.args.crew.first c.loop-worker.yielded c.in-Some.worker
-          c.loop-worker.session.client.value c.gather.new.self.client.value c.loop-worker.tally.tally
+          c.loop-worker.caller.user.value c.gather.new.self.user.value c.loop-worker.tally.tally
           c.plus-tally.result.tally
           i.gathered taken.records (ap (λ (x : TaskCountsShown). x.tally) c.plus-tally.ensures);
       handed = paired_step (λ w seat. seat ≡ w.seat)
@@ -100,8 +100,8 @@ loop-worker-preserved g c =
 
 pub returns-clause-gathered : goal.returns-clause-gathered
 returns-clause-gathered g c =
-    rw c.into_client.ensures.client (subst (λ (l : List _). Gathered (λ w. w.session.client.value.records)
-    (λ w. w.tally.tally) c.args.crew.first l c.loop-worker.session.client.value.records c.loop-worker.tally.tally)
+    rw c.into_user.ensures.user (subst (λ (l : List _). Gathered (λ w. w.caller.user.value.records)
+    (λ w. w.tally.tally) c.args.crew.first l c.loop-worker.caller.user.value.records c.loop-worker.tally.tally)
     (all_met c.args.crew.others.items c.loop-worker.yielded (into_iter_items c.loop-worker.worker-iterator)
     c.loop-worker.invariant.all (nothing_left c.loop-worker.worker-iterator c.in-None.ensures.steps.0))
     c.loop-worker.invariant.gathered)

@@ -9,12 +9,12 @@ use Rattle.load_run.proofs.gathering.gather_all.Given as goal
 abbrev pub invariant-loop-worker : goal.invariant-loop-worker
 invariant-loop-worker g l = record {
   all : l.fn.crew.others.items ≡ l.yielded ++ into_iter_items l.worker-iterator;
-  manager : l.session.manager ≡ l.fn.crew.first.session.manager;
-  grants : l.session.client.value.grants + into_iter_len l.worker-iterator ≡ MOST_GRANTS;
+  manager : l.caller.shared ≡ l.fn.crew.first.caller.shared;
+  grants : l.caller.user.value.grants + into_iter_len l.worker-iterator ≡ MOST_GRANTS;
   others : All (IsMember l.fn.crew.first) (into_iter_items l.worker-iterator);
   tries : l.tally.tries ≡ l.fn.crew.first.tally.tries;
-  gathered : Gathered (λ w. w.session.client.value.records)
-      (λ w. w.tally.tally) l.fn.crew.first l.yielded l.session.client.value.records l.tally.tally;
+  gathered : Gathered (λ w. w.caller.user.value.records)
+      (λ w. w.tally.tally) l.fn.crew.first l.yielded l.caller.user.value.records l.tally.tally;
   handed : Paired (λ w seat. seat ≡ w.seat) (l.fn.crew.first ∷ l.yielded) l.seats.items;
   room : vec_len l.seats + into_iter_len l.worker-iterator ≤ vec_capacity l.seats;
   bound : total l.tally.tally + into_iter_len l.worker-iterator * 1000000 ≤ 65000000;

@@ -1,6 +1,6 @@
 use Rattle.std.proofs.Common.{rules, ◌≡◌, ◌∙◌, sym, ℕ, ◌+◌, ◌≤◌, ◌∷◌, ap, refl, arith}
 use Rattle.std.specs.Vec.Iter.{into_iter_items, into_iter_len}
-use Rattle.vac_manager.specs.Called.{CallerShown}
+use Rattle.vac_manager.specs.Called.{ClientShown}
 use Rattle.load_client.specs.Attempted.{uncounted}
 use Rattle.load_run.proofs.Pairs.{paired_none, paired_step, paired_all, one_on, all_more, all_none, room_taken}
 use Rattle.load_run.proofs.Pairs.{counted_on, handed_out, nothing_left}
@@ -26,7 +26,7 @@ loop-another-init g c =
       manager = refl;
       records = refl;
       floor = refl;
-      grants = none_out c.args.session.client.value.grants c.in-Ok.others.len c.requires.alone made.len;
+      grants = none_out c.args.caller.user.value.grants c.in-Ok.others.len c.requires.alone made.len;
       count = counted_in c.in-Ok.others.len (into_iter_len c.into_iter-another-iterator.result)
           (into_iter_len c.next.new.self) (into_iter_len c.into_iter-seats.result) c.args.seats.len made.len
           (ap (λ it. into_iter_len it) same) c.in-Some.ensures.cases.1 c.into_iter-seats.ensures.len;
@@ -34,7 +34,7 @@ loop-another-init g c =
           (into_iter_len c.next.new.self) (into_iter_len c.into_iter-seats.result) c.args.seats.len c.len.result
           c.in-Ok.others.cap made.len (ap (λ it. into_iter_len it) same) c.in-Some.ensures.cases.1
           c.into_iter-seats.ensures.len c.len.ensures made.capacity;
-      others_grants = all_none (λ w. w.session.client.value.grants ≡ 0) c.in-Ok.others.items made.items;
+      others_grants = all_none (λ w. w.caller.user.value.grants ≡ 0) c.in-Ok.others.items made.items;
       tallies = all_none (λ w. w.tally ≡ uncounted c.args.tries) c.in-Ok.others.items made.items;
       crew = paired_none _ c.in-Ok.others.items made.items;
     }
@@ -45,23 +45,23 @@ loop-another-preserved g c =
     let i = c.loop-another.invariant in
     let t = c.in-Some-another.ensures.steps in
     let p = c.push_reserved.ensures in
-    let keeps = split_keeps c.loop-another.session.client c.split.new.self.client c.in-Ok-split.other.client s in
+    let keeps = split_keeps c.loop-another.caller.user c.split.new.self.user c.in-Ok-split.other.user s in
     record {
       all = one_on _ _ _ _ _ i.all t.0;
-      manager = c.split.ensures.manager ∙ i.manager;
+      manager = c.split.ensures.shared ∙ i.manager;
       records = keeps.records ∙ i.records;
       floor = keeps.floor ∙ i.floor;
-      grants = handed_out c.loop-another.session.client.value.grants c.split.new.self.client.value.grants
+      grants = handed_out c.loop-another.caller.user.value.grants c.split.new.self.user.value.grants
           c.loop-another.others.len c.push_reserved.new.self.len keeps.grants p.len i.grants;
       count = counted_on c.loop-another.others.len c.push_reserved.new.self.len _ _ c.args.seats.len t.1 p.len i.count;
       room = room_taken c.loop-another.others.len c.push_reserved.new.self.len _ _ c.loop-another.others.cap
           c.push_reserved.new.self.cap t.1 p.len p.capacity i.room;
-      others_grants = all_more (λ w. w.session.client.value.grants ≡ 0) c.loop-another.others.items
-          c.push_reserved.new.self.items _ p.items i.others_grants (ap (λ (x : CallerShown). x.value.grants) s.theirs);
+      others_grants = all_more (λ w. w.caller.user.value.grants ≡ 0) c.loop-another.others.items
+          c.push_reserved.new.self.items _ p.items i.others_grants (ap (λ (x : ClientShown). x.value.grants) s.theirs);
       tallies = all_more (λ w. w.tally ≡ uncounted c.args.tries) c.loop-another.others.items
           c.push_reserved.new.self.items _ p.items i.tallies c.new.ensures;
       crew = paired_step _ _ c.loop-another.others.items c.push_reserved.new.self.items c.in-Some-another.another
-          _ p.items i.crew (split_worker c.args.session c.loop-another.session c.split.new.self _ s
+          _ p.items i.crew (split_worker c.args.caller c.loop-another.caller c.split.new.self _ s
           c.in-Ok-split.ensures.theirs i.manager i.floor);
     }
 

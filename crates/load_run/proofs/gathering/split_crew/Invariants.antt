@@ -9,13 +9,13 @@ use Rattle.load_run.proofs.gathering.split_crew.Given as goal
 abbrev pub invariant-loop-another : goal.invariant-loop-another
 invariant-loop-another g l = record {
   all : into_iter_items l.initial.another-iterator ≡ l.yielded ++ into_iter_items l.another-iterator;
-  manager : l.session.manager ≡ l.fn.session.manager;
-  records : l.session.client.value.records ≡ l.fn.session.client.value.records;
-  floor : l.session.client.value.floor ≡ l.fn.session.client.value.floor;
-  grants : l.session.client.value.grants + vec_len l.others ≡ MOST_GRANTS;
-  others_grants : All (λ w. w.session.client.value.grants ≡ 0) l.others.items;
+  manager : l.caller.shared ≡ l.fn.caller.shared;
+  records : l.caller.user.value.records ≡ l.fn.caller.user.value.records;
+  floor : l.caller.user.value.floor ≡ l.fn.caller.user.value.floor;
+  grants : l.caller.user.value.grants + vec_len l.others ≡ MOST_GRANTS;
+  others_grants : All (λ w. w.caller.user.value.grants ≡ 0) l.others.items;
   tallies : All (λ w. w.tally ≡ uncounted l.fn.tries) l.others.items;
   count : vec_len l.others + into_iter_len l.another-iterator + 1 ≡ vec_len l.fn.seats;
   room : vec_len l.others + into_iter_len l.another-iterator ≤ vec_capacity l.others;
-  crew : Paired (IsWorker l.fn.session.manager [] l.fn.session.client.value.floor) l.yielded l.others.items;
+  crew : Paired (IsWorker l.fn.caller.shared [] l.fn.caller.user.value.floor) l.yielded l.others.items;
 }

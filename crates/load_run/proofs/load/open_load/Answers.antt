@@ -1,7 +1,6 @@
 use Rattle.std.proofs.Common.{rules, inl, refl, ap, subst, sym, List, ◌++◌}
 use Rattle.stm_core.specs.Client.{Record}
-use Rattle.vac_manager.specs.Called.{CallerShown}
-use Rattle.vac_manager.specs.Session.{SessionShown}
+use Rattle.vac_manager.specs.Called.{ClientShown, CallerShown}
 use Rattle.load_draws.specs.Tasks.{opening}
 use Rattle.load_client.specs.Keeping.{HasKeptAdded}
 use Rattle.load_client.specs.Opening.{RanIn, StoppedIn, IsAnswered}
@@ -12,47 +11,47 @@ use Rattle.load_run.proofs.load.open_load.Goals as goal
 
 pub returns-clause-alone : goal.returns-clause-alone
 returns-clause-alone g c =
-    let after = c.open_kept.new.session in
-    let ran = subst (λ (y : SessionShown). RanIn g.D.Draws.leads (opening c.args.settings.now) y after
-    c.args.opening.now c.open_kept.new.draws) c.of-session.ensures c.in_default-open_kept.ensures.opened.asked.ran in
+    let after = c.open_kept.new.caller in
+    let ran = subst (λ (y : CallerShown). RanIn g.D.Draws.leads (opening c.args.settings.now) y after
+    c.args.opening.now c.open_kept.new.draws) c.caller-caller.ensures c.in_default-open_kept.ensures.opened.asked.ran in
     record {
       own = search rules;
       alone = search rules;
-      era = rw c.into_client-client.ensures.client (opened_in g.D.Draws.leads c.in-Ok.manager.renewal _
-          c.in-Ok.client.value after.client.value c.args.opening.now c.open_kept.new.draws
-          (ap (λ (x : CallerShown). x.value.records) c.in-Ok.ensures.ok.client_is) ran);
+      era = rw c.into_user-client.ensures.user (opened_in g.D.Draws.leads c.in-Ok.manager.renewal _
+          c.in-Ok.client.value after.user.value c.args.opening.now c.open_kept.new.draws
+          (ap (λ (x : ClientShown). x.value.records) c.in-Ok.ensures.ok.client_is) ran);
     }
 
 pub returns-clause-opened : goal.returns-clause-opened
 returns-clause-opened g c =
-    let same = c.of-session.ensures in
-    let after = c.open_kept.new.session in
-    rw c.into_client-client.ensures.client (record {
+    let same = c.caller-caller.ensures in
+    let after = c.open_kept.new.caller in
+    rw c.into_user-client.ensures.user (record {
       stripes = _;
       opener = c.in-Ok.client;
       opens = c.in-Ok.ensures.ok;
-      ran = subst (λ (y : SessionShown). RanIn g.D.Draws.leads (opening c.args.settings.now) y after
+      ran = subst (λ (y : CallerShown). RanIn g.D.Draws.leads (opening c.args.settings.now) y after
           c.args.opening.now c.open_kept.new.draws) same c.in_default-open_kept.ensures.opened.asked.ran;
-      answered = subst (λ (y : SessionShown). IsAnswered y.manager after.client.value) same
+      answered = subst (λ (y : CallerShown). IsAnswered y.shared after.user.value) same
           c.in_default-open_kept.ensures.opened.ready;
     })
 
 pub returns-clause-kept : goal.returns-clause-kept
 returns-clause-kept g c =
-    let after = c.open_kept.new.session.client.value in
-    let empty = ap (λ (x : CallerShown). x.value.records) c.in-Ok.ensures.ok.client_is in
-    rw c.into_client-client.ensures.client (kept_added c.in-Ok.client.value after after.records _ _
+    let after = c.open_kept.new.caller.user.value in
+    let empty = ap (λ (x : ClientShown). x.value.records) c.in-Ok.ensures.ok.client_is in
+    rw c.into_user-client.ensures.user (kept_added c.in-Ok.client.value after after.records _ _
     (sym (ap (λ (l : List Record). l ++ after.records) empty))
-    (subst (λ (y : SessionShown). HasKeptAdded y.client.value after (g.K.Keep.notes c.args.keep.now)
-    (g.K.Keep.notes c.open_kept.new.keep)) c.of-session.ensures c.in_default-open_kept.ensures.kept))
+    (subst (λ (y : CallerShown). HasKeptAdded y.user.value after (g.K.Keep.notes c.args.keep.now)
+    (g.K.Keep.notes c.open_kept.new.keep)) c.caller-caller.ensures c.in_default-open_kept.ensures.kept))
 
 pub returns-in_default-clause-stopped : goal.returns-in_default-clause-stopped
 returns-in_default-clause-stopped g c = inl refl
 
 pub returns-in-Err-clause-stopped : goal.returns-in-Err-clause-stopped
 returns-in-Err-clause-stopped g c =
-    let after = c.open_kept.new.session in
-    let stopped = subst (λ (y : SessionShown). StoppedIn g.D.Draws.leads (opening c.args.settings.now) c.in-Err.fault y
-    after c.args.opening.now c.open_kept.new.draws) c.of-session.ensures c.in-Err.ensures.opened.asked.stopped in
+    let after = c.open_kept.new.caller in
+    let stopped = subst (λ (y : CallerShown). StoppedIn g.D.Draws.leads (opening c.args.settings.now) c.in-Err.fault y
+    after c.args.opening.now c.open_kept.new.draws) c.caller-caller.ensures c.in-Err.ensures.opened.asked.stopped in
     was_stopped g.D.Draws.leads c.args.settings.now c.in-Err.fault c.args.opening.now c.open_kept.new.draws _
-    c.in-Ok.manager c.in-Ok.client after.client.value c.in-Ok.ensures.ok stopped
+    c.in-Ok.manager c.in-Ok.client after.user.value c.in-Ok.ensures.ok stopped

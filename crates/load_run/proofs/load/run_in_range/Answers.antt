@@ -1,28 +1,104 @@
-use Rattle.std.proofs.Common.{inl, ◌≡◌, ◌∙◌, length, ℕ, sym, subst}
-use Rattle.load_client.specs.Attempted.{IsEffort}
-use Rattle.load_run.specs.Alone.{session_of}
-use Rattle.load_run.specs.Load.{IsStopOfLoad}
+use Rattle.std.proofs.Common.{inl, ◌≡◌, ◌∙◌, ◌*◌, ◌≤◌, length, ℕ, refl, sym, ap, subst, arith}
+use Rattle.stm_region.specs.Shown.{RegionShown}
+use Rattle.load_client.specs.Attempted.{IsEffort, TaskCountsShown}
+use Rattle.load_run.specs.Alone.{caller_of}
+use Rattle.load_run.specs.Seats.{shown}
+use Rattle.load_run.specs.Load.{IsStopOfLoad, RoundHasRun}
 use Rattle.load_client.proofs.Opened.{handed_on}
+use Rattle.load_client.proofs.Ranges.{few}
+use Rattle.load_run.proofs.Joining.{ran_more, ran_total, few_all, few_each}
 use Rattle.load_run.proofs.Loads.{loaded_kept, opened_ready, stop_behind}
 use Rattle.load_run.proofs.load.run_in_range.Goals as goal
 
-pub run_rounds-requires-clause-renewals : goal.run_rounds-requires-clause-renewals
-run_rounds-requires-clause-renewals g c = λ _ _. c.in_ok-manager.ensures.opened.opens.renewal
+pub run_round-requires-clause-ready : goal.run_round-requires-clause-ready
+run_round-requires-clause-ready g c = λ _ _. opened_ready _ _ _ _ _ c.in_ok-manager.ensures.opened
 
-pub run_rounds-requires-clause-ready : goal.run_rounds-requires-clause-ready
-run_rounds-requires-clause-ready g c = λ _ _. opened_ready _ _ _ _ _ c.in_ok-manager.ensures.opened
+pub rounds-init : goal.rounds-init
+rounds-init g c =
+    let s = c.args.settings.now in
+    let one : s.tasks ≡ 1 * s.tasks = omega arith in
+    let first : c.in_ok-round.round.manager.renewal ≡ c.in_ok-manager.manager.renewal =
+    ap (λ (m : RegionShown). m.renewal) c.in_ok-round.ensures.manager in
+    record {
+      renewals = omega (arith, first, c.in_ok-manager.ensures.opened.opens.renewal);
+      size = refl;
+      round = c.in_ok-round.ensures.round;
+      ran = λ y h. subst (λ (n : ℕ). RoundHasRun g.D.Draws.leads (shown g.K.Keep.notes) s n y c.args.seats.items
+          c.in_ok-round.round) one h;
+    }
+
+pub renewed-requires : goal.renewed-requires
+renewed-requires g c =
+    let most = few c.args.settings.now c.requires.settings in
+    record {
+      alone = c.rounds.invariant.round.alone;
+      renewals = omega (arith, c.rounds.invariant.renewals, c.rounds-test.true, most.rounds);
+      settings = c.requires.settings;
+    }
+
+pub run_round-requires-in-rounds-clause-number : goal.run_round-requires-in-rounds-clause-number
+run_round-requires-in-rounds-clause-number g c = λ _ _. c.rounds.invariant.round.number
+
+pub run_round-requires-in-rounds-clause-ready : goal.run_round-requires-in-rounds-clause-ready
+run_round-requires-in-rounds-clause-ready g c = λ _ _. c.in_ok-manager-2.ensures.renewed.ready
+
+pub run_round-requires-in-rounds-clause-alone : goal.run_round-requires-in-rounds-clause-alone
+run_round-requires-in-rounds-clause-alone g c = λ _ _. c.in_ok-manager-2.ensures.renewed.alone
+
+pub plus-requires : goal.plus-requires
+plus-requires g c =
+    let most = few c.args.settings.now c.requires.settings in
+    let count : length c.args.seats.items ≡ c.args.settings.now.clients =
+    sym c.args.seats.ok.0 ∙ c.requires.number in
+    let here : length c.rounds.round.seats.items ≡ c.args.settings.now.clients =
+    sym c.rounds.round.seats.ok.0 ∙ c.rounds.invariant.round.number in
+    let rounds : c.rounds.done ≤ 100 = omega (arith, most.rounds, c.rounds-test.true) in
+    let ran = c.rounds.invariant.ran (caller_of c.in_ok-manager.manager c.in_ok-manager.client)
+    c.in_ok-round.ensures.ran in
+    let so_far = few_all _ _ _ c.rounds.done _ (ran_total _ _ _ _ _ _ _ _ _ ran) count
+    most.clients rounds most.tasks in
+    let more = few_each _ _ _ _ (ran_total _ _ _ _ _ _ _ _ _ c.in_ok-more.ensures.ran) here most.clients most.tasks in
+    record {
+      fits = omega (arith, so_far, more);
+      same = c.in_ok-more.ensures.round.tries ∙ sym c.rounds.invariant.round.tries;
+    }
+
+pub rounds-preserved : goal.rounds-preserved
+rounds-preserved g c =
+    let i = c.rounds.invariant in
+    let renewed = c.in_ok-manager-2.ensures.renewed in
+    let more = c.in_ok-more.ensures in
+    record {
+      renewals = omega (arith, ap (λ (m : RegionShown). m.renewal) more.manager ∙ renewed.renewal, i.renewals);
+      size = ap (λ (m : RegionShown). m.size) more.manager ∙ (renewed.size ∙ i.size);
+      round = record {
+        number = more.round.number;
+        tries = ap (λ (x : TaskCountsShown). x.tries) c.plus.ensures ∙ i.round.tries;
+        alone = more.round.alone;
+      };
+      ran = λ y h. ran_more g.D.Draws.leads (shown g.K.Keep.notes) c.args.settings.now c.rounds.done y
+          (caller_of c.in_ok-manager-2.manager c.in_ok-manager-2.client)
+          c.args.seats.items c.rounds.round c.in_ok-more.more c.plus.result.tally (i.ran y h) renewed.records more.ran
+          (ap (λ (x : TaskCountsShown). x.tally) c.plus.ensures);
+    }
 
 pub returns-clause-kept : goal.returns-clause-kept
 returns-clause-kept g c =
-    let n : length c.args.seats.items ≡ c.args.settings.now.clients = sym c.args.seats.ok.0 ∙ c.requires.number in
-    rw c.apart.ensures.tally (loaded_kept g.D.Draws.leads g.K.Keep.notes c.args.settings.now c.args.opening.now
-    c.open_load.new.opening c.args.seats.items (session_of c.in_ok-manager.manager c.in_ok-manager.client)
-    c.in_ok-round.round _ _ c.in_ok-words.words.items
-    c.report_of-report.result n c.in_ok-manager.ensures.opened c.in_ok-manager.ensures.kept c.in_ok-round.ensures.ran
-    c.in_ok-words.ensures.versioned c.in_ok-round.ensures.size c.in_ok-words.ensures.closes c.report_of-report.ensures)
+    let s = c.args.settings.now in
+    let most = few s c.requires.settings in
+    let n : length c.args.seats.items ≡ s.clients = sym c.args.seats.ok.0 ∙ c.requires.number in
+    let opened = caller_of c.in_ok-manager.manager c.in_ok-manager.client in
+    let done : c.rounds.done ≡ s.rounds = omega (arith, most.some) in
+    let ran = subst (λ (k : ℕ). RoundHasRun g.D.Draws.leads (shown g.K.Keep.notes) s (k * s.tasks) opened
+    c.args.seats.items c.rounds.round) done (c.rounds.invariant.ran opened c.in_ok-round.ensures.ran) in
+    let size = c.rounds.invariant.size ∙ ap (λ (m : RegionShown). m.size) c.in_ok-round.ensures.manager in
+    rw c.apart.ensures.tally (loaded_kept g.D.Draws.leads g.K.Keep.notes s c.args.opening.now
+    c.open_load.new.opening c.args.seats.items opened c.rounds.round _ _ c.in_ok-words.words.items
+    c.report_of-report.result n c.in_ok-manager.ensures.opened c.in_ok-manager.ensures.kept ran
+    c.in_ok-words.ensures.versioned size c.in_ok-words.ensures.closes c.report_of-report.ensures)
 
 pub returns-clause-number : goal.returns-clause-number
-returns-clause-number g c = c.in_ok-round.ensures.round.number ∙ sym c.requires.number
+returns-clause-number g c = c.rounds.invariant.round.number ∙ sym c.requires.number
 
 pub returns-in_err-manager-clause-stopped : goal.returns-in_err-manager-clause-stopped
 returns-in_err-manager-clause-stopped g c = handed_on c.from_residual.result c.in_err-manager.field-0.0
@@ -39,6 +115,26 @@ returns-in_err-round-clause-stopped g c =
     (stop_behind leads s c.args.opening.now left c.in_err-round.field-0.0
     (_, c.in_ok-manager.ensures.opened) c.in_err-round.ensures.refused)
 
+pub returns-in_err-manager-2-clause-stopped : goal.returns-in_err-manager-2-clause-stopped
+returns-in_err-manager-2-clause-stopped g c =
+    let leads = g.D.Draws.leads in
+    let s = c.args.settings.now in
+    let left = c.open_load.new.opening in
+    handed_on c.from_residual-in_err-manager-2.result c.in_err-manager-2.field-0.0
+    (λ e. IsStopOfLoad leads s c.args.opening.now left e) c.from_residual-in_err-manager-2.ensures.1
+    (stop_behind leads s c.args.opening.now left c.in_err-manager-2.field-0.0
+    (_, c.in_ok-manager.ensures.opened) (inl c.in_err-manager-2.ensures.refused))
+
+pub returns-in_err-more-clause-stopped : goal.returns-in_err-more-clause-stopped
+returns-in_err-more-clause-stopped g c =
+    let leads = g.D.Draws.leads in
+    let s = c.args.settings.now in
+    let left = c.open_load.new.opening in
+    handed_on c.from_residual-in_err-more.result c.in_err-more.field-0.0
+    (λ e. IsStopOfLoad leads s c.args.opening.now left e) c.from_residual-in_err-more.ensures.1
+    (stop_behind leads s c.args.opening.now left c.in_err-more.field-0.0
+    (_, c.in_ok-manager.ensures.opened) c.in_err-more.ensures.refused)
+
 pub returns-in_err-words-clause-stopped : goal.returns-in_err-words-clause-stopped
 returns-in_err-words-clause-stopped g c =
     let leads = g.D.Draws.leads in
@@ -51,4 +147,4 @@ returns-in_err-words-clause-stopped g c =
 
 pub returns-clause-efforts : goal.returns-clause-efforts
 returns-clause-efforts g c = subst (λ (n : ℕ). IsEffort n c.apart.result.0 c.apart.result.1)
-    c.in_ok-round.ensures.round.tries c.apart.ensures.efforts
+    c.rounds.invariant.round.tries c.apart.ensures.efforts

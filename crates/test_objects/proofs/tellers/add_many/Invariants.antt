@@ -2,4 +2,4 @@ use Rattle.std.proofs.Common.{◌≡◌}
 use Rattle.test_objects.proofs.tellers.add_many.Given as goal
 
 abbrev pub invariant-loop : goal.invariant-loop
-invariant-loop l = l.teller.table ≡ l.bank.table
+invariant-loop l = l.caller.shared ≡ l.initial.caller.shared

@@ -2,4 +2,4 @@ use Rattle.std.proofs.Common.{◌≡◌}
 use Rattle.test_objects.proofs.tellers.move_many.Given as goal
 
 abbrev pub invariant-loop-i : goal.invariant-loop-i
-invariant-loop-i l = l.teller.table ≡ l.bank.table
+invariant-loop-i l = l.caller.shared ≡ l.initial.caller.shared

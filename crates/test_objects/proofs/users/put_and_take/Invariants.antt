@@ -2,4 +2,4 @@ use Rattle.std.proofs.Common.{◌≡◌}
 use Rattle.test_objects.proofs.users.put_and_take.Given as goal
 
 abbrev pub invariant-loop-i : goal.invariant-loop-i
-invariant-loop-i l = l.user.table ≡ l.ring.table
+invariant-loop-i l = l.caller.shared ≡ l.initial.caller.shared

@@ -1,6 +1,7 @@
 use Rattle.std.proofs.Common.{◌≡◌, ◌∙◌, length, sym, ap, subst, arith}
 use Rattle.stm_region.specs.Shown.{RegionShown}
-use Rattle.vac_manager.specs.Session.{SessionShown}
+use Rattle.vac_manager.specs.Called.{CallerShown}
+use Rattle.load_run.specs.Seats.{shown}
 use Rattle.load_run.specs.Alone.{IsInRenewal, IsReadyForRound}
 use Rattle.load_run.specs.Load.{RanAll}
 use Rattle.load_client.proofs.Ranges.{few, few_tries}
@@ -14,48 +15,49 @@ split_crew-requires-clause-tries g c = few_tries c.args.self.settings c.args.sel
 pub gather_all-client-requires : goal.gather_all-client-requires
 gather_all-client-requires g c =
     let most = few c.args.self.settings c.args.self.in_range in
-    let same = paired_length _ _ _ c.in_ok-crew-2.ensures.0.others in
+    let same = paired_length _ _ _ c.in_ok-crew-2.ensures.1.0.others in
     let count : length c.args.seats.items ≡ c.args.self.settings.clients =
     sym c.args.seats.ok.0 ∙ c.requires.number in
     record {
-      can = can_gather g.W.RunTasks.leads g.W.RunTasks.shown c.args.self.settings c.of-session.result c.args.seats.items
+      can = can_gather g.D.Draws.leads (shown g.K.Keep.notes) c.args.self.settings c.caller-caller.result
+          c.args.seats.items
           _ _
-          most.clients most.tasks count c.in_ok-crew.ensures.crew c.in_ok-crew-2.ensures.0;
+          most.clients most.tasks count c.in_ok-crew.ensures.crew c.in_ok-crew-2.ensures.1.0;
       room = omega (arith, c.in_ok-crew.ensures.number, same, c.in-Ok.ensures.capacity, c.len.ensures);
       empty = c.in-Ok.ensures.items;
     }
 
 pub returns-clause-round : goal.returns-clause-round
 returns-clause-round g c =
-    let same = paired_length _ _ _ c.in_ok-crew-2.ensures.0.others in
+    let same = paired_length _ _ _ c.in_ok-crew-2.ensures.1.0.others in
     let handed = paired_length _ _ _ c.gather_all-client.ensures.seats in
-    let opened = c.of-session.ensures in
-    let ready = subst (λ (y : SessionShown). IsReadyForRound c.args.self.settings y) (sym opened) c.requires.ready in
-    let first = ap (λ (y : SessionShown). y.manager) c.in_ok-crew-2.ensures.0.first.session ∙
-    (c.in_ok-crew.ensures.crew.opening.manager_is ∙ ap (λ (y : SessionShown). y.manager) opened) in
+    let opened = c.caller-caller.ensures in
+    let ready = subst (λ (y : CallerShown). IsReadyForRound c.args.self.settings y) (sym opened) c.requires.ready in
+    let first = ap (λ (y : CallerShown). y.shared) c.in_ok-crew-2.ensures.1.0.first.caller ∙
+    (c.in_ok-crew.ensures.crew.opening.manager_is ∙ ap (λ (y : CallerShown). y.shared) opened) in
     record {
       number = omega (arith, c.in_ok-crew.ensures.number, same, handed, c.requires.number);
-      tries = c.gather_all-client.ensures.tries ∙ c.in_ok-crew-2.ensures.0.first.tries;
+      tries = c.gather_all-client.ensures.tries ∙ c.in_ok-crew-2.ensures.1.0.first.tries;
       alone = record {
         own = c.gather_all-client.ensures.own ∙ ap (λ (m : RegionShown). m.table) first;
         alone = c.gather_all-client.ensures.alone;
-        era = subst (λ (y : SessionShown). IsInRenewal y.manager.renewal c.gather_all-client.result.0.value.records)
+        era = subst (λ (y : CallerShown). IsInRenewal y.shared.renewal c.gather_all-client.result.0.value.records)
             opened
-            (ran_in g.W.RunTasks.leads g.W.RunTasks.shown c.args.self.settings c.of-session.result _ _ _
-            c.gather_all-client.result.0.value _ ready c.in_ok-crew.ensures.crew c.in_ok-crew-2.ensures.0
+            (ran_in g.D.Draws.leads (shown g.K.Keep.notes) c.args.self.settings c.caller-caller.result _ _ _
+            c.gather_all-client.result.0.value _ ready c.in_ok-crew.ensures.crew c.in_ok-crew-2.ensures.1.0
             c.gather_all-client.ensures.gathered
-            (subst (λ (y : SessionShown). IsInRenewal y.manager.renewal y.client.value.records) (sym opened)
+            (subst (λ (y : CallerShown). IsInRenewal y.shared.renewal y.user.value.records) (sym opened)
             c.requires.alone.era));
       };
     }
 
 pub returns-clause-ran : goal.returns-clause-ran
 returns-clause-ran g c =
-    let opened = c.of-session.ensures in
-    let ready = subst (λ (y : SessionShown). IsReadyForRound c.args.self.settings y) (sym opened) c.requires.ready in
-    subst (λ (y : SessionShown). RanAll g.W.RunTasks.leads c.args.self.settings
-    g.W.RunTasks.shown c.args.self.settings.tasks y.client.value.records c.args.seats.items
+    let opened = c.caller-caller.ensures in
+    let ready = subst (λ (y : CallerShown). IsReadyForRound c.args.self.settings y) (sym opened) c.requires.ready in
+    subst (λ (y : CallerShown). RanAll g.D.Draws.leads c.args.self.settings
+    (shown g.K.Keep.notes) c.args.self.settings.tasks y.user.value.records c.args.seats.items
     c.gather_all-client.result.0.value.records c.gather_all-client.result.1.items c.gather_all-client.result.2.tally)
-    opened (ran_all g.W.RunTasks.leads g.W.RunTasks.shown c.args.self.settings c.of-session.result _ _ _ _
-    c.gather_all-client.result.0.value _ ready c.in_ok-crew.ensures.crew c.in_ok-crew-2.ensures.0
+    opened (ran_all g.D.Draws.leads (shown g.K.Keep.notes) c.args.self.settings c.caller-caller.result _ _ _ _
+    c.gather_all-client.result.0.value _ ready c.in_ok-crew.ensures.crew c.in_ok-crew-2.ensures.1.0
     c.gather_all-client.ensures.gathered c.gather_all-client.ensures.seats)

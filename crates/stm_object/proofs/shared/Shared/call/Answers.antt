@@ -3,6 +3,7 @@ use Rattle.stm_attempt.specs.declared.conflict.Stop.TheVariants as stop
 use Rattle.stm_object.proofs.Stopping.{trying_next, not_conflict, no_record, conflict_shown, tallied_conflict}
 use Rattle.stm_object.proofs.Stopping.{has_called, has_tallied}
 use Rattle.stm_object.proofs.Tracing.{traced_last, traced_next}
+use Rattle.stm_object.proofs.Adding.{same_user}
 use Rattle.stm_object.proofs.shared.Shared.call.Goals as goal
 
 pub tries-preserved : goal.tries-preserved
@@ -11,6 +12,8 @@ tries-preserved g c =
     let one = c.try_once.ensures.tried in
     record {
       own = search rules;
+      table = c.try_once.ensures.own ∙ c.tries.invariant.table;
+      mine = c.tries.invariant.mine;
       free = search rules;
       some = omega (arith, c.if-left-gt0.true);
       few = omega (arith, c.tries.invariant.few);
@@ -30,6 +33,10 @@ tries-preserved g c =
           c.tries.user-inside.client.value c.try_once.new.client.value _ _ _ is c.tries.invariant.traced
           c.try_once.ensures.traced.one one.attempt c.tries.invariant.trying.records;
     }
+
+pub returns-in_default-clause-user : goal.returns-in_default-clause-user
+returns-in_default-clause-user g c = rw (sym c.user.view_is) (same_user _ _ _ _ _
+    (c.try_once.ensures.own ∙ c.tries.invariant.table) c.tries.invariant.mine)
 
 pub returns-in_default-clause-call : goal.returns-in_default-clause-call
 returns-in_default-clause-call g c = rw (sym c.self.view_is, sym c.user.view_is)
@@ -58,7 +65,8 @@ returns-in_default-clause-tallied g c = rw (sym c.self.view_is, sym c.user.view_
 
 pub returns-in_default-2 : goal.returns-in_default-2
 returns-in_default-2 g c = record {
-  own = search rules;
+  user = rw (sym c.user.view_is) (same_user _ _ _ _ _
+      (c.try_once.ensures.own ∙ c.tries.invariant.table) c.tries.invariant.mine);
   frame = search rules;
   call = rw (sym c.self.view_is, sym c.user.view_is) (has_called g.S.Object.is c.self.inside.region
       (λ a. g.B.Body.entry_of c.args.body.now a)
@@ -79,6 +87,10 @@ returns-in_default-2 g c = record {
       _ _ _ (Err _) c.try_once.result (search rules) c.tries.invariant.trying
       (omega (arith, c.tries.invariant.some)) c.try_once.ensures.tried c.try_once.ensures.tallied);
 }
+
+pub returns-in_default-3-clause-user : goal.returns-in_default-3-clause-user
+returns-in_default-3-clause-user g c = rw (sym c.user.view_is) (same_user _ _ _ _ _
+    (c.try_once.ensures.own ∙ c.tries.invariant.table) c.tries.invariant.mine)
 
 pub returns-in_default-3-clause-call : goal.returns-in_default-3-clause-call
 returns-in_default-3-clause-call g c = rw (sym c.self.view_is, sym c.user.view_is)

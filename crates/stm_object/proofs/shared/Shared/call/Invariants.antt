@@ -8,6 +8,8 @@ use Rattle.stm_object.proofs.shared.Shared.call.Given as goal
 abbrev pub invariant-tries : goal.invariant-tries
 invariant-tries g l = record {
   own : l.user-inside.client.table ≡ l.self-inside.region.table;
+  table : l.user-inside.client.table ≡ l.initial.user-inside.client.table;
+  mine : l.user-inside.own ≡ l.initial.user-inside.own;
   free : IsFreeHanded l.user-inside.client.value;
   some : 1 ≤ l.left;
   few : l.left ≤ l.tries;

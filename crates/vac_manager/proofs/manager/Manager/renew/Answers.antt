@@ -18,6 +18,6 @@ returns-in-Ok-clause-renewed c = record {
 
 pub returns-in-Err-Closed-clause-refused : goal.returns-in-Err-Closed-clause-refused
 returns-in-Err-Closed-clause-refused c =
-    let ends : Closes vacation c.self.inside.shared c.client.inside.user.value c.in-Err-Closed.words.items
+    let ends : Closes vacation c.self.inside.shared c.args.client.value c.in-Err-Closed.words.items
     c.in-Err-Closed.last = search rules in
     (closes _ _ _ _ _ _ c.self.invariant ends.ends (search rules) (search rules), search rules)

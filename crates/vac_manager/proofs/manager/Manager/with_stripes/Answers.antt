@@ -1,17 +1,17 @@
 use Rattle.std.proofs.Common.{rules, arith, ap}
 use Rattle.stm_region.specs.Shown.{RegionShown}
-use Rattle.vac_manager.proofs.Openings.{fresh_fits, fresh_words, opened_on, opens}
+use Rattle.vac_manager.proofs.Openings.{fresh_begins, fresh_words, opened_on, opens}
 use Rattle.vac_manager.proofs.manager.Manager.with_stripes.Goals as goal
 
-pub new-requires-clause-fits : goal.new-requires-clause-fits
-new-requires-clause-fits c = fresh_fits _ _ _ c.as_slice.ensures.value (record {
+pub new-requires-3-clause-begins : goal.new-requires-3-clause-begins
+new-requires-3-clause-begins c = fresh_begins _ _ _ c.as_slice.ensures.value (record {
   empty = c.in-Ok.ensures.words;
   pool = c.in-Ok.ensures.pool;
   few = search (rules, arith);
 })
 
-pub new-requires-clause-size : goal.new-requires-clause-size
-new-requires-clause-size c = fresh_words _ _ _ c.as_slice.ensures.value (record {
+pub new-requires-3-clause-size : goal.new-requires-3-clause-size
+new-requires-3-clause-size c = fresh_words _ _ _ c.as_slice.ensures.value (record {
   empty = c.in-Ok.ensures.words;
   pool = c.in-Ok.ensures.pool;
   few = search (rules, arith);
@@ -29,6 +29,7 @@ invariant_of-result c =
 
 pub returns-clause-ok : goal.returns-clause-ok
 returns-clause-ok c =
-    rw (c.new-start.ensures, c.new-next.ensures) (opens _ _ _ _ _ _ _ c.as_slice.ensures.value
+    let user = c.in-Ok-new.ensures.user in
+    opens _ _ _ _ _ _ _ c.as_slice.ensures.value
     (record { empty = c.in-Ok.ensures.words; pool = c.in-Ok.ensures.pool; few = search (rules, arith) })
-    c.in-Ok-new.ensures.region c.in-Ok-new.ensures.user)
+    c.in-Ok-new.ensures.region (rw (c.new.ensures, c.new-2.ensures) at user)

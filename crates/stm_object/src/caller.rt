@@ -1,0 +1,153 @@
+//! Callers: a user together with the memory that it calls.
+
+ghost use Rattle.std.specs.Prelude.{◌≡◌, ◌≤◌, ◌⊎◌, IfOk, IfErr, true, false};
+ghost use Rattle.tx_memory.specs.Image.{In};
+ghost use Rattle.stm_core.specs.Client.{Record};
+ghost use Rattle.stm_core.specs.History.{Sub};
+ghost use Rattle.stm_object.specs.Callers.{GoesOn, IsAtRest, Splits, SplitsNot, gathered};
+ghost use Rattle.stm_object.specs.History.{ConflictWasShown, HasCalled, HasCalledAt};
+ghost use Rattle.stm_object.specs.Tracing.{HasTraced, HasTallied};
+
+use crate::body::{Asking, Body, Query, Update, Updating};
+use crate::object::Object;
+use crate::place::Place;
+use crate::shared::{Shared, User, answer_of};
+use crate::tracer::{Tracer, Untraced};
+use std::marker::Model;
+use stm_attempt::{Gate, NoGate, Stop};
+use stm_region::RegionFault;
+
+/// A user together with the memory that it calls. The type's invariant says that the two belong
+/// together, so no method requires it. Contracts see both. A caller that is dropped without being
+/// gathered leaves its user out for good.
+#[derive(Drop)]
+pub struct Caller<'a, S: Object> {
+    shared: &'a Shared<S>,
+    user: User<S>,
+}
+
+impl<'a, S: Object> Model for Caller<'a, S> {
+    ghost use Rattle.stm_object.specs.Callers.{CallerShown, IsAtRest};
+
+    ghost Value = { CallerShown S.Own };
+
+    ghost view = { λ y. record { shared = y.shared.now; user = y.user } };
+
+    ghost invariant = { λ y. IsAtRest S.is (record { shared = y.shared.now; user = y.user }) };
+}
+
+impl<'a, S: Object> Caller<'a, S> {
+    /// Returns the caller of a user with its memory.
+    pub fn of(shared: &'a Shared<S>, user: User<S>) -> Caller<'a, S>
+        requires own { user.table ≡ shared.now.table }
+        ensures { result ≡ record { shared = shared.now; user = user } }
+    {
+        // Naming a field gives the proof the invariant of the field's type.
+        let _ = &shared.region;
+        let _ = &user.client;
+        Caller { shared, user }
+    }
+
+    /// Ends the caller and returns its user.
+    pub fn into_user(self) -> User<S>
+        ensures user { result ≡ self.entry.user }
+        ensures own { result.table ≡ self.entry.shared.table }
+    {
+        self.user
+    }
+
+    /// Returns the state that the user keeps for itself.
+    pub fn own(&self) -> &S::Own
+        ensures own { result.now ≡ self.now.user.own }
+        ensures at_rest { IsAtRest S.is self.now }
+    {
+        &self.user.own
+    }
+
+    /// Runs an update as a transaction, in at most `tries` attempts. An update that stops with an
+    /// error changes nothing.
+    ///
+    /// Not said: that a call terminates.
+    pub fn run<U: Update<S>>(&mut self, update: &U, tries: u32) -> Result<U::Answer, Stop>
+        requires tries { 1 ≤ tries }
+        ensures caller { GoesOn self.old self.new }
+        ensures call { HasCalled S.is self.old.shared (λ a. U.entry_of update.now a)
+            (λ a. U.changes update.now a) false tries result
+            self.old.user.value self.new.user.value }
+    {
+        let body = Updating { update };
+        answer_of(self.call(&body, tries, &mut NoGate, &mut Untraced))
+    }
+
+    /// Runs a query as a transaction, in at most `tries` attempts. Only a conflict stops the
+    /// query.
+    ///
+    /// Not said: that a call terminates.
+    pub fn ask<Q: Query<S>>(&mut self, query: &Q, tries: u32) -> Result<Q::Answer, Stop>
+        requires tries { 1 ≤ tries }
+        ensures caller { GoesOn self.old self.new }
+        ensures call { HasCalled S.is self.old.shared (λ a. Q.entry_of query.now a) (λ a. false)
+            true tries result self.old.user.value self.new.user.value }
+    {
+        let body = Asking { query };
+        answer_of(self.call(&body, tries, &mut NoGate, &mut Untraced))
+    }
+
+    /// Runs a transaction, in at most `tries` attempts, and returns its answer and the commit
+    /// position of its record. A transaction that stops with an error changes nothing. Each
+    /// attempt reports to the gate how far its commit is; an attempt that only reads reports when
+    /// its reads are done. The tracer traces the attempts.
+    ///
+    /// Not said: that a gate never waits; that a call terminates.
+    pub fn call<B: Body<S>, G: Gate, T: Tracer>(
+        &mut self,
+        body: &B,
+        tries: u32,
+        gate: &mut G,
+        tracer: &mut T,
+    ) -> Result<(B::Answer, Place), Stop>
+        requires tries { 1 ≤ tries }
+        ensures caller { GoesOn self.old self.new }
+        ensures frame { T.frame tracer.new ≡ T.frame tracer.old }
+        ensures call { HasCalledAt S.is self.old.shared (λ a. B.entry_of body.now a)
+            (λ a. B.changes body.now a) (B.reads body.now) tries result
+            self.old.user.value self.new.user.value }
+        ensures traced { HasTraced result self.old.user.value self.new.user.value
+            (T.ended tracer.old) (T.ended tracer.new) }
+        ensures tallied { HasTallied (λ conflict v. ConflictWasShown S.is self.old.shared
+            (λ a. B.entry_of body.now a) (λ a. B.changes body.now a) (B.reads body.now)
+            conflict v) T.more tries result self.old.user.value self.new.user.value
+            (T.tally tracer.old) (T.tally tracer.new) }
+    {
+        self.shared.call(&mut self.user, body, tries, gate, tracer)
+    }
+
+    /// Splits off the caller of a new user of the same memory, for one grant; a memory has 63
+    /// grants.
+    pub fn split(&mut self) -> Result<Caller<'a, S>, RegionFault>
+        ensures shared { self.new.shared ≡ self.old.shared }
+        ensures ok { IfOk result
+            (λ other. Splits S.Own.splits self.old.user self.new.user other.user) }
+        ensures theirs { IfOk result (λ other. other.shared ≡ self.old.shared) }
+        ensures refused { IfErr result (λ fault. SplitsNot fault self.old.user self.new.user) }
+    {
+        let user = self.shared.split(&mut self.user)?;
+        Ok(Caller {
+            shared: self.shared,
+            user,
+        })
+    }
+
+    /// Gathers the user of another caller of the same memory: takes over its records and its
+    /// grants, and gets one more grant.
+    pub fn gather(&mut self, other: Caller<'_, S>)
+        requires own { other.shared.table ≡ self.old.shared.table }
+        ensures caller { self.new ≡ gathered self.old other.entry }
+        ensures mine { Sub self.old.user.value.records self.new.user.value.records }
+        ensures theirs { Sub other.entry.user.value.records self.new.user.value.records }
+        ensures only { (r : Record) → In r self.new.user.value.records
+            → In r self.old.user.value.records ⊎ In r other.entry.user.value.records }
+    {
+        self.shared.gather(&mut self.user, other.user);
+    }
+}

@@ -1,6 +1,0 @@
-use Rattle.std.proofs.Common.{rules}
-use Rattle.stm_object.proofs.Adding.{only_of}
-use Rattle.vac_manager.proofs.manager.Manager.gather.Goals as goal
-
-pub returns-clause-only : goal.returns-clause-only
-returns-clause-only c = only_of _ _ _ _ _ c.gather.ensures.only (search rules) (search rules)
