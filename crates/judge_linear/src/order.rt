@@ -57,7 +57,8 @@ fn judge_order<P: Watcher>(
     if let Some(places) = checked_order(alloc, first, calls, proposed)? {
         return Ok(Finding::Order(places));
     }
-    find_linearization(alloc, calls, machine, steps, watcher)
+    let found = find_linearization(alloc, calls, machine, steps, watcher)?;
+    Ok(found.finding)
 }
 
 /// The calls of a history as the search keeps them, and the finding, which names positions in
@@ -86,7 +87,7 @@ pub(crate) fn judge_lines<P: Watcher>(
         IsFoundOfCalls reserving (point_at reserving ordered.calls) machine
         (calls_of ordered.calls.lines.items) steps ordered.finding) }
 {
-    let calls = Calls::new(history.lines)?;
+    let calls = Calls::new(alloc, history.lines)?;
     let finding = judge_order(alloc, &calls, machine, steps, watcher)?;
     Ok(Ordered { calls, finding })
 }

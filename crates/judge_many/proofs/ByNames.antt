@@ -1,7 +1,7 @@
 -- Lines in the order of their names, and the calls of each object among them.
 use Rattle.std.proofs.Common.{◌≡◌, ◌≢◌, ℕ, ◌+◌, ◌-◌, ◌<◌, ◌≤◌, suc, zero, Bool, true, false, not, cond, ◌&&◌, List, []}
-use Rattle.std.proofs.Common.{◌∷◌, ◌++◌, length, get_or, take, drop, map, refl, sym, ap, ◌∙◌, subst, inl, inr, arith}
-use Rattle.std.specs.Prelude.{◌⊎◌}
+use Rattle.std.proofs.Common.{◌∷◌, ◌++◌, length, get_or, take, drop, refl, sym, ap, ◌∙◌, subst, inl, inr, arith}
+use Rattle.std.specs.Prelude.{◌⊎◌, ⊤}
 use Rattle.std.specs.List.{filter}
 use Rattle.std.specs.Str.{bytes_eq}
 use Rattle.std.specs.Ordering.{is_lt, is_eq, nat_cmp, ordering_reverse}
@@ -11,22 +11,22 @@ use Rattle.std.specs.Cmp.{IsStrictWeakOrder}
 use Rattle.std.specs.Cmp.Lexicographic.{slice_cmp, nat_list_cmp_total}
 use Rattle.std.specs.List.Sorted.{ties}
 use Rattle.std.proofs.lemmas.Map.Text.{is_eq-slice_cmp}
-use Rattle.std.proofs.lemmas.List.{get_or-take, take-append-drop, map-append, length-take-le, length-map}
+use Rattle.std.proofs.lemmas.List.{get_or-take, take-append-drop, length-take-le}
 use Rattle.std.proofs.lemmas.List.Sorted.{ranks_by, sorted_far, IsStrictWeakOrder-flip}
 use Rattle.judge_object.specs.Rules.{Rules}
-use Rattle.judge_object.specs.Call.{Call}
 use Rattle.judge_object.specs.declared.line.Line.{Line}
 use Rattle.judge_object.specs.Orders.{IsLinearizable}
 use Rattle.judge_search.specs.Calls.{call_of, calls_of}
 use Rattle.judge_search.specs.Walk.{IsWhole, IsTimed}
-use Rattle.judge_many.specs.Many.{is_for, part}
+use Rattle.judge_many.specs.Many.{part}
 use Rattle.judge_many.specs.Runs.{name_of, name_at, lines_for, comes_first, AreByName, IsSortOf, IsLastRun}
+use Rattle.judge_many.specs.Judging.{HasSearched, HasSearchedOne, HaveSearched, IsNoneOf, steps_of}
 use Rattle.judge_many.specs.Judging.{IsNameBefore, IsBlocked, IsOpen, AreDoneBefore, IsFirstBlocked, IsFirstOpen}
 use Rattle.judge_many.specs.declared.parts.Blocked.{Blocked}
 use Rattle.judge_many.specs.declared.parts.Undecided.{Undecided}
 use Rattle.judge_search.proofs.Soonest.{same_default}
 use Rattle.judge_search.proofs.Places.{times_of, turns_of, precedence_of}
-use Rattle.judge_many.proofs.OfOne.{named, part_append, turn_part, each_part}
+use Rattle.judge_many.proofs.OfOne.{named, turn_part, each_part}
 
 -- each object's lines are all left, or none is and its calls have a linearization
 abbrev pub AreJudged : {T O R : Type 0} → Rules T O R → (O → List ℕ) → T → List (Line O) → List (Line O) → Type 0
@@ -297,6 +297,11 @@ module _ {O : Type 0} (name : O → List ℕ) where
   run_of (x ∷ xs) before run sorted h = run_from (x ∷ xs) before run x sorted h
 
 module _ {T O R : Type 0} (Y : Rules T O R) (name : O → List ℕ) where
+  -- none of the lines for these objects is left
+  abbrev pub Gone : List (Line O) → List (List ℕ × ℕ) → Type 0
+  Gone left [] = ⊤
+  Gone left (one ∷ others) = (lines_for name one.0 left ≡ []) × Gone left others
+
   -- no object has been judged
   pub judged_none : (s : T) (lines sorted : List (Line O)) → IsSortOf name lines sorted →
       AreJudged Y name s lines sorted
@@ -384,14 +389,71 @@ module _ {T O R : Type 0} (Y : Rules T O R) (name : O → List ℕ) where
     is = subst (λ ls. IsBlocked Y s ls b) (sym (run_lines s all lines before run h j)) bad;
   }
 
+  -- the searches so far: of other objects than are left, and with the steps that they left
+  pub record IsSpent (s : T) (steps : ℕ) (all left : List (Line O)) (rest : ℕ) : Type 0 where
+    pub others : List (List ℕ × ℕ)
+    pub searched : HaveSearched Y name s all others
+    pub gone : Gone left others
+    pub sum : rest + steps_of others ≡ steps
+
+  pub spent_none : (s : T) (steps : ℕ) (all left : List (Line O)) → IsSpent s steps all left steps
+  spent_none s steps all left = record {
+    others = [];
+    searched = tt;
+    gone = tt;
+    sum = omega arith;
+  }
+
+  none_left : (for : List ℕ) (left run : List (Line O)) (others : List (List ℕ × ℕ)) →
+      lines_for name for left ≡ run → 0 < length run → Gone left others → IsNoneOf for others
+  none_left for left run [] own some h = tt
+  none_left for left run (one ∷ others) own some h = (
+    (λ e. empty run (sym own ∙ ap (λ k. lines_for name k left) (sym e) ∙ h.0) some),
+    none_left for left run others own some h.1,
+  )
+    where
+      empty : (ls : List (Line O)) → ls ≡ [] → 0 < length ls → ⊥
+      empty ls e l = let n : length ls ≡ 0 = ap length e in absurd (omega arith)
+
+  gone_further : (lines before run : List (Line O)) (h : IsRun name lines before run)
+      (others : List (List ℕ × ℕ)) → IsNoneOf h.for others → Gone lines others → Gone before others
+  gone_further lines before run h [] n g = tt
+  gone_further lines before run h (one ∷ others) n g = (
+    h.others one.0 n.0 ∙ g.0,
+    gone_further lines before run h others n.1 g.1,
+  )
+
+  searched_run : (s : T) (all lines before run : List (Line O)) (made : ℕ) → (h : IsRun name lines before run) →
+      AreJudged Y name s all lines → HasSearched Y s run made → HasSearchedOne Y name s all (h.for, made)
+  searched_run s all lines before run made h j searched =
+      subst (λ ls. HasSearched Y s ls made) (sym (run_lines s all lines before run h j)) searched
+
+  -- one search more
+  pub spent_more : (s : T) (steps : ℕ) (all lines before run : List (Line O)) (rest made : ℕ) →
+      IsRun name lines before run → AreJudged Y name s all lines → IsSpent s steps all lines rest → made ≤ rest →
+      HasSearched Y s run made → IsSpent s steps all before (rest - made)
+  spent_more s steps all lines before run rest made h j spent within searched =
+      let none = none_left h.for lines run spent.others h.own h.some spent.gone in
+      record {
+        others = (h.for, made) ∷ spent.others;
+        searched = (searched_run s all lines before run made h j searched, none, spent.searched);
+        gone = (h.gone, gone_further lines before run h spent.others none spent.gone);
+        sum = let e = spent.sum in omega arith;
+      }
+
   -- or the first that is undecided
-  pub judged_open : (s : T) (steps : ℕ) (all lines before run : List (Line O)) (u : Undecided O) →
-      IsRun name lines before run → AreJudged Y name s all lines → IsOpen Y s steps run u →
-      IsFirstOpen Y name s steps all u
-  judged_open s steps all lines before run u h j is_open = record {
+  pub judged_open : (s : T) (steps : ℕ) (all lines before run : List (Line O)) (rest : ℕ) (u : Undecided O) →
+      IsRun name lines before run → AreJudged Y name s all lines → IsSpent s steps all lines rest →
+      IsOpen Y s rest run u → IsFirstOpen Y name s steps all u
+  judged_open s steps all lines before run rest u h j spent is_open = record {
     for = h.for;
     before = done_before s all lines before run h j;
-    is = subst (λ ls. IsOpen Y s steps ls u) (sym (run_lines s all lines before run h j)) is_open;
+    others = spent.others;
+    searched = spent.searched;
+    apart = none_left h.for lines run spent.others h.own h.some spent.gone;
+    own = rest;
+    spent = spent.sum;
+    is = subst (λ ls. IsOpen Y s rest ls u) (sym (run_lines s all lines before run h j)) is_open;
   }
 
   -- all have been judged

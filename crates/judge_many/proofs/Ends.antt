@@ -1,5 +1,5 @@
 -- What the last end of each client says of a further call.
-use Rattle.std.proofs.Common.{◌≡◌, ◌≢◌, ℕ, ◌+◌, ◌-◌, ◌==◌, ◌&&◌, ◌||◌, ◌<◌, ◌≤◌, Bool, true, false, not, List, []}
+use Rattle.std.proofs.Common.{◌≡◌, ◌≢◌, ℕ, ◌-◌, ◌==◌, ◌&&◌, ◌||◌, ◌<◌, ◌≤◌, Bool, true, false, not, List, []}
 use Rattle.std.proofs.Common.{◌∷◌, ◌++◌, length, Option, Some, None, is_some, refl, sym, ap, ◌∙◌, subst, inl, inr}
 use Rattle.std.proofs.Common.{arith, nat_lt, nat_le, suc, zero, get_or}
 use Rattle.std.specs.Prelude.{◌^◌, ◌⊎◌}
@@ -19,7 +19,6 @@ use Rattle.judge_search.specs.Calls.{call_of, calls_of}
 use Rattle.judge_search.proofs.Each.{Test, test}
 use Rattle.judge_many.specs.Many.{IsApart, AreStrict}
 use Rattle.judge_many.specs.Turns.{began_before, call_breaks_client, calls_overlap, KeepsEnds, KnowsClients, KnowsEnds}
-use Rattle.judge_many.specs.Turns.{Stands}
 
 both_false : (a b : Bool) → (a || b) ≡ false → (a ≡ false) × (b ≡ false)
 both_false true b h = cc

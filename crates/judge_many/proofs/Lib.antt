@@ -2,3 +2,4 @@ pub mod OfOne
 pub mod Whole
 pub mod ByNames
 pub mod Ends
+pub mod One

@@ -6,8 +6,8 @@ use Rattle.std.specs.Str.{bytes_eq}
 use Rattle.std.proofs.lemmas.Slice.Eq.{bytes_eq-Decides}
 use Rattle.judge_object.specs.Rules.{Rules, IsAnswerOf}
 use Rattle.judge_object.specs.Call.{Call, IsBehind, is_answered}
-use Rattle.judge_object.specs.Orders.{of_client, IsMerge, IsOrderOf, IsLinearizable}
-use Rattle.judge_object.specs.Linear.{GiveReplies, IsLinearization}
+use Rattle.judge_object.specs.Orders.{of_client, IsOrderOf}
+use Rattle.judge_object.specs.Linear.{GiveReplies}
 use Rattle.judge_search.specs.Walk.{InTurn}
 use Rattle.judge_search.proofs.Each.{Each}
 use Rattle.judge_search.proofs.Places.{Precedes, times_of, turns_of, precedence_of, precedes_from, in_turn_from}

@@ -1,21 +1,21 @@
 -- Orders of each object's calls make one of all: of the answered calls that are left take the one
 -- that ends first; the first call in the order of its object may come next.
-use Rattle.std.proofs.Common.{◌≡◌, ℕ, ◌+◌, ◌<◌, ◌≤◌, ◌==◌, suc, zero, Bool, true, false, cond, List, [], ◌∷◌, ◌++◌}
+use Rattle.std.proofs.Common.{◌≡◌, ℕ, ◌<◌, ◌≤◌, ◌==◌, suc, zero, Bool, true, false, cond, List, [], ◌∷◌}
 use Rattle.std.proofs.Common.{length, refl, sym, ap, ◌∙◌, subst, inl, inr, arith}
 use Rattle.std.specs.Prelude.{◌⊎◌}
 use Rattle.std.specs.Str.{bytes_eq}
 use Rattle.std.proofs.lemmas.Bool.{cases_lt}
-use Rattle.judge_object.specs.Rules.{Rules, is_right}
-use Rattle.judge_object.specs.Call.{Call, EachCall, is_answered}
-use Rattle.judge_object.specs.Orders.{of_client, IsLinearizable}
-use Rattle.judge_search.specs.Configurations.{Configuration, IsFirst, MayBegin, without_next, weight, answered, Goes}
+use Rattle.judge_object.specs.Rules.{Rules}
+use Rattle.judge_object.specs.Call.{Call, is_answered}
+use Rattle.judge_object.specs.Orders.{of_client}
+use Rattle.judge_search.specs.Configurations.{Configuration, IsFirst, without_next, weight, answered, Goes}
 use Rattle.judge_search.specs.Configurations.{after_call, CallsReach, start}
 use Rattle.judge_search.specs.Walk.{IsTimed, IsWhole, Completes}
-use Rattle.judge_search.proofs.Each.{Each, test, Test}
-use Rattle.judge_search.proofs.Left.{each_without, whole_after}
+use Rattle.judge_search.proofs.Each.{Each, test}
+use Rattle.judge_search.proofs.Left.{whole_after}
 use Rattle.judge_search.proofs.Completing.{linearization_of, completes_start}
 use Rattle.judge_many.specs.Many.{changed, is_for, part, many, IsApart, AreStrict, PartsMakeLinearizable}
-use Rattle.judge_many.proofs.OfOne.{named, each_part, part_client, turn_part, changed_here, changed_not}
+use Rattle.judge_many.proofs.OfOne.{named, each_part, turn_part, changed_here, changed_not}
 
 -- whether a call is answered
 abbrev Answers : Bool → Type 0

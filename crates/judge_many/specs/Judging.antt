@@ -1,20 +1,20 @@
 -- The findings on the calls of one object, and on those of many.
-use Rattle.std.specs.Prelude.{◌≡◌, ℕ, true, List}
+use Rattle.std.specs.Prelude.{◌≡◌, ◌≢◌, ◌≤◌, ◌+◌, ⊤, ℕ, true, List, [], ◌∷◌}
 use Rattle.std.specs.Ordering.{is_lt, nat_cmp}
 use Rattle.std.specs.Cmp.Lexicographic.{slice_cmp}
 use Rattle.judge_object.specs.Rules.{Rules}
-use Rattle.judge_object.specs.Call.{Call}
 use Rattle.judge_object.specs.declared.line.Line.{Line}
 use Rattle.judge_object.specs.Orders.{IsMerge, IsLinearizable}
 use Rattle.judge_search.specs.Calls.{calls_of}
 use Rattle.judge_search.specs.Configurations.{start}
 use Rattle.judge_search.specs.Judging.{HasNoOrder}
 use Rattle.judge_search.specs.Point.{point_at}
-use Rattle.judge_search.specs.Searching.{IsUndecided}
+use Rattle.judge_search.specs.Searching.{HasRun, IsUndecided}
 use Rattle.judge_search.specs.Sorting.{AreSortOf}
 use Rattle.judge_many.specs.declared.parts.Blocked.{Blocked}
 use Rattle.judge_many.specs.declared.parts.Undecided.{Undecided}
 use Rattle.judge_many.specs.declared.parts.Judged.{Judged}
+use Rattle.judge_many.specs.declared.parts.Searched.{Searched}
 use Rattle.judge_many.specs.declared.parts.Judged.TheVariants as judged
 use Rattle.judge_many.specs.Many.{part}
 use Rattle.judge_many.specs.Runs.{lines_for}
@@ -22,6 +22,16 @@ use Rattle.judge_many.specs.Runs.{lines_for}
 -- a name comes before another in the order of bytes
 abbrev pub IsNameBefore : List ℕ → List ℕ → Type 0
 IsNameBefore a b = is_lt (slice_cmp nat_cmp a b) ≡ true
+
+-- the object of this name is none of these
+abbrev pub IsNoneOf : List ℕ → List (List ℕ × ℕ) → Type 0
+IsNoneOf k [] = ⊤
+IsNoneOf k (one ∷ others) = (one.0 ≢ k) × IsNoneOf k others
+
+-- the steps of these searches together
+abbrev pub steps_of : List (List ℕ × ℕ) → ℕ
+steps_of [] = 0
+steps_of (one ∷ others) = one.1 + steps_of others
 
 module _ {S O R : Type 0} (X : Rules S O R) where
   -- no order of the calls of these lines is a linearization. The lines are kept by their ends, each
@@ -47,7 +57,38 @@ module _ {S O R : Type 0} (X : Rules S O R) where
   JudgesRun s steps lines (judged.NotLinearizable blocked) = IsBlocked s lines blocked
   JudgesRun s steps lines (judged.Unknown open_) = IsOpen s steps lines open_
 
+  -- nothing is known of the calls
+  abbrev pub IsOpenFinding : Judged O S → Type 0
+  IsOpenFinding judged.Linearizable = ⊥
+  IsOpenFinding (judged.NotLinearizable blocked) = ⊥
+  IsOpenFinding (judged.Unknown open_) = ⊤
+
+  -- a search among the calls of these lines, kept by their ends, made this many steps
+  pub record HasSearched (s : S) (lines : List (Line O)) (steps : ℕ) : Type 0 where
+    pub kept : List (Line O)
+    pub sorted : AreSortOf lines kept
+    pub run : HasRun X steps (start s (calls_of kept))
+
+  -- what is found of the calls of one object in at most `steps` steps, and the number of steps that
+  -- were made: all of them if nothing was found
+  pub record SearchesRun (s : S) (steps : ℕ) (lines : List (Line O)) (searched : Searched O S) :
+      Type 0 where
+    pub within : searched.steps ≤ steps
+    pub run : HasSearched s lines searched.steps
+    pub judges : JudgesRun s steps lines searched.judged
+    pub spent : IsOpenFinding searched.judged → searched.steps ≡ steps
+
   module _ (name : O → List ℕ) where
+    -- the search among the calls of the object of this name made this many steps
+    abbrev pub HasSearchedOne : S → List (Line O) → List ℕ × ℕ → Type 0
+    HasSearchedOne s lines one = HasSearched s (lines_for name one.0 lines) one.1
+
+    -- searches among the calls of these objects, each searched once, made these many steps
+    abbrev pub HaveSearched : S → List (Line O) → List (List ℕ × ℕ) → Type 0
+    HaveSearched s lines [] = ⊤
+    HaveSearched s lines (one ∷ others) =
+        HasSearchedOne s lines one × IsNoneOf one.0 others × HaveSearched s lines others
+
     -- the calls of each object with an earlier name have a linearization
     abbrev pub AreDoneBefore : S → List (Line O) → List ℕ → Type 0
     AreDoneBefore s lines k = (j : List ℕ) → IsNameBefore j k →
@@ -59,12 +100,18 @@ module _ {S O R : Type 0} (X : Rules S O R) where
       pub before : AreDoneBefore s lines for
       pub is : IsBlocked s (lines_for name for lines) blocked
 
-    -- the first object, in the order of names, that is undecided
+    -- the first object, in the order of names, that is undecided: the search among its calls made
+    -- all steps that the searches among the calls of other objects, each searched once, had left
     pub record IsFirstOpen (s : S) (steps : ℕ) (lines : List (Line O)) (open_ : Undecided O) :
         Type 0 where
       pub for : List ℕ
       pub before : AreDoneBefore s lines for
-      pub is : IsOpen s steps (lines_for name for lines) open_
+      pub others : List (List ℕ × ℕ)
+      pub searched : HaveSearched s lines others
+      pub apart : IsNoneOf for others
+      pub own : ℕ
+      pub spent : own + steps_of others ≡ steps
+      pub is : IsOpen s own (lines_for name for lines) open_
 
     -- what is found of the calls of many objects, judged in the order of their names
     abbrev pub JudgesParts : S → ℕ → List (Line O) → Judged O S → Type 0

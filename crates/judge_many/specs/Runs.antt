@@ -14,6 +14,11 @@ module _ {O : Type 0} (name : O → List ℕ) where
   abbrev pub name_at : List (Line O) → ℕ → Line O → List ℕ
   name_at lines i d = name_of (get_or lines i d)
 
+  -- all lines are for one object
+  abbrev pub AreOfOne : List (Line O) → Type 0
+  AreOfOne lines = (i : ℕ) (d : Line O) → i < length lines →
+      name_at lines i d ≡ name_at lines 0 d
+
   -- the lines for the object of this name, in their order
   abbrev pub lines_for : List ℕ → List (Line O) → List (Line O)
   lines_for k lines = filter (λ line. bytes_eq (name_of line) k) lines

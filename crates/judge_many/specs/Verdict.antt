@@ -9,6 +9,7 @@ use Rattle.judge_many.specs.declared.judging.Verdict.{Verdict}
 use Rattle.judge_many.specs.declared.judging.Verdict.TheVariants as verdict
 use Rattle.judge_many.specs.Many.{many, part, AreStrict}
 use Rattle.judge_many.specs.Judging.{IsFirstBlocked, IsFirstOpen}
+use Rattle.judge_many.specs.Runs.{AreOfOne}
 use Rattle.judge_many.specs.Turns.{IsFirstOutOfTurn}
 
 module _ {S O R : Type 0} (X : Rules S O R) (name : O → List ℕ) where
@@ -16,11 +17,13 @@ module _ {S O R : Type 0} (X : Rules S O R) (name : O → List ℕ) where
   abbrev pub IsManyLinearizable : S → List (Line O) → Type 0
   IsManyLinearizable s lines = IsLinearizable (many X name) (λ k. s) (calls_of lines)
 
-  -- each object's calls have a linearization, but some client began a call at the very time at
-  -- which an earlier one of its own ended, so that locality says nothing of all calls together
+  -- the calls are of several objects, and the calls of each object have a linearization; but some
+  -- client began a call at the very time at which an earlier call of its own ended, so that
+  -- locality says nothing of all calls together
   pub record IsTouching (s : S) (lines : List (Line O)) : Type 0 where
     pub parts : (k : List ℕ) → IsLinearizable X s (part name k (calls_of lines))
     pub touches : AreStrict (calls_of lines) → ⊥
+    pub several : AreOfOne name lines → ⊥
 
   -- what a verdict says of the calls of lines, each object beginning in the state s
   abbrev pub IsVerdictOn : S → ℕ → List (Line O) → Verdict O S → Type 0

@@ -5,6 +5,7 @@ ghost use Rattle.judge_many.specs.Verdict.{IsVerdictOn};
 
 use crate::named::Named;
 use crate::parts::{Blocked, Judged, Undecided, judge_parts};
+use crate::runs::is_of_one;
 use crate::turns::{Turns, find_turns};
 use judge_object::{Line, Watcher};
 use std::alloc::{AllocError, Global};
@@ -20,16 +21,16 @@ pub enum Verdict<O, M> {
     /// No order is one: the calls of this object have none. It is the first such object in the
     /// order of names.
     NotLinearizable(Blocked<O, M>),
-    /// Neither is known: the search among the calls of this object made all its steps. All objects
-    /// with earlier names have a linearization.
+    /// Neither is known: the search among the calls of this object made all steps that the searches
+    /// among those of other objects had left. All objects with earlier names have a linearization.
     Unknown(Undecided<O>),
-    /// Neither is known: each object's calls have a linearization, but some client began a call at
-    /// the very time at which an earlier one of its own ended.
+    /// Neither is known: the calls are of several objects, and each object's have a linearization,
+    /// but some client began a call at the very time at which an earlier one of its own ended.
     Touching,
 }
 
 /// Judges a history of many objects, each of which begins in the state of a machine, in at most
-/// `steps` steps for each object.
+/// `steps` steps for all objects together.
 pub fn judge_many<M: Named + Drop, P: Watcher>(
     alloc: Global,
     lines: Vec<Line<M::Op>>,
@@ -44,9 +45,12 @@ pub fn judge_many<M: Named + Drop, P: Watcher>(
         Turns::Broken(place) => return Ok(Verdict::OutOfTurn(place)),
         Turns::Held(is_strict) => is_strict,
     };
+    let is_one = is_of_one::<M>(lines.as_slice());
     match judge_parts(alloc, lines, machine, steps, watcher)? {
         Judged::Linearizable => {
             if is_strict {
+                Ok(Verdict::Linearizable)
+            } else if is_one {
                 Ok(Verdict::Linearizable)
             } else {
                 Ok(Verdict::Touching)

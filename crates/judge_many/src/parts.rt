@@ -3,12 +3,12 @@
 ghost use Rattle.std.specs.Prelude.{◌≡◌, IfOk};
 ghost use Rattle.judge_search.specs.Calls.{calls_of};
 ghost use Rattle.judge_search.specs.Walk.{IsWhole};
-ghost use Rattle.judge_many.specs.Judging.{JudgesRun, JudgesParts};
+ghost use Rattle.judge_many.specs.Judging.{SearchesRun, JudgesParts};
 
 use crate::named::Named;
 use crate::runs::{sorted_by_name, take_run};
 use judge_object::{Line, Watcher};
-use judge_search::{Calls, Finding, Point, find_linearization};
+use judge_search::{Calls, Finding, Found, Point, find_linearization};
 use std::alloc::{AllocError, Global};
 
 /// An object whose calls have no linearization.
@@ -42,33 +42,49 @@ pub enum Judged<O, M> {
     Unknown(Undecided<O>),
 }
 
-/// Judges the calls of one object, from the state of a machine on.
+/// The finding on the calls of one object, and the number of steps of the search.
+#[derive(Drop)]
+struct Searched<O, M> {
+    judged: Judged<O, M>,
+    steps: u64,
+}
+
+/// Judges the calls of one object, from the state of a machine on, in at most `steps` steps.
 fn judge_run<M: Named + Drop, P: Watcher>(
     alloc: Global,
     run: Vec<Line<M::Op>>,
     machine: &M,
     steps: u64,
     watcher: &mut P,
-) -> Result<Judged<M::Op, M>, AllocError>
+) -> Result<Searched<M::Op, M>, AllocError>
     requires whole { IsWhole (calls_of run.items) }
-    ensures { IfOk result (λ judged. JudgesRun M.rules machine.now steps run.items judged) }
+    ensures { IfOk result (λ searched. SearchesRun M.rules machine.now steps run.items searched) }
 {
-    let calls = Calls::new(run)?;
-    let finding = find_linearization(alloc, &calls, machine.copy()?, steps, watcher)?;
+    let calls = Calls::new(alloc, run)?;
+    let Found {
+        finding,
+        steps: made,
+    } = find_linearization(alloc, &calls, machine.copy()?, steps, watcher)?;
     match finding {
-        Finding::Order(_) => Ok(Judged::Linearizable),
-        Finding::NoOrder(most, point) => Ok(Judged::NotLinearizable(Blocked {
-            calls,
-            most,
-            point,
-        })),
-        Finding::Unknown(most) => Ok(Judged::Unknown(Undecided { calls, most })),
+        Finding::Order(_) => Ok(Searched {
+            judged: Judged::Linearizable,
+            steps: made,
+        }),
+        Finding::NoOrder(most, point) => Ok(Searched {
+            judged: Judged::NotLinearizable(Blocked { calls, most, point }),
+            steps: made,
+        }),
+        Finding::Unknown(most) => Ok(Searched {
+            judged: Judged::Unknown(Undecided { calls, most }),
+            steps: made,
+        }),
     }
 }
 
 /// Judges the calls of many objects, each from the state of a machine on, one object after the
-/// other in the order of their names. Stops at the first object whose calls have no linearization,
-/// or of which neither is known after `steps` steps.
+/// other in the order of their names, in at most `steps` steps of all searches together. Stops at
+/// the first object whose calls have no linearization, or of which neither is known when all steps
+/// are made.
 pub fn judge_parts<M: Named + Drop, P: Watcher>(
     alloc: Global,
     lines: Vec<Line<M::Op>>,
@@ -81,10 +97,15 @@ pub fn judge_parts<M: Named + Drop, P: Watcher>(
         JudgesParts M.rules M.name machine.now steps lines.items judged) }
 {
     let mut left = sorted_by_name::<M>(lines)?;
+    let mut rest = steps;
     'runs: while 0 < left.len() {
         let run = take_run::<M>(&mut left)?;
-        match judge_run(alloc, run, machine, steps, watcher)? {
-            Judged::Linearizable => {}
+        let Searched {
+            judged,
+            steps: made,
+        } = judge_run(alloc, run, machine, rest, watcher)?;
+        match judged {
+            Judged::Linearizable => rest -= made,
             Judged::NotLinearizable(blocked) => return Ok(Judged::NotLinearizable(blocked)),
             Judged::Unknown(undecided) => return Ok(Judged::Unknown(undecided)),
         }

@@ -1,8 +1,8 @@
 //! Lines by the names of their objects.
 
-ghost use Rattle.std.specs.Prelude.{◌≡◌, ◌≢◌, ◌<◌, ◌≤◌, ◌-◌, ◌++◌, ℕ, IfOk, OnOk, List, All, length, get_or, take, drop};
+ghost use Rattle.std.specs.Prelude.{◌≡◌, ◌≢◌, ◌<◌, ◌≤◌, ◌-◌, ◌++◌, ℕ, true, false, IfOk, OnOk, List, All, length, get_or, take, drop};
 ghost use Rattle.judge_object.specs.declared.line.Line.{Line as Lines};
-ghost use Rattle.judge_many.specs.Runs.{AreByName, IsSortOf, IsLastRun, name_at};
+ghost use Rattle.judge_many.specs.Runs.{AreByName, AreOfOne, IsSortOf, IsLastRun, name_at};
 
 use crate::named::Named;
 use judge_object::Line;
@@ -18,6 +18,19 @@ pub(crate) fn sorted_by_name<M: Named>(
 {
     lines.sort_by(|a, b| M::name(&b.op).cmp(M::name(&a.op)))?;
     Ok(lines)
+}
+
+/// Returns whether all lines are for one object.
+pub(crate) fn is_of_one<M: Named>(lines: &[Line<M::Op>]) -> bool
+    ensures one { result ≡ true → AreOfOne M.name lines.now }
+    ensures many { result ≡ false → AreOfOne M.name lines.now → ⊥ }
+{
+    'lines: for place in 1..lines.len() {
+        if M::name(&lines[place].op) != M::name(&lines[0].op) {
+            return false;
+        }
+    }
+    true
 }
 
 /// Returns the position at which the last lines begin that are all for one object.

@@ -1,27 +1,26 @@
 -- An order that is a linearization passes the check call by call.
-use Rattle.std.proofs.Common.{◌≡◌, ◌≢◌, ℕ, ◌+◌, ◌<◌, ◌≤◌, ◌==◌, ◌||◌, suc, zero, Bool, true, false, cond, Option, Some}
-use Rattle.std.proofs.Common.{None, List, [], ◌∷◌, ◌++◌, length, take, get_or, map, refl, sym, ap, ◌∙◌, subst, inl, inr}
+use Rattle.std.proofs.Common.{◌≡◌, ℕ, ◌+◌, ◌<◌, ◌≤◌, ◌==◌, ◌||◌, suc, zero, Bool, true, false, cond, Option, Some}
+use Rattle.std.proofs.Common.{None, List, [], ◌∷◌, ◌++◌, length, take, get_or, refl, sym, ap, ◌∙◌, subst, inl, inr}
 use Rattle.std.proofs.Common.{◌-◌, arith, nat_lt, append_assoc, append-nil}
 use Rattle.std.specs.Prelude.{All, IfSome}
-use Rattle.std.specs.List.{list_any, sum_by}
+use Rattle.std.specs.List.{list_any}
 use Rattle.std.proofs.lemmas.Bool.Decides.{nat_tests}
 use Rattle.std.proofs.lemmas.List.{map-append}
 use Rattle.std.proofs.lemmas.List.Elements.{All-head, All-tail}
 use Rattle.std.proofs.lemmas.List.Sums.{sum_by-append, sum_by-cons}
 use Rattle.judge_object.specs.Rules.{Rules}
 use Rattle.judge_object.specs.Call.{Call}
-use Rattle.judge_object.specs.declared.line.Line.{Line}
 use Rattle.judge_search.specs.declared.point.Point.{Point}
-use Rattle.judge_search.specs.Calls.{calls_of, rest_of, can_come, tries_from, IsTry, TellsTry}
+use Rattle.judge_search.specs.Calls.{rest_of, can_come, tries_from, TellsTry}
 use Rattle.judge_search.specs.Point.{made_of}
 use Rattle.judge_search.specs.Configurations.{Configuration, Goes, CallsReach, start, answered, fits, after_call}
-use Rattle.judge_search.specs.Walk.{IsWhole, Completes}
+use Rattle.judge_search.specs.Walk.{IsWhole}
 use Rattle.judge_search.specs.Walking.{AreDistinct}
-use Rattle.judge_search.specs.Judging.{calls_at, IsLinearizedBy, KeepsTurn, KeepTurns, IsLinearizedInTurn}
+use Rattle.judge_search.specs.Judging.{calls_at, KeepsTurn, KeepTurns, IsLinearizedInTurn}
 use Rattle.judge_search.specs.Checking.{HavePlaces}
 use Rattle.judge_search.proofs.Each.{test}
 use Rattle.judge_search.proofs.Placing.{times}
-use Rattle.judge_search.proofs.Tries.{at, Stands, stands_of, of_stands, late_ended, tries_step, tries_none}
+use Rattle.judge_search.proofs.Tries.{at, stands_of, of_stands, late_ended, tries_step, tries_none}
 use Rattle.judge_search.proofs.Completing.{completes_start}
 
 -- a number that is in a list is there at least once

@@ -5,19 +5,20 @@ use Rattle.std.proofs.lemmas.Bool.Decides.{nat_tests}
 use Rattle.judge_object.specs.Call.{Call}
 use Rattle.judge_search.specs.declared.calls.Calls.{Calls}
 use Rattle.judge_search.specs.declared.point.Point.{Point}
+use Rattle.judge_search.specs.declared.walk.Found.{Found}
 use Rattle.judge_search.specs.declared.walk.Finding.{Finding}
 use Rattle.judge_search.specs.declared.walk.Finding.TheVariants as finding
 use Rattle.judge_object.specs.Orders.{IsMerge, IsOrderOf, IsLinearizable}
 use Rattle.judge_search.specs.Configurations.{Configuration, start, answered, PlacesAtMost, Deepest}
 use Rattle.judge_search.specs.Walk.{IsTimed, IsWhole, Completes}
-use Rattle.judge_search.specs.Searching.{IsUndecided}
-use Rattle.judge_search.specs.Walking.{FindsFrom}
+use Rattle.judge_search.specs.Searching.{HasRun, IsUndecided}
+use Rattle.judge_search.specs.Walking.{FindsFrom, FindsIn, IsUnknown}
 use Rattle.std.specs.Prelude.{All, ◌<◌}
 use Rattle.judge_search.proofs.Sorted.{length_calls}
 use Rattle.judge_search.specs.Marks.{is_made}
 use Rattle.judge_search.specs.Calls.{calls_of, rest_of}
 use Rattle.judge_search.specs.Point.{point_at, point_views}
-use Rattle.judge_search.specs.Judging.{calls_at, IsFoundOfCalls}
+use Rattle.judge_search.specs.Judging.{calls_at, IsFoundOfCalls, IsFoundIn}
 use Rattle.judge_search.proofs.Clients.{each_order, turn_order}
 use Rattle.judge_search.proofs.Completing.{linearization_of, completes_start}
 use Rattle.judge_object.specs.Rules.{Rules}
@@ -78,6 +79,29 @@ module _ {S O R : Type 0} (X : Rules S O R) where
       record { none = none_order s most cs at w deepest bound; deepest = deepest; bound = bound }
   judges calls point s steps w e f g (finding.Unknown most) h =
       subst (λ x. IsUndecided X x steps most) (at_start calls point s e f g) h
+
+  pub judges_in : (calls : Calls O) (point : Point S) (s : S) (steps : ℕ) → IsWhole (calls_of calls.lines.items)
+      → point.low ≡ 0 → point.beyond.items ≡ [] → point.machine ≡ s → (found : Found (Point S))
+      → FindsIn X (point_views X calls) (point_at X calls point) steps found →
+      IsFoundIn X (point_at X calls) s (calls_of calls.lines.items) steps found
+  judges_in calls point s steps w e f g found h = record {
+    within = h.within;
+    run = subst (HasRun X found.steps) (at_start calls point s e f g) h.run;
+    finds = judges calls point s found.steps w e f g found.finding h.finds;
+    spent = h.spent;
+  }
+
+  -- what is found in so many steps, said of all that were given
+  pub found_in : {W : Type 0} (at : W → Configuration S O) (s : S) (calls : List (Call O)) (steps : ℕ)
+      (found : Found W) → IsFoundIn X at s calls steps found → IsFoundOfCalls X at s calls steps found.finding
+  found_in at s calls steps found h = go found.finding h.finds h.spent
+    where
+      go : (f : Finding _) → IsFoundOfCalls X at s calls found.steps f → (IsUnknown f → found.steps ≡ steps) →
+          IsFoundOfCalls X at s calls steps f
+      go (finding.Order places) finds spent = finds
+      go (finding.NoOrder most world) finds spent = finds
+      go (finding.Unknown most) finds spent =
+          subst (λ n. IsUndecided X (start s calls) n most) (spent tt) finds
 
   -- calls that are kept in another way are whole
   pub whole_kept : (calls kept : List (Call O)) → IsMerge calls kept → IsWhole calls → IsWhole kept

@@ -8,6 +8,7 @@ pub mod Steps
 pub mod Tries
 pub mod Sorted
 pub mod Points
+pub mod Lookback
 pub mod Placing
 pub mod Walking
 pub mod Marking

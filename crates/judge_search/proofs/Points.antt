@@ -17,11 +17,12 @@ use Rattle.judge_search.specs.Marks.{is_made, MarksOneMore}
 use Rattle.judge_search.specs.Point.{made_of, point_views, RunsTo}
 use Rattle.judge_search.specs.Views.{TellsLeft, TellsNext, LedTo}
 use Rattle.judge_search.specs.Calls.{call_of, calls_of, are_sorted, rest_of, can_come, tries_from, IsTry}
-use Rattle.judge_search.specs.Calls.{TellsTry}
+use Rattle.judge_search.specs.Calls.{TellsTry, TellsTryBefore}
 use Rattle.judge_search.proofs.Tries.{at, may_begin, tries_step, tries_none, tries_skip, front_more, of_stands}
 use Rattle.judge_search.proofs.Tries.{stands_of}
 use Rattle.judge_search.proofs.Tries.{rest_made}
-use Rattle.judge_search.proofs.Sorted.{sorted_of, call_here, long_calls, begun_early, begun_late, none_later, all_made}
+use Rattle.judge_search.proofs.Sorted.{sorted_of, begin_later, call_here, long_calls, begun_early, begun_late, all_made}
+use Rattle.judge_search.proofs.Soonest.{same_default}
 use Rattle.judge_search.proofs.Sorted.{never_left, some_left}
 use Rattle.judge_object.specs.Rules.{Rules}
 
@@ -207,11 +208,77 @@ module _ {S O R : Type 0} (X : Rules S O R) where
         within = (long_calls X) lines p l;
       }
 
-  pub tries_end : (made : ℕ → Bool) (lines : List (Line O)) (first : ℕ) (line : Line O) (p : ℕ) (next : Line O) →
-      IsFirstLeft made lines first line → p < length lines → next ≡ get_or lines p next
-      → line.end < next.soonest → tries_from made (calls_of lines) p ≡ []
-  tries_end made lines first line p next f l e far = (none_later X) made lines first p line next
-      (sorted_of lines f.sorted) f.within f.is f.below f.left l e far
+  -- where a line says that it and those of its kind after it begin too late, none of those may come next
+  pub tries_jump : (made : ℕ → Bool) (lines : List (Line O)) (first : ℕ) (line : Line O) (p n : ℕ) (next : Line O) →
+      IsFirstLeft made lines first line → p + n ≤ length lines → next ≡ get_or lines p next
+      → ((j : ℕ) (d : Line O) → p ≤ j → j < p + n →
+      is_some (get_or lines j d).reply ≡ is_some (get_or lines p d).reply)
+      → line.end < next.soonest → tries_from made (calls_of lines) p ≡ tries_from made (calls_of lines) (p + n)
+  tries_jump made lines first line p zero next f l e alike far =
+      ap (tries_from made (calls_of lines)) (let z : p ≡ p + zero = omega arith in z)
+  tries_jump made lines first line p (suc n) next f l e alike far =
+      let j = p + n in
+      let within : j < length lines = omega arith in
+      let d = get_or lines j next in
+      let own : d ≡ get_or lines j d = same_default lines j next d within in
+      let early : (get_or lines p d).soonest ≤ (get_or lines j d).begin =
+      begin_later lines p j d (sorted_of lines f.sorted) (omega arith) within (alike j d (omega arith) (omega arith)) in
+      let here : next ≡ get_or lines p d = e ∙ same_default lines p next d (omega arith) in
+      let soon : next.soonest ≡ (get_or lines p d).soonest = ap (λ (x : Line O). x.soonest) here in
+      let late : d.begin ≡ (get_or lines j d).begin = ap (λ (x : Line O). x.begin) own in
+      tries_jump made lines first line p n next f (omega arith) e
+      (λ i d m k. alike i d m (omega arith)) far
+      ∙ tries_pass made lines first line j d f within own (inr (inl (omega arith)))
+      ∙ ap (tries_from made (calls_of lines)) (let z : j + 1 ≡ p + suc n = omega arith in z)
+
+  -- none before a place is left of those that pass a test
+  pub none_front : (test : (Call O) → Bool) (made : ℕ → Bool) (cs : List (Call O)) (p : ℕ) → p ≤ length cs →
+      ((j : ℕ) → j < p → (made j ≡ true) ⊎ (test (at X cs j) ≡ false))
+      → list_any test (rest_of made 0 (take p cs)) ≡ false
+  none_front test made cs zero l h = refl
+  none_front test made cs (suc p) l h =
+      ap (λ n. list_any test (rest_of made 0 (take n cs))) (sym (add-one p))
+      ∙ front_next test made cs p (omega arith) (h p (omega arith))
+      (none_front test made cs p (omega arith) (λ j k. h j (omega arith)))
+
+  -- a try from one place on is one from another on, where the tries are the same
+  pub try_from : (made : ℕ → Bool) (cs : List (Call O)) (from start place : ℕ) →
+      tries_from made cs from ≡ tries_from made cs start → (IsTry X) made cs start place → (IsTry X) made cs from place
+  try_from made cs from start place e t = record {
+    is = e ∙ t.is;
+    can = t.can;
+    within = t.within;
+  }
+
+  pub try_completed : (made : ℕ → Bool) (cs : List (Call O)) (from start completed : ℕ) (r : Option ℕ) (place : ℕ) →
+      r ≡ Some place → tries_from made cs from ≡ tries_from made cs start → TellsTryBefore X made cs start completed r →
+      TellsTry X made cs from (Some place)
+  try_completed made cs from start completed None place s e t = cc
+  try_completed made cs from start completed (Some p) place s e t =
+      subst (λ q. IsTry X made cs from q) (let f : p ≡ place = cc in f) (try_from made cs from start p e t)
+
+  -- where none of the completed calls is to be tried, the pending ones are
+  pub try_pending : (made : ℕ → Bool) (cs : List (Call O)) (from start completed pending : ℕ) (none r : Option ℕ) →
+      none ≡ None → tries_from made cs from ≡ tries_from made cs start → TellsTryBefore X made cs start completed none →
+      (pending ≡ start) ⊎ ((pending ≡ completed) × (start ≤ completed)) →
+      TellsTryBefore X made cs pending (length cs) r → TellsTry X made cs from r
+  try_pending made cs from start completed pending (Some p) r n e t w h = cc
+  try_pending made cs from start completed pending None r n e t w h = go r h
+    where
+      same : tries_from made cs from ≡ tries_from made cs pending
+      same =
+          elim w [
+            | inl f ↦ e ∙ ap (tries_from made cs) (sym f)
+            | inr f ↦ e ∙ t f.1 ∙ ap (tries_from made cs) (sym f.0)
+          ]
+
+      go : (r : Option ℕ) → TellsTryBefore X made cs pending (length cs) r → TellsTry X made cs from r
+      go (Some p) h = try_from made cs from pending p same h
+      go None h =
+          elim (cases_lt (length cs) pending) [
+            | inl l ↦ same ∙ (tries_none X) made cs pending (omega arith)
+            | inr l ↦ same ∙ h l ∙ (tries_none X) made cs (length cs) (omega arith)
+          ]
 
   -- whether an answered call is left
   pub tells_all : (made : ℕ → Bool) (cs : List (Call O)) → ((p : ℕ) → p < length cs → made p ≡ true) →

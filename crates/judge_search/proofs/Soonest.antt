@@ -1,6 +1,7 @@
 -- Each line has the least begin of itself and the lines after it.
 use Rattle.std.proofs.Common.{◌≡◌, ℕ, ◌+◌, ◌-◌, ◌<◌, ◌≤◌, ◌==◌, ◌&&◌, ◌||◌, suc, zero, Bool, true, false, not, is_some}
 use Rattle.std.proofs.Common.{cond, List, [], ◌∷◌, ◌++◌, length, take, drop, set, get_or, refl, sym, ap, ◌∙◌, arith}
+use Rattle.std.proofs.Common.{subst}
 use Rattle.std.proofs.Common.{nat_lt, nat_le}
 use Rattle.std.specs.List.{filter}
 use Rattle.std.proofs.Props.{props}
@@ -11,23 +12,27 @@ use Rattle.std.specs.declared.cmp.Ordering.TheVariants.{Less, Equal, Greater}
 use Rattle.std.proofs.Math.Seq.{take-append_seam}
 use Rattle.std.proofs.lemmas.Bool.Decides.{nat_tests}
 use Rattle.judge_object.specs.declared.line.Line.{Line}
-use Rattle.judge_search.specs.Calls.{call_of, calls_of, are_sorted, least_begin, soonest_of}
+use Rattle.judge_search.specs.Calls.{call_of, calls_of, are_sorted, is_kind, least_begin, soonest_of}
 use Rattle.judge_search.proofs.Sorted.{EachLine}
 use Rattle.judge_search.proofs.Stable.{Rises, at_once}
 
-own_begin : (b m : ℕ) → cond (nat_lt b m) b m ≤ b
-own_begin b m = go (nat_lt b m) refl
+own_begin : (k : Bool) (b m : ℕ) → k ≡ true → cond (k && nat_lt b m) b m ≤ b
+own_begin k b m e = subst (λ x. cond (x && nat_lt b m) b m ≤ b) (sym e) (go (nat_lt b m) refl)
   where
     go : (x : Bool) → nat_lt b m ≡ x → cond x b m ≤ b
     go true e = omega arith
     go false e = grind (arith, nat_tests)
 
-less_begin : (b m : ℕ) → cond (nat_lt b m) b m ≤ m
-less_begin b m = go (nat_lt b m) refl
+less_begin : (k : Bool) (b m : ℕ) → cond (k && nat_lt b m) b m ≤ m
+less_begin k b m = go (k && nat_lt b m) (nat_lt b m) refl (λ e. (both k (nat_lt b m) e))
   where
-    go : (x : Bool) → nat_lt b m ≡ x → cond x b m ≤ m
-    go true e = let l : b < m = grind (arith, nat_tests) in omega arith
-    go false e = omega arith
+    both : (a b : Bool) → (a && b) ≡ true → b ≡ true
+    both true b h = h
+    both false b h = cc
+
+    go : (x y : Bool) → nat_lt b m ≡ y → (x ≡ true → y ≡ true) → cond x b m ≤ m
+    go true y e h = let l : b < m = (let f : nat_lt b m ≡ true = e ∙ h refl in grind (arith, nat_tests)) in omega arith
+    go false y e h = omega arith
 
 le_true : (x y : ℕ) → x ≤ y → nat_le x y ≡ true
 le_true x y h = grind (arith, nat_tests)
@@ -58,22 +63,56 @@ module _ {O : Type 0} where
       go false true e f = absurd (let p : NEVER ≤ a.end = grind (arith, nat_tests) in let q : b.end < NEVER =
           grind (arith, nat_tests) in omega arith)
 
+  own_kind : (x : Line O) → is_kind (is_some x.reply) x ≡ true
+  own_kind x = go (is_some x.reply)
+    where
+      go : (b : Bool) → cond b b (not b) ≡ true
+      go true = refl
+      go false = refl
+
+  own_least : (x : Line O) (xs : List (Line O)) → least_begin (is_some x.reply) (x ∷ xs) ≤ x.begin
+  own_least x xs = own_begin (is_kind (is_some x.reply) x) x.begin (least_begin (is_some x.reply) xs) (own_kind x)
+
+  -- where both are completed, or both pending, the later line names no earlier begin
+  names_later : (a b : Line O) (ls : List (Line O)) → (is_some a.reply || not (is_some b.reply)) ≡ true →
+      (nat_le (least_begin (is_some a.reply) (a ∷ (b ∷ ls))) (least_begin (is_some b.reply) (b ∷ ls))
+      || is_some a.reply && not (is_some b.reply)) ≡ true
+  names_later a b ls h = go (is_some a.reply) (is_some b.reply) h
+      (λ k. le_true (least_begin k (a ∷ (b ∷ ls))) (least_begin k (b ∷ ls))
+      (less_begin (is_kind k a) a.begin (least_begin k (b ∷ ls))))
+    where
+      or_true : (x : Bool) → (x || true) ≡ true
+      or_true true = refl
+      or_true false = refl
+
+      go : (x y : Bool) → (x || not y) ≡ true
+          → ((k : Bool) → nat_le (least_begin k (a ∷ (b ∷ ls))) (least_begin k (b ∷ ls)) ≡ true)
+          → (nat_le (least_begin x (a ∷ (b ∷ ls))) (least_begin y (b ∷ ls)) || x && not y) ≡ true
+      go true true h le = ap (λ t. t || false) (le true)
+      go true false h le = or_true (nat_le (least_begin true (a ∷ (b ∷ ls))) (least_begin false (b ∷ ls)))
+      go false true h le = cc
+      go false false h le = ap (λ t. t || false) (le false)
+
   -- so the lines are sorted
   pub sorted_soonest : (lines : List (Line O)) → Rises lines → are_sorted (soonest_of lines) ≡ true
   sorted_soonest [] h = refl
-  sorted_soonest (a ∷ []) h = le_true (least_begin (a ∷ [])) a.begin (own_begin a.begin (least_begin {O = O} []))
+  sorted_soonest (a ∷ []) h = le_true (least_begin (is_some a.reply) (a ∷ [])) a.begin (own_least a [])
   sorted_soonest (a ∷ (b ∷ ls)) h =
-      let s = least_begin (a ∷ (b ∷ ls)) in
-      let t = least_begin (b ∷ ls) in
-      let begins : nat_le s a.begin ≡ true = le_true s a.begin (own_begin a.begin t) in
+      let s = least_begin (is_some a.reply) (a ∷ (b ∷ ls)) in
+      let t = least_begin (is_some b.reply) (b ∷ ls) in
+      let kinds = answers a b h.0.0 in
+      let begins : nat_le s a.begin ≡ true = le_true s a.begin (own_least a (b ∷ ls)) in
       let ends : nat_le a.end b.end ≡ true = le_true a.end b.end h.0.0 in
-      let says : nat_le s t ≡ true = le_true s t (less_begin a.begin t) in
-      true_both (nat_le s a.begin && (nat_le a.end b.end && nat_le s t && (is_some a.reply || not (is_some b.reply))))
+      true_both (nat_le s a.begin && (nat_le a.end b.end && (is_some a.reply || not (is_some b.reply))
+      && (nat_le s t || is_some a.reply && not (is_some b.reply))))
       (are_sorted (soonest_of (b ∷ ls)))
-      (true_both (nat_le s a.begin) (nat_le a.end b.end && nat_le s t && (is_some a.reply || not (is_some b.reply)))
+      (true_both (nat_le s a.begin) (nat_le a.end b.end && (is_some a.reply || not (is_some b.reply))
+      && (nat_le s t || is_some a.reply && not (is_some b.reply)))
       begins
-      (true_both (nat_le a.end b.end && nat_le s t) (is_some a.reply || not (is_some b.reply))
-      (true_both (nat_le a.end b.end) (nat_le s t) ends says) (answers a b h.0.0)))
+      (true_both (nat_le a.end b.end && (is_some a.reply || not (is_some b.reply)))
+      (nat_le s t || is_some a.reply && not (is_some b.reply))
+      (true_both (nat_le a.end b.end) (is_some a.reply || not (is_some b.reply)) ends kinds)
+      (names_later a b ls kinds)))
       (sorted_soonest (b ∷ ls) h.1)
 
   -- one line more says so
@@ -84,23 +123,23 @@ module _ {O : Type 0} where
   keep_get (x ∷ xs) (suc p) d l = keep_get xs p d (omega arith)
 
   pub keep_more : (lines : List (Line O)) (p : ℕ) (x d : Line O) (s : ℕ) → p < length lines → x ≡ get_or lines p d →
-      s ≡ least_begin (drop p lines)
+      s ≡ least_begin (is_some x.reply) (drop p lines)
       → set (take (suc p) lines ++ soonest_of (drop (suc p) lines)) p
       (record x { soonest = s }) ≡ take p lines ++ soonest_of (drop p lines)
   keep_more [] p x d s l e f = absurd (omega arith)
   keep_more (y ∷ ys) zero x d s l e f =
       ap (λ (z : Line O). (record z { soonest = s }) ∷ soonest_of ys) e
-      ∙ ap (λ n. (record y { soonest = n }) ∷ soonest_of ys) f
+      ∙ ap (λ n. (record y { soonest = n }) ∷ soonest_of ys)
+      (f ∙ ap (λ (z : Line O). least_begin (is_some z.reply) (y ∷ ys)) e)
   keep_more (y ∷ ys) (suc p) x d s l e f = ap (λ l. y ∷ l) (keep_more ys p x d s (omega arith) e f)
 
-  pub least_here : (lines : List (Line O)) (p : ℕ) (x d : Line O) → p < length lines → x ≡ get_or lines p d
-      → least_begin (drop p lines) ≡ cond (nat_lt x.begin (least_begin (drop (suc p) lines))) x.begin
-      (least_begin (drop (suc p) lines))
-  least_here [] p x d l e = absurd (omega arith)
-  least_here (y ∷ ys) zero x d l e = ap (λ (z : Line O). cond (nat_lt z.begin (least_begin ys)) z.begin
-      (least_begin ys))
-      (sym e)
-  least_here (y ∷ ys) (suc p) x d l e = least_here ys p x d (omega arith) e
+  pub least_here : (k : Bool) (lines : List (Line O)) (p : ℕ) (x d : Line O) → p < length lines → x ≡ get_or lines p d
+      → least_begin k (drop p lines) ≡ cond (is_kind k x && nat_lt x.begin (least_begin k (drop (suc p) lines))) x.begin
+      (least_begin k (drop (suc p) lines))
+  least_here k [] p x d l e = absurd (omega arith)
+  least_here k (y ∷ ys) zero x d l e =
+      ap (λ (z : Line O). cond (is_kind k z && nat_lt z.begin (least_begin k ys)) z.begin (least_begin k ys)) (sym e)
+  least_here k (y ∷ ys) (suc p) x d l e = least_here k ys p x d (omega arith) e
 
   length_soonest : (lines : List (Line O)) → length (soonest_of lines) ≡ length lines
   length_soonest [] = refl
@@ -112,30 +151,60 @@ module _ {O : Type 0} where
   length_kept (x ∷ xs) (suc m) = ap suc (length_kept xs m)
 
   -- a step of the loop that lets each line say so
-  pub record Keeps (init now : List (Line O)) (back soonest : ℕ) : Type 0 where
+  pub record Keeps (init now : List (Line O)) (back completed pending : ℕ) : Type 0 where
     pub lines : now ≡ take (length init - back) init ++ soonest_of (drop (length init - back) init)
-    pub soonest_is : soonest ≡ least_begin (drop (length init - back) init)
+    pub completed_is : completed ≡ least_begin true (drop (length init - back) init)
+    pub pending_is : pending ≡ least_begin false (drop (length init - back) init)
 
-  pub keep_step : (init now : List (Line O)) (back soonest next p : ℕ) (x d : Line O) → Keeps init now back soonest →
-      back < length init → p ≡ length now - 1 - back
-      → x ≡ get_or now p d → next ≡ cond (nat_lt x.begin soonest) x.begin soonest →
-      Keeps init (set now p (record x { soonest = next })) (back + 1) next
-  keep_step init now back soonest next p x d k l e f n =
+  -- the line at a place is still as it was
+  pub keep_was : (init now : List (Line O)) (back completed pending p : ℕ) (x d : Line O) →
+      Keeps init now back completed pending → back < length init → p ≡ length now - 1 - back → x ≡ get_or now p d →
+      (p < length init) × (x ≡ get_or init p d)
+  keep_was init now back completed pending p x d k l e f =
       let long : length now ≡ length init = ap length k.lines ∙ length_kept init (length init - back) in
       let within : p < length init = omega arith in
       let suc_is : length init - back ≡ suc p = omega arith in
-      let p_is : length init - (back + 1) ≡ p = omega arith in
       let was : now ≡ take (suc p) init ++ soonest_of (drop (suc p) init) =
       k.lines ∙ ap (λ m. take m init ++ soonest_of (drop m init)) suc_is in
-      let got : x ≡ get_or init p d = f ∙ ap (λ l. get_or l p d) was ∙ keep_get init p d within in
-      let least : next ≡ least_begin (drop p init) =
-      n ∙ ap (λ m. cond (nat_lt x.begin m) x.begin m) (k.soonest_is ∙ ap (λ m. least_begin (drop m init)) suc_is) ∙
-      sym (least_here init p x d within got) in
+      (within, f ∙ ap (λ l. get_or l p d) was ∙ keep_get init p d within)
+
+  pub keep_step : (init now : List (Line O)) (back completed pending more_c more_p s p : ℕ) (x d : Line O) →
+      Keeps init now back completed pending →
+      back < length init → p ≡ length now - 1 - back → x ≡ get_or now p d
+      → more_c ≡ cond (is_some x.reply && nat_lt x.begin completed) x.begin completed
+      → more_p ≡ cond (not (is_some x.reply) && nat_lt x.begin pending) x.begin pending
+      → s ≡ cond (is_some x.reply) more_c more_p →
+      Keeps init (set now p (record x { soonest = s })) (back + 1) more_c more_p
+  keep_step init now back completed pending more_c more_p s p x d k l e f nc np sn =
+      let long : length now ≡ length init = ap length k.lines ∙ length_kept init (length init - back) in
+      let was = keep_was init now back completed pending p x d k l e f in
+      let within = was.0 in
+      let got = was.1 in
+      let suc_is : length init - back ≡ suc p = omega arith in
+      let p_is : length init - (back + 1) ≡ p = omega arith in
+      let whole : now ≡ take (suc p) init ++ soonest_of (drop (suc p) init) =
+      k.lines ∙ ap (λ m. take m init ++ soonest_of (drop m init)) suc_is in
+      let least_c : more_c ≡ least_begin true (drop p init) =
+      nc ∙ ap (λ m. cond (is_some x.reply && nat_lt x.begin m) x.begin m)
+      (k.completed_is ∙ ap (λ m. least_begin true (drop m init)) suc_is)
+      ∙ sym (least_here true init p x d within got) in
+      let least_p : more_p ≡ least_begin false (drop p init) =
+      np ∙ ap (λ m. cond (not (is_some x.reply) && nat_lt x.begin m) x.begin m)
+      (k.pending_is ∙ ap (λ m. least_begin false (drop m init)) suc_is)
+      ∙ sym (least_here false init p x d within got) in
+      let own : s ≡ least_begin (is_some x.reply) (drop p init) =
+      sn ∙ chosen (is_some x.reply) more_c more_p (drop p init) least_c least_p in
       record {
-        lines = ap (λ l. set l p (record x { soonest = next })) was ∙ keep_more init p x d next within got least
+        lines = ap (λ l. set l p (record x { soonest = s })) whole ∙ keep_more init p x d s within got own
             ∙ ap (λ m. take m init ++ soonest_of (drop m init)) (sym p_is);
-        soonest_is = least ∙ ap (λ m. least_begin (drop m init)) (sym p_is);
+        completed_is = least_c ∙ ap (λ m. least_begin true (drop m init)) (sym p_is);
+        pending_is = least_p ∙ ap (λ m. least_begin false (drop m init)) (sym p_is);
       }
+    where
+      chosen : (b : Bool) (c p : ℕ) (ls : List (Line O)) → c ≡ least_begin true ls → p ≡ least_begin false ls →
+          cond b c p ≡ least_begin b ls
+      chosen true c p ls e f = e
+      chosen false c p ls e f = f
 
   -- the part of a list that is the whole
   pub whole_part : (items now : List (Line O)) (len : ℕ) → now ≡ soonest_of items → len ≡ length items →

@@ -1,6 +1,6 @@
 -- What the order in which calls ended says of those that are left.
 use Rattle.std.proofs.Common.{◌≡◌, ℕ, ◌+◌, ◌<◌, ◌≤◌, ◌||◌, ◌&&◌, suc, zero, Bool, true, false, not, is_some, Option}
-use Rattle.std.proofs.Common.{Some, None, cond, List, [], ◌∷◌, ◌++◌, length, take, drop, get_or, refl, sym, ap, ◌∙◌}
+use Rattle.std.proofs.Common.{Some, None, cond, List, [], ◌∷◌, ◌++◌, length, drop, get_or, refl, sym, ap, ◌∙◌}
 use Rattle.std.proofs.Common.{subst, arith, nat_lt, nat_le, drop-cons}
 use Rattle.std.specs.Prelude.{⊤}
 use Rattle.std.specs.List.{list_any}
@@ -12,8 +12,7 @@ use Rattle.judge_object.specs.Call.{is_answered}
 use Rattle.judge_search.proofs.Left.{none_answered}
 use Rattle.judge_object.specs.declared.line.Line.{Line}
 use Rattle.judge_search.specs.Configurations.{weight, answered}
-use Rattle.judge_search.specs.Calls.{call_of, calls_of, follows, are_sorted, no_call, rest_of, may_next, tries_of}
-use Rattle.judge_search.specs.Calls.{tries_from}
+use Rattle.judge_search.specs.Calls.{call_of, calls_of, follows, are_sorted, no_call, rest_of}
 use Rattle.judge_search.proofs.Each.{Each}
 use Rattle.judge_search.proofs.Tries.{at, rest_split, front_made}
 use Rattle.judge_object.specs.Rules.{Rules}
@@ -25,6 +24,28 @@ both_true false b h = cc
 low : (x y : ℕ) → nat_le x y ≡ true → x ≤ y
 low x y h = grind (arith, nat_tests)
 
+-- a line between two of one kind is of that kind too
+between : (a b l : Bool) → (a ≡ false → b ≡ false) → (b ≡ false → l ≡ false) → l ≡ a → (l ≡ b) × (b ≡ a)
+between true true l x y e = (e, refl)
+between true false true x y e = absurd (let f : true ≡ false = y refl in cc)
+between true false false x y e = cc
+between false true l x y e = absurd (let f : true ≡ false = x refl in cc)
+between false false l x y e = (e, refl)
+
+no_earlier : (x y : Bool) (s t : ℕ) → (nat_le s t || x && not y) ≡ true → y ≡ x → s ≤ t
+no_earlier true true s t h e = low s t (or_false (nat_le s t) h)
+  where
+    or_false : (b : Bool) → (b || false) ≡ true → b ≡ true
+    or_false true h = refl
+    or_false false h = h
+no_earlier false false s t h e = low s t (or_false (nat_le s t) h)
+  where
+    or_false : (b : Bool) → (b || false) ≡ true → b ≡ true
+    or_false true h = refl
+    or_false false h = h
+no_earlier true false s t h e = cc
+no_earlier false true s t h e = cc
+
 module _ {O : Type 0} where
   -- a fact of each line
   abbrev pub EachLine : ((Line O) → Type 0) → List (Line O) → Type 0
@@ -32,9 +53,10 @@ module _ {O : Type 0} where
   EachLine P (line ∷ lines) = P line × EachLine P lines
 
   -- a line after another
-  abbrev pub Later : (Line O) → (Line O) → Type 0
-  Later line later = (line.end ≤ later.end) × (line.soonest ≤ later.begin) × (is_some line.reply ≡ false →
-      is_some later.reply ≡ false)
+  pub record Later (line later : Line O) : Type 0 where
+    pub ends : line.end ≤ later.end
+    pub begins : is_some later.reply ≡ is_some line.reply → line.soonest ≤ later.begin
+    pub never : is_some line.reply ≡ false → is_some later.reply ≡ false
 
   -- none of the lines ends before those in front of it, or begins before they say
   abbrev pub AreSorted : List (Line O) → Type 0
@@ -42,16 +64,20 @@ module _ {O : Type 0} where
   AreSorted (line ∷ lines) =
       (line.soonest ≤ line.begin) × EachLine (Later line) lines × AreSorted lines
 
-  further : (a b : Line O) (ls : List (Line O)) → a.end ≤ b.end → a.soonest ≤ b.soonest →
+  further : (a b : Line O) (ls : List (Line O)) → a.end ≤ b.end →
+      (is_some b.reply ≡ is_some a.reply → a.soonest ≤ b.soonest) →
       (is_some a.reply ≡ false → is_some b.reply ≡ false)
       → EachLine (Later b) ls → EachLine (Later a) ls
   further a b [] x y z h = tt
   further a b (l ∷ ls) x y z h = (
-    (
-      (let p : b.end ≤ l.end = h.0.0 in omega arith),
-      (let q : b.soonest ≤ l.begin = h.0.1 in omega arith),
-      (λ e. h.0.2 (z e)),
-    ),
+    record {
+      ends = let p : b.end ≤ l.end = h.0.ends in omega arith;
+      begins = λ e.
+          let both = between (is_some a.reply) (is_some b.reply) (is_some l.reply) z h.0.never e in
+          let q : b.soonest ≤ l.begin = h.0.begins both.0 in
+          let r : a.soonest ≤ b.soonest = y both.1 in omega arith;
+      never = λ e. h.0.never (z e);
+    },
     further a b ls x y z h.1,
   )
 
@@ -70,16 +96,21 @@ module _ {O : Type 0} where
   sorted_of (line ∷ (next ∷ lines)) h =
       let one = both_true (nat_le line.soonest line.begin && follows line next) (are_sorted (next ∷ lines)) h in
       let two = both_true (nat_le line.soonest line.begin) (follows line next) one.0 in
-      let three = both_true (nat_le line.end next.end && nat_le line.soonest next.soonest)
-      (is_some line.reply || not (is_some next.reply)) two.1 in
-      let four = both_true (nat_le line.end next.end) (nat_le line.soonest next.soonest) three.0 in
+      let three = both_true (nat_le line.end next.end && (is_some line.reply || not (is_some next.reply)))
+      (nat_le line.soonest next.soonest || is_some line.reply && not (is_some next.reply)) two.1 in
+      let four = both_true (nat_le line.end next.end) (is_some line.reply || not (is_some next.reply)) three.0 in
       let end = low line.end next.end four.0 in
-      let soonest = low line.soonest next.soonest four.1 in
+      let soonest = no_earlier (is_some line.reply) (is_some next.reply) line.soonest next.soonest three.1 in
       let rest = sorted_of (next ∷ lines) one.1 in (
         low line.soonest line.begin two.0,
         (
-          (end, (let b : next.soonest ≤ next.begin = rest.0 in omega arith), not_more line next three.1),
-          further line next lines end soonest (not_more line next three.1) rest.1,
+          record {
+            ends = end;
+            begins = λ e. let a : line.soonest ≤ next.soonest = soonest e in
+                let b : next.soonest ≤ next.begin = rest.0 in omega arith;
+            never = not_more line next four.1;
+          },
+          further line next lines end soonest (not_more line next four.1) rest.1,
         ),
         rest,
       )
@@ -117,21 +148,24 @@ module _ {O : Type 0} where
       go : AreSorted (line ∷ drop (suc p) lines) → Each (λ c. line.end ≤ c.end) (calls_of (line ∷ drop (suc p) lines))
       go h = (
         (let own : line.end ≤ line.end = omega arith in own),
-        each_lines (Later line) (λ c. line.end ≤ c.end) (λ later f. f.0) (drop (suc p) lines) h.1,
+        each_lines (Later line) (λ c. line.end ≤ c.end) (λ later f. f.ends) (drop (suc p) lines) h.1,
       )
 
-  -- and none began before it says
-  pub begin_later : (lines : List (Line O)) (p : ℕ) (line : Line O) → AreSorted lines → p < length lines →
-      line ≡ get_or lines p line
-      → Each (λ c. line.soonest ≤ c.begin) (drop p (calls_of lines))
-  begin_later lines p line s l e =
-      subst (Each (λ c. line.soonest ≤ c.begin)) (sym (drop_map lines p))
-      (subst (λ ls. Each (λ c. line.soonest ≤ c.begin) (calls_of ls)) (sym (here lines p line l e))
-      (go (subst AreSorted (here lines p line l e) (sorted_drop lines p s))))
-    where
-      go : AreSorted (line ∷ drop (suc p) lines) → Each (λ c. line.soonest ≤ c.begin)
-          (calls_of (line ∷ drop (suc p) lines))
-      go h = (h.0, each_lines (Later line) (λ c. line.soonest ≤ c.begin) (λ later f. f.1) (drop (suc p) lines) h.1)
+  pub each_at : (P : (Line O) → Type 0) (ls : List (Line O)) (i : ℕ) (d : Line O) → i < length ls → EachLine P ls →
+      P (get_or ls i d)
+  each_at P [] i d l h = absurd (omega arith)
+  each_at P (x ∷ xs) zero d l h = h.0
+  each_at P (x ∷ xs) (suc i) d l h = each_at P xs i d (omega arith) h.1
+
+  -- and none of its kind began before it says
+  pub begin_later : (lines : List (Line O)) (p j : ℕ) (d : Line O) → AreSorted lines → p ≤ j → j < length lines →
+      is_some (get_or lines j d).reply ≡ is_some (get_or lines p d).reply →
+      (get_or lines p d).soonest ≤ (get_or lines j d).begin
+  begin_later [] p j d s m l e = absurd (omega arith)
+  begin_later (x ∷ xs) zero zero d s m l e = s.0
+  begin_later (x ∷ xs) zero (suc j) d s m l e = (each_at (Later x) xs j d (omega arith) s.1).begins e
+  begin_later (x ∷ xs) (suc p) zero d s m l e = absurd (omega arith)
+  begin_later (x ∷ xs) (suc p) (suc j) d s m l e = begin_later xs p j d s.2 (omega arith) (omega arith) e
 
 module _ {S O R : Type 0} (X : Rules S O R) where
   pub call_here : (lines : List (Line O)) (p : ℕ) (line : Line O) → p < length lines → line ≡ get_or lines p line →
@@ -205,46 +239,6 @@ module _ {S O R : Type 0} (X : Rules S O R) where
       ∙ ap (λ t. t || list_any (λ (o : Call O). nat_lt o.end b) (rest_of made (suc p) (drop (suc p) cs)))
       (late line.end b far)
 
-  -- calls that all began after one that is left had ended may not come next
-  pub none_try : (made : ℕ → Bool) (rest before : List (Call O)) (i : ℕ) (cs : List (Call O)) →
-      Each (λ c. list_any (λ (o : Call O). nat_lt o.end c.begin) rest ≡ true) cs
-      → tries_of made rest before i cs ≡ []
-  none_try made rest before i [] h = refl
-  none_try made rest before i (c ∷ cs) h = go (made i) (none_try made rest before (suc i) cs h.1)
-      (none_try made rest (before ++ c ∷ []) (suc i) cs h.1)
-    where
-      go : (b : Bool) → tries_of made rest before (suc i) cs ≡ [] →
-          tries_of made rest (before ++ c ∷ []) (suc i) cs ≡ [] →
-          cond b (tries_of made rest before (suc i) cs) (cond (may_next rest before c)
-          (c ∷ tries_of made rest (before ++ c ∷ []) (suc i) cs)
-          (tries_of made rest (before ++ c ∷ []) (suc i) cs)) ≡ []
-      go true x y = x
-      go false x y =
-          let late : may_next rest before c ≡ false = rw h.0 refl in
-          ap (λ m. cond m (c ∷ tries_of made rest (before ++ c ∷ []) (suc i) cs)
-          (tries_of made rest (before ++ c ∷ []) (suc i) cs)) late
-          ∙ y
-
-  -- no call that may come next stands after a line that all later ones began after
-  pub none_later : (made : ℕ → Bool) (lines : List (Line O)) (first p : ℕ) (line next : Line O) → AreSorted lines →
-      first < length lines → line ≡ get_or lines first line
-      → ((j : ℕ) → j < first → made j ≡ true) → made first ≡ false → p < length lines → next ≡ get_or lines p next →
-      line.end < next.soonest
-      → tries_from made (calls_of lines) p ≡ []
-  none_later made lines first p line next s l e below left k f far =
-      none_try made (rest_of made 0 (calls_of lines)) (rest_of made 0 (take p (calls_of lines))) p
-      (drop p (calls_of lines))
-      (go (drop p (calls_of lines)) (begin_later lines p next s k f))
-    where
-      go : (cs : List (Call O)) → Each (λ c. next.soonest ≤ c.begin) cs →
-          Each (λ c. list_any (λ (o : Call O). nat_lt o.end c.begin) (rest_of made 0 (calls_of lines)) ≡ true) cs
-      go [] h = tt
-      go (c ∷ cs) h = (
-        let g : next.soonest ≤ c.begin = h.0 in
-            begun_late made lines first line c.begin s l e below left (omega arith),
-        go cs h.1,
-      )
-
   -- where all calls have a place none is left, and otherwise the first that has none is left
   pub all_made : (made : ℕ → Bool) (i : ℕ) (cs : List (Call O)) → ((j : ℕ) → j < i + length cs → made j ≡ true) →
       rest_of made i cs ≡ []
@@ -281,7 +275,7 @@ module _ {S O R : Type 0} (X : Rules S O R) where
           (subst (λ ls. Each (λ c. is_answered c ≡ false) (calls_of ls)) (sym (here lines p line l e)) (
             some_map line.reply none,
             each_lines (Later line) (λ c. is_answered c ≡ false)
-                (λ later f. some_map later.reply (f.2 none)) (drop (suc p) lines) h.1,
+                (λ later f. some_map later.reply (f.never none)) (drop (suc p) lines) h.1,
           ))
 
   pub some_left : (made : ℕ → Bool) (lines : List (Line O)) (p : ℕ) (line : Line O) → p < length lines →

@@ -19,7 +19,7 @@ use Rattle.judge_search.specs.Walk.{Completes}
 use Rattle.judge_search.specs.Views.{Views, TellsLeft, IsNextToTry}
 use Rattle.std.specs.Global.{Vec}
 use Rattle.judge_search.specs.declared.known.Known.{Known}
-use Rattle.judge_search.specs.Searching.{HasMade, IsUndecided, Places}
+use Rattle.judge_search.specs.Searching.{Search, HasMade, HasRun, IsUndecided, Places}
 use Rattle.judge_search.specs.Walking.{path_place, search_of, AreDistinct, AreMadeBy, WalksWith, Walks, TriesPlace}
 use Rattle.judge_search.specs.Walking.{places_of}
 use Rattle.judge_search.specs.Walking.{best_of, CompletesBy, FailsBy}
@@ -33,6 +33,12 @@ map_more f [] x = refl
 map_more f (y ∷ ys) x = ap (λ l. f y ∷ l) (map_more f ys x)
 
 module _ {S O R : Type 0} (X : Rules S O R) where
+  -- a search that has made steps made each but the last without a result
+  pub has_run : (steps : ℕ) (start : Configuration S O) (search : Search S O) (most : ℕ) →
+      HasMade X steps start search most → HasRun X steps start
+  has_run zero start search most h = tt
+  has_run (suc steps) start search most h = (h.0, h.1, h.2)
+
   places_calls : {W : Type 0} (views : Views W S O) (path : List (Frame W)) →
       map (λ (p : PathPlace S O). p.call) (map (path_place views) path) ≡ map views.call (places_of path)
   places_calls views [] = refl

@@ -1,5 +1,6 @@
 -- The calls of a history as they are kept, in the order in which they ended.
-use Rattle.std.specs.Prelude.{◌≡◌, ◌<◌, ◌+◌, ◌-◌, ◌^◌, ◌==◌, ◌&&◌, ◌||◌, ℕ, suc, Bool, true, Option, is_some, Some, None, List, [], ◌∷◌, ◌++◌, map, not, take, drop, get_or, length, nat_lt, nat_le, if◌then◌else◌}
+use Rattle.std.specs.Prelude.{◌≡◌, ◌<◌, ◌≤◌, ◌+◌, ◌-◌, ◌^◌, ◌==◌, ◌&&◌, ◌||◌, ℕ, suc, Bool, true, Option, is_some, Some, None, List, [], ◌∷◌, ◌++◌}
+use Rattle.std.specs.Prelude.{map, not, take, drop, get_or, length, nat_lt, nat_le, if◌then◌else◌, false}
 use Rattle.std.specs.List.{list_any}
 use Rattle.judge_object.specs.declared.line.Line.{Line}
 use Rattle.judge_object.specs.Rules.{Rules, given_text}
@@ -19,12 +20,13 @@ module _ {O : Type 0} where
   abbrev pub calls_of : List (Line O) → List (Call O)
   calls_of lines = map call_of lines
 
-  -- a line may come after another: it does not end before that one, names no earlier begin, and was
-  -- never answered where that one was not
+  -- a line may come after another: it does not end before that one, and a completed call does not
+  -- come after a pending one. Where both are completed, or both pending, it names no earlier begin
   abbrev pub follows : Line O → Line O → Bool
   follows line next =
-      nat_le line.end next.end && nat_le line.soonest next.soonest
+      nat_le line.end next.end
       && (is_some line.reply || not (is_some next.reply))
+      && (nat_le line.soonest next.soonest || is_some line.reply && not (is_some next.reply))
 
   -- the lines are in the order in which they ended, and each names no later begin than there is
   abbrev pub are_sorted : List (Line O) → Bool
@@ -33,17 +35,24 @@ module _ {O : Type 0} where
   are_sorted (line ∷ (next ∷ lines)) =
       nat_le line.soonest line.begin && follows line next && are_sorted (next ∷ lines)
 
-  -- the least moment at which one of these begins, or the greatest moment
-  abbrev pub least_begin : List (Line O) → ℕ
-  least_begin [] = 2 ^ 64 - 1
-  least_begin (line ∷ lines) =
-      if nat_lt line.begin (least_begin lines) then line.begin else least_begin lines
+  -- a line is that of a completed call, or that of a pending one
+  abbrev pub is_kind : Bool → Line O → Bool
+  is_kind completed line = if completed then is_some line.reply else not (is_some line.reply)
 
-  -- each line names the moment from which on it and those after it begin
+  -- the least moment at which one of these begins that is completed, or one that is pending; or the
+  -- greatest moment
+  abbrev pub least_begin : Bool → List (Line O) → ℕ
+  least_begin completed [] = 2 ^ 64 - 1
+  least_begin completed (line ∷ lines) =
+      if is_kind completed line && nat_lt line.begin (least_begin completed lines) then line.begin
+      else least_begin completed lines
+
+  -- each line names the moment from which on it and those after it begin that are completed as it
+  -- is, or pending as it is
   abbrev pub soonest_of : List (Line O) → List (Line O)
   soonest_of [] = []
   soonest_of (line ∷ lines) =
-      record line { soonest = least_begin (line ∷ lines) } ∷ soonest_of lines
+      record line { soonest = least_begin (is_some line.reply) (line ∷ lines) } ∷ soonest_of lines
 
   -- of these calls, the first of which is at a place, those that have no place in the order
   abbrev pub rest_of : (ℕ → Bool) → ℕ → List (Call O) → List (Call O)
@@ -72,6 +81,17 @@ module _ {O : Type 0} where
   abbrev pub tries_from : (ℕ → Bool) → List (Call O) → ℕ → List (Call O)
   tries_from made calls from =
       tries_of made (rest_of made 0 calls) (rest_of made 0 (take from calls)) from (drop from calls)
+
+  -- lines between two places are all those of completed calls, or all those of pending ones
+  abbrev pub AreAlike : List (Line O) → ℕ → ℕ → Type 0
+  AreAlike lines from to = (i j : ℕ) (d : Line O) → from ≤ i → i ≤ j → j < to →
+      is_some (get_or lines i d).reply ≡ is_some (get_or lines j d).reply
+
+-- the first of `count` calls that has no place in the order is there
+pub record IsFirstOf (made : ℕ → Bool) (count first : ℕ) : Type 0 where
+  pub within : first < count
+  pub below : (place : ℕ) → place < first → made place ≡ true
+  pub left : made first ≡ false
 
 module _ {S O R : Type 0} (X : Rules S O R) where
   -- the call that is taken where there is none
@@ -102,3 +122,9 @@ module _ {S O R : Type 0} (X : Rules S O R) where
   abbrev pub TellsTry : (ℕ → Bool) → List (Call O) → ℕ → Option ℕ → Type 0
   TellsTry made calls from None = tries_from made calls from ≡ []
   TellsTry made calls from (Some place) = IsTry made calls from place
+
+  -- where the first call from a place on that may come next is, if it is before another place
+  abbrev pub TellsTryBefore : (ℕ → Bool) → List (Call O) → ℕ → ℕ → Option ℕ → Type 0
+  TellsTryBefore made calls from to None =
+      from ≤ to → tries_from made calls from ≡ tries_from made calls to
+  TellsTryBefore made calls from to (Some place) = IsTry made calls from place

@@ -1,16 +1,17 @@
 -- The findings on the calls of a history.
-use Rattle.std.specs.Prelude.{◌≡◌, ◌<◌, ◌==◌, ⊤, ℕ, true, All, List, [], ◌∷◌, ◌++◌, length, map, get_or}
+use Rattle.std.specs.Prelude.{◌≡◌, ◌<◌, ◌≤◌, ◌==◌, ⊤, ℕ, true, All, List, [], ◌∷◌, ◌++◌, length, map, get_or}
 use Rattle.std.specs.List.{list_any}
 use Rattle.judge_object.specs.Rules.{Rules}
 use Rattle.judge_object.specs.Call.{Call}
 use Rattle.judge_object.specs.Linear.{IsLinearization}
 use Rattle.judge_object.specs.Orders.{IsOrderOf, IsLinearizable}
+use Rattle.judge_search.specs.declared.walk.Found.{Found}
 use Rattle.judge_search.specs.declared.walk.Finding.{Finding}
 use Rattle.judge_search.specs.declared.walk.Finding.TheVariants as finding
 use Rattle.judge_search.specs.Configurations.{Configuration, start, answered, PlacesAtMost, Deepest}
 use Rattle.judge_search.specs.Calls.{no_call}
-use Rattle.judge_search.specs.Searching.{IsUndecided}
-use Rattle.judge_search.specs.Walking.{AreDistinct}
+use Rattle.judge_search.specs.Searching.{HasRun, IsUndecided}
+use Rattle.judge_search.specs.Walking.{AreDistinct, IsUnknown}
 
 module _ {S O R : Type 0} (X : Rules S O R) where
   -- the calls at these places, in their order
@@ -58,3 +59,12 @@ module _ {S O R : Type 0} (X : Rules S O R) where
   IsFoundOfCalls at s calls steps (finding.Order places) = IsLinearizedBy s calls places.items
   IsFoundOfCalls at s calls steps (finding.NoOrder most world) = HasNoOrder s calls most (at world)
   IsFoundOfCalls at s calls steps (finding.Unknown most) = IsUndecided X (start s calls) steps most
+
+  -- what is found of the calls, from a state on, in at most `steps` steps, and how many steps were
+  -- made: all of them if nothing was found
+  pub record IsFoundIn {W : Type 0} (at : W → Configuration S O) (s : S) (calls : List (Call O))
+      (steps : ℕ) (found : Found W) : Type 0 where
+    pub within : found.steps ≤ steps
+    pub run : HasRun X found.steps (start s calls)
+    pub finds : IsFoundOfCalls at s calls found.steps found.finding
+    pub spent : IsUnknown found.finding → found.steps ≡ steps

@@ -5,6 +5,7 @@ pub mod Searching
 pub mod Walking
 pub mod Marks
 pub mod Calls
+pub mod Links
 pub mod Sorting
 pub mod Point
 pub mod Stuck

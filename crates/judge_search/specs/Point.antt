@@ -1,5 +1,5 @@
 -- Points of a search among the calls of a history.
-use Rattle.std.specs.Prelude.{◌≡◌, ℕ, Bool, List, length, get_or}
+use Rattle.std.specs.Prelude.{◌≡◌, ℕ, Bool, length, get_or}
 use Rattle.judge_object.specs.Rules.{Rules}
 use Rattle.judge_search.specs.declared.calls.Calls.{Calls}
 use Rattle.judge_search.specs.declared.point.Point.{Point}

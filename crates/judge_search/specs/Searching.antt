@@ -1,5 +1,5 @@
 -- A search as it is done, step by step: its state, and what one step makes of it.
-use Rattle.std.specs.Prelude.{◌≡◌, ◌⊎◌, ◌+◌, ◌≤◌, ℕ, suc, zero, max, true, false, List, [], ◌∷◌, ◌++◌}
+use Rattle.std.specs.Prelude.{◌≡◌, ⊤, ◌⊎◌, ◌+◌, ◌≤◌, ℕ, suc, zero, max, true, false, List, [], ◌∷◌, ◌++◌}
 use Rattle.std.specs.List.{Contains}
 use Rattle.judge_object.specs.Rules.{Rules}
 use Rattle.judge_object.specs.Call.{Call}
@@ -90,6 +90,11 @@ module _ {S O R : Type 0} (X : Rules S O R) where
   HasMade (suc steps) start search most =
       (before : Search S O) × (less : ℕ) × HasMade steps start before less × MakesStep before search
       × (most ≡ max less search.placed)
+
+  -- a search that began there made this many steps: it had made all but the last without a result
+  abbrev pub HasRun : ℕ → Configuration S O → Type 0
+  HasRun zero start = ⊤
+  HasRun (suc steps) start = (search : Search S O) × (most : ℕ) × HasMade steps start search most
 
   -- `most` answered calls have a place somewhere
   pub record Places (start : Configuration S O) (most : ℕ) : Type 0 where

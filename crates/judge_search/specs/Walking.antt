@@ -7,10 +7,11 @@ use Rattle.judge_search.specs.declared.path.Frame.{Frame}
 use Rattle.judge_search.specs.declared.path.Walk.{Walk}
 use Rattle.judge_search.specs.declared.walk.Step.{Step}
 use Rattle.judge_search.specs.declared.walk.Step.TheVariants as step
+use Rattle.judge_search.specs.declared.walk.Found.{Found}
 use Rattle.judge_search.specs.declared.walk.Finding.{Finding}
 use Rattle.judge_search.specs.declared.walk.Finding.TheVariants as finding
 use Rattle.judge_search.specs.Configurations.{Configuration, Goes, answered, PlacesAtMost, Deepest}
-use Rattle.judge_search.specs.Searching.{Search, HasMade, IsUndecided}
+use Rattle.judge_search.specs.Searching.{Search, HasMade, HasRun, IsUndecided}
 use Rattle.judge_search.specs.Walk.{PathPlace, IsWalk, KeepsDeepest, Completes}
 use Rattle.judge_search.specs.Views.{Views}
 
@@ -37,6 +38,12 @@ module _ {W : Type 0} where
   -- the places of the calls of a path
   abbrev pub places_of : List (Frame W) → List ℕ
   places_of path = map (λ frame. frame.place) path
+
+-- the search neither found an order nor saw that there is none
+abbrev pub IsUnknown : {W : Type 0} → Finding W → Type 0
+IsUnknown (finding.Order places) = ⊥
+IsUnknown (finding.NoOrder most world) = ⊥
+IsUnknown (finding.Unknown most) = ⊤
 
 module _ {W S O : Type 0} where
   -- the place of the path that a frame stands for
@@ -130,3 +137,12 @@ module _ {S O R : Type 0} (X : Rules S O R) {W : Type 0} where
   FindsFrom views start steps (finding.Order places) = CompletesBy views start places.items
   FindsFrom views start steps (finding.NoOrder most world) = FailsBy views start most world
   FindsFrom views start steps (finding.Unknown most) = IsUndecided X start steps most
+
+  -- what is found from a configuration in at most `steps` steps, and how many steps were made: all
+  -- of them if nothing was found
+  pub record FindsIn (views : Views W S O) (start : Configuration S O) (steps : ℕ)
+      (found : Found W) : Type 0 where
+    pub within : found.steps ≤ steps
+    pub run : HasRun X found.steps start
+    pub finds : FindsFrom views start found.steps found.finding
+    pub spent : IsUnknown found.finding → found.steps ≡ steps

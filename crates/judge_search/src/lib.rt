@@ -5,6 +5,8 @@
 mod calls;
 mod checking;
 mod known;
+mod lasts;
+mod links;
 mod marks;
 mod order;
 mod path;
@@ -18,5 +20,5 @@ pub use calls::Calls;
 pub use order::{find_linearization, is_linearization};
 pub use point::Point;
 pub use stuck::{Stuck, stuck_calls};
-pub use walk::{Finding, find_order};
+pub use walk::{Finding, Found, find_order};
 pub use world::World;

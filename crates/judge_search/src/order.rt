@@ -2,14 +2,14 @@
 
 ghost use Rattle.std.specs.Prelude.{◌≡◌, ◌↔◌, true, IfOk};
 ghost use Rattle.judge_search.specs.Calls.{calls_of};
-ghost use Rattle.judge_search.specs.Judging.{IsLinearizedInTurn, IsFoundOfCalls};
+ghost use Rattle.judge_search.specs.Judging.{IsLinearizedInTurn, IsFoundIn};
 ghost use Rattle.judge_search.specs.Point.{point_at};
 ghost use Rattle.judge_search.specs.Walk.{IsWhole};
 
 use crate::calls::Calls;
 use crate::checking::led_by;
 use crate::point::{Point, is_finished};
-use crate::walk::{Finding, find_order};
+use crate::walk::{Found, find_order};
 use judge_object::{Object, Watcher};
 use std::alloc::{AllocError, Global};
 
@@ -26,15 +26,15 @@ pub fn is_linearization<M: Object + Drop>(
     ensures { IfOk result (λ is. (is ≡ true) ↔
         IsLinearizedInTurn M.rules machine (calls_of calls.now.lines.items) places.now) }
 {
-    let lines = calls.as_slice();
     let mut point = Point::new(alloc, machine);
     let mut expected = Vec::new(alloc);
     'places: for number in 0..places.len() {
-        match led_by(point, lines, places[number], &mut expected)? {
+        match led_by(point, calls, places[number], &mut expected)? {
             Some(next) => point = next,
             None => return Ok(false),
         }
     }
+    let lines = calls.as_slice();
     Ok(is_finished::<M>(point.low, point.beyond.as_slice(), lines))
 }
 
@@ -46,9 +46,9 @@ pub fn find_linearization<M: Object + Drop, P: Watcher>(
     machine: M,
     steps: u64,
     watcher: &mut P,
-) -> Result<Finding<Point<M>>, AllocError>
+) -> Result<Found<Point<M>>, AllocError>
     requires whole { IsWhole (calls_of calls.now.lines.items) }
-    ensures { IfOk result (λ found. IsFoundOfCalls M.rules (point_at M.rules calls.now) machine
+    ensures { IfOk result (λ found. IsFoundIn M.rules (point_at M.rules calls.now) machine
         (calls_of calls.now.lines.items) steps found) }
 {
     find_order(alloc, calls, Point::new(alloc, machine), steps, watcher)

@@ -1,10 +1,11 @@
 //! A point of a search among the calls of a history.
 
-ghost use Rattle.std.specs.Prelude.{◌≡◌, ◌⊎◌, ◌==◌, [], ◌≤◌, ◌<◌, ℕ, IfOk, IfSome, length, take, true};
+ghost use Rattle.std.specs.Prelude.{◌≡◌, ◌⊎◌, ◌==◌, [], ◌≤◌, ◌<◌, ℕ, IfOk, IfSome, length, take, true, get_or};
 ghost use Rattle.std.specs.List.{list_any};
 ghost use Rattle.judge_search.specs.Marks.{is_made};
 ghost use Rattle.judge_search.specs.Calls.{calls_of, are_sorted, rest_of};
-ghost use Rattle.judge_search.specs.Calls.{can_come, TellsTry};
+ghost use Rattle.judge_search.specs.Calls.{can_come, TellsTry, TellsTryBefore, IsFirstOf, AreAlike};
+ghost use Rattle.judge_object.specs.declared.line.Line.{Line as Lines};
 ghost use Rattle.judge_search.specs.Configurations.{answered};
 ghost use Rattle.judge_search.specs.Views.{TellsLeft, LedTo};
 ghost use Rattle.judge_search.specs.Point.{point_views, RunsTo};
@@ -41,24 +42,28 @@ impl<M: Drop> Point<M> {
     }
 }
 
-/// Returns whether a call of a client between two places has no position.
+/// Returns whether a call of the same client before the one at a place has no position. The calls
+/// before `first` all have one.
 fn has_earlier<M: Object>(
     low: usize,
     beyond: &[usize],
-    lines: &[Line<M::Op>],
-    from: usize,
+    calls: &Calls<M::Op>,
+    first: usize,
     place: usize,
-    client: u32,
 ) -> bool
-    requires within { place ≤ length lines.now }
-    requires made { (other : ℕ) → other < from → is_made low beyond.now other ≡ true }
-    ensures { result ≡ list_any (λ (other : Call M.Op). other.client == client)
-        (rest_of (is_made low beyond.now) 0 (take place (calls_of lines.now))) }
+    requires within { place < length calls.now.lines.items }
+    requires made { (other : ℕ) → other < first → is_made low beyond.now other ≡ true }
+    ensures { (d : Lines M.Op) → result ≡
+        list_any
+        (λ (other : Call M.Op). other.client == (get_or calls.now.lines.items place d).client)
+        (rest_of (is_made low beyond.now) 0 (take place (calls_of calls.now.lines.items))) }
 {
-    'lines: for earlier in from..place {
-        if lines[earlier].client == client && !is_made(low, beyond, earlier) {
+    let mut after = calls.link(place);
+    'links: while first < after {
+        if !is_made(low, beyond, after - 1) {
             return true;
         }
+        after = calls.link(after - 1);
     }
     false
 }
@@ -76,33 +81,36 @@ pub(crate) fn is_finished<M: Object>(low: usize, beyond: &[usize], lines: &[Line
     !lines[first].reply.is_some()
 }
 
-/// Returns the place from which the next call is looked for: a given place, but not before the
-/// first call that is left.
-fn start_of(from: usize, first: usize) -> usize
-    ensures either { (result ≡ from) ⊎ ((result ≡ first) × (from ≤ first)) }
+/// Returns the later of a place and another.
+fn later_of(from: usize, other: usize) -> usize
+    ensures either { (result ≡ from) ⊎ ((result ≡ other) × (from ≤ other)) }
     ensures later { from ≤ result }
+    ensures other { other ≤ result }
 {
-    if from < first { first } else { from }
+    if from < other { other } else { from }
 }
 
-/// Returns the place of the first call from a place on that may come next.
-pub(crate) fn next_call<M: Object>(
+/// Returns the place of the first call between two places that may come next. The calls between
+/// them are all completed, or all pending; `first` is the first call that has no position.
+fn next_between<M: Object>(
     low: usize,
     beyond: &[usize],
-    lines: &[Line<M::Op>],
+    calls: &Calls<M::Op>,
+    first: usize,
     from: usize,
+    to: usize,
 ) -> Option<usize>
-    requires { are_sorted lines.now ≡ true }
-    ensures next { TellsTry M.rules (is_made low beyond.now) (calls_of lines.now) from result }
-    ensures small { IfSome result (λ place. place < usize.MAX) }
+    requires within { to ≤ length calls.now.lines.items }
+    requires first { IsFirstOf (is_made low beyond.now) (length calls.now.lines.items) first }
+    requires alike { AreAlike calls.now.lines.items from to }
+    ensures next { TellsTryBefore M.rules (is_made low beyond.now) (calls_of calls.now.lines.items)
+        from to result }
+    ensures small { IfSome result (λ place. place < to) }
     ensures after { IfSome result (λ place. from ≤ place) }
 {
-    let first = first_left(low, beyond, lines.len());
-    if first == lines.len() {
-        return None;
-    }
+    let lines = calls.as_slice();
     let end = lines[first].end;
-    'lines: for place in start_of(from, first)..lines.len() {
+    'lines: for place in from..to {
         let line = &lines[place];
         if end < u128::from(line.soonest) {
             return None;
@@ -110,11 +118,40 @@ pub(crate) fn next_call<M: Object>(
         if is_made(low, beyond, place) || end < u128::from(line.begin) {
             continue;
         }
-        if !has_earlier::<M>(low, beyond, lines, first, place, line.client) {
+        if !has_earlier::<M>(low, beyond, calls, first, place) {
             return Some(place);
         }
     }
     None
+}
+
+/// Returns the place of the first call from a place on that may come next. Completed calls come
+/// first; the search among them ends at the first that began too late for it and all after it.
+pub(crate) fn next_call<M: Object>(
+    low: usize,
+    beyond: &[usize],
+    calls: &Calls<M::Op>,
+    from: usize,
+) -> Option<usize>
+    ensures next { TellsTry M.rules (is_made low beyond.now) (calls_of calls.now.lines.items)
+        from result }
+    ensures small { IfSome result (λ place. place < usize.MAX) }
+    ensures after { IfSome result (λ place. from ≤ place) }
+{
+    let count = calls.as_slice().len();
+    let first = first_left(low, beyond, count);
+    if first == count {
+        return None;
+    }
+    let start = later_of(from, first);
+    let completed = calls.completed();
+    match next_between::<M>(low, beyond, calls, first, start, completed) {
+        Some(place) => Some(place),
+        None => {
+            let pending = later_of(start, completed);
+            next_between::<M>(low, beyond, calls, first, pending, count)
+        }
+    }
 }
 
 /// Returns the point after the call at a place, which may come next and led to this state and
@@ -159,7 +196,7 @@ impl<M: Object + Drop> World for Point<M> {
     }
 
     fn next_try(&self, calls: &Calls<M::Op>, from: usize) -> Option<usize> {
-        next_call::<M>(self.low, self.beyond.as_slice(), calls.as_slice(), from)
+        next_call::<M>(self.low, self.beyond.as_slice(), calls, from)
     }
 
     fn after(

@@ -1,30 +1,47 @@
 //! Sorts lines by the ends of their calls.
 
-ghost use Rattle.std.specs.Prelude.{◌≡◌, IfOk, true, nat_lt, if◌then◌else◌};
+ghost use Rattle.std.specs.Prelude.{◌≡◌, ◌&&◌, IfOk, true, nat_lt, if◌then◌else◌};
 ghost use Rattle.judge_object.specs.Orders.{IsMerge};
 ghost use Rattle.judge_search.specs.Walk.{InTurn};
 ghost use Rattle.judge_search.specs.Calls.{calls_of, are_sorted, soonest_of};
 ghost use Rattle.judge_search.specs.Sorting.{AreSortOf};
 
 use judge_object::Line;
+use judge_time::NEVER;
 use std::alloc::AllocError;
 
-/// Returns the lesser of two times.
-fn lesser(a: u64, b: u64) -> u64
-    ensures { result ≡ (if nat_lt a b then a else b) }
+/// Returns the lesser of two times if the first counts, and otherwise the second.
+fn lesser(counts: bool, begin: u64, soonest: u64) -> u64
+    ensures { result ≡ (if counts && nat_lt begin soonest then begin else soonest) }
 {
-    if a < b { a } else { b }
+    if counts && begin < soonest {
+        begin
+    } else {
+        soonest
+    }
 }
 
-/// Sets for each line the least BEGIN of the line and of those after it.
+/// Returns the time of the completed calls, or that of the pending ones.
+fn of_kind(is_completed: bool, completed: u64, pending: u64) -> u64
+    ensures { result ≡ (if is_completed then completed else pending) }
+{
+    if is_completed { completed } else { pending }
+}
+
+/// Sets for each line the least BEGIN of the line and of those after it, among the completed calls
+/// or among the pending ones.
 fn keep_soonest<O: Drop>(lines: &mut [Line<O>])
     ensures { lines.new ≡ soonest_of lines.old }
 {
-    let mut soonest = u64::MAX;
+    let mut completed = u64::MAX;
+    let mut pending = u64::MAX;
     'lines: for back in 0..lines.len() {
         let place = lines.len() - 1 - back;
-        soonest = lesser(lines[place].begin, soonest);
-        lines[place].soonest = soonest;
+        let begin = lines[place].begin;
+        let is_completed = lines[place].end < NEVER;
+        completed = lesser(is_completed, begin, completed);
+        pending = lesser(!is_completed, begin, pending);
+        lines[place].soonest = of_kind(is_completed, completed, pending);
     }
 }
 

@@ -2,13 +2,13 @@
 
 ghost use Rattle.std.specs.Prelude.{◌≡◌, IfOk, true};
 ghost use Rattle.judge_search.specs.Marks.{is_made};
-ghost use Rattle.judge_search.specs.Calls.{are_sorted, calls_of};
+ghost use Rattle.judge_search.specs.Calls.{calls_of};
 ghost use Rattle.judge_search.specs.Point.{made_of};
 ghost use Rattle.judge_search.specs.Stuck.{AreStuck};
 
 use crate::calls::Calls;
 use crate::point::{Point, next_call};
-use judge_object::{Line, Object};
+use judge_object::Object;
 use std::alloc::{AllocError, Global};
 
 /// A blocked call, with the reply that the object would give.
@@ -27,15 +27,15 @@ fn stuck_lines<M: Object + Drop>(
     low: usize,
     beyond: &[usize],
     machine: &M,
-    lines: &[Line<M::Op>],
+    calls: &Calls<M::Op>,
 ) -> Result<Vec<Stuck<M::Reply>>, AllocError>
-    requires { are_sorted lines.now ≡ true }
     ensures { IfOk result (λ found. AreStuck M.rules machine.now (is_made low beyond.now)
-        (calls_of lines.now) found.items) }
+        (calls_of calls.now.lines.items) found.items) }
 {
+    let lines = calls.as_slice();
     let mut found = Vec::new(alloc);
     let mut from = 0;
-    'calls: while let Some(place) = next_call::<M>(low, beyond, lines, from) {
+    'calls: while let Some(place) = next_call::<M>(low, beyond, calls, from) {
         if lines[place].reply.is_some() {
             let (_, expected) = machine.make(&lines[place].op)?;
             found.push(Stuck { place, expected })?;
@@ -60,6 +60,6 @@ pub fn stuck_calls<M: Object + Drop>(
         point.low,
         point.beyond.as_slice(),
         &point.machine,
-        calls.as_slice(),
+        calls,
     )
 }

@@ -4,7 +4,7 @@
 ghost use Rattle.std.specs.Prelude.{◌≡◌, ◌<◌, ◌≤◌, ◌+◌, ◌++◌, ◌∷◌, [], ◌||◌, ◌==◌, ℕ, suc, max, IfOk, IfSome, if◌then◌else◌};
 ghost use Rattle.judge_search.specs.Configurations.{Configuration, after_call};
 ghost use Rattle.judge_search.specs.Walk.{IsWhole};
-ghost use Rattle.judge_search.specs.Walking.{BestIsWithin, StaysWithin, Walks, WalksWith, TriesPlace, StepsTo, FindsFrom, places_of, best_of};
+ghost use Rattle.judge_search.specs.Walking.{BestIsWithin, StaysWithin, Walks, WalksWith, TriesPlace, StepsTo, FindsIn, places_of, best_of};
 
 use crate::known::Known;
 use crate::path::{Frame, Walk};
@@ -31,6 +31,13 @@ pub enum Finding<W> {
     /// All steps were made without a result. This many completed calls had a position in one world,
     /// and no world had more.
     Unknown(u64),
+}
+
+/// A finding of a search, and the number of steps that the search made.
+#[derive(Drop)]
+pub struct Found<W> {
+    pub finding: Finding<W>,
+    pub steps: u64,
 }
 
 /// Returns the places of the calls of a path, and a last one.
@@ -200,13 +207,16 @@ pub fn find_order<W: World + Drop, P: Watcher>(
     start: W,
     steps: u64,
     watcher: &mut P,
-) -> Result<Finding<W>, AllocError>
+) -> Result<Found<W>, AllocError>
     requires { IsWhole ((W.view ground.now).at start).rest }
     ensures { IfOk result (λ found.
-        FindsFrom W.Of.rules (W.view ground.now) ((W.view ground.now).at start) steps found) }
+        FindsIn W.Of.rules (W.view ground.now) ((W.view ground.now).at start) steps found) }
 {
     if start.is_done(ground) {
-        return Ok(Finding::Order(Vec::new(alloc)));
+        return Ok(Found {
+            finding: Finding::Order(Vec::new(alloc)),
+            steps: 0,
+        });
     }
     let mut walk = Walk {
         world: start,
@@ -219,11 +229,21 @@ pub fn find_order<W: World + Drop, P: Watcher>(
     };
     'walk: for made in 0..steps {
         watcher.tell(walk.placed, made);
+        let steps = made + 1;
         match walk.step(alloc, ground)? {
             Step::On(next) => walk = next,
-            Step::Found(places) => return Ok(Finding::Order(places)),
-            Step::NoOrder(most, world) => return Ok(Finding::NoOrder(most, world)),
+            Step::Found(places) => {
+                let finding = Finding::Order(places);
+                return Ok(Found { finding, steps });
+            }
+            Step::NoOrder(most, world) => {
+                let finding = Finding::NoOrder(most, world);
+                return Ok(Found { finding, steps });
+            }
         }
     }
-    Ok(Finding::Unknown(most_of(&walk)))
+    Ok(Found {
+        finding: Finding::Unknown(most_of(&walk)),
+        steps,
+    })
 }

@@ -1,11 +1,12 @@
-use Rattle.std.proofs.Common.{◌≡◌, sym, ap, ◌∙◌, subst, true, false}
+use Rattle.std.proofs.Common.{sym, subst}
 use Rattle.judge_object.specs.Orders.{IsLinearizable}
 use Rattle.judge_search.specs.Calls.{calls_of}
-use Rattle.judge_many.specs.Many.{part}
-use Rattle.judge_many.specs.Turns.{AreTurns, IsFirstOutOfTurn}
+use Rattle.judge_many.specs.Turns.{AreTurns}
 use Rattle.judge_many.specs.Judging.{JudgesParts}
 use Rattle.judge_many.proofs.OfOne.{parts}
 use Rattle.judge_many.proofs.ByNames.{part_lines}
+use Rattle.judge_many.specs.Runs.{AreOfOne}
+use Rattle.judge_many.proofs.One.{one_alone}
 use Rattle.judge_many.proofs.Whole.{whole}
 use Rattle.judge_many.proofs.judging.judge_many.Goals as goal
 
@@ -23,8 +24,23 @@ returns-then-is_strict g c =
           c.in_ok-judge_parts.ensures),
     )
 
-pub returns-else-is_strict : goal.returns-else-is_strict
-returns-else-is_strict g c =
+pub returns-then-is_one : goal.returns-then-is_one
+returns-then-is_one g c =
+    let rules = g.M.Object.rules in
+    let name = g.M.Named.name in
+    let lines = c.args.lines.items in
+    let turns = subst (AreTurns (calls_of lines)) c.in-Held.is
+    (subst (λ ls. AreTurns (calls_of ls) c.in_ok-place.field-0)
+    c.as_slice.ensures.value c.in_ok-place.ensures) in (
+      turns.0,
+      one_alone rules name c.args.machine.now lines
+          (subst (AreOfOne name) c.as_slice-2.ensures.value (c.is_of_one-is_one.ensures.one c.if-is_one.true))
+          (subst (JudgesParts rules name c.args.machine.now c.args.steps lines) c.in-Linearizable.is
+          c.in_ok-judge_parts.ensures),
+    )
+
+pub returns-else-is_one : goal.returns-else-is_one
+returns-else-is_one g c =
     let rules = g.M.Object.rules in
     let name = g.M.Named.name in
     let lines = c.args.lines.items in
@@ -36,6 +52,8 @@ returns-else-is_strict g c =
         parts = subst (JudgesParts rules name c.args.machine.now c.args.steps lines) c.in-Linearizable.is
             c.in_ok-judge_parts.ensures;
         touches = turns.2 c.if-is_strict.false;
+        several = λ one. c.is_of_one-is_one.ensures.many c.if-is_one.false
+            (subst (AreOfOne name) (sym c.as_slice-2.ensures.value) one);
       },
     )
 

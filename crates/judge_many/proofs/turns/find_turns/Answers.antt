@@ -1,10 +1,9 @@
-use Rattle.std.proofs.Common.{◌≡◌, ◌<◌, ◌+◌, ◌++◌, ◌∷◌, [], Bool, true, false, take, get_or, length, refl, sym, ap, ◌∙◌}
+use Rattle.std.proofs.Common.{◌≡◌, ◌<◌, ◌+◌, ◌++◌, ◌∷◌, [], true, false, take, get_or, length, refl, sym, ap, ◌∙◌}
 use Rattle.std.proofs.Common.{subst, inl, inr, arith}
 use Rattle.std.proofs.lemmas.List.{take_more, take_all, take-map, map-append, length-map}
 use Rattle.judge_search.specs.Calls.{call_of, calls_of}
 use Rattle.judge_search.specs.Walk.{IsWhole}
-use Rattle.judge_many.specs.Many.{IsApart, AreStrict}
-use Rattle.judge_object.specs.Call.{EachCall}
+use Rattle.judge_many.specs.Many.{AreStrict}
 use Rattle.judge_many.specs.Turns.{Stands, call_breaks_client}
 use Rattle.judge_many.proofs.Ends.{AreHeld, calls_get, held_none, held_more, held_whole, timed_of}
 use Rattle.judge_many.proofs.turns.find_turns.Goals as goal

@@ -1,4 +1,4 @@
-use Rattle.std.proofs.Common.{◌≡◌, ◌==◌, ℕ, true, Option, Some, None, sym, ◌∙◌, arith}
+use Rattle.std.proofs.Common.{◌≡◌, ◌==◌, ℕ, true, Some, None, sym, ◌∙◌, arith}
 use Rattle.std.proofs.lemmas.Bool.Decides.{nat_tests}
 use Rattle.judge_search.specs.Marks.{is_made}
 use Rattle.judge_search.specs.Calls.{calls_of}
@@ -15,7 +15,7 @@ same_place p q e = let s : p ≡ q = cc in grind (arith, nat_tests)
 pub returns-in-Some-clause-all : goal.returns-in-Some-clause-all
 returns-in-Some-clause-all g c = λ within can.
     let rules = g.M.Object.rules in
-    let lines = c.args.lines.now in
+    let lines = c.args.calls.now.lines.items in
     let place = c.args.place in
     same_place c.in-Some.first place
     (sym c.in-Some.is ∙ first_try rules (is_made c.args.low c.args.beyond.now) (calls_of lines) place c.next_call.result
@@ -24,7 +24,7 @@ returns-in-Some-clause-all g c = λ within can.
 pub returns-in-None-clause-all : goal.returns-in-None-clause-all
 returns-in-None-clause-all g c = λ within can.
     let rules = g.M.Object.rules in
-    let lines = c.args.lines.now in
+    let lines = c.args.calls.now.lines.items in
     let place = c.args.place in
     absurd (some_none place
     (sym c.in-None.is ∙ first_try rules (is_made c.args.low c.args.beyond.now) (calls_of lines) place c.next_call.result

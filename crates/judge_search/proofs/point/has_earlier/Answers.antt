@@ -1,65 +1,41 @@
-use Rattle.std.proofs.Common.{◌≡◌, ◌==◌, ◌<◌, ℕ, true, false, length, sym, ap, ◌∙◌, inl, inr, arith}
-use Rattle.std.specs.List.{list_any}
-use Rattle.std.proofs.lemmas.Bool.Decides.{nat_tests}
-use Rattle.judge_object.specs.Call.{Call}
-use Rattle.judge_object.specs.declared.line.Line.{Line}
+use Rattle.std.proofs.Common.{◌≡◌, ◌-◌, suc, sym, ◌∙◌, arith}
 use Rattle.judge_search.specs.Marks.{is_made}
-use Rattle.judge_search.specs.Calls.{calls_of}
-use Rattle.judge_search.proofs.Tries.{front_made}
-use Rattle.judge_search.proofs.Sorted.{call_here, long_calls}
-use Rattle.judge_search.proofs.Points.{front_less, front_next, front_has}
+use Rattle.judge_search.proofs.Lookback.{line_at, looks_first, looks_on, none_earlier, some_earlier}
 use Rattle.judge_search.proofs.point.has_earlier.Goals as goal
-use Rattle.judge_search.proofs.point.has_earlier.Goals.{else-lines-earlier-via-then-lines-earlier+else-not-is_made}
-use Rattle.judge_search.proofs.point.has_earlier.Goals.{else-lines-earlier-via-else-lines-earlier}
 
-same : (a b : ℕ) → a ≡ b → (a == b) ≡ true
-same a b e = grind (arith, nat_tests)
-
-other : (a b : ℕ) → (a ≡ b → ⊥) → (a == b) ≡ false
-other a b n = grind (arith, nat_tests)
-
-pub lines-init : goal.lines-init
-lines-init g c =
-    ap (list_any (λ (o : Call _). o.client == c.args.client))
-    (front_made (g.M.Object.rules) (is_made c.args.low c.args.beyond.now) 0 (calls_of c.args.lines.now) c.args.from
-    (λ j l. c.requires.made j (omega arith)))
+pub links-init : goal.links-init
+links-init g c =
+    let lines = c.args.calls.now.lines.items in
+    looks_first (g.M.Object.rules) (is_made c.args.low c.args.beyond.now) lines c.args.place c.link-after.result
+    (line_at lines c.args.place c.requires.within) c.link-after.ensures
 
 pub returns-then-not-is_made : goal.returns-then-not-is_made
-returns-then-not-is_made g c =
-    let e = c.lines.earlier in
-    let lines = c.args.lines.now in
-    let within : e < length lines = omega arith in
-    sym (front_has (g.M.Object.rules) (λ (o : Call _). o.client ==
-    c.args.client) (is_made c.args.low c.args.beyond.now) 0
-    (calls_of lines) e c.args.place e (omega arith) (omega arith)
-    (long_calls (g.M.Object.rules) lines e within) (sym c.is_made.ensures ∙ c.if-not-is_made.true)
-    (ap (λ (o : Call _). o.client == c.args.client) (call_here
-    (g.M.Object.rules) lines e c.index-lines-earlier.result within
-    c.index-lines-earlier.is) ∙ same c.index-lines-earlier.result.client c.args.client
-    (ap (λ (x : Line _). x.client) c.index-lines-earlier.is ∙ c.if-lines-earlier.true)))
+returns-then-not-is_made g c = λ d.
+    let made = is_made c.args.low c.args.beyond.now in
+    let q = c.links.after - 1 in
+    let next : c.links.after ≡ suc q = (let t = c.links-test.true in omega arith) in
+    let b = c.links.invariant.before in
+    sym (some_earlier (g.M.Object.rules) made c.args.calls.now.lines.items c.args.place q d c.requires.within
+    (omega arith) (sym c.is_made.ensures ∙ c.if-not-is_made.true) (c.links.invariant.same q d next))
 
-pub lines-preserved : goal.lines-preserved
-lines-preserved g c =
-    let e = c.lines.earlier in
-    let lines = c.args.lines.now in
-    let within : e < length lines = omega arith in
-    front_next (g.M.Object.rules) (λ (o : Call _). o.client ==
-    c.args.client) (is_made c.args.low c.args.beyond.now) (calls_of lines) e
-    (long_calls (g.M.Object.rules) lines e within)
-    (elim c.else-lines-earlier.branch [
-      | else-lines-earlier-via-then-lines-earlier+else-not-is_made w ↦
-          inl (sym w.is_made.ensures ∙ w.if-not-is_made.false)
-      | else-lines-earlier-via-else-lines-earlier w ↦
-          inr (ap (λ (o : Call _). o.client == c.args.client)
-          (call_here (g.M.Object.rules) lines e c.index-lines-earlier.result within
-          c.index-lines-earlier.is)
-          ∙ other c.index-lines-earlier.result.client c.args.client
-          (λ y. w.if-lines-earlier.false (sym (ap (λ (x : Line _). x.client) c.index-lines-earlier.is) ∙ y)))
-    ]) c.lines.invariant
+pub links-preserved : goal.links-preserved
+links-preserved g c =
+    let lines = c.args.calls.now.lines.items in
+    let made = is_made c.args.low c.args.beyond.now in
+    looks_on (g.M.Object.rules) made lines c.args.place c.links.after c.link-after-in-links.result
+    (line_at lines c.args.place c.requires.within) c.requires.within (let t = c.links-test.true in omega arith)
+    c.links.invariant (sym c.is_made.ensures ∙ c.if-not-is_made.false) c.link-after-in-links.ensures
+
+pub links-smaller : goal.links-smaller
+links-smaller g c =
+    let lines = c.args.calls.now.lines.items in
+    let b = (c.link-after-in-links.ensures (line_at lines c.args.place c.requires.within)).before in
+    let t = c.links-test.true in
+    omega arith
 
 pub returns : goal.returns
-returns g c =
-    sym (front_less (g.M.Object.rules) (λ (o : Call _). o.client ==
-    c.args.client) (is_made c.args.low c.args.beyond.now) 0
-    (calls_of c.args.lines.now) c.args.place c.lines.earlier
-    (omega arith) c.lines.invariant)
+returns g c = λ d.
+    sym (none_earlier (g.M.Object.rules) (is_made c.args.low c.args.beyond.now) c.args.calls.now.lines.items
+    c.args.first c.args.place c.links.after d c.requires.within c.requires.made (let t = c.links-test.false in
+    omega arith)
+    c.links.invariant.done)

@@ -11,12 +11,11 @@ returns g c =
     let state = point.machine in
     IfOk-weaker c.stuck_lines.result (λ found. AreStuck (g.M.Object.rules) state
     (is_made point.low c.as_slice.result.now)
-    (calls_of c.as_slice-2.result.now) found.items)
+    (calls_of c.args.calls.now.lines.items) found.items)
     (λ found. AreStuck (g.M.Object.rules) state (is_made point.low point.beyond.items)
     (calls_of c.args.calls.now.lines.items) found.items)
     (λ found h.
-    subst (λ ls. AreStuck (g.M.Object.rules) state (is_made point.low point.beyond.items) (calls_of ls) found.items)
-    c.as_slice-2.ensures
-    (subst (λ b. AreStuck (g.M.Object.rules) state (is_made point.low b) (calls_of c.as_slice-2.result.now) found.items)
-    c.as_slice.ensures.value h))
+    subst (λ b. AreStuck (g.M.Object.rules) state (is_made point.low b)
+    (calls_of c.args.calls.now.lines.items) found.items)
+    c.as_slice.ensures.value h)
     c.stuck_lines.ensures

@@ -1,4 +1,4 @@
-use Rattle.std.proofs.Common.{◌≡◌, ◌+◌, ◌<◌, ℕ, is_some, Option, Some, None, length, refl, sym}
+use Rattle.std.proofs.Common.{◌≡◌, ◌+◌, ◌<◌, ℕ, is_some, Option, Some, None, length, get_or, refl, sym}
 use Rattle.std.proofs.Common.{ap, ◌∙◌, subst, arith}
 use Rattle.std.specs.Global.{Vec}
 use Rattle.judge_object.specs.Rules.{given_text}
@@ -22,35 +22,44 @@ pub calls-init : goal.calls-init
 calls-init g c =
     let s = c.args.machine.now in
     let made = is_made c.args.low c.args.beyond.now in
-    let cs = calls_of c.args.lines.now in
+    let cs = calls_of c.args.calls.now.lines.items in
     subst (λ l. AreFound (g.M.Object.rules) s made cs l 0) (sym c.new-found.ensures.items)
     (found_none (g.M.Object.rules) s made cs)
 
 pub bounds-lines-place : goal.bounds-lines-place
 bounds-lines-place g c =
-    subst (λ n. c.in-Some.place < n) (length_calls (g.M.Object.rules) c.args.lines.now) c.in-Some.ensures.next.within
+    let long = length_calls (g.M.Object.rules) c.args.calls.now.lines.items in
+    let same : length c.as_slice-lines.result.now ≡ length c.args.calls.now.lines.items =
+    ap length c.as_slice-lines.ensures in
+    let within = c.in-Some.ensures.next.within in
+    omega arith
 
 pub returns : goal.returns
 returns g c = found_all (g.M.Object.rules) c.args.machine.now (is_made c.args.low c.args.beyond.now)
-    (calls_of c.args.lines.now) c.calls.found.items c.calls.from c.in_default.ensures.next c.calls.invariant
+    (calls_of c.args.calls.now.lines.items) c.calls.found.items c.calls.from c.in_default.ensures.next c.calls.invariant
 
 pub calls-preserved : goal.calls-preserved
 calls-preserved g c =
     let s = c.args.machine.now in
     let made = is_made c.args.low c.args.beyond.now in
-    let lines = c.args.lines.now in
+    let lines = c.args.calls.now.lines.items in
     let cs = calls_of lines in
     let p = c.in-Some.place in
     let next = c.in-Some.ensures.next in
     let line = c.index-lines-place.result in
     let long = length_calls (g.M.Object.rules) lines in
     let within : p < length lines = (let l = next.within in omega arith) in
-    let here = call_here (g.M.Object.rules) lines p line within c.index-lines-place.is in
+    let is : line ≡ get_or lines p line = c.index-lines-place.is ∙
+    ap (λ ls. get_or ls p line) c.as_slice-lines.ensures in
+    let here = call_here (g.M.Object.rules) lines p line within is in
     let some : is_answered (at (g.M.Object.rules) cs p) ≡ is_some line.reply = ap is_answered here ∙ given line.reply in
     let same : c.is_some.result ≡ is_some line.reply = c.is_some.ensures ∙
     sym (ap (λ (x : Line _). is_some x.reply) c.index-lines-place.is) in
     elim c.if-is_some.branch [
       | then-is_some+in_ok-expected+in_ok-push w ↦
+          let then_line = w.index-lines-place-then-is_some.result in
+          let then_is : then_line ≡ get_or lines p then_line =
+          w.index-lines-place-then-is_some.is ∙ ap (λ ls. get_or ls p then_line) c.as_slice-lines.ensures in
           let x : Stuck _ = record { place = p; expected = w.in_ok-expected.expected } in
           subst (λ l. AreFound (g.M.Object.rules) s made cs l (p + 1))
           (sym (ap (λ (v : Vec (Stuck _)). v.items) w.found-is ∙
@@ -58,8 +67,7 @@ calls-preserved g c =
           (found_more (g.M.Object.rules) s made cs c.calls.found.items c.calls.from p x next
           (some ∙ sym same ∙ w.if-is_some.true) refl
           (sym (ap (λ (y : Call _). (g.M.Object.rules.run s y.op).1)
-          (call_here (g.M.Object.rules) lines p w.index-lines-place-then-is_some.result within
-          w.index-lines-place-then-is_some.is)
+          (call_here (g.M.Object.rules) lines p then_line within then_is)
           ∙ ap (λ (y : Line _). (g.M.Object.rules.run s y.op).1) w.index-lines-place-then-is_some.is ∙
           ap (λ (y : _ × _). y.1) w.in_ok-expected.ensures))
           c.calls.invariant)

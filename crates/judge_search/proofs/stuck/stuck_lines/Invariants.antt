@@ -6,7 +6,7 @@ use Rattle.judge_search.proofs.stuck.stuck_lines.Given as goal
 
 abbrev pub invariant-calls : goal.invariant-calls
 invariant-calls g l = AreFound (g.M.Object.rules) l.machine (is_made l.low l.beyond)
-    (calls_of l.lines) l.found.items l.from
+    (calls_of l.calls.lines.items) l.found.items l.from
 
 abbrev pub decreases-calls : goal.decreases-calls
-decreases-calls g l = length l.lines - l.from
+decreases-calls g l = length l.calls.lines.items - l.from

@@ -1,24 +1,29 @@
-use Rattle.std.proofs.Common.{◌≤◌, ◌<◌, suc, sym, subst, arith, add-one}
+use Rattle.std.proofs.Common.{◌≡◌, ◌≤◌, ◌<◌, suc, refl, sym, subst, arith, add-one}
 use Rattle.std.specs.Prelude.{vec_len}
 use Rattle.judge_search.specs.Configurations.{answered}
 use Rattle.judge_search.specs.Views.{TellsLeft}
-use Rattle.judge_search.specs.Searching.{IsUndecided}
+use Rattle.judge_search.specs.Searching.{HasRun, IsUndecided}
 use Rattle.judge_search.specs.Walking.{CompletesBy, StaysWithin, StepsTo, Walks}
 use Rattle.judge_search.proofs.Placing.{distinct_none}
 use Rattle.std.proofs.lemmas.List.Elements.{All-nil}
-use Rattle.judge_search.proofs.Walking.{starts, no_calls, undecided}
+use Rattle.judge_search.proofs.Walking.{starts, no_calls, undecided, has_run}
 use Rattle.judge_search.proofs.walk.find_order.Goals as goal
 
 pub returns-then-is_done : goal.returns-then-is_done
 returns-then-is_done g c =
     let views = g.W.World.view c.args.ground.now in
     let start = views.at c.args.start in
-    subst (CompletesBy (g.W.Of.Object.rules) views start) (sym c.new.ensures.items) (record {
-      completes = no_calls (g.W.Of.Object.rules) start (subst
-          (TellsLeft (answered start.rest)) c.if-is_done.true c.is_done.ensures.left);
-      distinct = distinct_none;
-      within = All-nil (λ p. p < views.count);
-    })
+    record {
+      within = omega arith;
+      run = tt;
+      finds = subst (CompletesBy (g.W.Of.Object.rules) views start) (sym c.new.ensures.items) (record {
+        completes = no_calls (g.W.Of.Object.rules) start (subst
+            (TellsLeft (answered start.rest)) c.if-is_done.true c.is_done.ensures.left);
+        distinct = distinct_none;
+        within = All-nil (λ p. p < views.count);
+      });
+      spent = λ none. absurd none;
+    }
 
 pub walk-init : goal.walk-init
 walk-init g c =
@@ -36,15 +41,27 @@ pub returns-in-Found : goal.returns-in-Found
 returns-in-Found g c =
     let views = g.W.World.view c.args.ground.now in
     let start = views.at c.args.start in
-    subst (StepsTo (g.W.Of.Object.rules) views start (suc c.walk.made)) c.in-Found.is
-    (c.in_ok-next.ensures.steps start c.walk.made c.walk.invariant.1)
+    record {
+      within = let t = c.walk-test.true in omega arith;
+      run = subst (λ n. HasRun (g.W.Of.Object.rules) n start) (sym (add-one c.walk.made))
+          (_, _, c.walk.invariant.1.made);
+      finds = subst (StepsTo (g.W.Of.Object.rules) views start (suc c.walk.made)) c.in-Found.is
+          (c.in_ok-next.ensures.steps start c.walk.made c.walk.invariant.1);
+      spent = λ none. absurd none;
+    }
 
 pub returns-in-NoOrder : goal.returns-in-NoOrder
 returns-in-NoOrder g c =
     let views = g.W.World.view c.args.ground.now in
     let start = views.at c.args.start in
-    subst (StepsTo (g.W.Of.Object.rules) views start (suc c.walk.made)) c.in-NoOrder.is
-    (c.in_ok-next.ensures.steps start c.walk.made c.walk.invariant.1)
+    record {
+      within = let t = c.walk-test.true in omega arith;
+      run = subst (λ n. HasRun (g.W.Of.Object.rules) n start) (sym (add-one c.walk.made))
+          (_, _, c.walk.invariant.1.made);
+      finds = subst (StepsTo (g.W.Of.Object.rules) views start (suc c.walk.made)) c.in-NoOrder.is
+          (c.in_ok-next.ensures.steps start c.walk.made c.walk.invariant.1);
+      spent = λ none. absurd none;
+    }
 
 pub walk-preserved : goal.walk-preserved
 walk-preserved g c =
@@ -61,7 +78,14 @@ returns g c =
     let views = g.W.World.view c.args.ground.now in
     let start = views.at c.args.start in
     let walk = c.walk.walk in
-    subst (λ n. IsUndecided (g.W.Of.Object.rules) start n c.most_of.result) (omega arith)
-    (undecided (g.W.Of.Object.rules) views start c.walk.made walk
-    (views.tries walk.world walk.next) c.most_of.result c.walk.invariant.1
-    c.most_of.ensures)
+    let all : c.walk.made ≡ c.args.steps = omega arith in
+    record {
+      within = omega arith;
+      run = subst (λ n. HasRun (g.W.Of.Object.rules) n start) all
+          (has_run (g.W.Of.Object.rules) c.walk.made start _ _ c.walk.invariant.1.made);
+      finds = subst (λ n. IsUndecided (g.W.Of.Object.rules) start n c.most_of.result) all
+          (undecided (g.W.Of.Object.rules) views start c.walk.made walk
+          (views.tries walk.world walk.next) c.most_of.result c.walk.invariant.1
+          c.most_of.ensures);
+      spent = λ none. refl;
+    }

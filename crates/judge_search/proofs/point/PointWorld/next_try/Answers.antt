@@ -9,10 +9,7 @@ returns g c =
     let self = c.args.self.now in
     let calls = c.args.calls.now in
     told_next (g.M.Object.rules) calls self c.args.from c.next_call.result
-    (subst (λ ls. TellsTry (g.M.Object.rules) (is_made self.low self.beyond.items)
-    (calls_of ls) c.args.from c.next_call.result)
-    c.as_slice-2.ensures
     (subst (λ b. TellsTry (g.M.Object.rules) (is_made self.low b)
-    (calls_of c.as_slice-2.result.now) c.args.from c.next_call.result)
-    c.as_slice.ensures.value c.next_call.ensures.next))
+    (calls_of calls.lines.items) c.args.from c.next_call.result)
+    c.as_slice.ensures.value c.next_call.ensures.next)
     c.next_call.ensures.small
