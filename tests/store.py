@@ -1,8 +1,9 @@
 #!/usr/bin/env python3
 """Draws 2,000 small histories of a key-value store, some with damaged lines, pending calls and equal times,
 and compares the verdicts of the program kv_judge with those of a search that tries every order. Then gives it
-hostile input: a history cut at each byte, keys of all bytes, values of 1 MiB, a million keys, too little memory. Its
-argument is the program vacation, beside whose crate that of kv_judge stands; with none it is the one that the last
+hostile input: a history cut at each byte, keys of all bytes, values of 1 MiB, a million keys and words, bytes that are
+no text, too little memory, an input that cannot be read, an output that cannot be written, more steps than there are.
+Its argument is the program vacation, beside whose crate that of kv_judge stands; with none it is the one that the last
 build left."""
 
 import os
@@ -23,6 +24,8 @@ TRANSACTIONS = {b"txn", b"txn-get"}
 BYTES = [b"", b"a", b"b", b"a>b", b"->", b"-", b" ", b'"', b"%", b"\n\x00\xff", b"1", b"007", b"18446744073709551615"]
 # What a transaction leaves as it is.
 KEEP = object()
+# The status by the first word of a verdict, and that after a fault of a stream or of memory.
+STATUSES, STOPPED = {b"legal": 0, b"illegal": 1, b"fault": 1, b"undecided": 3, b"touching": 3}, 2
 # What the program may take beside the text and for each call, in bytes.
 MOST_BESIDE, MOST_EACH = 64 << 20, 512
 
@@ -176,7 +179,7 @@ def expected_of(text):
     for key in keys:
         if not has_order([call for call in calls if call[3][1] == key]):
             return b"illegal part " + quoted(key), calls
-    if touches:
+    if touches and len(keys) > 1:
         return b"touching", None
     clients = len({call[0] for call in calls})
     return b"legal calls=%d clients=%d objects=%d" % (len(calls), clients, len(keys)), None
@@ -248,12 +251,17 @@ def damaged(random, text):
     ])
 
 
+def status_of(verdict):
+    """The status of the program after a verdict."""
+    return STATUSES[verdict.split(b"\n")[0].split(b" ")[0]]
+
+
 def is_right(program, text):
     """Whether the program's verdict on a text is the expected one. Returns that and the verdict."""
     want, calls = expected_of(text)
     done = subprocess.run([program], input=text, capture_output=True, timeout=60, check=False)
     lines = done.stdout.split(b"\n")[:-1]
-    if not lines or done.returncode != (0 if want.startswith(b"legal") else 1):
+    if not lines or done.returncode != status_of(want):
         return False, want, done.stdout
     if calls is None:
         return lines == [want], want, done.stdout
@@ -279,7 +287,7 @@ def is_told(program, name, text, want):
     # A child's memory is counted from that of its parent on.
     most = resource.getrusage(resource.RUSAGE_SELF).ru_maxrss * 1024 + 3 * len(text) + MOST_BESIDE
     most += MOST_EACH * text.count(b"\n")
-    if got == want and status == (0 if want.startswith(b"legal") else 1) and memory < most:
+    if got == want and status == status_of(want) and memory < most:
         return True
     print(f"store: {name}: expected {want[:80]!r}, got {got[:80]!r}, status {status}, {memory} bytes of {most}")
     return False
@@ -308,12 +316,19 @@ def bears_size(program):
     values = b'0 0 1 put "k" %s -> ok\n0 2 3 cas "k" %s "" -> true\n1 4 5 get "k" -> ' % (large, large)
     many = 1_000_000
     lines = b"".join(b'%d %d %d put "%x" "v" -> ok\n' % (place % 64, place, place, place) for place in range(many))
+    hundreds = b"".join(b'%d 0 1 get "%d" -> -\n' % (place, place % 100) for place in range(100_000))
     return all((
         is_told(program, "keys of all bytes", keys, b"legal calls=256 clients=1 objects=256\n"),
         is_told(program, "values of 1 MiB", values + b'""\n', b"legal calls=3 clients=2 objects=1\n"),
         is_told(program, "a wrong value of 1 MiB", values + large + b"\n", b'illegal part 3 "k"\nstuck 3 ""\n'),
         is_told(program, "a long word that is none", values + large[:-1] + b"\n", b"fault bad-reply 3\n"),
         is_told(program, "a million keys", lines, b"legal calls=%d clients=64 objects=%d\n" % (many, many)),
+        is_told(program, "100,000 clients", hundreds, b"legal calls=100000 clients=100000 objects=100\n"),
+        is_told(program, "a million words", b"0 0 1 get" + b" x" * many + b" -> -\n", b"fault bad-operation 1\n"),
+        is_told(program, "a million empty lines", b"\n" * many, b"fault bad-call 1\n"),
+        is_told(program, "each byte as a line", b"\n".join(bytes([byte]) for byte in each), b"fault bad-call 1\n"),
+        is_told(program, "no line", b"", b"legal calls=0 clients=0 objects=0\n"),
+        is_told(program, "a last line of a zero byte", keys + b"\0", b"fault bad-call 257\n"),
     ))
 
 
@@ -324,13 +339,36 @@ def bears_refusals(program):
     for mebibytes in (4, 8, 16, 24, 32, 64):
         done = subprocess.run(["bash", "-c", 'ulimit -v "$1"; exec "$0"', program, str(mebibytes << 10)], input=text,
                               capture_output=True, check=False)
-        if (done.stdout, done.returncode) not in ((right, 0), (b"", 2)):
+        if (done.stdout, done.returncode) not in ((right, 0), (b"fault memory\n", STOPPED)):
             print(f"store: with {mebibytes} MiB: status {done.returncode}, {done.stdout!r} {done.stderr!r}")
             return False
         told.add(done.returncode)
-    if told != {0, 2}:
+    if told != {0, STOPPED}:
         print(f"store: all limits of memory ended in status {told}")
-    return told == {0, 2}
+    return told == {0, STOPPED}
+
+
+def bears_streams(program):
+    """Whether an input that cannot be read is a named fault, and an output that cannot be written has its status."""
+    text = b'0 0 1 put "a" "b" -> ok\n'
+    unread = subprocess.run(["bash", "-c", 'exec "$0" < /', program], capture_output=True, check=False)
+    unwritten = subprocess.run(["bash", "-c", 'exec "$0" > /dev/full', program], input=text, capture_output=True,
+                               check=False)
+    right = (unread.stdout, unread.returncode, unwritten.returncode) == (b"fault read\n", STOPPED, STOPPED)
+    if not right:
+        print(f"store: {unread.stdout!r}, status {unread.returncode}, and status {unwritten.returncode}")
+    return right
+
+
+def bears_long_searches(program):
+    """Whether a search that needs more steps than there are is undecided, with a status of its own."""
+    calls = [b'%d 0 9 append "k" "%x" -> ok\n' % (client, client) for client in range(16)]
+    text = b"".join(calls) + b'16 10 11 get "k" -> "none"\n'
+    got, status, _ = told_of(program, text)
+    if (got, status) != (b"undecided 16\n", STATUSES[b"undecided"]):
+        print(f"store: a long search: {got!r}, status {status}")
+        return False
+    return True
 
 
 def main():
@@ -360,9 +398,11 @@ def main():
     if wanted - set(kinds):
         print(f"store: never drawn: {wanted - set(kinds)}")
         return 1
-    if not (bears_cuts(program) and bears_size(program) and bears_refusals(program)):
+    bears = (bears_cuts, bears_size, bears_refusals, bears_streams, bears_long_searches)
+    if not all(one(program) for one in bears):
         return 1
-    print("store: verdicts on cut, long and many words are right, also with little memory")
+    print("store: verdicts on cut, long and many words are right, also with little memory and few steps; streams that "
+          "fail are named")
     return 0
 
 

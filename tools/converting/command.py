@@ -15,12 +15,13 @@ from .jepsen import jepsen_calls
 from .jsonlines import json_calls, porcupine_calls
 
 ROOT = Path(__file__).resolve().parent.parent.parent
-LEGAL, NOT_LEGAL, BROKEN = 0, 1, 2
+LEGAL, NOT_LEGAL, BROKEN, UNDECIDED = 0, 1, 2, 3
 FORMATS = {"jepsen": jepsen_calls, "json": json_calls, "porcupine": porcupine_calls}
 DESCRIPTION = """Turns a foreign history of a key-value store into the lines that the program kv_judge reads. What was
 counted, skipped and assumed stands on standard error."""
 STATUSES = """Status: 0 if all was converted (with --judge: if the history is legal), 1 if a line of the file is a fault
-(with --judge: for any other verdict), 2 if the command line was refused, or a file or the judge failed."""
+(with --judge: if the history is not legal), 2 if the command line was refused, or a file or the judge failed,
+3 if the judge found neither."""
 
 
 class NoProgram(Exception):
@@ -113,8 +114,9 @@ def judge(options: argparse.Namespace, calls: list[Call]) -> int:
     text = "".join(line_of(call) + "\n" for call in calls)
     done = subprocess.run([find_program(options.program)], input=text.encode("ascii"), stdout=subprocess.PIPE,
                           check=False)
-    if not done.stdout:
-        raise NoProgram(f"the judge gave no verdict (status {done.returncode})")
+    if done.returncode not in (LEGAL, NOT_LEGAL, UNDECIDED):
+        told = done.stdout.decode("ascii").strip() or f"status {done.returncode}"
+        raise NoProgram(f"the judge gave no verdict ({told})")
     verdict, began = translated(done.stdout.decode("ascii"), calls)
     for one in began:
         print(f"convert: {one}", file=sys.stderr)

@@ -1,6 +1,6 @@
 -- A verdict decides whether a text is legal.
-use Rattle.std.proofs.Common.{◌≡◌, ℕ, ◌<◌, ◌≤◌, ◌==◌, ◌&&◌, ◌||◌, suc, zero, Bool, true, false, None, Result, Ok, Err}
-use Rattle.std.proofs.Common.{List, [], ◌∷◌, length, take, get_or, refl, sym, ap, ◌∙◌, subst, arith, nat_lt, inl, inr}
+use Rattle.std.proofs.Common.{◌≡◌, ℕ, ◌<◌, ◌≤◌, ◌==◌, ◌&&◌, ◌||◌, suc, zero, Bool, true, false, Result, Ok, Err}
+use Rattle.std.proofs.Common.{List, [], ◌∷◌, length, take, get_or, sym, ap, ◌∙◌, subst, arith, nat_lt, inl, inr}
 use Rattle.std.specs.List.{list_any}
 use Rattle.std.proofs.lemmas.Bool.Decides.{nat_tests}
 use Rattle.judge_object.specs.Rules.{Rules}
@@ -8,16 +8,16 @@ use Rattle.judge_object.specs.Call.{Call, EachCall, IsBehind}
 use Rattle.judge_object.specs.Orders.{IsLinearizable}
 use Rattle.judge_search.specs.Calls.{calls_of}
 use Rattle.judge_search.specs.Walk.{InTurn}
-use Rattle.judge_search.proofs.Each.{Test, test}
+use Rattle.judge_search.proofs.Each.{test}
 use Rattle.judge_many.specs.Many.{many}
 use Rattle.judge_many.specs.Turns.{call_breaks_client, calls_overlap, IsFirstOutOfTurn}
 use Rattle.judge_many.specs.declared.judging.Verdict.{Verdict}
 use Rattle.judge_many.specs.declared.judging.Verdict.TheVariants as verdict
-use Rattle.judge_text.specs.declared.judging.Counts.{Counts}
+use Rattle.judge_text.specs.declared.counting.Counts.{Counts}
 use Rattle.judge_text.specs.declared.judging.TextVerdict.TheVariants.{Judged}
 use Rattle.judge_text.specs.Language.{Language}
 use Rattle.judge_text.specs.Reading.{LineFault, text_calls}
-use Rattle.judge_text.specs.Judging.{IsLegalText, IsJudgedText, DecidesLegal}
+use Rattle.judge_text.specs.Judging.{IsJudgedText, DecidesLegal}
 
 not_less : (x y : ℕ) → y ≤ x → nat_lt x y ≡ false
 not_less x y l = grind (arith, nat_tests)
@@ -70,7 +70,7 @@ module _ {S O R : Type 0} (X : Rules S O R) (name : O → List ℕ) (L : Languag
   same text a b e f = ap calls_in (sym e ∙ f)
 
   pub judged_decides : (s : S) (text : List ℕ) (steps : ℕ) (counts : Counts) (v : Verdict O S) →
-      IsJudgedText X name L s text steps v → DecidesLegal X name L s text (Judged counts v)
+      IsJudgedText X name L s text steps counts v → DecidesLegal X name L s text (Judged counts v)
   judged_decides s text steps counts (verdict.OutOfTurn place) j = λ legal.
       out_of_turn (calls_of j.lines) place j.judged (subst InTurn
       (same text legal.calls (calls_of j.lines) legal.are j.are) legal.turn)

@@ -1,12 +1,12 @@
 -- Quoted words are read back.
-use Rattle.std.proofs.Common.{◌≡◌, ◌≢◌, ℕ, ◌+◌, ◌-◌, ◌*◌, ◌/◌, ◌%◌, ◌<◌, ◌≤◌, ◌&&◌, ◌==◌, suc, zero, Bool, true, false}
-use Rattle.std.proofs.Common.{not, cond, Option, Some, None, List, [], ◌∷◌, ◌++◌, length, take, drop, get_or, refl, sym}
-use Rattle.std.proofs.Common.{ap, ◌∙◌, subst, arith, append_assoc, append-nil, inl, inr, nat_lt}
+use Rattle.std.proofs.Common.{◌≡◌, ◌≢◌, ℕ, ◌+◌, ◌-◌, ◌/◌, ◌%◌, ◌<◌, ◌≤◌, ◌&&◌, ◌==◌, suc, zero, Bool, true, false}
+use Rattle.std.proofs.Common.{not, cond, Option, Some, None, List, [], ◌∷◌, ◌++◌, length, drop, get_or, refl, sym}
+use Rattle.std.proofs.Common.{ap, ◌∙◌, arith, append_assoc, append-nil, inl, inr, nat_lt}
 use Rattle.std.specs.Prelude.{All, flat_map, ◌⊎◌}
 use Rattle.std.proofs.lemmas.List.{drop_more}
 use Rattle.std.proofs.lemmas.Bool.Decides.{nat_tests}
-use Rattle.judge_text.specs.Quoting.{is_plain, hex_digit, hex_value, escaped, quoted, behind, behind_digits, IsPair}
-use Rattle.judge_text.specs.Quoting.{IsNoPair, unescaped, unquoted}
+use Rattle.judge_text.specs.Quoting.{is_plain, hex_digit, hex_value, escaped, behind, behind_digits, IsPair}
+use Rattle.judge_text.specs.Quoting.{IsNoPair, unescaped}
 
 -- bytes behind bytes
 pub behind_more : (a b : List ℕ) (o : Option (List ℕ)) → behind a (behind b o) ≡ behind (a ++ b) o

@@ -1,5 +1,5 @@
 -- The words of a line, as a function takes them.
-use Rattle.std.proofs.Common.{◌≡◌, ℕ, ◌-◌, ◌<◌, ◌≤◌, suc, zero, List, [], ◌∷◌, length, take, drop, get_or, map, refl}
+use Rattle.std.proofs.Common.{◌≡◌, ℕ, ◌-◌, ◌<◌, suc, zero, List, [], ◌∷◌, length, take, drop, get_or, refl}
 use Rattle.std.proofs.Common.{ap, ◌∙◌, sym, arith, Bor}
 use Rattle.std.proofs.lemmas.List.{take-map, length-map}
 use Rattle.vac_lines.specs.Lines.{texts}

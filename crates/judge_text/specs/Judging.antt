@@ -10,9 +10,11 @@ use Rattle.judge_many.specs.declared.judging.Verdict.{Verdict}
 use Rattle.judge_many.specs.declared.judging.Verdict.TheVariants as verdict
 use Rattle.judge_many.specs.Many.{many}
 use Rattle.judge_many.specs.Verdict.{IsVerdictOn}
+use Rattle.judge_text.specs.declared.counting.Counts.{Counts}
 use Rattle.judge_text.specs.declared.judging.TextVerdict.{TextVerdict}
 use Rattle.judge_text.specs.declared.judging.TextVerdict.TheVariants.{Fault, Judged}
 use Rattle.judge_text.specs.Language.{Language}
+use Rattle.judge_text.specs.Counting.{counts_of}
 use Rattle.judge_text.specs.Reading.{text_calls, AreNumbered}
 
 module _ {S O R : Type 0} (X : Rules S O R) (name : O → List ℕ) (L : Language O R) where
@@ -24,17 +26,19 @@ module _ {S O R : Type 0} (X : Rules S O R) (name : O → List ℕ) (L : Languag
     pub turn : InTurn calls
     pub order : IsLinearizable (many X name) (λ k. s) calls
 
-  -- the verdict is on the calls of the lines, which are numbered from 1
-  pub record IsJudgedText (s : S) (text : List ℕ) (steps : ℕ) (v : Verdict O S) : Type 0 where
+  -- the counts and the verdict are those of the calls of the lines, which are numbered from 1
+  pub record IsJudgedText (s : S) (text : List ℕ) (steps : ℕ) (counts : Counts) (v : Verdict O S) :
+      Type 0 where
     pub lines : List (Line O)
     pub are : text_calls X L text ≡ Ok (calls_of lines)
     pub numbered : AreNumbered 1 lines
+    pub counted : counts ≡ counts_of name (calls_of lines)
     pub judged : IsVerdictOn X name s steps lines v
 
   -- what a verdict says of a text
   abbrev pub IsVerdictOnText : S → List ℕ → ℕ → TextVerdict O S → Type 0
   IsVerdictOnText s text steps (Fault number fault) = text_calls X L text ≡ Err (number, fault)
-  IsVerdictOnText s text steps (Judged counts v) = IsJudgedText s text steps v
+  IsVerdictOnText s text steps (Judged counts v) = IsJudgedText s text steps counts v
 
   -- a text is legal, or not, if the verdict says so
   abbrev pub DecidesLegal : S → List ℕ → TextVerdict O S → Type 0

@@ -3,4 +3,7 @@ pub mod Language
 pub mod Faults
 pub mod Lines
 pub mod Reading
+pub mod Counting
 pub mod Judging
+pub mod Texts
+pub mod Program

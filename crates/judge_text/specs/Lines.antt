@@ -1,6 +1,6 @@
 -- Which call a line stands for: CLIENT BEGIN END OPERATION -> REPLY, or for a pending call
 -- CLIENT BEGIN - OPERATION -> ?. Words are cut at every single space.
-use Rattle.std.specs.Prelude.{ℕ, ◌-◌, Bool, Option, Some, None, Result, Ok, Err, List, [], length, take, drop, get_or, nat_lt, codes, if◌then◌else◌}
+use Rattle.std.specs.Prelude.{ℕ, ◌-◌, Option, Some, None, Result, Ok, Err, List, [], length, take, drop, get_or, nat_lt, codes, if◌then◌else◌}
 use Rattle.std.specs.Str.{bytes_eq}
 use Rattle.vac_lines.specs.Lines.{words_of}
 use Rattle.vac_lines.specs.Words.{memory_word_of}

@@ -2,6 +2,7 @@
 //! their verdicts.
 #![tactic(auto)]
 
+mod counting;
 mod fault;
 mod history;
 mod judging;
@@ -13,10 +14,12 @@ mod verdict;
 mod worded;
 mod words;
 
+pub use counting::Counts;
 pub use fault::CallFault;
 pub use history::{Reading, read_history};
-pub use judging::{Counts, TextVerdict, judge_text};
+pub use judging::{TextVerdict, judge_text};
 pub use laws::quotes_are_read;
-pub use program::judge_input;
+pub use program::{STEPS, judge_history, judge_input};
 pub use quoting::{print_quoted, read_quoted};
+pub use verdict::Outcome;
 pub use worded::Worded;

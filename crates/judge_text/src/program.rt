@@ -1,79 +1,154 @@
-//! The program that judges a history, for any object.
+//! Judging a history that is read, for any object.
 
-use crate::judging::{TextVerdict, judge_text};
-use crate::verdict::{print_fault, print_verdict};
+ghost use Rattle.std.specs.Prelude.{◌≡◌, ◌≢◌, IfOk, IfErr};
+ghost use Rattle.vac_lines.specs.Writing.{AppendsPrefix};
+ghost use Rattle.judge_text.specs.Program as spec;
+ghost use Rattle.judge_text.specs.Program.{HasRead, JudgesText, HasJudged, HasStopped, HasEnded};
+
+use crate::judging::judge_text;
+use crate::verdict::{Outcome, print_verdict};
 use crate::worded::Worded;
 use std::alloc::{AllocError, Global};
 use std::io::{ErrorKind, Read, Write};
 use vac_lines::{CHUNK_BYTES, MOST_READS, write_and_flush};
+use vac_streams::StreamFault;
 
-/// Most steps of the search among the calls of one object.
-const STEPS: u64 = 10_000_000;
+/// Most steps that [`judge_input`] lets the search make.
+pub const STEPS: u64 = 10_000_000;
 
-/// Exit status of a legal history.
+/// Status of a program whose history is legal.
 const LEGAL: u8 = 0;
 
-/// Exit status of any other verdict.
-const NOT_LEGAL: u8 = 1;
+/// Status of a program whose history is not legal.
+const ILLEGAL: u8 = 1;
 
-/// Exit status if the input could not be read, the output not written, or memory was refused.
-const BROKEN: u8 = 2;
+/// Status of a program that was stopped by a fault.
+const STOPPED: u8 = 2;
 
-/// Reads all bytes of the input, or `None` if it could not be read to its end.
-fn read_all<R: Read>(alloc: Global, input: &mut R) -> Result<Option<Vec<u8>>, AllocError> {
+/// Status of a program that did not decide.
+const UNDECIDED: u8 = 3;
+
+/// Reads all bytes of the input. An interrupted read is retried.
+///
+/// # Errors
+/// Returns `Read` if a read failed; `Bound` if the input did not end within `MOST_READS` reads;
+/// `Memory` if memory was refused.
+///
+/// Not said: which of these faults it is.
+fn read_all<R: Read>(alloc: Global, input: &mut R) -> Result<Vec<u8>, StreamFault>
+    ensures ok { IfOk result (λ text.
+        HasRead (R.remaining input.old) (R.remaining input.new) text.items) }
+    ensures err { IfErr result (λ fault. fault ≢ StreamFault.Write) }
+{
     let mut text = Vec::new(alloc);
     let mut buffer = vec![in alloc; 0; CHUNK_BYTES]?;
     let chunk = buffer.as_mut_slice();
-    for _ in 0..MOST_READS {
+    'reads: for _ in 0..MOST_READS {
         match input.read(chunk) {
-            Ok(0) => return Ok(Some(text)),
+            Ok(0) => return Ok(text),
             Ok(count) => text.extend_from_slice(&chunk[..count])?,
             Err(error) => {
                 if error.kind() != ErrorKind::Interrupted {
-                    return Ok(None);
+                    return Err(StreamFault::Read);
                 }
             }
         }
     }
-    Ok(None)
+    Err(StreamFault::Bound)
 }
 
-/// Returns the text of the verdict on a history, and whether it is legal.
-fn judge<M: Worded + Drop>(
+/// Judges a text, and returns the kind and the text of the verdict.
+fn find_text<M: Worded + Drop>(
     alloc: Global,
     machine: &M,
+    steps: u64,
     text: &[u8],
-) -> Result<(Vec<u8>, bool), AllocError> {
-    let mut out = Vec::new(alloc);
-    match judge_text(alloc, text, machine, STEPS, &mut ())? {
-        TextVerdict::Fault(number, fault) => {
-            print_fault(number, fault, &mut out)?;
-            Ok((out, false))
-        }
-        TextVerdict::Judged(counts, verdict) => {
-            let is_legal = print_verdict::<M>(alloc, counts, &verdict, &mut out)?;
-            Ok((out, is_legal))
-        }
+) -> Result<(Outcome, Vec<u8>), AllocError>
+    ensures { IfOk result (λ found. JudgesText M.rules M.name M.language machine.now steps text.now
+        found.0 found.1.items) }
+{
+    let verdict = judge_text(alloc, text, machine, steps, &mut ())?;
+    print_verdict::<M>(alloc, &verdict)
+}
+
+/// Reads the input to its end, judges it as a history of objects, each of which begins in the state
+/// of a machine, in at most `steps` steps, and writes the text of the verdict. Returns its kind.
+///
+/// After a fault of the output a prefix of the text was written, after any other fault nothing.
+pub fn judge_history<M: Worded + Drop, R: Read, W: Write>(
+    alloc: Global,
+    machine: &M,
+    steps: u64,
+    input: &mut R,
+    output: &mut W,
+) -> Result<Outcome, StreamFault>
+    ensures ok { IfOk result (λ outcome.
+        HasJudged M.rules M.name M.language machine.now steps outcome
+        (R.remaining input.old) (R.remaining input.new)
+        (W.contents output.old) (W.contents output.new)) }
+    ensures err { IfErr result (λ fault.
+        HasStopped M.rules M.name M.language machine.now steps fault
+        (R.remaining input.old) (R.remaining input.new)
+        (W.contents output.old) (W.contents output.new)) }
+{
+    let bytes = read_all(alloc, input)?;
+    let (outcome, text) = find_text(alloc, machine, steps, bytes.as_slice())?;
+    write_and_flush(output, text.as_slice())?;
+    Ok(outcome)
+}
+
+/// Returns the status of a program after a verdict.
+fn status_of(outcome: Outcome) -> u8
+    ensures { result ≡ spec.status_of outcome }
+{
+    match outcome {
+        Outcome::Legal => LEGAL,
+        Outcome::Illegal => ILLEGAL,
+        Outcome::Undecided => UNDECIDED,
     }
 }
 
-/// Judges the input as a history of objects, each of which begins in the state of a machine, and
-/// writes the verdict. Returns the exit status: 0 if the history is legal, 1 for any other verdict,
-/// 2 if the input could not be read, the output not written, or memory was refused.
+/// Returns the last line of a program that was stopped by a fault; there is none if the output
+/// failed.
+fn fault_line(fault: StreamFault) -> &'static [u8]
+    ensures { result.now ≡ spec.fault_line fault }
+{
+    match fault {
+        StreamFault::Read => b"fault read\n",
+        StreamFault::Write => b"",
+        StreamFault::Memory => b"fault memory\n",
+        StreamFault::Bound => b"fault bound\n",
+    }
+}
+
+/// Writes the last line of a program that was stopped by a fault. A failed write changes nothing.
+#[tactic(auto, using(crate::proofs::Ending::either_way))]
+fn write_fault<W: Write>(fault: StreamFault, output: &mut W)
+    ensures { AppendsPrefix (W.contents output.old) (W.contents output.new)
+        (spec.fault_line fault) }
+{
+    let _ = write_and_flush(output, fault_line(fault));
+}
+
+/// Judges the input as a history of objects, each of which begins in the state of a machine, in at
+/// most [`STEPS`] steps, and writes the text of the verdict, or after a fault its line. Returns the
+/// status of a program: 0 if the history is legal, 1 if it is not, 2 after a fault, 3 if neither is
+/// known.
 pub fn judge_input<M: Worded + Drop, R: Read, W: Write>(
     alloc: Global,
     machine: &M,
     input: &mut R,
     output: &mut W,
-) -> u8 {
-    let Ok(Some(text)) = read_all(alloc, input) else {
-        return BROKEN;
-    };
-    let Ok((verdict, is_legal)) = judge(alloc, machine, text.as_slice()) else {
-        return BROKEN;
-    };
-    if write_and_flush(output, verdict.as_slice()).is_err() {
-        return BROKEN;
+) -> u8
+    ensures { HasEnded M.rules M.name M.language machine.now STEPS result
+        (R.remaining input.old) (R.remaining input.new)
+        (W.contents output.old) (W.contents output.new) }
+{
+    match judge_history(alloc, machine, STEPS, input, output) {
+        Ok(outcome) => status_of(outcome),
+        Err(fault) => {
+            write_fault(fault, output);
+            STOPPED
+        }
     }
-    if is_legal { LEGAL } else { NOT_LEGAL }
 }

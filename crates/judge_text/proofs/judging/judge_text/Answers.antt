@@ -1,5 +1,6 @@
 use Rattle.std.proofs.Common.{subst}
 use Rattle.judge_text.specs.Reading.{IsReadingOf}
+use Rattle.judge_text.proofs.Counted.{counted_lines}
 use Rattle.judge_text.proofs.Legal.{judged_decides}
 use Rattle.judge_text.proofs.judging.judge_text.Goals as goal
 
@@ -16,5 +17,7 @@ returns-in_ok-verdict-in-History-clause-legal g c =
       lines = c.in-History.lines.items;
       are = read.0;
       numbered = read.1;
+      counted = counted_lines name c.in_ok-counts-in-History.counts c.as_slice.result.now
+          c.in-History.lines.items c.in_ok-counts-in-History.ensures c.as_slice.ensures.value;
       judged = c.in_ok-verdict-in-History.ensures;
     })

@@ -1,4 +1,4 @@
-use Rattle.std.proofs.Common.{ℕ, List, ◌≡◌, ◌-◌, ◌<◌, length, get_or, [], sym, ap, ◌∙◌, subst, arith, Bor}
+use Rattle.std.proofs.Common.{ℕ, List, ◌≡◌, ◌-◌, length, get_or, [], sym, ap, ◌∙◌, subst, arith, Bor}
 use Rattle.std.specs.Prelude.{IfOk}
 use Rattle.vac_lines.specs.Lines.{texts}
 use Rattle.judge_text.specs.Lines.{word_at, words_span, word_reply, operation_words, parts_call}

@@ -1,11 +1,11 @@
-use Rattle.std.proofs.Common.{ℕ, List, ◌≡◌, ◌-◌, ◌<◌, cond, length, get_or, [], Bool, true, false, not, Err, sym, ap}
-use Rattle.std.proofs.Common.{◌∙◌, subst, arith, nat_lt, Bor, refl}
+use Rattle.std.proofs.Common.{ℕ, List, ◌≡◌, ◌-◌, cond, length, [], true, false, Err, sym, ap}
+use Rattle.std.proofs.Common.{◌∙◌, subst, arith, nat_lt, Bor}
 use Rattle.std.specs.Prelude.{IfOk, codes}
 use Rattle.std.specs.Str.{bytes_eq}
 use Rattle.std.proofs.lemmas.Bool.Decides.{nat_tests}
 use Rattle.vac_lines.specs.Lines.{texts}
 use Rattle.judge_text.specs.declared.fault.CallFault.TheVariants.{BadCall}
-use Rattle.judge_text.specs.Lines.{word_at, arrow_call, words_call}
+use Rattle.judge_text.specs.Lines.{word_at, arrow_call}
 use Rattle.judge_text.specs.Reading.{IsReadLine}
 use Rattle.judge_text.proofs.WordPlaces.{word_now, long}
 use Rattle.judge_text.proofs.line.read_words.Goals as goal

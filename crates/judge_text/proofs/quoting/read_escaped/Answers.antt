@@ -1,4 +1,4 @@
-use Rattle.std.proofs.Common.{◌≡◌, ◌<◌, ◌≤◌, ◌+◌, ◌-◌, ◌++◌, ◌∷◌, [], length, get_or, sym, ◌∙◌, subst, inl, inr, arith}
+use Rattle.std.proofs.Common.{◌<◌, ◌+◌, length, get_or, sym, ◌∙◌, subst, inl, inr, arith}
 use Rattle.judge_text.proofs.Quotes.{IsReadTo, own, is_37, go_plain, go_pair, other}
 use Rattle.judge_text.proofs.quoting.read_escaped.Goals as goal
 use Rattle.judge_text.proofs.quoting.read_escaped.Goals.{else-byte-eq37-via-then-byte-eq37+else-text-at-ge3}

@@ -1,4 +1,4 @@
-use Rattle.std.proofs.Common.{length, ◌-◌, ◌≤◌}
+use Rattle.std.proofs.Common.{length, ◌-◌}
 use Rattle.judge_text.proofs.Quotes.{IsReadTo}
 use Rattle.judge_text.proofs.quoting.read_escaped.Given as goal
 
