@@ -1,5 +1,6 @@
 """The nodes of a database in a run: their folders, processes and links."""
 
+import fcntl
 import os
 import shutil
 import subprocess
@@ -13,8 +14,8 @@ from harness.outcomes import CutShort, Damaged
 from harness.processes import as_user, family, give, go_on, kill, run_as, wait_until
 
 # How long a node may take to accept clients, and nodes to find each other, in seconds.
-START_PATIENCE = 60.0
-SETTLE_PATIENCE = 30.0
+START_PATIENCE = 120.0
+SETTLE_PATIENCE = 60.0
 # Ports of node 0, within a network that only this run has. The next node has the next ten.
 FIRST_PORT = 7000
 PEER = 1
@@ -162,12 +163,16 @@ class Cluster:
 
     def _install(self, node: Node) -> None:
         """Fills a data folder, from the template of an earlier run if there is one."""
-        template = self._templates / type(self.database).__module__
-        if not template.exists():
-            self.database.install(node)
-            run_as(None, ["cp", "-a", str(node.folder), str(template)], START_PATIENCE)
-        else:
-            run_as(None, ["cp", "-a", f"{template}/.", str(node.folder)], START_PATIENCE)
+        name = type(self.database).__module__
+        template, part = self._templates / name, self._templates / f"{name}.part"
+        with open(self._templates / f"{name}.lock", "wb") as lock:
+            fcntl.flock(lock, fcntl.LOCK_EX)  # a run beside this one may be making the template
+            if not template.exists():
+                self.database.install(node)
+                run_as(None, ["cp", "-aT", str(node.folder), str(part)], START_PATIENCE)
+                part.rename(template)
+                return
+        run_as(None, ["cp", "-aT", str(template), str(node.folder)], START_PATIENCE)
 
     def _add_standby(self, number: int) -> None:
         """Starts a standby, which finds its primary through a proxy."""

@@ -20,8 +20,8 @@ from harness.sessions import Session, open_session
 from harness.tasks import is_read
 
 # How long the clients may take to connect before the run, and to end after it, in seconds.
-CONNECT_PATIENCE = 90.0
-END_PATIENCE = 60.0
+CONNECT_PATIENCE = 120.0
+END_PATIENCE = 120.0
 # How long the status of a process that has ended may take to be known, in seconds.
 STATUS_PATIENCE = 5.0
 # Histories with more pending calls are mostly not decided by the judge.
@@ -164,8 +164,9 @@ class Crew:
         return counts["lost"] + counts["unknown"]
 
     def has_enough_pending(self) -> bool:
-        """Returns whether the judge may not decide the history with one more pending call of each client."""
-        return self.counts()["pending"] + len(self._tasks) >= MOST_PENDING
+        """Returns whether a call is pending, and the judge may not decide the history with one more of each client."""
+        pending = self.counts()["pending"]
+        return pending > 0 and pending + len(self._tasks) >= MOST_PENDING
 
     def pids(self) -> list[int]:
         """Returns the processes of the clients that have not ended."""

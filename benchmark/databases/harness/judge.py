@@ -2,6 +2,7 @@
 
 import subprocess
 import time
+from collections.abc import Callable
 from dataclasses import dataclass
 from enum import Enum
 from pathlib import Path
@@ -48,20 +49,31 @@ class Programs:
         return [self.vacation, "judge", "--any-order", "--blocks", str(NO_BOUND)]
 
 
-def judge(words: list[str], history: Path, patience: float = PATIENCE) -> Judgement:
-    """Judges a history by a command. Without a verdict in time, or in memory, it is undecided."""
+def judge(words: list[str], history: Path, say: Callable[[str], None], patience: float = PATIENCE) -> Judgement:
+    """Judges a history by a command, whose progress goes to `say`. Without a verdict in time, or in memory, the
+    history is undecided."""
     bounded = ["sh", "-c", f'ulimit -v {MEMORY}; exec "$@"', "judge", *words]
     began = time.monotonic()
-    try:
-        with open(history, "rb") as calls:
-            done = subprocess.run(bounded, stdin=calls, capture_output=True, text=True, timeout=patience,
-                                  check=False)
-        lines = done.stdout.splitlines() or [f"undecided: the judge ended with status {done.returncode}"]
-    except subprocess.TimeoutExpired:
-        lines = [f"undecided: no verdict within {patience:.0f} seconds"]
+    with (open(history, "rb") as calls,
+          subprocess.Popen(bounded, stdin=calls, stdout=subprocess.PIPE, stderr=subprocess.DEVNULL, text=True) as run):
+        lines = _lines(run, began + patience, say)
+    lines = lines or [f"undecided: no verdict within {patience:.0f} seconds"]
     said = lines[0].split(" ")[0].rstrip(":")
     if said == "touching":
         said = "undecided"
     if said not in ("legal", "illegal", "undecided"):
         raise CutShort(f"the judge does not read the history: {lines[0]}")
     return Judgement(Verdict(said), lines[:MOST_LINES], time.monotonic() - began)
+
+
+def _lines(run: subprocess.Popen, limit: float, say: Callable[[str], None]) -> list[str]:
+    """Returns the lines that a judge writes, or none if it is stopped at a reading of the clock."""
+    while (left := limit - time.monotonic()) > 0:
+        say(f"judging, for {left:.0f} more seconds at most")
+        try:
+            text, _ = run.communicate(timeout=min(left, 1))
+            return text.splitlines() or [f"undecided: the judge ended with status {run.returncode}"]
+        except subprocess.TimeoutExpired:
+            continue
+    run.kill()
+    return []

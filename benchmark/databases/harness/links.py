@@ -198,5 +198,8 @@ class Network:
         """Returns whether a node can connect to another at a port."""
         words = [*self.inside(one, {}), "timeout", str(seconds), "bash", "-c",
                  f"</dev/tcp/{self.host(other)}/{port}"]
-        done = subprocess.run(words, capture_output=True, timeout=PATIENCE + seconds, check=False)
+        try:
+            done = subprocess.run(words, capture_output=True, timeout=PATIENCE + seconds, check=False)
+        except subprocess.TimeoutExpired:
+            raise NoEffect(f"the machine is too busy to see whether node {one} reaches node {other}") from None
         return done.returncode == 0

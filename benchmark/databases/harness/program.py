@@ -22,13 +22,16 @@ from harness.judge import NO_BOUND, Programs, Verdict
 from harness.outcomes import CutShort, Missing
 from harness.progress import Progress
 from harness.records import Mistake, Policy
-from harness.runs import READS, Plan, Result, run
+from harness.runs import READS, Plan, Result
 from harness.summary import Summary
 from harness.tasks import Workload
+from harness.workers import Worker, side_by_side, workers
 
 HOME = Path(__file__).resolve().parent.parent
 ROOT = HOME.parent.parent
-ALL = "all"
+ALL, BOTH = "all", "both"
+# Runs side by side: each has phases in which it waits, and a workload that keeps the processors busy.
+JOBS = max(1, len(os.sched_getaffinity(0)) // 2)
 # Marks in a page between which the table of results stands.
 TABLE_BEGINS, TABLE_ENDS = "<!-- results: begin -->", "<!-- results: end -->"
 
@@ -69,6 +72,8 @@ def read_options(arguments: list[str]) -> argparse.Namespace:
     parser.add_argument("--seconds", type=float, default=5.0,
                         help="length of the workload, which goes on until a fault had an effect (default: 5)")
     parser.add_argument("--clients", type=_positive, default=4, help="number of clients (default: 4)")
+    parser.add_argument("--jobs", type=_positive, default=JOBS,
+                        help="runs side by side (default: half as many as there are processors, here %(default)s)")
     parser.add_argument("--lag", type=float, default=0.5,
                         help="seconds in which nothing reaches the standby before a failover (default: 0.5)")
     parser.add_argument("--reads", type=int, choices=range(101), default=READS, metavar="PERCENT",
@@ -79,10 +84,10 @@ def read_options(arguments: list[str]) -> argparse.Namespace:
     parser.add_argument("--mistake", choices=[mistake.value for mistake in Mistake],
                         help="WRONG ON PURPOSE: tasks split in two transactions; a recorder that forgets pending"
                         " calls, takes the end before the commit, or goes on with a client after a pending call")
-    parser.add_argument("--workload", choices=[workload.value for workload in Workload],
+    parser.add_argument("--workload", choices=[*(workload.value for workload in Workload), BOTH],
                         default=Workload.RESERVATIONS.value,
-                        help="what clients do: tasks of reservations, or get, put and compare-and-set of single keys"
-                        " (default: reservations)")
+                        help="what clients do: tasks of reservations, get, put and compare-and-set of single keys,"
+                        " or a run of either (default: reservations)")
     parser.add_argument("--program", default=str(_own_program()), help="the proved program (default: %(default)s)")
     parser.add_argument("--kv-judge", default=str(_judge_of_keys()),
                         help="the proved judge of the workload 'keys' (default: %(default)s)")
@@ -117,6 +122,11 @@ def _chosen(word: str) -> list[tuple[str, Database, Setting]]:
     if not chosen:
         raise ValueError(f"{name} has no setting {wanted}")
     return chosen
+
+
+def _workloads(word: str) -> list[Workload]:
+    """Returns the workloads that a word of the command line names."""
+    return list(Workload) if word == BOTH else [Workload(word)]
 
 
 def check_installed(database: Database) -> None:
@@ -169,9 +179,10 @@ def plans(options: argparse.Namespace) -> Iterator[Plan]:
                 continue
             if is_skipped(f"{name} fault={fault}", partial(check_rights, setting, fault)):
                 continue
-            yield Plan(database, name, setting, fault, options.seed + number, Policy(options.policy),
-                       Mistake(options.mistake) if options.mistake else None, options.seconds,
-                       options.clients, options.lag, options.reads, Workload(options.workload))
+            for workload in _workloads(options.workload):
+                yield Plan(database, name, setting, fault, options.seed + number, Policy(options.policy),
+                           Mistake(options.mistake) if options.mistake else None, options.seconds,
+                           options.clients, options.lag, options.reads, workload)
 
 
 def line_of(result: Result) -> str:
@@ -220,22 +231,26 @@ def write_table(page: Path, text: str) -> None:
     page.write_text(f"{before}{begin}\n\n{text}\n{end}{after}", encoding="utf-8")
 
 
-def _do(plan: Plan, options: argparse.Namespace, folder: Path, progress: Progress) -> Result:
-    """Does a run, prints its line, and keeps what must be kept."""
-    progress.about = f"{plan.name} {plan.fault} seed {plan.seed}"
-    place = folder / "run"
-    programs = Programs(options.program, options.kv_judge)
-    result = run(plan, programs, place, progress)
-    print(line_of(result), flush=True)
+def _do(worker: Worker, plan: Plan, options: argparse.Namespace, progress: Progress) -> dict:
+    """Has a worker do a run, prints the run's line, keeps what must be kept, and returns the record."""
+    programs = _programs(options)
+    about = f"{plan.name} {plan.fault} {plan.workload.value} seed {plan.seed}"
+    result = worker.do(plan, programs, lambda text: progress.say(f"{about}: {text}"))
+    lines = [line_of(result)]
     is_wanted = result.verdict in (Verdict.ILLEGAL, Verdict.DAMAGED)
     if options.keep or is_wanted:
-        kept = keep(result, options.keep or _folder_beside(folder))
+        kept = keep(result, options.keep or _folder_beside(result.history.parent.parent))
         if is_wanted:
-            print(f"  history: {kept}\n  judge it: {' '.join(programs.judge(plan.workload))} < {kept}")
+            lines += [f"  history: {kept}", f"  judge it: {' '.join(programs.judge(plan.workload))} < {kept}"]
             if plan.workload is Workload.RESERVATIONS:
-                print(f"  explain it: {ROOT / 'explain'} --blocks {NO_BOUND} {kept}", flush=True)
-    shutil.rmtree(place)
-    return result
+                lines.append(f"  explain it: {ROOT / 'explain'} --blocks {NO_BOUND} {kept}")
+    print("\n".join([*lines, ""]), end="", flush=True)  # at once, so that no run beside this one writes between
+    shutil.rmtree(result.history.parent)
+    return result.record
+
+
+def _programs(options: argparse.Namespace) -> Programs:
+    return Programs(options.program, options.kv_judge)
 
 
 def _folder_beside(folder: Path) -> Path:
@@ -243,26 +258,24 @@ def _folder_beside(folder: Path) -> Path:
     return Path(tempfile.mkdtemp(prefix="vacation-history-", dir=folder.parent))
 
 
-def _give_temporary_folder(folder: Path) -> None:
-    """Makes a temporary folder for servers, whose users may not write to that of the harness."""
-    folder.mkdir()
-    folder.chmod(0o1777)
-    os.environ["TMPDIR"] = str(folder)
-
-
 def main(arguments: list[str]) -> int:
     """Does all runs, and returns the status."""
     options = read_options(arguments)
     signal.signal(signal.SIGTERM, lambda *_: sys.exit(128 + signal.SIGTERM))
-    folder = spaces.furnish()
-    needed = options.kv_judge if options.workload == Workload.KEYS.value else options.program
-    if not os.access(needed, os.X_OK):
-        sys.exit(f"databases: there is no program at {needed}")
+    folder = spaces.furnish(options.jobs)
+    for workload in _workloads(options.workload):
+        judge = _programs(options).judge(workload)[0]
+        if not os.access(judge, os.X_OK):
+            sys.exit(f"databases: there is no program at {judge}")
     summary, progress = Summary(), Progress()
     (folder / "templates").mkdir()
-    _give_temporary_folder(folder / "tmp")
-    for plan in plans(options):
-        summary.add(_do(plan, options, folder, progress).record)
+    chosen = list(plans(options))
+    try:
+        with workers(min(options.jobs, len(chosen)), folder) as started:
+            for record in side_by_side(started, chosen, lambda worker, plan: _do(worker, plan, options, progress)):
+                summary.add(record)
+    except CutShort as cut_short:
+        sys.exit(f"databases: {cut_short}")
     print(summary.text())
     if options.table:
         kept = summary_of(options.keep) if options.keep else summary

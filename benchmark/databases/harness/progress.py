@@ -1,6 +1,7 @@
 """Progress on standard error."""
 
 import sys
+import threading
 import time
 
 # Lines are at least so far apart, in seconds.
@@ -13,11 +14,17 @@ class Progress:
     def __init__(self) -> None:
         self._last = float("-inf")
         self._text = ""
-        self.about = ""
+        self._lock = threading.Lock()
 
     def say(self, text: str) -> None:
         """Writes a line, unless the last one was written a moment ago or says the same."""
-        now = time.monotonic()
-        if now - self._last >= APART and text != self._text:
+        with self._lock:
+            now = time.monotonic()
+            if now - self._last < APART or text == self._text:
+                return
             self._last, self._text = now, text
-            print(f"databases: {self.about}: {text}", file=sys.stderr, flush=True)
+        self.write(text)
+
+    def write(self, text: str) -> None:
+        """Writes a line."""
+        print(f"databases: {text}", file=sys.stderr, flush=True)

@@ -39,6 +39,8 @@ FINAL_PATIENCE = 40.0
 # How much longer than planned a workload may be on a busy machine, in seconds, and how many faults without effect
 # it may have before its planned end.
 MOST_LONGER, MOST_IDLE = 60.0, 5
+# Ends of calls and tries that each record counts.
+COUNTED = ("completed", "refused", "lost", "unknown", "pending")
 # Notes of errors that a record keeps.
 MOST_NOTES = 50
 # Frames of an error of the harness that a record keeps.
@@ -241,7 +243,7 @@ class Run:
     def _must_end(self, crew: Crew) -> bool:
         """Returns whether the run has to end early, since the judge decides few pending calls."""
         if self._plan.policy is Policy.LEAVE and crew.has_enough_pending():
-            self.trace.ended_early = f"ended early, by {crew.counts()['pending']} pending calls"
+            self.trace.ended_early = f"ended early; pending calls: {crew.counts()['pending']}"
         return bool(self.trace.ended_early)
 
     def _inject(self, scene: Scene) -> None:
@@ -283,6 +285,7 @@ class Run:
             finally:
                 session.close()
 
+        self._progress.say(f"{self.trace.counts['pending']} tokens to look up")
         reply = _retry(ask, limit)
         self.trace.counts["pending"] -= 1
         self.trace.counts["took effect" if reply else "had no effect"] += 1
@@ -334,7 +337,8 @@ def _record(plan: Plan, trace: Trace) -> dict:
         "system": platform.platform(), "python": platform.python_version(),
         "clock": {"name": "CLOCK_MONOTONIC", "unit": "nanosecond",
                   "resolution in seconds": time.get_clock_info("monotonic").resolution},
-        "faults": trace.faults, "counts": dict(trace.counts), "notes": trace.notes[:MOST_NOTES],
+        "faults": trace.faults, "counts": dict.fromkeys(COUNTED, 0) | trace.counts,
+        "notes": trace.notes[:MOST_NOTES],
     }
 
 
@@ -347,9 +351,8 @@ def run(plan: Plan, programs: Programs, folder: Path, progress: Progress) -> Res
     history.write_text("".join(f"{call}\n" for call in one.trace.calls), encoding="ascii")
     record = _record(plan, one.trace)
     if verdict is Verdict.UNDECIDED:
-        progress.say("judging")
         try:
-            judgement = judge(programs.judge(plan.workload), history)
+            judgement = judge(programs.judge(plan.workload), history, progress.say)
             verdict = judgement.verdict
             record |= {"judge": judgement.lines, "judge seconds": round(judgement.seconds, 3)}
             if verdict is Verdict.ILLEGAL:

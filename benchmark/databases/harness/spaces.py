@@ -18,7 +18,7 @@ import time
 from pathlib import Path
 
 from harness.outcomes import Missing
-from harness.processes import end_with_parent
+from harness.processes import end_with_parent, wait_until
 
 HOME = Path(__file__).resolve().parent.parent
 # The Python for which Debian installs client libraries, and the oldest version that will do.
@@ -33,9 +33,9 @@ LEFTOVER_AGE = 60
 # How long a trial of a program may take, in seconds.
 PATIENCE = 20
 SET_FLAGS, IS_UP = 0x8914, 1
-# Signals that ask the command to end, and the most memory that the data folders may fill.
+# Signals that ask the command to end, and the most memory that the data folders of a run may fill.
 ENDING = (signal.SIGTERM, signal.SIGINT, signal.SIGHUP)
-MEMORY = "3g"
+GIGABYTES = 3
 # The file that names the name servers.
 RESOLVER = "/etc/resolv.conf"
 
@@ -120,22 +120,37 @@ def check_private() -> None:
         raise Missing("servers need the right to make namespaces (unshare, of root or of users)")
 
 
-def furnish() -> Path:
-    """Prepares the namespaces: folders that servers write to, which are in memory, and a loopback device.
-    Returns the temporary folder."""
+def furnish(jobs: int) -> Path:
+    """Prepares the namespaces for runs side by side, and returns the temporary folder, which is in memory."""
     own = Path(os.environ[FOLDER])
+    if are_private():
+        _mount_memory(str(own), GIGABYTES * jobs)
+        # No name server is reached from here. Without this, each name that a server looks up takes five seconds.
+        if os.path.exists(RESOLVER):
+            subprocess.run(["mount", "--bind", os.devnull, RESOLVER], check=True, timeout=PATIENCE)
+    return own
+
+
+def inner() -> list[str]:
+    """Returns the command that makes the namespaces of a worker inside those of the harness, or none if the harness
+    has none."""
+    return ["unshare", *SPACES] if are_private() else []
+
+
+def furnish_inner() -> None:
+    """Prepares the namespaces of a worker: folders that servers write to, and a loopback device."""
     if not are_private():
-        return own
-    for folder in ("/dev/shm", "/run", str(own)):
-        os.makedirs(folder, exist_ok=True)
-        subprocess.run(["mount", "-t", "tmpfs", "-o", f"size={MEMORY},mode=0711", "tmpfs", folder], check=True,
-                       timeout=PATIENCE)
-    # No name server is reached from here. Without this, each name that a server looks up takes five seconds.
-    if os.path.exists(RESOLVER):
-        subprocess.run(["mount", "--bind", os.devnull, RESOLVER], check=True, timeout=PATIENCE)
+        return
+    for folder in ("/dev/shm", "/run"):
+        _mount_memory(folder, GIGABYTES)
     with socket.socket(socket.AF_INET, socket.SOCK_DGRAM) as any_socket:
         fcntl.ioctl(any_socket, SET_FLAGS, struct.pack("16sh22x", b"lo", IS_UP))
-    return own
+
+
+def _mount_memory(folder: str, gigabytes: int) -> None:
+    os.makedirs(folder, exist_ok=True)
+    subprocess.run(["mount", "-t", "tmpfs", "-o", f"size={gigabytes}g,mode=0711", "tmpfs", folder], check=True,
+                   timeout=PATIENCE)
 
 
 def _lock(folder: Path) -> int | None:
@@ -174,5 +189,10 @@ class Folder:
         return self
 
     def __exit__(self, *_) -> None:
-        shutil.rmtree(self.path, ignore_errors=True)
+        # Without namespaces, a client that was killed a moment ago may still make a file.
+        wait_until(self._is_removed, PATIENCE, 0.1)
         os.close(self.lock)
+
+    def _is_removed(self) -> bool:
+        shutil.rmtree(self.path, ignore_errors=True)
+        return not self.path.exists()

@@ -14,7 +14,7 @@ ALWAYS = {"appendonly": "yes", "appendfsync": "always"}
 # All entities at one time, by a script, which nothing interrupts.
 SCAN = """local keys = redis.call('KEYS', '[ic]/*')
 return {keys, #keys > 0 and redis.call('MGET', unpack(keys)) or {}}"""
-MOST_WAIT = 2000  # milliseconds for the confirmation of a replica
+MOST_WAIT = 2000  # milliseconds for the confirmation of a replica; a promoted one has none to wait for
 
 
 def connected(address: Address):
@@ -25,12 +25,12 @@ def connected(address: Address):
 
 
 class RedisStore(Store):
-    """A store that watches each key it reads, unless the setting is wrong on purpose."""
+    """A store that watches each key it reads, unless the setting is wrong on purpose, and waits for some replicas."""
 
-    def __init__(self, client, setting: Setting):
+    def __init__(self, client, setting: Setting, replicas: int):
         import redis
         self._errors, self._client, self._pipe = redis.exceptions, client, client.pipeline()
-        self._watches, self._replicas = setting.options.get("watch", True), setting.options.get("wait", 0)
+        self._watches, self._replicas = setting.options.get("watch", True), replicas
 
     def get(self, key: str) -> str | None:
         with raising(Lost, self._errors.RedisError):
@@ -98,9 +98,9 @@ class Redis(Database):
         return len(nodes) < 2 or self._info(nodes[1].address).get("master_link_status") == "up"
 
     def connect(self, addresses: Sequence[Address], setting: Setting) -> Store:
-        for address in addresses:
+        for number, address in enumerate(addresses):
             if len(addresses) == 1 or self._info(address).get("role") == "master":
-                return RedisStore(connected(address), setting)
+                return RedisStore(connected(address), setting, 0 if number else setting.options.get("wait", 0))
         raise Lost("there is no primary")
 
     def terminate(self, node: Node) -> int:
