@@ -27,19 +27,19 @@ use Rattle.judge_opacity.specs.Reading.{HasFinding}
 abbrev read : ℕ → Told → Result Attempt LineFault
 read words told = told_attempt told words
 
-line_is : (words : ℕ) (line : List ℕ) → read words (told_of 1048576 line) ≡ line_attempt words line
-line_is words line = elim (nat_lt 1048576 (length line)) as (λ b. read words (cond b LongLine (Line line)) ≡ cond b
+line_is : (words : ℕ) (line : List ℕ) → read words (told_of 67108864 line) ≡ line_attempt words line
+line_is words line = elim (nat_lt 67108864 (length line)) as (λ b. read words (cond b LongLine (Line line)) ≡ cond b
     (Err fault.LongLine) (text_attempt words line)) [ true ↦ refl | false ↦ refl ]
 
-lines_are : (words : ℕ) (lines : List (List ℕ)) → map (read words) (map (told_of 1048576) lines) ≡ map
+lines_are : (words : ℕ) (lines : List (List ℕ)) → map (read words) (map (told_of 67108864) lines) ≡ map
     (line_attempt words) lines
 lines_are words [] = refl
-lines_are words (line ∷ more) = ap (λ r. r ∷ map (read words) (map (told_of 1048576) more)) (line_is words line) ∙
+lines_are words (line ∷ more) = ap (λ r. r ∷ map (read words) (map (told_of 67108864) more)) (line_is words line) ∙
     ap (λ t. line_attempt words line ∷ t) (lines_are words more)
 
 -- the verdict on a text is that on what is told of it
 finding_is : (words : ℕ) (bytes : List ℕ) → finding_on words bytes ≡ judged_attempts []
-    (map (read words) (told_lines 1048576 bytes))
+    (map (read words) (told_lines 67108864 bytes))
 finding_is words bytes = ap (judged_attempts []) (sym (lines_are words (lines_of bytes)))
 
 -- these were taken: whatever follows, the verdict is the same
@@ -108,7 +108,7 @@ module _ {O : Type 0} where
   -- the input was read to its end
   heard_all : (words : ℕ) (unread left : Option (List ℕ)) (x : Attempts) (o : O) (y : Attempts) (p : O)
       (counts : Counts) → FollowsAttempts words x.judge []
-      → HeardAll hears 1048576 unread left x o y p → ((w : ℕ) (earlier : List Attempt) →
+      → HeardAll hears 67108864 unread left x o y p → ((w : ℕ) (earlier : List Attempt) →
       FollowsAttempts w y.judge earlier →
       counts ≡ counts_of earlier)
       → HasFinding words unread left (Opaque counts)
@@ -144,7 +144,7 @@ module _ {O : Type 0} where
 
   of_first : (words : ℕ) (x : Attempts) (o : O) (told : List Told) (y : Attempts) (p : O) (finding : Finding)
       (text : List ℕ) → FollowsAttempts words x.judge []
-      → ToldLast hears x o told (Ok Stop) y p → y.found ≡ Some finding → AreFirst 1048576 (lines_in told) text →
+      → ToldLast hears x o told (Ok Stop) y p → y.found ≡ Some finding → AreFirst 67108864 (lines_in told) text →
       finding_on words text ≡ finding
   of_first words x o told y p finding text f h e first =
       finding_is words text ∙ ap (λ l. judged_attempts [] (map (read words) l)) first.1 ∙
@@ -153,7 +153,7 @@ module _ {O : Type 0} where
   by_first : (words : ℕ) (unread left : Option (List ℕ)) (x : Attempts) (o : O) (told : List Told) (y : Attempts)
       (p : O) (finding : Finding) (bytes : List ℕ) → FollowsAttempts words x.judge []
       → ToldLast hears x o told (Ok Stop) y p → y.found ≡ Some finding → Consumes unread left bytes →
-      AreFirstOf 1048576 (lines_in told) bytes left → HasFinding words unread left finding
+      AreFirstOf 67108864 (lines_in told) bytes left → HasFinding words unread left finding
   by_first words unread left x o told y p finding bytes f h e c (inl first) =
       let same = of_first words x o told y p finding bytes f h e first.1 in
       record {
@@ -175,18 +175,18 @@ module _ {O : Type 0} where
   -- what was read, by what the reading answered
   pub opaque_heard : (next : Next) (words : ℕ) (unread left : Option (List ℕ)) (x : Attempts) (o : O) (y : Attempts)
       (p : O) (counts : Counts) → next ≡ GoOn → FollowsAttempts words x.judge []
-      → Heard hears 1048576 (Ok next) unread left x o y p → ((w : ℕ) (earlier : List Attempt) →
+      → Heard hears 67108864 (Ok next) unread left x o y p → ((w : ℕ) (earlier : List Attempt) →
       FollowsAttempts w y.judge earlier → counts ≡ counts_of earlier)
       → HasFinding words unread left (Opaque counts)
   opaque_heard next words unread left x o y p counts e f h sums =
-      heard_all words unread left x o y p counts f (subst (λ z. Heard hears 1048576 (Ok z) unread left x o y p) e h)
+      heard_all words unread left x o y p counts f (subst (λ z. Heard hears 67108864 (Ok z) unread left x o y p) e h)
       sums
 
   pub finding_heard : (next : Next) (words : ℕ) (unread left : Option (List ℕ)) (x : Attempts) (o : O) (y : Attempts)
       (p : O) (finding : Finding) → next ≡ Stop → FollowsAttempts words x.judge []
-      → Heard hears 1048576 (Ok next) unread left x o y p → y.found ≡ Some finding →
+      → Heard hears 67108864 (Ok next) unread left x o y p → y.found ≡ Some finding →
       HasFinding words unread left finding
   finding_heard next words unread left x o y p finding e f h found =
-      let last : HeardLast hears 1048576 (Ok Stop) unread left x o y p =
-      subst (λ z. Heard hears 1048576 (Ok z) unread left x o y p) e h in
+      let last : HeardLast hears 67108864 (Ok Stop) unread left x o y p =
+      subst (λ z. Heard hears 67108864 (Ok z) unread left x o y p) e h in
       by_first words unread left x o last.told y p finding last.bytes f last.heard found last.consumed last.first
