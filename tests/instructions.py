@@ -21,11 +21,11 @@ from programs import options_of
 
 # The most instructions of a task, by setting.
 MOST = {
-    "large": 9_200,
-    "crowded": 10_050,
-    "defaults": 8_100,
-    "apart": 7_950,
-    "readers": 5_450,
+    "large": 8_650,
+    "crowded": 9_600,
+    "defaults": 7_800,
+    "apart": 7_550,
+    "readers": 5_130,
 }
 TASKS = 2_000
 # Enough for a run under callgrind on a busy machine, in seconds.

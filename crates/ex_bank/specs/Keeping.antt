@@ -8,24 +8,20 @@ use Rattle.ex_bank.specs.declared.entry.Entry.{Entry}
 use Rattle.ex_bank.specs.declared.entry.Entry.TheVariants.{Transfer, Sum}
 use Rattle.ex_bank.specs.Accounts.{moving, after, Finds, IsBank, code}
 
-pub sum_set : (xs : List ℕ) (i y : ℕ) → i < length xs →
-    sum (slice_set xs i y) + slice_index xs i ≡ sum xs + y
-sum_set xs i y less = sum_by-set (λ x. x) xs i y 0 less
-
 pub sum_taken : (xs : List ℕ) (from amount : ℕ) → from < length xs →
     amount ≤ slice_index xs from →
     sum (slice_set xs from (slice_index xs from - amount)) + amount ≡ sum xs
 sum_taken xs from amount less enough =
-    let s = sum_set xs from (slice_index xs from - amount) less in
+    let s = sum_by-set (λ x. x) xs from (slice_index xs from - amount) 0 less in
     omega (arith, s, enough)
 
 sum_moving : (xs : List ℕ) (from to amount : ℕ) → from < length xs → to < length xs →
     amount ≤ slice_index xs from → sum (moving xs from to amount) ≡ sum xs
 sum_moving xs from to amount f t enough =
-    let taken = slice_set xs from (slice_index xs from - amount) in
+    let ys = slice_set xs from (slice_index xs from - amount) in
     let s = sum_taken xs from amount f enough in
     let long = length-set xs from (slice_index xs from - amount) in
-    let p = sum_set taken to (slice_index taken to + amount) (omega (arith, long, t)) in
+    let p = sum_by-set (λ x. x) ys to (slice_index ys to + amount) 0 (omega (arith, long, t)) in
     omega (arith, s, p)
 
 pub same_sum : (e : Entry) (xs : List ℕ) → Finds e xs → sum (after e xs) ≡ sum xs

@@ -18,15 +18,33 @@ use Rattle.vac_manager.specs.declared.fault.Fault.{Fault}
 use Rattle.vac_manager.specs.declared.fault.Fault.TheVariants as fault
 use Rattle.vac_manager.specs.declared.placed.Effort.{Effort}
 use Rattle.vac_manager.specs.declared.placed.Placed.{Placed}
-use Rattle.load_client.specs.Asking.{WasAsked, WasIssued}
+use Rattle.load_client.specs.Asking.{HasRecorded}
 use Rattle.load_client.specs.Attempted.{IsEffort, no_effort, with_call}
 use Rattle.load_client.specs.Keeping.{KeptNotes, HasKeptAdded}
 use Rattle.load_client.specs.Looping.{Answered, AreOfTasks, Clocked, counted, least_attempts_of, nothing}
-use Rattle.load_client.specs.Opening.{IsOpeningFault, WasAnswered, WasRefused}
+use Rattle.load_client.specs.Looping.{answered_by}
+use Rattle.load_client.specs.Opening.{IsAnswered, IsOpeningFault, WasAnswered, WasRefused}
 use Rattle.load_client.proofs.Answering.{RanOne, answered_one, answered_quiet}
 use Rattle.load_client.proofs.Attempting.{took_answered, took_none, took_refused}
 use Rattle.load_client.proofs.Clocking.{clocked_answered, clocked_quiet, clocked_refused}
 use Rattle.load_client.proofs.Notes.{kept_none, kept_one}
+
+-- a client issued a task in its ranges, with this limit on attempts, and the call ended with this
+-- result and these statistics, or the recorder had no room and the task was not issued: exactly if
+-- the call completed, its record was added, and the recorder kept the call. The call of a solo
+-- client met no conflict; if the call completed, the client's records are a complete history, and
+-- otherwise the call was refused as a command of the setup phase is
+pub record WasAsked (region : RegionShown) (t : Task) (tries : ℕ) (end : Result (Unit {0}) Fault)
+    (e : Effort) (v v' : Client) (before after : KeptNotes) : Type 0 where
+  pub in_range : IfErr end (λ why. why ≢ fault.Arguments)
+  pub answered : Answered region.renewal (answered_by t end) v v'
+  pub attempts : v.attempt.number + least_attempts_of tries end ≤ v'.attempt.number
+  pub alone : HasAllGrants v → (counted end nothing).busy ≡ 0
+  pub clock : HasAllGrants v → Clocked region.last v v' (counted end nothing)
+  pub took : IsEffort tries (counted end nothing) (with_call e no_effort)
+  pub kept : HasKeptAdded v v' before after
+  pub ready : HasAllGrants v → IfOk end (λ _. IsAnswered region v')
+  pub refused : HasAllGrants v → IfErr end (λ why. IsOpeningFault region.last v.floor why)
 
 one_try : (tries : ℕ) → is_try_count tries ≡ true → 1 ≤ tries
 one_try tries h = grind (arith, nat_tests, h)
@@ -52,13 +70,6 @@ asked_none region t tries e v a b some none same = record {
   refused = λ h. tt;
 }
 
--- a task that was built was issued
-pub issued_built : {E : Type 0} (region : RegionShown) (built : Result Task E) (t : Task) (tries : ℕ)
-    (end : Result (Unit {0}) Fault) (e : Effort) (v v' : Client) (a b : KeptNotes) → built ≡ Ok t →
-    WasAsked region t tries end e v v' a b → WasIssued region built tries end e v v' a b
-issued_built region built t tries end e v v' a b is h =
-    subst (λ (x : Result Task _). WasIssued region x tries end e v v' a b) (sym is) h
-
 -- what a loop needs of a task that was issued
 pub record Issued {E : Type 0} (region : RegionShown) (built : Result Task E) (tries : ℕ)
     (end : Result (Unit {0}) Fault) (e : Effort) (v v' : Client) (a b : KeptNotes) : Type 0 where
@@ -68,24 +79,31 @@ pub record Issued {E : Type 0} (region : RegionShown) (built : Result Task E) (t
   pub took : IsEffort tries (counted end nothing) (with_call e no_effort)
   pub kept : HasKeptAdded v v' a b
 
-pub issued : {E : Type 0} (region : RegionShown) (built : Result Task E) (tries : ℕ) (end : Result (Unit {0}) Fault)
-    (e : Effort) (v v' : Client) (a b : KeptNotes) → is_try_count tries ≡ true →
-    WasIssued region built tries end e v v' a b → Issued region built tries end e v v' a b
-issued region (Ok t) tries end e v v' a b some h = record {
-  in_range = h.in_range;
-  one = (h.answered, h.attempts, h.alone);
-  clock = h.clock;
-  took = h.took;
-  kept = h.kept;
-}
-issued region (Err f) tries end e v v' a b some h = record {
-  in_range = subst (λ (r : Result (Unit {0}) Fault). IfErr r (λ why. why ≢ fault.Arguments)) (sym h.0) (λ q. cc);
-  one = (h.0, h.2);
-  clock = λ alone. subst (λ (r : Result (Unit {0}) Fault). Clocked region.last v v' (counted r nothing)) (sym h.0)
-      (clocked_quiet region.last v v' h.2);
-  took = subst (λ (r : Result (Unit {0}) Fault). IsEffort tries (counted r nothing) (with_call e no_effort)) (sym h.0)
-      (took_none tries e (one_try tries some) h.1);
-  kept = kept_none v v' a b (ap (λ (x : Client). x.records) h.2) h.3;
+-- a task that was built, and for whose call there was room
+pub issued : {E : Type 0} (region : RegionShown) (drawn : Result Task E) (t : Task) (tries : ℕ)
+    (end : Result (Unit {0}) Fault) (e : Effort) (v v' : Client) (a b : KeptNotes) → drawn ≡ Ok t →
+    WasAsked region t tries end e v v' a b → Issued region drawn tries end e v v' a b
+issued region drawn t tries end e v v' a b is h =
+    subst (λ (x : Result Task _). Issued region x tries end e v v' a b) (sym is) (record {
+      in_range = h.in_range;
+      one = (h.answered, h.attempts, h.alone);
+      clock = h.clock;
+      took = h.took;
+      kept = h.kept;
+    })
+
+-- a task that was not built, or for whose call there was no room
+pub issued_none : {E : Type 0} (region : RegionShown) (drawn : Result Task E) (tries : ℕ) (e : Effort) (v : Client)
+    (a b : KeptNotes) → is_try_count tries ≡ true → e ≡ nothing_done → b ≡ a →
+    Issued region drawn tries (Err fault.Memory) e v v a b
+issued_none region (Ok t) tries e v a b some none same =
+    issued region (Ok t) t tries (Err fault.Memory) e v v a b refl (asked_none region t tries e v a b some none same)
+issued_none region (Err f) tries e v a b some none same = record {
+  in_range = λ q. cc;
+  one = (refl, refl);
+  clock = λ alone. clocked_quiet region.last v v refl;
+  took = took_none tries e (one_try tries some) none;
+  kept = kept_none v v a b refl same;
 }
 
 attempt_more : (n m tries : ℕ) → n < m → n + least_attempts_of {R = Unit {0}} tries (Ok tt) ≤ m
@@ -162,6 +180,19 @@ asked_refused region t tries end f e c c' a b range some is h same =
       refused = λ alone. opening_fault region t tries f c.value c'.value known (called.call.next alone)
           called.call.fault;
     }
+
+-- a call that was recorded after it ended
+pub asked_recorded : (region : RegionShown) (t : Task) (tries : ℕ) (end : Result Placed Fault)
+    (ended : Result (Unit {0}) Fault) (e : Effort) (c c' : ClientShown) (a b k : KeptNotes)
+    (before traced : Option (List Trace)) → is_task t ≡ true → is_try_count tries ≡ true →
+    HasCalledPlaced region t tries end e c c' → HasTraced (replied end) c.value c'.value before traced →
+    b ≡ a → HasRecorded t end ended traced b k → WasAsked region t tries ended e c.value c'.value a k
+asked_recorded region t tries (Ok p) ended e c c' a b k before traced range some called told same h =
+    subst (λ (r : Result (Unit {0}) Fault). WasAsked region t tries r e c.value c'.value a k) (sym h.0)
+    (asked_answered region t tries (Ok p) p e c c' a b k before traced refl called told same h.1)
+asked_recorded region t tries (Err f) ended e c c' a b k before traced range some called told same h =
+    subst (λ (r : Result (Unit {0}) Fault). WasAsked region t tries r e c.value c'.value a k) (sym h.0)
+    (asked_refused region t tries (Err f) f e c c' a k range some refl called (h.1 ∙ same))
 
 none_of : (rs : List Record) → AreOfTasks [] rs → rs ≡ []
 none_of [] h = refl

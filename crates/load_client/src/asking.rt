@@ -1,49 +1,46 @@
-//! Issuing one task and recording its call.
+//! Room for a call in a recorder before the call, and the record of the call after it.
 
-ghost use Rattle.std.specs.Prelude.{◌≡◌, true, IfOk};
-ghost use Rattle.vac_model.specs.Ranges.{is_task};
-ghost use Rattle.vac_manager.specs.Called.{is_try_count};
-ghost use Rattle.stm_object.specs.Callers.{GoesOn};
-ghost use Rattle.load_client.specs.Asking.{WasIssued};
+ghost use Rattle.std.specs.Prelude.{◌≡◌, Ok as Built, IfOk};
+ghost use Rattle.load_client.specs.Asking.{HasRecorded};
 
 use std::alloc::AllocError;
 use stm_attempt::{Gate, Point};
-use vac_manager::{Caller, Effort, Fault, Keep, trace_call};
+use vac_manager::{Fault, Keep, Placed};
 use vac_model::Task;
 
-/// Issues a task, records the call if it completes, and then reports `Answered` to the gate.
-/// Returns the result of the call and its attempt statistics. A task that could not be built is
-/// not issued, nor is a task for whose call the recorder has no room: the result is then that
-/// memory was refused.
-pub(crate) fn ask_kept<G: Gate, K: Keep>(
-    caller: &mut Caller<'_>,
+/// Returns the task once the recorder has room for its call. Fails if the task could not be built,
+/// and if the recorder has no room; the task is then not issued.
+pub(crate) fn with_room<K: Keep>(
     task: Result<Task, AllocError>,
-    tries: u32,
+    keep: &mut K,
+) -> Result<Task, AllocError>
+    ensures same { K.notes keep.new ≡ K.notes keep.old }
+    ensures task { IfOk result (λ t. task ≡ Built t) }
+    ensures room { IfOk result (λ _. K.ready keep.new) }
+{
+    let task = task?;
+    keep.begin()?;
+    Ok(task)
+}
+
+/// Records the call of a task if the call completed, and then reports `Answered` to the gate.
+/// Returns the result of the call without its reply.
+pub(crate) fn record_call<G: Gate, K: Keep>(
+    task: Task,
+    end: Result<Placed, Fault>,
     gate: &mut G,
     keep: &mut K,
-) -> (Result<(), Fault>, Effort)
-    requires range { IfOk task (λ t. is_task t ≡ true) }
-    requires tries { is_try_count tries ≡ true }
-    ensures caller { GoesOn caller.old caller.new }
-    ensures issued { WasIssued caller.old.shared task tries result.0 result.1
-        caller.old.user.value caller.new.user.value
+) -> Result<(), Fault>
+    requires room { K.ready keep.old }
+    ensures { HasRecorded task end result (K.traced keep.old)
         (K.notes keep.old) (K.notes keep.new) }
 {
-    let Ok(task) = task else {
-        return (Err(Fault::Memory), Effort::new());
-    };
-    let Ok(()) = keep.begin() else {
-        return (Err(Fault::Memory), Effort::new());
-    };
-    let mut tracer = keep.lend();
-    let (end, effort) = trace_call(caller, &task, tries, gate, &mut tracer);
-    keep.take_back(tracer);
     match end {
         Ok(placed) => {
             keep.keep(task, placed);
             gate.at(Point::Answered);
-            (Ok(()), effort)
+            Ok(())
         }
-        Err(fault) => (Err(fault), effort),
+        Err(fault) => Err(fault),
     }
 }

@@ -12,6 +12,6 @@ mod tally;
 
 pub use counts::TaskCounts;
 pub use efforts::Efforts;
-pub use looping::{client_loop, count_loop};
-pub use opening::{open, open_kept};
+pub use looping::count_loop;
+pub use opening::open_kept;
 pub use tally::Tally;

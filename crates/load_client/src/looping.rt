@@ -7,13 +7,12 @@ ghost use Rattle.stm_object.specs.Callers.{GoesOn};
 ghost use Rattle.load_client.specs.Looping.{Looped, Clocked};
 ghost use Rattle.load_client.specs.Keeping.{HasKeptAdded};
 
-use crate::asking::ask_kept;
+use crate::asking::{record_call, with_room};
 use crate::counts::TaskCounts;
-use crate::tally::Tally;
 use load_draws::{Draws, Settings, draw_task};
 use std::alloc::Global;
 use stm_attempt::Gate;
-use vac_manager::{Caller, Keep, Unkept};
+use vac_manager::{Caller, Effort, Fault, Keep, trace_call};
 
 /// Issues the client's tasks of one round, one after the other, each as it is drawn, and counts
 /// their results and attempts. A task that could not be built counts under memory, and so does a
@@ -40,32 +39,16 @@ pub fn count_loop<D: Draws, G: Gate, K: Keep>(
 {
     let mut tally = TaskCounts::new(settings.tries);
     'tasks: for _ in 0..settings.tasks {
-        let task = draw_task(alloc, draws, settings);
-        let (end, effort) = ask_kept(caller, task, settings.tries, gate, keep);
+        let drawn = draw_task(alloc, draws, settings);
+        let Ok(task) = with_room(drawn, keep) else {
+            tally.count(&Err(Fault::Memory), Effort::new());
+            continue;
+        };
+        let mut tracer = keep.lend();
+        let (end, effort) = trace_call(caller, &task, settings.tries, gate, &mut tracer);
+        keep.take_back(tracer);
+        let end = record_call(task, end, gate, keep);
         tally.count(&end, effort);
     }
     tally
-}
-
-/// Issues the client's tasks of one round, one after the other, each as it is drawn, and counts
-/// their results. A task that could not be built counts under memory. `Answered` is reported to
-/// the gate after each completed call.
-pub fn client_loop<D: Draws, G: Gate>(
-    alloc: Global,
-    caller: &mut Caller<'_>,
-    draws: &mut D,
-    settings: &Settings,
-    gate: &mut G,
-) -> Tally
-    requires settings { is_settings settings.now ≡ true }
-    ensures caller { GoesOn caller.old caller.new }
-    ensures looped { Looped D.leads settings.now caller.old.shared.renewal settings.now.tasks
-        caller.old.user.value caller.new.user.value draws.old draws.new result }
-    ensures clock { HasAllGrants caller.old.user.value → Clocked caller.old.shared.last
-        caller.old.user.value caller.new.user.value result }
-{
-    let keep = &mut Unkept;
-    count_loop(alloc, caller, draws, settings, gate, keep)
-        .apart()
-        .0
 }

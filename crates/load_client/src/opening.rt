@@ -9,10 +9,10 @@ ghost use Rattle.load_client.specs.Keeping.{HasKeptAdded};
 ghost use Rattle.load_draws.specs.Tasks.{stock, stocks};
 ghost use Rattle.load_client.specs.Opening.{RanOrStopped, OpeningEnded, WasAnswered, WasRefused};
 
-use crate::asking::ask_kept;
+use crate::asking::record_call;
 use load_draws::{Draws, Settings, draw_stock};
 use stm_attempt::NoGate;
-use vac_manager::{Caller, Fault, Keep, Unkept};
+use vac_manager::{Caller, Fault, Keep, trace_call};
 use vac_model::{Command, Kind, Task};
 
 /// Attempts that a command of the setup phase may make at most.
@@ -30,8 +30,13 @@ fn ask_for<K: Keep>(caller: &mut Caller<'_>, command: Command, keep: &mut K) -> 
     ensures refused { IfErr result (λ fault. WasRefused fault caller.old caller.new) }
 {
     let task = Task::One(command);
-    let (end, _effort) = ask_kept(caller, Ok(task), TRIES, &mut NoGate, keep);
-    end
+    let Ok(()) = keep.begin() else {
+        return Err(Fault::Memory);
+    };
+    let mut tracer = keep.lend();
+    let (end, _effort) = trace_call(caller, &task, TRIES, &mut NoGate, &mut tracer);
+    keep.take_back(tracer);
+    record_call(task, end, &mut NoGate, keep)
 }
 
 /// Adds an item of this kind.
@@ -99,20 +104,4 @@ pub fn open_kept<D: Draws, K: Keep>(
         ask_for(caller, command, keep)?;
     }
     Ok(())
-}
-
-/// Makes the items and the customers of a load, one command after the other, each in one attempt.
-/// The client must be solo: it has all grants. The first fault ends the setup phase: refused
-/// memory or a spent clock. What completed before the fault stays.
-pub fn open<D: Draws>(
-    caller: &mut Caller<'_>,
-    draws: &mut D,
-    settings: &Settings,
-) -> Result<(), Fault>
-    requires alone { HasAllGrants caller.old.user.value }
-    requires settings { is_settings settings.now ≡ true }
-    ensures { OpeningEnded D.leads settings.now result
-        caller.old caller.new draws.old draws.new }
-{
-    open_kept(caller, draws, settings, &mut Unkept)
 }

@@ -13,7 +13,7 @@ mod seats;
 mod workers;
 
 pub use load::{LoadFault, LoadReport, run_load, run_load_kept, run_load_with};
-pub use load_client::{Efforts, Tally, client_loop, open};
+pub use load_client::{Efforts, Tally, count_loop, open_kept};
 pub use load_draws::{
     Draws, FixedDraws, MOST_CLIENTS, MOST_ITEMS, MOST_ROUNDS, MOST_TASKS, PERCENT, PcgDraws,
     Settings, Tasks, tasks_of, turns_make_tasks,

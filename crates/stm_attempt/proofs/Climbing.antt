@@ -1,5 +1,6 @@
 -- Locks that are taken in ascending order.
-use Rattle.std.proofs.Common.{◌≡◌, refl, ap, subst, ◌∙◌, ℕ, zero, ◌+◌, ◌<◌, Bool, cond, false, eqb, eq-eqb, List, []}
+use Rattle.std.proofs.Common.{◌≡◌, refl, sym, ap, subst, ◌∙◌, ℕ, zero, ◌+◌, ◌<◌, Bool, cond, false, eqb, eq-eqb, List}
+use Rattle.std.proofs.Common.{[]}
 use Rattle.std.proofs.Common.{◌∷◌, ◌++◌, arith}
 use Rattle.std.proofs.lemmas.Bool.{ne_eqb}
 use Rattle.std.proofs.lemmas.List.{map-append}
@@ -21,6 +22,10 @@ not_mine (p ∷ ps) k above =
     let less : p.0 < k = above p.0 p.1 (zero, refl) in
     let other : eqb p.0 k ≡ false = ne_eqb p.0 k (λ e. absurd (omega arith)) in
     rw other (not_mine ps k (λ j u i. above j u (in_later _ _ _ i)))
+
+-- a value of the client is as its probe left it
+pub left_by : {X : Type 0} (x y z : X) → y ≡ z → x ≡ y → x ≡ z
+left_by x y z is left = left ∙ is
 
 module _ (lawful : RecordLaw) (t : Stamp) (lk : ℕ → ℕ) (b : Bounds) (v w : Client) (k n : ℕ)
     (stepped : w ≡ after t lk (probe k) n v) (above : IsAbove v k) where
@@ -71,3 +76,6 @@ module _ (lawful : RecordLaw) (t : Stamp) (lk : ℕ → ℕ) (b : Bounds) (v w :
           let b : w.attempt.steps ≡ v.attempt.steps + 1 = ap (λ (x : Client). x.attempt.steps) stepped in
           omega (arith, a, b);
     }
+
+    pub has_taken_left : (u : Client) → u ≡ d → HasTaken v u k
+    has_taken_left u left = subst (λ (x : Client). HasTaken v x k) (sym left) has_taken

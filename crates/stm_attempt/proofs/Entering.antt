@@ -182,10 +182,6 @@ was_stopped (Some d) is e = cc
 was_stopped None is e = cc
 
 -- what a look into the log says
-pub not_there : {A : Type 0} (found : Option ℕ) (x : ℕ) → None ≡ found → found ≡ Some x → A
-not_there (Some y) x e f = cc
-not_there None x e f = cc
-
 pub is_there : {A : Type 0} (found : Option ℕ) (x : ℕ) → Some x ≡ found → found ≡ None → A
 is_there (Some y) x e f = cc
 is_there None x e f = cc

@@ -1,6 +1,7 @@
 pub mod Parity
 pub mod Named
 pub mod Entering
+pub mod Marking
 pub mod Climbing
 pub mod Locks
 pub mod Returning

@@ -6,6 +6,8 @@ use Rattle.stm_words.specs.LockWord.{free_word}
 use Rattle.stm_core.specs.Client.{Client, Phase, idle, running, ending, committed, finished, Step, nothing, began, probed, fetched, checked, locked, ticked, validated, ended}
 use Rattle.stm_core.specs.Event.{forgetting}
 use Rattle.stm_logs.specs.Log.{LogValue}
+use Rattle.stm_logs.specs.Marks.{is_marked}
+use Rattle.stm_logs.specs.declared.marks.Marks.{Marks}
 use Rattle.stm_region.specs.Shown.{RegionShown}
 use Rattle.stm_core.specs.Guards.{stripe_of}
 use Rattle.stm_attempt.specs.Conflicts.{HasMet, reads_refused}
@@ -83,6 +85,15 @@ pub record IsPlaced (region : RegionShown) (writes : LogValue) : Type 0 where
       address < region.size
   pub range : (address number : ℕ) → get writes.locks address ≡ Some number →
       number < region.stripes
+
+-- an address that is not marked has no write
+abbrev pub MarksCover : Marks → LogValue → Type 0
+MarksCover marks writes =
+    (address : ℕ) → is_marked marks address ≡ false → get writes.words address ≡ None
+
+-- all addresses are marked
+abbrev pub AreAllMarked : Marks → Type 0
+AreAllMarked marks = (address : ℕ) → is_marked marks address ≡ true
 
 -- true unless the attempt was finished as a reader
 abbrev pub is_unfinished : Phase → Bool

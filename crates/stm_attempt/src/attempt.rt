@@ -6,7 +6,7 @@ ghost use Rattle.stm_core.specs.Event.{begin as begins};
 ghost use Rattle.stm_region.specs.declared.limits.TheConstants.{MOST_GRANTS};
 ghost use Rattle.stm_region.specs.Shown.{acted};
 ghost use Rattle.stm_region.specs.Findings.{AreEarlier};
-ghost use Rattle.stm_attempt.specs.Begun.{AreInside, IsPlaced, IsQuiet, IsRunning, IsUnstopped, addresses};
+ghost use Rattle.stm_attempt.specs.Begun.{AreInside, IsPlaced, IsQuiet, IsRunning, IsUnstopped, MarksCover, AreAllMarked, addresses};
 ghost use Rattle.stm_attempt.specs.Conflicts.{HasMet};
 ghost use Rattle.stm_attempt.specs.Meaning.{IsStanding};
 
@@ -42,12 +42,16 @@ pub struct Attempt<'a, L: Law, R: Allocator = Global, A: Allocator + Copy = Glob
     ghost logged: { logs.now.in_use ≡ true → stopped ≡ None →
         logs.now.reads ≡ addresses client.now.value.attempt.reads },
     ghost placed: { logs.now.in_use ≡ true → IsPlaced region.now logs.now.writes },
+    ghost covered: { logs.now.in_use ≡ true → MarksCover logs.now.marks logs.now.writes },
+    ghost marked: { logs.now.in_use ≡ true → stopped ≢ None → AreAllMarked logs.now.marks },
     ghost stands: { IsStanding logs.now.in_use region.now client.now.value
         standing.size.value standing.client.value.value.attempt.reads },
 }
 
 impl<'a, L: Law, R: Allocator, A: Allocator + Copy> Attempt<'a, L, R, A> {
-    ghost use Rattle.stm_attempt.specs.Attempt.{runs, client_of, lock_of, IsFresh, step_bound, client_left};
+    ghost use Rattle.stm_attempt.specs.Attempt.{runs, client_of, lock_of, written_at, IsFresh, step_bound, client_left};
+    ghost use Rattle.std.specs.Prelude.{IfOk, IfErr};
+    ghost use Rattle.stm_attempt.specs.declared.conflict.Refusal.TheVariants.{Stopped};
 
     /// Begins an attempt, with one load of the clock. The logs are emptied first.
     ///
@@ -108,6 +112,25 @@ impl<'a, L: Law, R: Allocator, A: Allocator + Copy> Attempt<'a, L, R, A> {
     {
         let Self { stopped, .. } = self;
         *stopped
+    }
+
+    /// Returns the value that the attempt has written at the address, if any, or `Stopped` if a
+    /// read has met a conflict. One mark shows that there is neither.
+    #[inline(always)]
+    fn own_write(&self, addr: Addr) -> Result<Option<u64>, Refusal>
+        requires { runs self.now ≡ true }
+        ensures ok { IfOk result (λ own.
+            (own ≡ written_at self.now addr.0) × (self.now.stopped ≡ None)) }
+        ensures stopped { IfErr result (λ stop.
+            (stop ≡ Stopped) × (self.now.stopped ≢ None)) }
+    {
+        if !self.logs.marks.is_marked(addr) {
+            return Ok(None);
+        }
+        if self.stopped.is_some() {
+            return Err(Refusal::Stopped);
+        }
+        Ok(self.logs.writes.get(addr))
     }
 
     /// Aborts the attempt, which leaves no record.
@@ -175,10 +198,7 @@ impl<'a, L: Law, R: Allocator, A: Allocator + Copy> TxRead for Attempt<'a, L, R,
         ensures region { self.old.stopped ≡ None → written_at self.old addr.0 ≡ None →
             Reads self.old self.new addr.0 result }
     {
-        if self.stopped.is_some() {
-            return Err(Refusal::Stopped);
-        }
-        if let Some(value) = self.logs.writes.get(addr) {
+        if let Some(value) = self.own_write(addr)? {
             return Ok(value);
         }
         self.logs.reads.push(addr)?;
@@ -189,6 +209,7 @@ impl<'a, L: Law, R: Allocator, A: Allocator + Copy> TxRead for Attempt<'a, L, R,
             }
             Err(conflict) => {
                 self.stopped = Some(conflict);
+                self.logs.marks.mark_all();
                 Err(Refusal::Stopped)
             }
         }
@@ -229,6 +250,7 @@ impl<'a, L: Law, R: Allocator, A: Allocator + Copy> TxMem for Attempt<'a, L, R, 
             return Err(Refusal::Stopped);
         }
         let lock = self.region.lock_of(addr);
+        self.logs.marks.mark(addr);
         self.logs.writes.put(addr, lock, value)?;
         Ok(())
     }

@@ -32,11 +32,12 @@ fn lock_one<L: Law, R: Allocator>(
     ensures steps { IfErr result (λ _.
         client.new.value.attempt.steps ≤ client.old.value.attempt.steps + 2) }
 {
-    let word = region.probe(client, lock);
+    let probed = region.probe_to_lock(client, lock);
+    let word = probed.word();
     let Some(_version) = free_version(word) else {
         return Err(Conflict::Held { lock, word });
     };
-    match region.lock(client, lock) {
+    match region.lock(probed) {
         Ok(()) => Ok(()),
         Err(found) => Err(Conflict::LostLock { lock, found }),
     }

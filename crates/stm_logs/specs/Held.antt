@@ -1,8 +1,6 @@
 -- A write log: its nodes, and their changes.
-use Rattle.std.specs.Prelude.{◌≡◌, ℕ, ◌+◌, ◌%◌, ◌<◌, ◌≤◌, Bool, false, Option, Some, None, List, length, slice_index_or}
-use Rattle.std.specs.FinMap.{get, insert}
-use Rattle.tx_memory.specs.View.{Words}
-use Rattle.stm_logs.specs.declared.write.TheConstants.{MARKS}
+use Rattle.std.specs.Prelude.{◌≡◌, ℕ, ◌+◌, ◌<◌, ◌≤◌, Option, Some, None, List, length}
+use Rattle.std.specs.FinMap.{insert}
 use Rattle.stm_logs.specs.Nodes.{Node, Block, at}
 use Rattle.stm_logs.specs.Log.{LogValue, empty_log}
 use Rattle.stm_logs.specs.Index.{IsIndexed, SameNode, IsTaken}
@@ -23,11 +21,6 @@ pub record IsLog (b : Block) : Type 0 where
 abbrev pub held_value : Option LogValue → LogValue
 held_value None = empty_log
 held_value (Some table) = table
-
--- an address whose remainder has no mark has no value
-abbrev pub MarksCover : List Bool → Words → Type 0
-MarksCover marks words =
-    (a : ℕ) → slice_index_or marks (a % MARKS) false ≡ false → get words a ≡ None
 
 -- the log with one more word, its lock and its value
 abbrev pub with_word : LogValue → ℕ → ℕ → ℕ → LogValue

@@ -6,4 +6,5 @@ pub mod Nodes
 pub mod Index
 pub mod Order
 pub mod Held
+pub mod Marks
 pub mod Chain

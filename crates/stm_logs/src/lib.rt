@@ -9,6 +9,7 @@ mod chain;
 mod finger;
 mod grow;
 mod index;
+mod marks;
 mod nodes;
 mod order;
 mod read;
@@ -17,5 +18,6 @@ mod table;
 mod write;
 
 pub use chain::{Locks, Pairs, Words};
+pub use marks::Marks;
 pub use read::ReadLog;
 pub use write::WriteLog;

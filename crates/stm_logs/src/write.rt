@@ -1,5 +1,5 @@
 //! The write log: the addresses that a transaction has written, with their values and locks.
-ghost use Rattle.std.specs.Prelude.{◌≡◌, ◌≢◌, ◌↔◌, ℕ, ◌%◌, ◌<◌, ◌≤◌, IsOk, None, Some, length, slice_index, true};
+ghost use Rattle.std.specs.Prelude.{◌≡◌, ◌≢◌, ◌↔◌, ℕ, ◌<◌, ◌≤◌, IsOk, None, Some, length, slice_index, true};
 ghost use Rattle.std.specs.FinMap.{get, len};
 ghost use Rattle.stm_logs.specs.Refusals.{Becomes};
 ghost use Rattle.stm_logs.specs.Held.{with_word};
@@ -12,26 +12,12 @@ use std::marker::Model;
 use stm_words::Writes;
 use tx_memory::Addr;
 
-/// Number of marks of a write log, one for each remainder of the addresses.
-const MARKS: usize = 128;
-
 /// A finite map from addresses to values, with the number of each address's lock. The log keeps
 /// its memory when it is cleared.
 #[derive(Drop)]
 pub struct WriteLog<A: Allocator + Copy = Global> {
     alloc: A,
     table: Option<Table<A>>,
-    /// True for a remainder if an address of this remainder may be in the log.
-    marks: [bool; MARKS],
-}
-
-/// Returns the index of an address's mark.
-#[inline]
-fn mark_of(addr: Addr) -> usize
-    ensures mark { result ≡ addr.0 % MARKS }
-    ensures inside { result < MARKS }
-{
-    addr.0 as usize % MARKS
 }
 
 impl<A: Allocator + Copy> Writes for WriteLog<A> {
@@ -48,11 +34,9 @@ impl<A: Allocator + Copy> Model for WriteLog<A> {
 
     ghost coded = { log_code };
 
-    ghost use Rattle.stm_logs.specs.Held.{held_value, MarksCover};
+    ghost use Rattle.stm_logs.specs.Held.{held_value};
 
     ghost view = { λ w. held_value w.table };
-
-    ghost invariant = { λ w. MarksCover w.marks (held_value w.table).words };
 }
 
 impl<A: Allocator + Copy> WriteLog<A> {
@@ -60,11 +44,7 @@ impl<A: Allocator + Copy> WriteLog<A> {
     pub fn new(alloc: A) -> WriteLog<A>
         ensures { result ≡ empty_log }
     {
-        WriteLog {
-            alloc,
-            table: None,
-            marks: [false; MARKS],
-        }
+        WriteLog { alloc, table: None }
     }
 
     /// Returns the number of addresses.
@@ -90,7 +70,6 @@ impl<A: Allocator + Copy> WriteLog<A> {
         ensures answer { Becomes result self.old self.new (with_word self.old addr.0 lock value) }
         ensures there { get self.old.words addr.0 ≢ None → IsOk result }
     {
-        self.marks[mark_of(addr)] = true;
         match &mut self.table {
             Some(table) => table.put(addr.0, lock, value),
             None => self.put_first(addr, lock, value),
@@ -104,19 +83,14 @@ impl<A: Allocator + Copy> WriteLog<A> {
         ensures { Becomes result self.old self.new (with_word self.old addr.0 lock value) }
     {
         self.table = Some(Table::with_word(self.alloc, addr.0, lock, value)?);
-        self.marks[mark_of(addr)] = true;
         Ok(())
     }
 
-    /// Returns the value that was put at the address. For an address that is not in the log, one
-    /// mark usually decides and the index is not searched.
+    /// Returns the value that was put at the address.
     #[inline]
     pub fn get(&self, addr: Addr) -> Option<u64>
         ensures { result ≡ get self.now.words addr.0 }
     {
-        if !self.marks[mark_of(addr)] {
-            return None;
-        }
         match &self.table {
             Some(table) => table.get(addr.0),
             None => None,
@@ -224,7 +198,6 @@ impl<A: Allocator + Copy> WriteLog<A> {
     pub fn clear(&mut self)
         ensures { self.new ≡ empty_log }
     {
-        self.marks = [false; MARKS];
         if let Some(table) = &mut self.table {
             table.clear();
         }

@@ -4,7 +4,6 @@ use Rattle.std.proofs.Common.{◌||◌, ◌&&◌, List, [], ◌∷◌, ◌++◌,
 use Rattle.std.proofs.lemmas.Bool.Decides.{nat_tests}
 use mathlib.Core.Option.{some, some-injective, some-ne-none}
 use Rattle.tx_memory.specs.Image.{In}
-use Rattle.atomic_table.specs.Seated.{TableId}
 use Rattle.stm_core.specs.Client.{Client, Record, before, rank, inserted}
 use Rattle.stm_core.specs.Event.{begin, finish}
 use Rattle.stm_core.proofs.Lists.{by_bool}
@@ -17,7 +16,6 @@ use Rattle.stm_attempt.specs.declared.conflict.Stop.{Stop}
 use Rattle.stm_attempt.proofs.Named.{apart, same_attempt}
 use Rattle.stm_object.specs.declared.place.Place.{Place}
 use Rattle.stm_object.specs.Places.{place_of}
-use Rattle.stm_object.specs.Callers.{UserShown}
 use Rattle.stm_object.specs.History.{IsUnplaced, AddsRecord, AddsAt}
 
 record_tag : (region : RegionShown) (tag : List ℕ) (v : Client) (pairs : List (ℕ × ℕ)) (version : ℕ)
@@ -281,9 +279,3 @@ pub only_of : (rs xs xs' ys ys' : List Record) → ((r : Record) → In r rs →
 only_of rs xs xs' ys ys' h e f =
     subst (λ (zs : List Record). (r : Record) → In r rs → In r zs ⊎ In r ys') (sym e)
     (subst (λ (zs : List Record). (r : Record) → In r rs → In r xs ⊎ In r zs) (sym f) h)
-
--- two users of one memory with the same own state and the same value are equal
-pub same_user : {Own : Type 0} (table table' : TableId) (v : Client) (own own' : Own) → table' ≡ table → own' ≡ own →
-    let u : UserShown Own = record { table = table'; value = v; own = own' } in
-    let w : UserShown Own = record { table = table; value = v; own = own } in u ≡ w
-same_user table table' v own own' e f = rw (e, f) refl

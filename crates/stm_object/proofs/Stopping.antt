@@ -1,11 +1,12 @@
 -- Attempts, one after the other, and why they stopped.
+use Rattle.std.proofs.lemmas.Bool.Decides.{nat_tests}
 use Rattle.std.proofs.Common.{◌≡◌, ℕ, zero, suc, ◌+◌, ◌≤◌, Bool, true, false, List, [], ◌∷◌, ◌++◌, Option, Some, Result}
-use Rattle.std.proofs.Common.{Ok, Err}
+use Rattle.std.proofs.Common.{Ok, Err, is_some, nat_lt, ◌&&◌}
 use Rattle.std.proofs.Common.{IfOk, IfErr, inr, refl, sym, ap, ◌∙◌, subst, arith}
 use Rattle.stm_core.specs.Client.{Client, Record}
 use Rattle.stm_core.specs.Guards.{stripe_of}
 use Rattle.stm_logs.specs.Log.{LogValue, log_pairs}
-use Rattle.stm_region.specs.Shown.{RegionShown}
+use Rattle.stm_region.specs.Shown.{RegionShown, ClientShown}
 use Rattle.stm_attempt.specs.Begun.{IsPlaced}
 use Rattle.stm_attempt.specs.Conflicts.{IsReadConflict}
 use Rattle.stm_attempt.specs.Committing.{HasStopped}
@@ -17,7 +18,7 @@ use Rattle.stm_object.specs.Object.{Specification, Does}
 use Rattle.stm_object.specs.History.{AddsAt, SparesWrites, RecordsEntry, WasInOrder, IsAlone, IsNoConflict, WasRead}
 use Rattle.stm_object.specs.History.{ConflictWasShown, AttemptedOnce, LeadsOn, IsNear, IsUnplaced}
 use Rattle.stm_object.specs.History.{WouldWriteEntry, IsStopOfEntry, Misses, met_in, AreTries, HasCalledAt}
-use Rattle.stm_object.specs.Tracing.{conflict_in, tally_with, HasTallied}
+use Rattle.stm_object.specs.Tracing.{Trace, HasTracedOne, conflict_in, tally_with, HasTallied}
 use Rattle.stm_object.proofs.Histories.{leads}
 
 -- a read showed the conflict that the attempt kept
@@ -86,6 +87,39 @@ trying_next Shows more tries left left' v w v' t0 t t' conflict h less next reco
       unplaced = unplaced;
       alone = λ a. absurd (not (h.grants ∙ a));
     }
+
+-- an attempt as the loop of a call finds it, by the client and the tracer before and after
+pub record Made {E A X F T : Type 0} (o : Specification E) (region : RegionShown) (entry : A → E)
+    (changes : A → Bool) (frame : X → F) (tally : X → T) (more : Option Conflict → T → T)
+    (ended : X → Option (List Trace)) (reads : Bool) (result : Result (A × Place) Stop) (c c' : ClientShown)
+    (x x' : X) : Type 0 where
+  pub own : c'.table ≡ c.table
+  pub tried : AttemptedOnce o region entry changes reads result c.value c'.value
+  pub traced : HasTracedOne result c.value c'.value (ended x) (ended x')
+  pub frame_is : frame x' ≡ frame x
+  pub tallied : tally x' ≡ more (conflict_in result) (tally x)
+
+-- another attempt follows a conflict alone, and only if some attempt is left
+pub met_conflict : {A : Type 0} (left : ℕ) (result : Result A Stop)
+    → (is_some (conflict_in result) && nat_lt 0 left) ≡ true
+    → (conflict : Conflict) × (result ≡ Err (stop.Conflict conflict))
+met_conflict left (Ok a) h = absurd (let n : false ≡ true = h in cc)
+met_conflict left (Err stop.Memory) h = absurd (let n : false ≡ true = h in cc)
+met_conflict left (Err (stop.Conflict conflict)) h = (conflict, refl)
+met_conflict left (Err (stop.Spent version)) h = absurd (let n : false ≡ true = h in cc)
+
+pub some_left : (b : Bool) (left : ℕ) → (b && nat_lt 0 left) ≡ true → 1 ≤ left
+some_left true left h = grind (arith, nat_tests, h)
+some_left false left h = absurd (let n : false ≡ true = h in cc)
+
+pub none_left : {A : Type 0} (left : ℕ) (result : Result A Stop) (conflict : Conflict)
+    → (is_some (conflict_in result) && nat_lt 0 left) ≡ false → result ≡ Err (stop.Conflict conflict) → left ≡ 0
+none_left left (Ok a) conflict h is = absurd (let n : Ok a ≡ Err (stop.Conflict conflict) = is in cc)
+none_left left (Err stop.Memory) conflict h is = absurd (let n : Err stop.Memory ≡ Err (stop.Conflict conflict) = is
+    in cc)
+none_left left (Err (stop.Conflict met)) conflict h is = grind (arith, nat_tests, h)
+none_left left (Err (stop.Spent version)) conflict h is =
+    absurd (let n : Err (stop.Spent version) ≡ Err (stop.Conflict conflict) = is in cc)
 
 -- no attempt of a client that is alone met a conflict
 pub not_conflict : {A : Type 0} (conflict : Conflict) (result : Result A Stop) → result ≡ Err (stop.Conflict conflict)

@@ -14,7 +14,7 @@ use stm_region::{Client, Region};
 
 /// Makes one attempt of a transaction that only reads. The attempt keeps no log, and aborts only
 /// on a conflict.
-fn try_reading<S: Object, B: Body<S>, G: Gate, T: Tracer>(
+pub(crate) fn try_reading<S: Object, B: Body<S>, G: Gate, T: Tracer>(
     region: &Region<ObjectLaw<S>>,
     client: &mut Client<ObjectLaw<S>>,
     body: &B,
@@ -63,7 +63,7 @@ fn try_reading<S: Object, B: Body<S>, G: Gate, T: Tracer>(
 }
 
 /// Makes one attempt of a transaction that may write.
-fn try_writing<S: Object, B: Body<S>, G: Gate, T: Tracer>(
+pub(crate) fn try_writing<S: Object, B: Body<S>, G: Gate, T: Tracer>(
     region: &Region<ObjectLaw<S>>,
     client: &mut Client<ObjectLaw<S>>,
     logs: &mut Logs,
@@ -117,31 +117,5 @@ fn try_writing<S: Object, B: Body<S>, G: Gate, T: Tracer>(
             tracer.give_up(&stop);
             Err(stop)
         }
-    }
-}
-
-/// Makes one attempt of a transaction.
-#[inline]
-pub(crate) fn try_once<S: Object, B: Body<S>, G: Gate, T: Tracer>(
-    region: &Region<ObjectLaw<S>>,
-    client: &mut Client<ObjectLaw<S>>,
-    logs: &mut Logs,
-    body: &B,
-    gate: &mut G,
-    tracer: &mut T,
-) -> Result<(B::Answer, Place), Stop>
-    requires may { MayAttempt S.is region.now client.old }
-    ensures own { client.new.table ≡ client.old.table }
-    ensures tried { AttemptedOnce S.is region.now (λ a. B.entry_of body.now a)
-        (λ a. B.changes body.now a) (B.reads body.now) result client.old.value client.new.value }
-    ensures traced { HasTracedOne result client.old.value client.new.value
-        (T.ended tracer.old) (T.ended tracer.new) }
-    ensures frame { T.frame tracer.new ≡ T.frame tracer.old }
-    ensures tallied { T.tally tracer.new ≡ T.more (conflict_in result) (T.tally tracer.old) }
-{
-    if body.only_reads() {
-        try_reading(region, client, body, gate, tracer)
-    } else {
-        try_writing(region, client, logs, body, gate, tracer)
     }
 }

@@ -1,20 +1,21 @@
 //! Callers: a user together with the memory that it calls.
 
-ghost use Rattle.std.specs.Prelude.{◌≡◌, ◌≤◌, ◌⊎◌, IfOk, IfErr, true, false};
+ghost use Rattle.std.specs.Prelude.{◌≡◌, ◌≤◌, ◌⊎◌, ◌&&◌, IfOk, IfErr, is_some, nat_lt, true, false};
 ghost use Rattle.tx_memory.specs.Image.{In};
 ghost use Rattle.stm_core.specs.Client.{Record};
 ghost use Rattle.stm_core.specs.History.{Sub};
 ghost use Rattle.stm_object.specs.Callers.{GoesOn, IsAtRest, Splits, SplitsNot, gathered};
 ghost use Rattle.stm_object.specs.History.{ConflictWasShown, HasCalled, HasCalledAt};
-ghost use Rattle.stm_object.specs.Tracing.{HasTraced, HasTallied};
+ghost use Rattle.stm_object.specs.Tracing.{HasTraced, HasTallied, conflict_in};
 
+use crate::attempts::{try_reading, try_writing};
 use crate::body::{Asking, Body, Query, Update, Updating};
-use crate::object::Object;
+use crate::object::{Object, Own};
 use crate::place::Place;
 use crate::shared::{Shared, User, answer_of};
 use crate::tracer::{Tracer, Untraced};
 use std::marker::Model;
-use stm_attempt::{Gate, NoGate, Stop};
+use stm_attempt::{Gate, Logs, NoGate, Stop};
 use stm_region::RegionFault;
 
 /// A user together with the memory that it calls. The type's invariant says that the two belong
@@ -34,6 +35,15 @@ impl<'a, S: Object> Model for Caller<'a, S> {
     ghost view = { λ y. record { shared = y.shared.now; user = y.user } };
 
     ghost invariant = { λ y. IsAtRest S.is (record { shared = y.shared.now; user = y.user }) };
+}
+
+/// Returns whether another attempt follows an attempt with this result, if the call may make
+/// `left` more attempts.
+#[inline]
+fn is_tried_again<A>(ended: &Result<A, Stop>, left: u32) -> bool
+    ensures { result ≡ (is_some (conflict_in ended.now) && nat_lt 0 left) }
+{
+    left > 0 && matches!(ended, Err(Stop::Conflict(_)))
 }
 
 impl<'a, S: Object> Caller<'a, S> {
@@ -56,7 +66,9 @@ impl<'a, S: Object> Caller<'a, S> {
         self.user
     }
 
-    /// Returns the state that the user keeps for itself.
+    /// Returns the state that the user keeps for itself. The clause `at_rest` is the invariant of
+    /// this type. It stands here because a proof in another crate has no other way to the
+    /// invariant: there, a caller is known by its model alone.
     pub fn own(&self) -> &S::Own
         ensures own { result.now ≡ self.now.user.own }
         ensures at_rest { IsAtRest S.is self.now }
@@ -98,7 +110,8 @@ impl<'a, S: Object> Caller<'a, S> {
     /// attempt reports to the gate how far its commit is; an attempt that only reads reports when
     /// its reads are done. The tracer traces the attempts.
     ///
-    /// Not said: that a gate never waits; that a call terminates.
+    /// Not said: when the gate is told, which no clause names; that a gate never waits; that a call
+    /// terminates.
     pub fn call<B: Body<S>, G: Gate, T: Tracer>(
         &mut self,
         body: &B,
@@ -119,7 +132,23 @@ impl<'a, S: Object> Caller<'a, S> {
             conflict v) T.more tries result self.old.user.value self.new.user.value
             (T.tally tracer.old) (T.tally tracer.new) }
     {
-        self.shared.call(&mut self.user, body, tries, gate, tracer)
+        let shared = self.shared;
+        let user = &mut self.user;
+        let reads = body.only_reads();
+        let mut left = tries;
+        'tries: loop {
+            left -= 1;
+            let (client, logs) = (&mut user.client, &mut user.logs);
+            let answer = if reads {
+                try_reading(&shared.region, client, body, gate, tracer)
+            } else {
+                try_writing(&shared.region, client, logs, body, gate, tracer)
+            };
+            if !is_tried_again(&answer, left) {
+                return answer;
+            }
+            user.pauses.wait(tries - left);
+        }
     }
 
     /// Splits off the caller of a new user of the same memory, for one grant; a memory has 63
@@ -131,10 +160,18 @@ impl<'a, S: Object> Caller<'a, S> {
         ensures theirs { IfOk result (λ other. other.shared ≡ self.old.shared) }
         ensures refused { IfErr result (λ fault. SplitsNot fault self.old.user self.new.user) }
     {
-        let user = self.shared.split(&mut self.user)?;
+        let shared = self.shared;
+        let user = &mut self.user;
+        let client = shared.region.split(&mut user.client)?;
+        let other = User {
+            client,
+            logs: Logs::new(shared.alloc),
+            pauses: user.pauses.split(),
+            own: user.own.split(),
+        };
         Ok(Caller {
-            shared: self.shared,
-            user,
+            shared,
+            user: other,
         })
     }
 
@@ -148,6 +185,15 @@ impl<'a, S: Object> Caller<'a, S> {
         ensures only { (r : Record) → In r self.new.user.value.records
             → In r self.old.user.value.records ⊎ In r other.entry.user.value.records }
     {
-        self.shared.gather(&mut self.user, other.user);
+        let shared = self.shared;
+        let user = &mut self.user;
+        let other = other.into_user();
+        let User {
+            client,
+            logs: _,
+            pauses: _,
+            own: _,
+        } = other;
+        shared.region.gather(&mut user.client, client);
     }
 }

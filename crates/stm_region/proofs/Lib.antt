@@ -5,3 +5,4 @@ pub mod Deciding
 pub mod Moves
 pub mod Ending
 pub mod Laws
+pub mod Probing

@@ -1,7 +1,8 @@
 -- A region and its clients as contracts see them.
 use Rattle.std.specs.Prelude.{◌≡◌, ◌≢◌, ℕ, ◌+◌, ◌<◌, min, length, List, [], Option, None, Some, Result, MatchResult}
+use Rattle.std.specs.Borrow.{MutBor}
 use Rattle.atomic_table.specs.Seated.{TableId}
-use Rattle.stm_core.specs.Client.{Client, Stamp, Step, nothing, began, probed, fetched, checked, locked, ticked, validated, ended, RecordLaw}
+use Rattle.stm_core.specs.Client.{Client, Stamp, Step, probed, RecordLaw}
 use Rattle.stm_core.specs.Guards.{May, stripe_of}
 use Rattle.stm_core.specs.Event.{Action, Bounds, after, giving, fresh, taking, renewing, opener}
 use Rattle.stm_region.specs.declared.limits.TheConstants.{MOST_GRANTS}
@@ -129,6 +130,10 @@ Exchanged r step word result before now =
     MatchResult result (λ _. now ≡ acted r step word before)
     (λ found. (found ≢ word) × (now ≡ acted r step found before))
 
+-- the client that a value whose first field refers to it leaves when the value ends
+abbrev pub client_left : {B : Type 0} → MutBor ClientShown × B → ClientShown
+client_left exit = exit.0.now
+
 -- the client split another client off, which cost one grant
 abbrev pub HasSplit : ClientShown → ClientShown → ClientShown → Type 0
 HasSplit before now other =
@@ -141,17 +146,9 @@ HasSplit before now other =
 abbrev pub with_gathered : Client → Client → Client
 with_gathered v w = record (taking v w) { grants = min (v.grants + w.grants + 1) MOST_GRANTS }
 
--- if the client's last step was a probe, the field `probed` is the word that the probe found
+-- if the step is a probe, it found this word
 abbrev pub KeepsProbe : ℕ → Step → Type 0
-KeepsProbe word nothing = Unit {0}
-KeepsProbe word (began n) = Unit {0}
-KeepsProbe word (probed k n) = word ≡ n
-KeepsProbe word (fetched a n x) = Unit {0}
-KeepsProbe word (checked a n m) = Unit {0}
-KeepsProbe word (locked k n m) = Unit {0}
-KeepsProbe word (ticked f m) = Unit {0}
-KeepsProbe word (validated k n) = Unit {0}
-KeepsProbe word (ended n) = Unit {0}
+KeepsProbe word last = (lock found : ℕ) → last ≡ probed lock found → word ≡ found
 
 -- the words of the first opening: those kept by a renewed region, else those of this opening
 abbrev pub first_words : List ℕ → Option (List ℕ) → List ℕ

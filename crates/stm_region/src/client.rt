@@ -1,7 +1,6 @@
 //! The client of a region.
 
 ghost use Rattle.std.specs.Prelude.{◌≡◌, ◌≤◌, []};
-ghost use Rattle.stm_core.specs.Client.{nothing};
 ghost use Rattle.stm_core.specs.Invariant.{Sorted};
 
 use crate::limits::MOST_GRANTS;
@@ -19,8 +18,6 @@ use stm_words::{Law, Version};
 pub struct Client<L: Law> {
     pub(crate) seat: Seat<(), View>,
     pub(crate) grants: u64,
-    /// The word that the client's last probe found.
-    pub(crate) probed: u64,
     /// The write version, 0 for none.
     pub(crate) version: Version,
     pub(crate) law: PhantomData<L>,
@@ -29,7 +26,7 @@ pub struct Client<L: Law> {
 impl<L: Law> Model for Client<L> {
     ghost use Rattle.std.specs.Prelude.{◌≡◌, ◌≤◌, ◌<◌, []};
     ghost use Rattle.stm_core.specs.Invariant.{Sorted};
-    ghost use Rattle.stm_region.specs.Shown.{ClientShown, KeepsProbe};
+    ghost use Rattle.stm_region.specs.Shown.{ClientShown};
     ghost use Rattle.stm_region.specs.declared.limits.TheConstants.{MOST_GRANTS};
 
     ghost Value = { ClientShown };
@@ -40,14 +37,13 @@ impl<L: Law> Model for Client<L> {
         (c.seat.me.1 ≡ [])
         × (c.grants ≡ c.seat.me.0.grants) × (c.grants ≤ MOST_GRANTS)
         × (c.version ≡ c.seat.me.0.attempt.wv)
-        × KeepsProbe c.probed c.seat.me.0.attempt.last × Sorted c.seat.me.0.records };
+        × Sorted c.seat.me.0.records };
 }
 
 impl<L: Law> Client<L> {
     /// Returns a client that has made no step, with this many grants.
     pub(crate) fn of_seat(seat: Seat<(), View>, grants: u64) -> Client<L>
-        requires none { (seat.me.1 ≡ []) × (seat.me.0.attempt.wv ≡ 0)
-            × (seat.me.0.attempt.last ≡ nothing) }
+        requires none { (seat.me.1 ≡ []) × (seat.me.0.attempt.wv ≡ 0) }
         requires grants { (grants ≡ seat.me.0.grants) × (grants ≤ MOST_GRANTS) }
         requires sorted { Sorted seat.me.0.records }
         ensures { result ≡ record { table = seat.table_id; value = seat.me.0 } }
@@ -55,7 +51,6 @@ impl<L: Law> Client<L> {
         Client {
             seat,
             grants,
-            probed: 0,
             version: as_version(0),
             law: PhantomData,
         }
@@ -70,7 +65,6 @@ impl<L: Law> Client<L> {
         let Self {
             seat,
             grants,
-            probed: _,
             version: _,
             law: _,
         } = self;
@@ -83,7 +77,6 @@ impl<L: Law> Drop for Client<L> {
         let Self {
             seat,
             grants: _,
-            probed: _,
             version: _,
             law: _,
         } = self;

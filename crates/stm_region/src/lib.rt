@@ -14,6 +14,7 @@ mod layout;
 mod limits;
 mod moving;
 mod opening;
+mod probed;
 mod region;
 mod renew;
 mod rule;
@@ -24,6 +25,7 @@ mod view;
 pub use client::Client;
 pub use fault::RegionFault;
 pub use limits::{MOST_GRANTS, MOST_RENEWALS, MOST_STRIPES, MOST_WORDS, VERSION_LIMIT};
+pub use probed::Probed;
 pub use region::Region;
 pub use renew::RenewFault;
 pub use rule::{

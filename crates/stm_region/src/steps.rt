@@ -2,7 +2,7 @@
 ghost use Rattle.std.specs.Prelude.{◌≡◌, ℕ, ◌+◌, ◌<◌, ◌≤◌, ◌==◌, true, [], MatchResult, IfErr, IsOk};
 ghost use Rattle.stm_core.specs.Client.{word_before, decided};
 ghost use Rattle.stm_core.specs.Event.{begin as begins, probe as probes, fetch as fetches, check as checks, lock as locks, tick as ticks, validate as validates, put as puts, release as releases, give_back as gives_back, finish as finishes};
-ghost use Rattle.stm_region.specs.Shown.{Exchanged, IsAllowed, acted};
+ghost use Rattle.stm_region.specs.Shown.{Exchanged, IsAllowed, acted, client_left};
 ghost use Rattle.stm_region.specs.declared.limits.TheConstants.{MOST_GRANTS};
 ghost use Rattle.stm_region.specs.Findings.{IsLockWord, IsLoneOpen, StandsOn, IsOneEvent, IsOfOneVersion, IsOfOneVersionAt};
 ghost use Rattle.stm_region.specs.Findings.{AreEarlier, Decides, DecidesAt};
@@ -12,6 +12,7 @@ ghost use Rattle.stm_core.specs.Guards.{Holds, stripe_of};
 
 use crate::client::Client;
 use crate::layout::{CLOCK, FIRST_LOCK};
+use crate::probed::Probed;
 use crate::region::Region;
 use crate::version::as_version;
 use std::alloc::Allocator;
@@ -56,9 +57,27 @@ impl<L: Law, A: Allocator> Region<L, A> {
             (IsFree result ⊎ Holds client.old.value.attempt.held lock)
             × (version_of result ≤ client.old.value.attempt.rv) }
     {
-        let found = self.load_as::<Brand>(&mut client.seat, FIRST_LOCK + lock as usize, lock);
-        client.probed = found;
-        found
+        self.load_as::<Brand>(&mut client.seat, FIRST_LOCK + lock as usize, lock)
+    }
+
+    /// Loads a lock word. The result keeps the client, for the exchange that takes the lock.
+    #[inline]
+    pub fn probe_to_lock<'c>(&self, client: &'c mut Client<L>, lock: u32) -> Probed<'c, L>
+        requires own { client.old.table ≡ self.now.table }
+        requires allowed { IsAllowed L.lawful self.now (probes lock) client.old }
+        ensures kept { (result.client.ghost_name ≡ client.entry.ghost_name)
+            × (result.lock ≡ lock) }
+        ensures client { result.client.now
+            ≡ acted self.now (probes lock) result.word client.old }
+        ensures event { IsOneEvent L.lawful self.now (probes lock) result.word
+            client.old.value result.client.now.value }
+        ensures word { IsLockWord self.now.last result.word }
+        ensures lone { IsLoneOpen client.old.value →
+            (IsFree result.word ⊎ Holds client.old.value.attempt.held lock)
+            × (version_of result.word ≤ client.old.value.attempt.rv) }
+    {
+        let word = self.probe(client, lock);
+        Probed { client, lock, word }
     }
 
     /// Loads the data word of an address whose lock was found free.
@@ -92,12 +111,37 @@ impl<L: Law, A: Allocator> Region<L, A> {
         self.load_as::<Brand>(&mut client.seat, FIRST_LOCK + lock as usize, addr.0)
     }
 
-    /// Takes a lock that the last step, a probe, found free, by one compare-and-exchange. Returns
-    /// the word found if the exchange fails.
+    /// Takes a lock that the last step, a probe, found free, by one compare-and-exchange of the
+    /// word that the probe found. Returns the word found if the exchange fails.
     #[inline]
-    pub fn lock(&self, client: &mut Client<L>, lock: u32) -> Result<(), u64>
+    pub fn lock(&self, probed: Probed<'_, L>) -> Result<(), u64>
+        requires own { probed.client.now.table ≡ self.now.table }
+        requires allowed { IsAllowed L.lawful self.now (locks probed.lock) probed.client.now }
+        ensures client { Exchanged self.now (locks probed.entry.lock)
+            (word_before probed.entry.client.now.value.attempt.last) result
+            probed.entry.client.now (client_left probed.exit) }
+        ensures event { MatchResult result
+            (λ _. IsOneEvent L.lawful self.now (locks probed.entry.lock)
+            (word_before probed.entry.client.now.value.attempt.last)
+            probed.entry.client.now.value (client_left probed.exit).value)
+            (λ found. IsOneEvent L.lawful self.now (locks probed.entry.lock) found
+            probed.entry.client.now.value (client_left probed.exit).value) }
+        ensures word { MatchResult result
+            (λ _. IsLockWord self.now.last
+            (word_before probed.entry.client.now.value.attempt.last))
+            (λ found. IsLockWord self.now.last found) }
+        ensures lone { IfErr result (λ _. IsLoneOpen probed.entry.client.now.value → ⊥) }
+    {
+        let Probed { client, lock, word } = probed;
+        self.exchange(client, lock, word)
+    }
+
+    /// Exchanges a lock word that the last step, a probe, found free for the held word.
+    #[inline]
+    fn exchange(&self, client: &mut Client<L>, lock: u32, word: u64) -> Result<(), u64>
         requires own { client.old.table ≡ self.now.table }
         requires allowed { IsAllowed L.lawful self.now (locks lock) client.old }
+        requires probe { word ≡ word_before client.old.value.attempt.last }
         ensures client { Exchanged self.now (locks lock)
             (word_before client.old.value.attempt.last) result client.old client.new }
         ensures event { MatchResult result
@@ -110,7 +154,6 @@ impl<L: Law, A: Allocator> Region<L, A> {
             (λ found. IsLockWord self.now.last found) }
         ensures lone { IfErr result (λ _. IsLoneOpen client.old.value → ⊥) }
     {
-        let word = client.probed;
         let found = self.exchange_as::<Brand>(
             &mut client.seat,
             FIRST_LOCK + lock as usize,

@@ -68,11 +68,12 @@ locked_one r c d k n w free e = subst (λ (x : ClientShown). HasOne k n x.value)
         (holding k (w / 2) b)
     taken = rw (same_number w) refl
 
-pub took_one : (r : RegionShown) (c c' c'' d : ClientShown) (k n m w : ℕ) → IsFreeHanded c.value → n ≡ m →
-    c' ≡ acted r begin m c → c'' ≡ acted r (probe k) w c' → d ≡ acted r (lock k)
-    (word_before c''.value.attempt.last) c'' → HasOne k n d.value
-took_one r c c' c'' d k n m w free q e e' e'' = locked_one r c d k n w free
-    (e'' ∙ ap (λ (x : ClientShown). acted r (lock k) (word_before x.value.attempt.last) x)
+pub took_one : (r : RegionShown) (c c' c'' d d' : ClientShown) (k j n m w : ℕ) → IsFreeHanded c.value → n ≡ m → j ≡ k →
+    c' ≡ acted r begin m c → c'' ≡ acted r (probe k) w c' → d' ≡ acted r (lock j)
+    (word_before c''.value.attempt.last) c'' → d ≡ d' → HasOne k n d.value
+took_one r c c' c'' d d' k j n m w free q same e e' e'' left = locked_one r c d k n w free
+    (left ∙ e'' ∙ ap (λ (i : ℕ). acted r (lock i) (word_before c''.value.attempt.last) c'') same
+    ∙ ap (λ (x : ClientShown). acted r (lock k) (word_before x.value.attempt.last) x)
     (e' ∙ ap (acted r (probe k) w) (e ∙ ap (λ (i : ℕ). acted r begin i c) (sym q))))
 
 one_there : (p q : ℕ × ℕ) → In q (p ∷ []) → p ≡ q

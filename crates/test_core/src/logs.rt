@@ -7,7 +7,7 @@ use linked_list_allocator::LocalHeap;
 use std::alloc::{AllocError, Allocator, Global};
 use std::process::Abort;
 use std::test::Fail;
-use stm_logs::{ReadLog, WriteLog};
+use stm_logs::{Marks, ReadLog, WriteLog};
 use tx_memory::Addr;
 
 fn new_log<A: Allocator + Copy>(alloc: A) -> WriteLog<A>
@@ -77,6 +77,24 @@ fn a_value_is_replaced(rt: HostRuntime) -> Result<(), Fail> {
     same(&rt, &words_of(&rt, rt.alloc(), &log, 5).len(), &0);
     log.clear();
     same(&rt, &sizes_and_nine(&log), &(0, 0, None));
+    Ok(())
+}
+
+/// Returns whether addresses 9, 137 and 10 are marked.
+fn marked(marks: &Marks) -> [bool; 3] {
+    [Addr(9), Addr(137), Addr(10)].map(|addr| marks.is_marked(addr))
+}
+
+#[test]
+fn addresses_of_one_remainder_are_marked_together(rt: HostRuntime) -> Result<(), Fail> {
+    let mut marks = Marks::new();
+    same(&rt, &marked(&marks), &[false, false, false]);
+    marks.mark(Addr(9));
+    same(&rt, &marked(&marks), &[true, true, false]);
+    marks.mark_all();
+    same(&rt, &marked(&marks), &[true, true, true]);
+    marks.clear();
+    same(&rt, &marked(&marks), &[false, false, false]);
     Ok(())
 }
 

@@ -55,12 +55,12 @@ fn lock_across(
 {
     let _version = region.begin(client);
     let lock = region.lock_of(addr);
-    let word = region.probe(client, lock);
-    if word % 2 == 1 {
+    let probed = region.probe_to_lock(client, lock);
+    if probed.word() % 2 == 1 {
         return Ok(None);
     }
     write_at(alloc, region, other, addr, 5)?;
-    let found = region.lock(client, lock);
+    let found = region.lock(probed);
     if found.is_ok() {
         region.give_back(client, lock);
     }
@@ -87,11 +87,11 @@ fn tick_across(
     let mut log = WriteLog::new(alloc);
     log.put(addr, lock, 7)?;
     let from = region.begin(client);
-    let word = region.probe(client, lock);
-    if word % 2 == 1 {
+    let probed = region.probe_to_lock(client, lock);
+    if probed.word() % 2 == 1 {
         return Ok(None);
     }
-    let Ok(()) = region.lock(client, lock) else {
+    let Ok(()) = region.lock(probed) else {
         return Ok(None);
     };
     let written = write_at(alloc, region, other, others, 5);

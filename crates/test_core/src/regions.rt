@@ -59,11 +59,11 @@ pub(crate) fn write_at(
     let mut log = WriteLog::new(alloc);
     log.put(addr, lock, value)?;
     let from = region.begin(client);
-    let word = region.probe(client, lock);
-    if word % 2 == 1 {
+    let probed = region.probe_to_lock(client, lock);
+    if probed.word() % 2 == 1 {
         return Ok(false);
     }
-    let Ok(()) = region.lock(client, lock) else {
+    let Ok(()) = region.lock(probed) else {
         return Ok(false);
     };
     if from.get() == region.last().get() {

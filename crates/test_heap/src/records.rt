@@ -5,15 +5,14 @@ ghost use Rattle.vac_records.specs.Items.{IsNode};
 use std::test::Fail;
 use tx_alloc::Block;
 use tx_memory::{Addr, Flat, TxMem};
-use vac_model::Booking;
+use vac_model::Item;
 use vac_records::{
-    Item, add_total, booking_at, free_at, init_customer, init_item, item_at, place, price_at,
-    set_price, sum_at, total_at, units_at, used_at,
+    add_total, free_at, init_customer, init_item, place, price_at, set_price, sum_at, total_at,
+    units_at, used_at,
 };
 
-/// Creates an item of 100 units at 50, then adds 5 units, then changes the price. Returns the
-/// item.
-fn make_and_change<M: TxMem>(memory: &mut M, node: Block) -> Result<Item, M::Stop>
+/// Creates an item of 100 units at 50, then adds 5 units, then changes the price.
+fn make_and_change<M: TxMem>(memory: &mut M, node: Block) -> Result<(), M::Stop>
     requires { IsNode (M.view memory.old) node }
     ensures origin { M.origin memory.new ≡ M.origin memory.old }
     ensures size { IfOk result (λ _. (M.view memory.new).size ≡ (M.view memory.old).size) }
@@ -21,11 +20,11 @@ fn make_and_change<M: TxMem>(memory: &mut M, node: Block) -> Result<Item, M::Sto
     init_item(memory, node, 7, 100, 50)?;
     add_total(memory, node, 5)?;
     set_price(memory, node, 80)?;
-    item_at(memory, node)
+    Ok(())
 }
 
-/// Returns the numbers of an item, read one by one.
-fn numbers<M: TxMem>(memory: &mut M, node: Block) -> Result<(u64, u64, u64, u64), M::Stop>
+/// Returns the item of a block.
+fn read_item<M: TxMem>(memory: &mut M, node: Block) -> Result<Item, M::Stop>
     requires { IsNode (M.view memory.old) node }
     ensures { M.origin memory.new ≡ M.origin memory.old }
 {
@@ -33,13 +32,19 @@ fn numbers<M: TxMem>(memory: &mut M, node: Block) -> Result<(u64, u64, u64, u64)
     let free = free_at(memory, node)?;
     let total = total_at(memory, node)?;
     let price = price_at(memory, node)?;
-    Ok((used, free, total, price))
+    Ok(Item {
+        used,
+        free,
+        total,
+        price,
+    })
 }
 
 #[test]
 fn an_item_in_plain_memory(rt: HostRuntime) -> Result<(), Fail> {
     let mut flat = Flat::new(vec![in rt.alloc(); 9u64; 24]?);
-    let Ok(item) = make_and_change(&mut flat, Block(Addr(8)));
+    let Ok(()) = make_and_change(&mut flat, Block(Addr(8)));
+    let Ok(item) = read_item(&mut flat, Block(Addr(8)));
     let expected = Item {
         used: 0,
         free: 105,
@@ -47,8 +52,6 @@ fn an_item_in_plain_memory(rt: HostRuntime) -> Result<(), Fail> {
         price: 80,
     };
     assert_eq!(rt; item, expected);
-    let Ok(read) = numbers(&mut flat, Block(Addr(8)));
-    assert_eq!(rt; read, (0, 105, 105, 80));
     // The links of the block and all words outside are as they were.
     let words = flat.words();
     for (i, word) in words.iter().enumerate() {
@@ -64,24 +67,23 @@ fn an_item_in_plain_memory(rt: HostRuntime) -> Result<(), Fail> {
     Ok(())
 }
 
-/// Creates a customer without bookings. Returns the words of its block, read as those of a
-/// booking.
-fn make_customer<M: TxMem>(memory: &mut M, node: Block) -> Result<(Booking, u64, u64), M::Stop>
+/// Creates a customer without bookings. Returns the words of the customer's block that a booking's
+/// block has for the units and for the sum.
+fn make_customer<M: TxMem>(memory: &mut M, node: Block) -> Result<(u64, u64), M::Stop>
     requires { IsNode (M.view memory.old) node }
     ensures { M.origin memory.new ≡ M.origin memory.old }
 {
     init_customer(memory, node, 3)?;
-    let booking = booking_at(memory, node)?;
     let units = units_at(memory, node)?;
     let sum = sum_at(memory, node)?;
-    Ok((booking, units, sum))
+    Ok((units, sum))
 }
 
 #[test]
 fn a_customer_in_plain_memory(rt: HostRuntime) -> Result<(), Fail> {
     let mut flat = Flat::new(vec![in rt.alloc(); 9u64; 24]?);
     let Ok(read) = make_customer(&mut flat, Block(Addr(8)));
-    assert_eq!(rt; read, (Booking { units: 0, sum: 9 }, 0, 9));
+    assert_eq!(rt; read, (0, 9));
     // Only the key, the head of the bookings and the spare words are written.
     let words = flat.words();
     for (i, word) in words.iter().enumerate() {

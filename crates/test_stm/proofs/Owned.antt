@@ -8,12 +8,15 @@ use Rattle.tx_alloc.specs.Steps.{mem}
 use Rattle.tx_alloc.specs.Rows.{Rows, times}
 use Rattle.vac_bookings.specs.Bookings.{IsList}
 use Rattle.vac_bookings.specs.Lists.{IsListAt, HasList}
+use Rattle.vac_bookings.specs.Search.{Sought, SpotAt}
+use Rattle.vac_bookings.specs.declared.search.Spot.{Spot}
+use Rattle.vac_bookings.proofs.Spots.{sought_spot}
 use Rattle.vac_model.specs.declared.items.Booking.{Booking}
 use Rattle.vac_model.specs.State.{Place}
 use Rattle.vac_model.specs.Step.{extended}
 use Rattle.vac_records.specs.Items.{IsNode}
 use Rattle.vac_records.specs.Bookings.{place_key}
-use Rattle.vac_records.specs.Customers.{CustomerMade, CanBook, IsLoose, IsBooked, Booked, CanExtend, BookingChanged}
+use Rattle.vac_records.specs.Customers.{CustomerMade, IsLoose, IsBooked, BookedAt, CanExtend, BookingChanged}
 use Rattle.vac_records.specs.Customers.{CanBill}
 use Rattle.vac_records.proofs.Links.{list_kept}
 use Rattle.test_stm.specs.Laws.{HoldsUnder}
@@ -55,10 +58,11 @@ none_loose m n place (r ∷ rs) e size l =
 pub none_node : (s : View) → HasNoBooking s → (node : ℕ) → node + 8 ≤ 96 → IsNode s node
 none_node s h node l = record { inside = omega (arith, h.size, l); small = omega (arith, h.size) }
 
-pub can_book : (s : View) (place : Place) → HasNoBooking s → CanBook s 24 place 32
-can_book s place h = record {
-  under = λ image rows i l. none_loose (mem s image) (length image) place rows (h.head_is
-      image i.sees) (h.long image i.sees) l;
+pub none_read : (s s' : View) → HasNoBooking s → Kept s s' → s'.writes ≡ s.writes → HasNoBooking s'
+none_read s s' h k w = record {
+  size = k.size ∙ h.size;
+  long = λ image i. h.long image (k.seen image i);
+  head_is = λ image i. rw w (h.head_is image (k.seen image i));
 }
 
 -- the only block of one row
@@ -70,28 +74,34 @@ only key a h =
           absurd (omega (arith, z)))
     ]
 
-booked_one : (s s' : View) (place : Place) (num price : ℕ) → HasNoBooking s → Booked s s' 24 place num price 32 →
-    (image : List ℕ) → Sees s' image → IsBooked (mem s image) (mem s' image) (length image) 24 [] place num price 32
-booked_one s s' place num price h b image i =
-    let i0 = b.kept.seen image i in
-    let list = list_empty (mem s image) (length image) (h.head_is image i0) in
-    b.booked image [] i list (none_loose (mem s image) (length image) place [] (h.head_is image i0)
-    (h.long image i0) list)
+booked_one : (s s1 s2 : View) (place : Place) (num price : ℕ) (spot : Spot) → HasNoBooking s →
+    Sought s s1 28 (place_key place) spot → BookedAt s1 s2 spot place num price 32 → (image : List ℕ) → Sees s2 image →
+    IsBooked (mem s1 image) (mem s2 image) (length image) 24 [] place num price 32
+booked_one s s1 s2 place num price spot h k b image i =
+    let i1 = b.kept.seen image i in
+    let list = list_empty (mem s image) (length image) (h.head_is image (k.kept.seen image i1)) in
+    let p : SpotAt (mem s image) 28 (place_key place) spot [] =
+    sought_spot s s1 28 (place_key place) spot k image [] i1 list in
+    let h1 = none_read s s1 h k.kept k.writes in
+    let list1 = list_empty (mem s1 image) (length image) (h1.head_is image i1) in
+    b.booked image i 24 [] list1 (rw k.writes p) (none_loose (mem s1 image) (length image) place []
+    (h1.head_is image i1) (h1.long image i1) list1)
 
-pub booked : (s s' : View) (place : Place) (num price : ℕ) → HasNoBooking s → Booked s s' 24 place num price 32 →
-    HasOneBooking s' (place_key place) num (num * price)
-booked s s' place num price h b = record {
-  size = b.kept.size ∙ h.size;
-  long = λ image i. h.long image (b.kept.seen image i);
-  list = λ image i. (booked_one s s' place num price h b image i).list;
+pub booked : (s s1 s2 : View) (place : Place) (num price : ℕ) (spot : Spot) → HasNoBooking s →
+    Sought s s1 28 (place_key place) spot → BookedAt s1 s2 spot place num price 32 →
+    HasOneBooking s2 (place_key place) num (num * price)
+booked s s1 s2 place num price spot h k b = record {
+  size = b.kept.size ∙ (k.kept.size ∙ h.size);
+  long = λ image i. h.long image (k.kept.seen image (b.kept.seen image i));
+  list = λ image i. (booked_one s s1 s2 place num price spot h k b image i).list;
   sum_is = λ image i.
-      let t = booked_one s s' place num price h b image i in
+      let t = booked_one s s1 s2 place num price spot h k b image i in
       t.relinks.others 34 (omega arith) (λ a x. let e = only (place_key place) a x in
-      inl (omega (arith, e))) ∙ ap (λ (k : Booking). k.sum) t.made.is;
+      inl (omega (arith, e))) ∙ ap (λ (v : Booking). v.sum) t.made.is;
   units_is = λ image i.
-      let t = booked_one s s' place num price h b image i in
+      let t = booked_one s s1 s2 place num price spot h k b image i in
       t.relinks.others 36 (omega arith) (λ a x. let e = only (place_key place) a x in
-      inr (omega (arith, e))) ∙ ap (λ (k : Booking). k.units) t.made.is;
+      inr (omega (arith, e))) ∙ ap (λ (v : Booking). v.units) t.made.is;
 }
 
 -- the words that link the blocks, and the keys, are as before

@@ -1,13 +1,14 @@
 -- The effects of the calls on an item.
 use Rattle.std.proofs.Common.{◌≡◌, ℕ, ◌+◌, ◌<◌, ◌≤◌, ◌^◌, List, ap, ◌∙◌, arith}
 use Rattle.std.specs.Prelude.{None}
-use Rattle.tx_memory.specs.View.{View, Sees, Kept, Stored}
+use Rattle.tx_memory.specs.View.{View, Sees, RestsOn, Kept, Loaded, Stored}
 use Rattle.tx_alloc.specs.Steps.{mem}
 use Rattle.vac_model.specs.declared.items.Item.{Item}
 use Rattle.vac_model.specs.Step.{added}
-use Rattle.vac_records.specs.Items.{IsNode, HasRoomForUnits, HasFree, CanMake, CanCancel, ItemMade, ItemChanged}
-use Rattle.vac_records.specs.Items.{UnitsAdded}
-use Rattle.vac_records.proofs.Counting.{more_item, priced_item}
+use Rattle.vac_records.specs.Items.{IsNode, HasRoomForUnits, HasFree, CanMakeOf, CanCancel, ItemMade, ItemChanged}
+use Rattle.vac_records.specs.Items.{ItemChangedOf, UnitsAdded}
+use Rattle.vac_records.specs.Steps.{kept_both}
+use Rattle.vac_records.proofs.Counting.{more_item, priced_item, enough_fits}
 use Rattle.test_stm.specs.Laws.{HoldsUnder}
 use Rattle.test_stm.specs.Records.{IsSized, HasItem}
 
@@ -27,6 +28,16 @@ item_made s s' node key num price n m = record {
     total = t.total_is j;
     price = t.price_is j;
   };
+}
+
+-- an item that changed after its free units were read
+pub changed_after : (s s1 s2 : View) (node v : ℕ) (f : Item → Item) → Loaded s s1 (node + 5) v →
+    ItemChangedOf s1 s2 node v f → ItemChanged s s2 node f
+changed_after s s1 s2 node v f l w = record {
+  kept = kept_both s s1 s2 l.kept w.kept;
+  changed = λ image i.
+      let is : mem s1 image (node + 5) ≡ v = rw l.writes (l.answer image (w.kept.seen image i)) in
+      rw l.writes at (w.changed image i is);
 }
 
 module _ (s s' : View) (node used free total price : ℕ) (h : HasItem s node used free total price) where
@@ -72,10 +83,17 @@ module _ (s : View) (node used free total price : ℕ) (h : HasItem s node used 
     total = record { enough = λ image i. omega (arith, k, total_is image i.sees) };
   }
 
-  pub can_make : (num : ℕ) → num ≤ free → used + num < 2 ^ 64 → CanMake s node num
-  can_make num l k = record {
-    free = record { enough = λ image i. omega (arith, l, free_is image i.sees) };
-    used = record { fits = λ image i. omega (arith, k, used_is image i.sees) };
+  -- the free units were read just now
+  pub can_make : (s1 : View) (num v : ℕ) → num ≤ free → used + num < 2 ^ 64 → Loaded s s1 (node + 5) v →
+      ∥ ((image : List ℕ) × RestsOn s1 image) ∥₁ → CanMakeOf s1 node num v
+  can_make s1 num v l k read ws = record {
+    free_is = λ image i. rw read.writes (read.answer image i.sees);
+    enough = enough_fits s s1 (node + 5) num v (record {
+      enough = λ image i. omega (arith, l, free_is image i.sees);
+    }) read ws;
+    used = record {
+      fits = λ image i. rw read.writes (omega (arith, k, used_is image (read.kept.seen image i.sees)));
+    };
   }
 
   pub can_cancel : (num : ℕ) → num ≤ used → free + num < 2 ^ 64 → CanCancel s node num

@@ -12,10 +12,8 @@ use stm_attempt::{Attempt, Logs};
 use stm_region::{Client, Region};
 use tx_alloc::Block;
 use tx_memory::{Addr, Flat, TxMem};
-use vac_model::Booking;
-use vac_records::{
-    Kind, bill, book, book_more, booking_at, booking_of, init_customer, sum_at, unbook, units_at,
-};
+use vac_model::{Booking, Kind};
+use vac_records::{bill, book_at, book_more, init_customer, spot_of, sum_at, unbook_at, units_at};
 
 const CUSTOMER: Block = Block(Addr(24));
 
@@ -30,7 +28,8 @@ fn make_customer<M: TxMem>(memory: &mut M) -> Result<(), M::Stop>
     ensures booking { IfOk result (λ _. HasOneBooking (M.view memory.new) flight_key 3 150) }
 {
     init_customer(memory, CUSTOMER, 5)?;
-    book(memory, CUSTOMER, BOOKING, Kind::Flight, FLIGHT, 3, 50)?;
+    let spot = spot_of(memory, CUSTOMER, Kind::Flight, FLIGHT)?;
+    book_at(memory, spot, BOOKING, (Kind::Flight, FLIGHT), 3, 50)?;
     Ok(())
 }
 
@@ -45,16 +44,15 @@ fn bill_and_extend<M: TxMem>(memory: &mut M) -> Result<u64, M::Stop>
     Ok(total)
 }
 
-/// Returns the booking, and its numbers read one by one.
-fn read_booking<M: TxMem>(memory: &mut M) -> Result<(Booking, [u64; 2]), M::Stop>
+/// Returns the booking.
+fn read_booking<M: TxMem>(memory: &mut M) -> Result<Booking, M::Stop>
     requires booking { HasOneBooking (M.view memory.old) flight_key 5 310 }
     ensures origin { M.origin memory.new ≡ M.origin memory.old }
     ensures booking { IfOk result (λ _. HasOneBooking (M.view memory.new) flight_key 5 310) }
 {
-    let booking = booking_at(memory, BOOKING)?;
     let units = units_at(memory, BOOKING)?;
     let sum = sum_at(memory, BOOKING)?;
-    Ok((booking, [units, sum]))
+    Ok(Booking { units, sum })
 }
 
 type Gone = (Option<Block>, u64, Option<(Block, u64)>);
@@ -65,9 +63,10 @@ fn bill_and_unbook<M: TxMem>(memory: &mut M) -> Result<Gone, M::Stop>
     requires booking { HasOneBooking (M.view memory.old) flight_key 5 310 }
     ensures origin { M.origin memory.new ≡ M.origin memory.old }
 {
-    let found = booking_of(memory, CUSTOMER, Kind::Flight, FLIGHT)?;
     let total = bill(memory, CUSTOMER)?;
-    let gone = unbook(memory, CUSTOMER, Kind::Flight, FLIGHT)?;
+    let spot = spot_of(memory, CUSTOMER, Kind::Flight, FLIGHT)?;
+    let found = spot.entry;
+    let gone = unbook_at(memory, spot)?;
     Ok((found, total, gone))
 }
 
@@ -75,7 +74,6 @@ fn bill_and_unbook<M: TxMem>(memory: &mut M) -> Result<Gone, M::Stop>
 struct Answers {
     first: u64,
     booking: Booking,
-    numbers: [u64; 2],
     gone: Gone,
 }
 
@@ -85,12 +83,11 @@ fn change_customer<M: TxMem>(memory: &mut M) -> Result<Answers, M::Stop>
 {
     make_customer(memory)?;
     let first = bill_and_extend(memory)?;
-    let (booking, numbers) = read_booking(memory)?;
+    let booking = read_booking(memory)?;
     let gone = bill_and_unbook(memory)?;
     Ok(Answers {
         first,
         booking,
-        numbers,
         gone,
     })
 }
@@ -127,7 +124,6 @@ fn a_customer_of_plain_memory_and_of_a_region(rt: HostRuntime) -> Result<(), Fai
     let by_hand = Answers {
         first: 150,
         booking: Booking { units: 5, sum: 310 },
-        numbers: [5, 310],
         gone: (Some(BOOKING), 310, Some((BOOKING, 5))),
     };
     same(&rt, &expected, &by_hand);

@@ -12,9 +12,10 @@ use stm_region::{Client, Region};
 use stm_words::Law;
 use tx_alloc::Block;
 use tx_memory::{Addr, Flat, TxMem, TxRead};
+use vac_model::Item;
 use vac_records::{
-    Item, add_total, cancel, free_at, init_item, item_at, make, price_at, set_price, sub_total,
-    total_at, used_at,
+    add_total, cancel, free_at, init_item, make_of, price_at, set_price, sub_total, total_at,
+    used_at,
 };
 
 const ITEM: Block = Block(Addr(16));
@@ -53,7 +54,8 @@ fn use_item<M: TxMem>(memory: &mut M) -> Result<(), M::Stop>
     ensures origin { M.origin memory.new ≡ M.origin memory.old }
     ensures item { IfOk result (λ _. HasItem (M.view memory.new) 16 6 91 97 50) }
 {
-    make(memory, ITEM, 10)?;
+    let free = free_at(memory, ITEM)?;
+    make_of(memory, ITEM, 10, free)?;
     cancel(memory, ITEM, 4)?;
     Ok(())
 }
@@ -69,28 +71,32 @@ fn extend_item<M: TxMem>(memory: &mut M) -> Result<(), M::Stop>
     Ok(())
 }
 
-/// Returns the item, and its numbers read one by one.
-fn read_item<M: TxRead>(memory: &mut M) -> Result<(Item, [u64; 4]), M::Stop>
+/// Returns the item.
+fn read_item<M: TxRead>(memory: &mut M) -> Result<Item, M::Stop>
     requires node { IsNode (M.view memory.old) 16 }
     ensures origin { M.origin memory.new ≡ M.origin memory.old }
 {
-    let item = item_at(memory, ITEM)?;
     let used = used_at(memory, ITEM)?;
     let free = free_at(memory, ITEM)?;
     let total = total_at(memory, ITEM)?;
     let price = price_at(memory, ITEM)?;
-    Ok((item, [used, free, total, price]))
+    Ok(Item {
+        used,
+        free,
+        total,
+        price,
+    })
 }
 
-fn change_item<M: TxMem>(memory: &mut M) -> Result<(Item, [u64; 4]), M::Stop>
+fn change_item<M: TxMem>(memory: &mut M) -> Result<Item, M::Stop>
     requires node { IsNode (M.view memory.old) 16 }
     ensures origin { M.origin memory.new ≡ M.origin memory.old }
 {
     make_item(memory)?;
     use_item(memory)?;
     extend_item(memory)?;
-    let read = read_item(memory)?;
-    Ok(read)
+    let item = read_item(memory)?;
+    Ok(item)
 }
 
 fn change_item_in_an_attempt(
@@ -98,7 +104,7 @@ fn change_item_in_an_attempt(
     client: &mut Client<SizeLaw>,
     logs: &mut Logs,
     words: &[u64],
-) -> Option<((Item, [u64; 4]), bool)>
+) -> Option<(Item, bool)>
     requires own { client.old.table ≡ region.now.table }
     requires free { IsFreeHanded client.old.value }
     requires size { region.now.size ≡ 96 }
@@ -128,7 +134,7 @@ fn an_item_of_plain_memory_and_of_a_region(rt: HostRuntime) -> Result<(), Fail> 
         total: 102,
         price: 80,
     };
-    same(&rt, &expected, &(by_hand, [6, 96, 102, 80]));
+    same(&rt, &expected, &by_hand);
     same(
         &rt,
         &words.get(16..24),

@@ -12,9 +12,10 @@ use std::process::Abort;
 use vac_manager::{Caller, call};
 use vac_sequential::Sequential;
 
-/// The generator of the tasks, and the plain manager that runs them.
+/// The generator of the tasks with their allocator, and the plain manager that runs the tasks.
 #[derive(Drop)]
 struct Plain {
+    alloc: Global,
     draws: Pcg32,
     manager: Sequential,
 }
@@ -22,16 +23,17 @@ struct Plain {
 impl Plain {
     fn new(rt: &impl Abort, alloc: Global, seed: u64) -> Plain {
         Plain {
+            alloc,
             draws: Pcg32::new(seed, 1),
             manager: Sequential::new(alloc, BLOCKS).expect(rt, "it opens"),
         }
     }
 
     /// Draws a task, and compares the client's reply with the plain manager's.
-    fn compare(&mut self, rt: &impl Abort, alloc: Global, caller: &mut Caller<'_>)
+    fn compare(&mut self, rt: &impl Abort, caller: &mut Caller<'_>)
         ensures { caller.new.shared ≡ caller.old.shared }
     {
-        let task = draw_task(alloc, &mut self.draws).expect(rt, "there is memory");
+        let task = draw_task(self.alloc, &mut self.draws).expect(rt, "there is memory");
         let wanted = self.manager.run(&task).expect(rt, "the task is in range");
         same(rt, &call(caller, &task, 1), &Ok(wanted));
     }
@@ -40,7 +42,6 @@ impl Plain {
     fn compare_one(
         &mut self,
         rt: &impl Abort,
-        alloc: Global,
         turn: u32,
         a: &mut Caller<'_>,
         b: &mut Caller<'_>,
@@ -51,9 +52,9 @@ impl Plain {
         ensures c { c.new.shared ≡ c.old.shared }
     {
         match turn {
-            0 => self.compare(rt, alloc, a),
-            1 => self.compare(rt, alloc, b),
-            _ => self.compare(rt, alloc, c),
+            0 => self.compare(rt, a),
+            1 => self.compare(rt, b),
+            _ => self.compare(rt, c),
         }
     }
 }
@@ -63,7 +64,7 @@ impl Plain {
 fn alone(rt: &impl Abort, alloc: Global, caller: &mut Caller<'_>) {
     let mut plain = Plain::new(rt, alloc, 7);
     for _ in 0..TASKS {
-        plain.compare(rt, alloc, caller);
+        plain.compare(rt, caller);
     }
 }
 
@@ -97,7 +98,7 @@ fn in_turns(
     let mut plain = Plain::new(rt, alloc, 11);
     let mut turns = Pcg32::new(11, 2);
     for _ in 0..TASKS {
-        plain.compare_one(rt, alloc, turns.next_u32() % 3, a, b, c);
+        plain.compare_one(rt, turns.next_u32() % 3, a, b, c);
     }
 }
 

@@ -21,16 +21,19 @@ use vac_records::{
 
 /// A customer, and the customer's block.
 #[derive(Clone, Copy)]
-pub(crate) struct CustomerAt {
+pub struct CustomerAt {
+    /// The customer's id.
     pub customer: u32,
+    /// The block of the customer.
     pub owner: Block,
 }
 
 /// An item, and its block.
 #[derive(Clone, Copy)]
-pub(crate) struct ItemAt {
+pub struct ItemAt {
     pub kind: Kind,
     pub id: u32,
+    /// The block of the item.
     pub item: Block,
 }
 
@@ -68,38 +71,35 @@ pub fn reserve<M: TxMem>(
     let Some(item) = find_item(memory, kind, id)? else {
         return Ok(Reply::No(Why::NoItem));
     };
-    reserve_at(memory, customer, owner, kind, id, item, num, start)
+    let who = CustomerAt { customer, owner };
+    let what = ItemAt { kind, id, item };
+    reserve_at(memory, who, what, num, start)
 }
 
 /// Books units as `reserve` does, at the blocks of the customer and of the item.
 pub fn reserve_at<M: TxMem>(
     memory: &mut M,
-    customer: u32,
-    owner: Block,
-    kind: Kind,
-    id: u32,
-    item: Block,
+    who: CustomerAt,
+    what: ItemAt,
     num: u32,
     start: FreeList,
 ) -> Result<Reply, M::Stop>
     requires state { HoldsState (M.view memory.old) }
-    requires customer { CustomerIsAt (M.view memory.old) customer owner }
-    requires item { ItemIsAt (M.view memory.old) kind id item }
-    requires range { is_command (Command.Reserve customer kind id num) ≡ true }
+    requires customer { CustomerIsAt (M.view memory.old) who.customer who.owner }
+    requires item { ItemIsAt (M.view memory.old) what.kind what.id what.item }
+    requires range { is_command (Command.Reserve who.customer what.kind what.id num) ≡ true }
     ensures origin { M.origin memory.new ≡ M.origin memory.old }
     ensures answer { IfOk result (λ reply. ServesCommand (M.view memory.old) (M.view memory.new)
-        (Command.Reserve customer kind id num) reply
-        (AtBlocks customer owner kind id item)) }
+        (Command.Reserve who.customer what.kind what.id num) reply
+        (AtBlocks who.customer who.owner what.kind what.id what.item)) }
 {
-    let free = free_at(memory, item)?;
+    let free = free_at(memory, what.item)?;
     if free < num as u64 {
         return Ok(Reply::No(Why::SoldOut));
     }
-    let price = price_at(memory, item)?;
+    let price = price_at(memory, what.item)?;
     let offer = Offer { num, free, price };
-    let spot = spot_of(memory, owner, kind, id)?;
-    let who = CustomerAt { customer, owner };
-    let what = ItemAt { kind, id, item };
+    let spot = spot_of(memory, who.owner, what.kind, what.id)?;
     match spot.entry {
         Some(booking) => extend_booking(memory, who, what, offer, booking),
         None => add_booking(memory, who, what, offer, spot, start),
@@ -150,15 +150,8 @@ fn add_booking<M: TxMem>(
     let Some(block) = take_refilling(memory, start)? else {
         return Ok(Reply::No(Why::Full));
     };
-    book_at(
-        memory,
-        spot,
-        block,
-        what.kind,
-        what.id,
-        offer.num,
-        offer.price,
-    )?;
+    let item = (what.kind, what.id);
+    book_at(memory, spot, block, item, offer.num, offer.price)?;
     make_of(memory, what.item, offer.num, offer.free)?;
     Ok(Reply::Done)
 }

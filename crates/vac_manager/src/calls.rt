@@ -67,8 +67,8 @@ pub fn call(caller: &mut Caller<'_>, task: &Task, tries: u32) -> Result<Reply, F
 /// statistics of the call's attempts. Each attempt reports to the gate how far its commit is; an
 /// attempt that only reads reports when its reads are done. The tracer traces the attempts.
 ///
-/// Not said: that a gate, which may hold anything its maker gave it, never waits; that a call
-/// terminates.
+/// Not said: when the gate is told, which no clause names; that a gate, which may hold anything its
+/// maker gave it, never waits; that a call terminates.
 pub fn trace_call<G: Gate, T: Tracer>(
     caller: &mut Caller<'_>,
     task: &Task,

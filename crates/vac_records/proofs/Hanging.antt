@@ -9,13 +9,12 @@ use Rattle.tx_alloc.specs.Rows.{Rows, times, block_at, Relinks}
 use Rattle.vac_bookings.specs.declared.key.Key.{Key}
 use Rattle.vac_bookings.specs.declared.search.Spot.{Spot}
 use Rattle.vac_bookings.specs.Lists.{IsListAt, FreshBooking}
-use Rattle.vac_bookings.specs.Search.{Sought, SpotAt, Hung, Unhung}
+use Rattle.vac_bookings.specs.Search.{Hung, Unhung}
 use Rattle.vac_bookings.proofs.Frame.{list_frame, list_block}
-use Rattle.vac_bookings.proofs.Spots.{Unmoved, sought_spot, spot_stays}
+use Rattle.vac_bookings.proofs.Spots.{Unmoved, spot_stays}
 use Rattle.vac_records.specs.Bookings.{place_key}
 use Rattle.vac_records.specs.Items.{mem, IsNode}
-use Rattle.vac_records.specs.Customers.{head_of, IsNewBooking, BookingMade, IsLoose, IsBooked, BookedAt, Booked}
-use Rattle.vac_records.specs.Customers.{IsUnbooking, UnbookedAt, Unbooked}
+use Rattle.vac_records.specs.Customers.{head_of, IsNewBooking, BookingMade, IsLoose, BookedAt, UnbookedAt}
 use Rattle.vac_records.specs.Steps.{kept_both}
 use Rattle.vac_records.proofs.Keyed.{row_at, row_times}
 use Rattle.vac_records.proofs.Shifts.{kind_small}
@@ -84,23 +83,6 @@ booked_after s s1 s2 spot kind id num price b small w hung = record {
       record { between = m1; made = made; list = ins.list; relinks = ins.relinks };
 }
 
--- a booking at the spot that a search came to
-pub booked_sought : (s s1 s2 : View) (customer : ℕ) (place : Place) (num price b : ℕ) (spot : Spot) →
-    Sought s s1 (head_of customer) (place_key place) spot →
-    BookedAt s1 s2 spot place num price b → Booked s s2 customer place num price b
-booked_sought s s1 s2 customer place num price b spot k w = record {
-  kept = kept_both s s1 s2 k.kept w.kept;
-  booked = λ image rows i.
-      let v : IsListAt (mem s1 image) (length image) (head_of customer) rows →
-      IsLoose (mem s1 image) (length image) customer rows place b →
-      IsBooked (mem s1 image) (mem s2 image) (length image) customer rows place num price b = λ listed l.
-      let p : SpotAt (mem s image) (head_of customer) (place_key place) spot rows =
-      sought_spot s s1 (head_of customer) (place_key place) spot k image rows (w.kept.seen image i)
-      (rw k.writes at listed) in
-      w.booked image i customer rows listed (rw k.writes p) l in
-      rw k.writes at v;
-}
-
 -- the words of the block that left the list, but its link, are as before
 units_same : (m m' : ℕ → ℕ) (n customer key b : ℕ) (rows : Rows) → IsListAt m n (head_of customer) rows →
     Relinks m m' 3 (head_of customer) rows → b ≡ block_at rows key → b ≢ 0 → m' (b + 4) ≡ m (b + 4)
@@ -152,24 +134,6 @@ unbooked_none s s1 spot found is v =
           let r = u.removal image i (head_of customer) (place_key place) rows listed p in
           record { is = r.is; units = tt; list = r.list; relinks = r.relinks };
     }
-
--- a booking that was taken out at the spot that a search came to
-pub unbooked_sought : (s s1 s2 : View) (customer : ℕ) (place : Place) (spot : Spot) (taken : Option (ℕ × ℕ)) →
-    Sought s s1 (head_of customer) (place_key place) spot →
-    UnbookedAt s1 s2 spot taken → Unbooked s s2 customer place taken
-unbooked_sought s s1 s2 customer place spot taken k v = record {
-  kept = kept_both s s1 s2 k.kept v.kept;
-  none = λ e. v.none e ∙ k.writes;
-  within = v.within;
-  unbooking = λ image rows i.
-      let u : IsListAt (mem s1 image) (length image) (head_of customer) rows →
-      IsUnbooking (mem s1 image) (mem s2 image) (length image) customer place taken rows = λ listed.
-      let p : SpotAt (mem s image) (head_of customer) (place_key place) spot rows =
-      sought_spot s s1 (head_of customer) (place_key place) spot k image rows (v.kept.seen image i)
-      (rw k.writes at listed) in
-      v.unbooking image i customer place rows listed (rw k.writes p) in
-      rw k.writes at u;
-}
 
 -- the block that was taken out is a block of the memory
 pub taken_node : (s s1 : View) (spot : Spot) (block : ℕ) → s.size ≤ 2 ^ 32 → Unhung s s1 spot (Some block) →

@@ -1,6 +1,5 @@
 pub mod Making
 pub mod Counting
-mod Known
 pub mod Keyed
 pub mod Links
 pub mod TableRows

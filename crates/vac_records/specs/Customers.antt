@@ -56,12 +56,6 @@ pub record BookingMade (s s' : View) (node : ℕ) (place : Place) (num price : �
   pub made : (image : List ℕ) → Sees s' image →
       IsNewBooking (mem s image) (mem s' image) node place num price
 
--- only reads were made, and under each possible image the result is the booking of the block
-pub record BookingRead (s s' : View) (node : ℕ) (b : Booking) : Type 0 where
-  pub kept : Kept s s'
-  pub writes : s'.writes ≡ s.writes
-  pub answer : (image : List ℕ) → Sees s' image → booking_in (mem s image) node ≡ b
-
 -- under each possible image the booking's sum and units can grow by num units at this price and
 -- fit 64 bits
 pub record CanExtend (s : View) (node num price : ℕ) : Type 0 where
@@ -88,13 +82,6 @@ pub record IsLoose (m : ℕ → ℕ) (n customer : ℕ) (rows : Rows) (place : P
   pub absent : block_at rows (place_key place) ≡ 0
   pub loose : times b rows ≡ 0
 
--- under each possible image of the memory's size, the customer's list has no booking of the place,
--- and b is a block that is neither the customer's block nor in the list
-pub record CanBook (s : View) (customer : ℕ) (place : Place) (b : ℕ) : Type 0 where
-  pub under : (image : List ℕ) (rows : Rows) → RestsOn s image →
-      IsListAt (mem s image) (length image) (head_of customer) rows →
-      IsLoose (mem s image) (length image) customer rows place b
-
 -- the block was made a booking, which gave the memory `between`, and was then linked into the
 -- customer's list
 pub record IsBooked (m m' : ℕ → ℕ) (n customer : ℕ) (rows : Rows) (place : Place)
@@ -104,18 +91,9 @@ pub record IsBooked (m m' : ℕ → ℕ) (n customer : ℕ) (rows : Rows) (place
   pub list : IsListAt m' n (head_of customer) (put_row rows (place_key place) b)
   pub relinks : Relinks between m' 3 (head_of customer) (put_row rows (place_key place) b)
 
--- under each possible image on which the customer had a list without a booking of the place, and b
--- was in no structure, b became that booking, of num units at this price
--- Not said: the limit of a booking's units, which the caller proves; the effect of a refused call.
-pub record Booked (s s' : View) (customer : ℕ) (place : Place) (num price b : ℕ) : Type 0 where
-  pub kept : Kept s s'
-  pub booked : (image : List ℕ) (rows : Rows) → Sees s' image →
-      IsListAt (mem s image) (length image) (head_of customer) rows →
-      IsLoose (mem s image) (length image) customer rows place b →
-      IsBooked (mem s image) (mem s' image) (length image) customer rows place num price b
-
 -- the block was made a booking of this place, and was linked into each customer's list that has no
 -- booking of the place and in which this is the spot of the place
+-- Not said: the limit of a booking's units, which the caller proves; the effect of a refused call.
 pub record BookedAt (s s' : View) (spot : Spot) (place : Place) (num price b : ℕ) : Type 0 where
   pub kept : Kept s s'
   pub booked : (image : List ℕ) → Sees s' image → (customer : ℕ) (rows : Rows) →
@@ -143,18 +121,8 @@ pub record IsUnbooking (m m' : ℕ → ℕ) (n customer : ℕ) (place : Place)
   pub list : IsListAt m' n (head_of customer) (cut_row rows (place_key place))
   pub relinks : Relinks m m' 3 (head_of customer) rows
 
--- under each possible image the booking of the place left the customer's list. If the list had no
--- such booking, nothing was written.
-pub record Unbooked (s s' : View) (customer : ℕ) (place : Place)
-    (taken : Option (ℕ × ℕ)) : Type 0 where
-  pub kept : Kept s s'
-  pub none : taken ≡ None → s'.writes ≡ s.writes
-  pub within : IsWithin s' (block_of taken)
-  pub unbooking : (image : List ℕ) (rows : Rows) → Sees s' image →
-      IsListAt (mem s image) (length image) (head_of customer) rows →
-      IsUnbooking (mem s image) (mem s' image) (length image) customer place taken rows
-
--- the booking at a spot left each customer's list in which the spot is that of a place
+-- the booking at a spot left each customer's list in which the spot is that of a place. If the spot
+-- has no booking, nothing was written.
 pub record UnbookedAt (s s' : View) (spot : Spot) (taken : Option (ℕ × ℕ)) : Type 0 where
   pub kept : Kept s s'
   pub none : taken ≡ None → s'.writes ≡ s.writes

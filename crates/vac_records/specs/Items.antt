@@ -56,12 +56,6 @@ pub record UnitsAdded (s s' : View) (node num : ℕ) : Type 0 where
   pub kept : Kept s s'
   pub added : (image : List ℕ) → Sees s' image → HasMore (mem s image) (mem s' image) node num
 
--- only reads were made, and under each possible image the result is the item of the block
-pub record ItemRead (s s' : View) (node : ℕ) (item : Item) : Type 0 where
-  pub kept : Kept s s'
-  pub writes : s'.writes ≡ s.writes
-  pub answer : (image : List ℕ) → Sees s' image → item_in (mem s image) node ≡ item
-
 -- under each possible image of the memory's size, the word can grow by this number and fits 64
 -- bits
 pub record RoomAt (s : View) (a by : ℕ) : Type 0 where
@@ -91,11 +85,6 @@ pub record Shifted (s s' : View) (a : ℕ) (f : ℕ → ℕ) : Type 0 where
 pub record HasFree (s : View) (node num : ℕ) : Type 0 where
   pub free : EnoughAt s (node + FREE) num
   pub total : EnoughAt s (node + TOTAL) num
-
--- under each possible image at least num units are free, and the used units can grow by num
-pub record CanMake (s : View) (node num : ℕ) : Type 0 where
-  pub free : EnoughAt s (node + FREE) num
-  pub used : RoomAt s (node + USED) num
 
 -- under each possible image this number of units is free, num is at most that number, and the used
 -- units can grow by num

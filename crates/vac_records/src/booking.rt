@@ -6,13 +6,13 @@ ghost use Rattle.vac_bookings.specs.declared.place.TheConstants.{SUM, UNITS};
 ghost use Rattle.vac_model.specs.State.{kind_number};
 ghost use Rattle.vac_model.specs.Step.{extended};
 ghost use Rattle.vac_records.specs.Items.{IsNode};
-ghost use Rattle.vac_records.specs.Customers.{CanMakeBooking, BookingMade, BookingRead, BookingChanged, CanExtend};
+ghost use Rattle.vac_records.specs.Customers.{CanMakeBooking, BookingMade, BookingChanged, CanExtend};
 
 use crate::word::{clear_spare, raise};
 use tx_alloc::Block;
 use tx_memory::{TxMem, TxRead, load, store};
 use vac_bookings::{Key, place};
-use vac_model::{Booking, Kind};
+use vac_model::Kind;
 
 /// Returns the key of the bookings of an item in customers' lists.
 #[inline]
@@ -48,18 +48,6 @@ pub(crate) fn init_booking<M: TxMem>(
     store(memory, node.word(place::UNITS), num as u64)?;
     clear_spare(memory, node)?;
     Ok(())
-}
-
-/// Returns the booking of the block.
-pub fn booking_at<M: TxRead>(memory: &mut M, node: Block) -> Result<Booking, M::Stop>
-    requires { IsNode (M.view memory.old) node }
-    ensures origin { M.origin memory.new ≡ M.origin memory.old }
-    ensures answer { IfOk result (λ booking.
-        BookingRead (M.view memory.old) (M.view memory.new) node booking) }
-{
-    let units = units_at(memory, node)?;
-    let sum = sum_at(memory, node)?;
-    Ok(Booking { units, sum })
 }
 
 /// Returns the number of units of the booking.

@@ -2,11 +2,11 @@
 
 ghost use Rattle.std.specs.Prelude.{◌≡◌, ◌+◌, ◌*◌, ◌<◌, ◌≤◌, ◌^◌, IfOk, IfErr};
 ghost use Rattle.tx_alloc.specs.Pointer.{IsWithin};
-ghost use Rattle.vac_bookings.specs.Lists.{HasList, Found};
+ghost use Rattle.vac_bookings.specs.Lists.{HasList};
 ghost use Rattle.vac_bookings.specs.Search.{Sought};
 ghost use Rattle.vac_records.specs.Bookings.{place_key};
 ghost use Rattle.vac_records.specs.Items.{IsNode};
-ghost use Rattle.vac_records.specs.Customers.{head_of, CustomerMade, CanBook, BookedAt, Booked, UnbookedAt, Unbooked, CanBill, Billed};
+ghost use Rattle.vac_records.specs.Customers.{head_of, CustomerMade, BookedAt, UnbookedAt, CanBill, Billed};
 
 use crate::booking::{init_booking, key_of, sum_at, units_at};
 use crate::place;
@@ -31,23 +31,6 @@ pub fn init_customer<M: TxMem>(memory: &mut M, node: Block, key: u32) -> Result<
     Ok(())
 }
 
-/// Returns the block of the customer's booking of an item, if there is one.
-pub fn booking_of<M: TxRead>(
-    memory: &mut M,
-    customer: Block,
-    kind: Kind,
-    id: u32,
-) -> Result<Option<Block>, M::Stop>
-    requires customer { IsNode (M.view memory.old) customer }
-    requires list { HasList (M.view memory.old) (head_of customer) }
-    ensures origin { M.origin memory.new ≡ M.origin memory.old }
-    ensures answer { IfOk result (λ found. Found (M.view memory.old) (M.view memory.new)
-        (head_of customer) (place_key (kind, id)) found) }
-{
-    let found = vac_bookings::find(memory, customer.word(place::BOOKINGS), key_of(kind, id))?;
-    Ok(found)
-}
-
 /// Returns the spot of an item in the customer's list: where the item's booking is or would be.
 #[inline(always)]
 pub fn spot_of<M: TxRead>(
@@ -67,38 +50,14 @@ pub fn spot_of<M: TxRead>(
 }
 
 /// Books units of an item for a customer without a booking of the item, each at this price. The
-/// block must be in no structure, and becomes the booking.
-pub fn book<M: TxMem>(
-    memory: &mut M,
-    customer: Block,
-    block: Block,
-    kind: Kind,
-    id: u32,
-    num: u32,
-    price: u64,
-) -> Result<(), M::Stop>
-    requires customer { IsNode (M.view memory.old) customer }
-    requires block { IsNode (M.view memory.old) block }
-    requires list { HasList (M.view memory.old) (head_of customer) }
-    requires loose { CanBook (M.view memory.old) customer (kind, id) block }
-    requires sum { num * price < 2 ^ 64 }
-    ensures origin { M.origin memory.new ≡ M.origin memory.old }
-    ensures answer { IfOk result (λ _. Booked (M.view memory.old) (M.view memory.new) customer
-        (kind, id) num price block) }
-{
-    let spot = spot_of(memory, customer, kind, id)?;
-    book_at(memory, spot, block, kind, id, num, price)?;
-    Ok(())
-}
-
-/// Books units as `book` does, at the spot of the booking in the customer's list, so that the list
-/// is not walked again.
+/// item is given by its kind and its id. The block must be in no structure, and becomes the
+/// booking, at its spot in the customer's list: a list that `spot_of` has walked is not walked
+/// again.
 pub fn book_at<M: TxMem>(
     memory: &mut M,
     spot: Spot,
     block: Block,
-    kind: Kind,
-    id: u32,
+    item: (Kind, u32),
     num: u32,
     price: u64,
 ) -> Result<(), M::Stop>
@@ -107,34 +66,17 @@ pub fn book_at<M: TxMem>(
     requires sum { num * price < 2 ^ 64 }
     ensures origin { M.origin memory.new ≡ M.origin memory.old }
     ensures answer { IfOk result (λ _. BookedAt (M.view memory.old) (M.view memory.new) spot
-        (kind, id) num price block) }
+        item num price block) }
 {
+    let (kind, id) = item;
     init_booking(memory, block, kind, id, num, price)?;
     insert_at(memory, spot, block)?;
     Ok(())
 }
 
-/// Removes the booking of an item from a customer's list, and returns its block and its number of
-/// units. Returns `None` if there is no such booking.
-pub fn unbook<M: TxMem>(
-    memory: &mut M,
-    customer: Block,
-    kind: Kind,
-    id: u32,
-) -> Result<Option<(Block, u64)>, M::Stop>
-    requires customer { IsNode (M.view memory.old) customer }
-    requires list { HasList (M.view memory.old) (head_of customer) }
-    ensures origin { M.origin memory.new ≡ M.origin memory.old }
-    ensures answer { IfOk result (λ taken. Unbooked (M.view memory.old) (M.view memory.new)
-        customer (kind, id) taken) }
-{
-    let spot = spot_of(memory, customer, kind, id)?;
-    let taken = unbook_at(memory, spot)?;
-    Ok(taken)
-}
-
-/// Removes a booking as `unbook` does, at the spot of the booking in the customer's list, so that
-/// the list is not walked again.
+/// Removes the booking at a spot from the customer's list, and returns its block and its number of
+/// units. Returns `None` if the spot has no booking. A list that `spot_of` has walked is not walked
+/// again.
 pub fn unbook_at<M: TxMem>(memory: &mut M, spot: Spot) -> Result<Option<(Block, u64)>, M::Stop>
     requires small { (M.view memory.old).size ≤ 2 ^ 32 }
     requires link { spot.link.0 < (M.view memory.old).size }

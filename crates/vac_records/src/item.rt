@@ -4,13 +4,12 @@ ghost use Rattle.std.specs.Prelude.{◌≡◌, ◌+◌, IfOk, IfErr};
 ghost use Rattle.tx_memory.specs.View.{Loaded, Stored};
 ghost use Rattle.vac_model.specs.Step.{deleted, taken, given_back};
 ghost use Rattle.vac_records.specs.declared.place.TheConstants.{USED, FREE, TOTAL, PRICE};
-ghost use Rattle.vac_records.specs.Items.{IsNode, HasRoomForUnits, HasFree, CanMake, CanMakeOf, CanCancel, ItemMade, ItemRead, ItemChanged, ItemChangedOf, UnitsAdded};
+ghost use Rattle.vac_records.specs.Items.{IsNode, HasRoomForUnits, HasFree, CanMakeOf, CanCancel, ItemMade, ItemChanged, ItemChangedOf, UnitsAdded};
 
 use crate::place;
 use crate::word::{lower, raise};
 use tx_alloc::Block;
 use tx_memory::{TxMem, TxRead, load, store};
-use vac_model::Item;
 
 /// Makes the block an item with this key and this price, with `num` free units and no used ones.
 /// The links into a table are left to the table.
@@ -32,25 +31,6 @@ pub fn init_item<M: TxMem>(
     store(memory, node.word(place::TOTAL), num as u64)?;
     store(memory, node.word(place::PRICE), price as u64)?;
     Ok(())
-}
-
-/// Returns the item of the block.
-pub fn item_at<M: TxRead>(memory: &mut M, node: Block) -> Result<Item, M::Stop>
-    requires { IsNode (M.view memory.old) node }
-    ensures origin { M.origin memory.new ≡ M.origin memory.old }
-    ensures answer { IfOk result (λ item.
-        ItemRead (M.view memory.old) (M.view memory.new) node item) }
-{
-    let used = used_at(memory, node)?;
-    let free = free_at(memory, node)?;
-    let total = total_at(memory, node)?;
-    let price = price_at(memory, node)?;
-    Ok(Item {
-        used,
-        free,
-        total,
-        price,
-    })
 }
 
 /// Returns the number of booked units of the item.
@@ -140,21 +120,8 @@ pub fn set_price<M: TxMem>(memory: &mut M, node: Block, price: u32) -> Result<()
     store(memory, word, price as u64)
 }
 
-/// Reserves `num` units: free units become used ones. The caller ensures that `num` units are
-/// free.
-pub fn make<M: TxMem>(memory: &mut M, node: Block, num: u32) -> Result<(), M::Stop>
-    requires node { IsNode (M.view memory.old) node }
-    requires units { CanMake (M.view memory.old) node num }
-    ensures origin { M.origin memory.new ≡ M.origin memory.old }
-    ensures answer { IfOk result (λ _. ItemChanged (M.view memory.old) (M.view memory.new) node
-        (λ item. taken item num)) }
-{
-    let free = free_at(memory, node)?;
-    make_of(memory, node, num, free)?;
-    Ok(())
-}
-
-/// Reserves units as `make` does, if the caller has already read the number of free units.
+/// Reserves `num` units: free units become used ones. The caller has read the number of free
+/// units, which is at least `num`.
 #[inline(always)]
 pub fn make_of<M: TxMem>(memory: &mut M, node: Block, num: u32, free: u64) -> Result<(), M::Stop>
     requires node { IsNode (M.view memory.old) node }

@@ -15,11 +15,11 @@ pub mod place;
 mod root;
 mod word;
 
-pub use booking::{book_more, booking_at, key_of, sum_at, units_at};
-pub use customer::{bill, book, book_at, booking_of, init_customer, spot_of, unbook, unbook_at};
+pub use booking::{book_more, key_of, sum_at, units_at};
+pub use customer::{bill, book_at, init_customer, spot_of, unbook_at};
 pub use item::{
-    add_total, cancel, free_at, init_item, item_at, make, make_of, price_at, set_price, sub_total,
-    total_at, used_at,
+    add_total, cancel, free_at, init_item, make_of, price_at, set_price, sub_total, total_at,
+    used_at,
 };
 pub use laws::{
     blocks_in_hand_are_no_entries, bookings_follow_their_blocks, capacity_is_a_count_of_blocks,
@@ -27,4 +27,3 @@ pub use laws::{
     items_follow_their_blocks, one_state_for_a_memory, states_have_their_structures,
 };
 pub use root::{CARS, CUSTOMERS, FLIGHTS, ROOMS, root_of};
-pub use vac_model::{Item, Kind};

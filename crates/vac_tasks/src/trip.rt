@@ -14,7 +14,7 @@ ghost use Rattle.vac_tasks.specs.Trips.{ChoiceIsAt, ChoicesAreAt, AtPick, AtChoi
 use crate::commands::refusal;
 use tx_alloc::{Block, FreeList};
 use tx_memory::{TxMem, TxRead};
-use vac_commands::{add_customer, find_customer, find_item, reserve_at};
+use vac_commands::{CustomerAt, ItemAt, add_customer, find_customer, find_item, reserve_at};
 use vac_model::{Joined, Kind, Pick, Reply, Task, TripReply, Why};
 use vac_records::price_at;
 
@@ -170,16 +170,13 @@ fn reserve_choice<M: TxMem>(
             refused: Some(Why::NoCustomer),
         }));
     };
-    let reply = reserve_at(
-        memory,
-        customer,
-        owner,
+    let who = CustomerAt { customer, owner };
+    let what = ItemAt {
         kind,
-        chosen.id,
-        chosen.item,
-        1,
-        start,
-    )?;
+        id: chosen.id,
+        item: chosen.item,
+    };
+    let reply = reserve_at(memory, who, what, 1, start)?;
     Ok(Some(Pick {
         id: chosen.id,
         price: chosen.price,

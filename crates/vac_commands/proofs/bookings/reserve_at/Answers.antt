@@ -28,8 +28,8 @@ extend_booking-requires g c = record {
     offered = offered _ _ _ _ _ _ _ _ c.in_ok-free.ensures.answer c.if-free-num.false c.in_ok-price.ensures.answer
         (sought_only _ _ _ _ _ c.in_ok-spot.ensures.answer);
   };
-  booking = booking_held _ _ (c.args.kind, c.args.id) _ _ c.in-Some.is
-      (spot_held _ _ _ _ (c.args.kind, c.args.id) _ (customer_is_on _ _ _ _
+  booking = booking_held _ _ (c.args.what.kind, c.args.what.id) _ _ c.in-Some.is
+      (spot_held _ _ _ _ (c.args.what.kind, c.args.what.id) _ (customer_is_on _ _ _ _
       (loads_only _ _ _ _ _ _ _ c.in_ok-free.ensures.answer c.in_ok-price.ensures.answer) c.requires.customer)
       c.in_ok-spot.ensures.answer);
 }
@@ -51,7 +51,7 @@ add_booking-requires-clause-ready g c = record {
 
 pub add_booking-requires-clause-spot : goal.add_booking-requires-clause-spot
 add_booking-requires-clause-spot g c =
-    spot_held _ _ _ _ (c.args.kind, c.args.id) _ (customer_is_on _ _ _ _
+    spot_held _ _ _ _ (c.args.what.kind, c.args.what.id) _ (customer_is_on _ _ _ _
     (loads_only _ _ _ _ _ _ _ c.in_ok-free.ensures.answer c.in_ok-price.ensures.answer) c.requires.customer)
     c.in_ok-spot.ensures.answer
 

@@ -1,6 +1,6 @@
 use Rattle.std.proofs.Common.{sym, ◌∙◌, ap, refl, Ok}
-use Rattle.stm_attempt.proofs.Entering.{has_entered, same_some, runs_inside, logged_too, not_stopped, was_stopped}
-use Rattle.stm_attempt.proofs.Entering.{not_there, is_there}
+use Rattle.stm_attempt.proofs.Entering.{has_entered, same_some, runs_inside, logged_too, is_there}
+use Rattle.stm_attempt.proofs.Marking.{not_met}
 use Rattle.stm_attempt.proofs.Parts.{inside_of, inside_same}
 use Rattle.stm_attempt.proofs.attempt.AttemptTxRead.read.Goals as goal
 
@@ -9,10 +9,11 @@ returns-in-Ok-clause-answer g c =
     has_entered c.args.self.now.logs.now.in_use c.args.self.now.region.now g.L.Law.fits c.args.self.now.client.now.value
     c.read_word.new.client.value c.args.self.now.logs.now.writes _ _
     (runs_inside _ _ _ _ _ _ c.requires)
-    (sym c.get.ensures ∙ c.in_default.is) c.in-Ok.ensures.ok c.in-Ok.ensures.stands
+    (sym c.in_ok-value.ensures.ok.0 ∙ c.in_default.is) c.in-Ok.ensures.ok c.in-Ok.ensures.stands
 
 pub returns-in-Some-clause-own : goal.returns-in-Some-clause-own
-returns-in-Some-clause-own g c = λ none value is. (ap Ok (same_some _ _ (c.in-Some.ensures ∙ is)), (refl, refl))
+returns-in-Some-clause-own g c = λ none value is.
+    (ap Ok (same_some _ _ (sym c.in-Some.is ∙ c.in_ok-value.ensures.ok.0 ∙ is)), (refl, refl))
 
 pub invariant_of-self-in-Ok-clause-inside : goal.invariant_of-self-in-Ok-clause-inside
 invariant_of-self-in-Ok-clause-inside g c = λ _. inside_of g.L.Law.fits c.args.self.now.region.now.size
@@ -30,37 +31,29 @@ invariant_of-self-in-Ok-clause-logged g c = λ in_use none. logged_too c.args.se
     (c.args.self.now.logged in_use none) c.in_ok-push.ensures c.in-Ok.ensures.ok.reads
 
 pub returns-in-Ok-clause-again : goal.returns-in-Ok-clause-again
-returns-in-Ok-clause-again g c = λ conflict e. not_stopped c.args.self.now.stopped conflict
-    (sym c.is_some.ensures ∙ c.if-is_some.false) e
+returns-in-Ok-clause-again g c = λ conflict e. not_met _ conflict c.in_ok-value.ensures.ok.1 e
 
 pub returns-in-Err-clause-again : goal.returns-in-Err-clause-again
-returns-in-Err-clause-again g c = λ conflict e. not_stopped c.args.self.now.stopped conflict
-    (sym c.is_some.ensures ∙ c.if-is_some.false) e
+returns-in-Err-clause-again g c = λ conflict e. not_met _ conflict c.in_ok-value.ensures.ok.1 e
 
 pub returns-in_err-push-clause-again : goal.returns-in_err-push-clause-again
-returns-in_err-push-clause-again g c = λ conflict e. not_stopped c.args.self.now.stopped conflict
-    (sym c.is_some.ensures ∙ c.if-is_some.false) e
+returns-in_err-push-clause-again g c = λ conflict e. not_met _ conflict c.in_ok-value.ensures.ok.1 e
 
 pub returns-in-Some-clause-again : goal.returns-in-Some-clause-again
-returns-in-Some-clause-again g c = λ conflict e. not_stopped c.args.self.now.stopped conflict
-    (sym c.is_some.ensures ∙ c.if-is_some.false) e
+returns-in-Some-clause-again g c = λ conflict e. not_met _ conflict c.in_ok-value.ensures.ok.1 e
 
 pub returns-in-Ok-clause-own : goal.returns-in-Ok-clause-own
-returns-in-Ok-clause-own g c = λ none value is. not_there _ value c.in_default.ensures is
+returns-in-Ok-clause-own g c = λ none value is.
+    not_met _ value (sym c.in_ok-value.ensures.ok.0 ∙ c.in_default.is) is
 
 pub returns-in-Err-clause-own : goal.returns-in-Err-clause-own
-returns-in-Err-clause-own g c = λ none value is. not_there _ value c.in_default.ensures is
+returns-in-Err-clause-own g c = λ none value is.
+    not_met _ value (sym c.in_ok-value.ensures.ok.0 ∙ c.in_default.is) is
 
 pub returns-in_err-push-clause-own : goal.returns-in_err-push-clause-own
-returns-in_err-push-clause-own g c = λ none value is. not_there _ value c.in_default.ensures is
+returns-in_err-push-clause-own g c = λ none value is.
+    not_met _ value (sym c.in_ok-value.ensures.ok.0 ∙ c.in_default.is) is
 
 pub returns-in-Some-clause-region : goal.returns-in-Some-clause-region
-returns-in-Some-clause-region g c = λ none absent. is_there _ c.in-Some.value c.in-Some.ensures absent
-
-pub returns-then-is_some-clause-own : goal.returns-then-is_some-clause-own
-returns-then-is_some-clause-own g c = λ none value is. was_stopped c.args.self.now.stopped
-    (sym c.is_some.ensures ∙ c.if-is_some.true) none
-
-pub returns-then-is_some-clause-region : goal.returns-then-is_some-clause-region
-returns-then-is_some-clause-region g c = λ none absent. was_stopped c.args.self.now.stopped
-    (sym c.is_some.ensures ∙ c.if-is_some.true) none
+returns-in-Some-clause-region g c = λ none absent.
+    is_there _ c.in-Some.value (sym c.in-Some.is ∙ c.in_ok-value.ensures.ok.0) absent

@@ -15,10 +15,9 @@ invariant_of-client g c =
       search rules,
       search rules,
       search rules,
-      search rules,
       subst Sorted (sym (ap (λ m. m.0.records) c.finish_as.ensures.acted.me))
           (after_sorted (unplaced r.renewal) (stripe_of r.stripes)
-          (finish (g.T.Tag.numbers c.args.tag.now)) c.finish_as.result v c.client.invariant.5),
+          (finish (g.T.Tag.numbers c.args.tag.now)) c.finish_as.result v c.client.invariant.4),
     )
 
 pub returns-clause-after : goal.returns-clause-after

@@ -37,9 +37,8 @@ invariant_of-client g c =
       search rules,
       search rules,
       search rules,
-      search rules,
       subst Sorted (sym (ap (λ m. m.0.records) c.join_seat.ensures.2))
-          (joined_both v w c.client.invariant.5 (subst (λ (x : Client). Sorted x.records)
+          (joined_both v w c.client.invariant.4 (subst (λ (x : Client). Sorted x.records)
           (sym (ap (λ m. m.0) c.into_parts-seat.ensures.seat.1)) c.into_parts-seat.ensures.sorted)).2,
     )
 
@@ -48,7 +47,7 @@ returns-clause-mine g c =
     let v = c.client.inside.seat.me.0 in
     let w = c.into_parts-seat.result.0.me.0 in
     let now = ap (λ x. x.value.records) c.client.view_is in
-    let q = joined_both v w c.client.invariant.5 (subst (λ (x : Client). Sorted x.records)
+    let q = joined_both v w c.client.invariant.4 (subst (λ (x : Client). Sorted x.records)
     (sym (ap (λ m. m.0) c.into_parts-seat.ensures.seat.1)) c.into_parts-seat.ensures.sorted) in
     subst (Sub c.args.client.now.value.records) (sym (ap (λ m. m.0.records) c.join_seat.ensures.2))
     (subst (λ l. Sub l (Rattle.stm_core.specs.Client.merged v.records w.records)) now q.0)
@@ -58,7 +57,7 @@ returns-clause-theirs g c =
     let v = c.client.inside.seat.me.0 in
     let w = c.into_parts-seat.result.0.me.0 in
     let theirs = ap (λ m. m.0.records) c.into_parts-seat.ensures.seat.1 in
-    let q = joined_both v w c.client.invariant.5 (subst (λ (x : Client). Sorted x.records)
+    let q = joined_both v w c.client.invariant.4 (subst (λ (x : Client). Sorted x.records)
     (sym (ap (λ m. m.0) c.into_parts-seat.ensures.seat.1)) c.into_parts-seat.ensures.sorted) in
     subst (Sub c.args.other.value.records) (sym (ap (λ m. m.0.records) c.join_seat.ensures.2))
     (subst (λ l. Sub l (Rattle.stm_core.specs.Client.merged v.records w.records)) theirs q.1)

@@ -7,5 +7,5 @@ use Rattle.stm_region.proofs.region.Region.probe.Goals as goal
 pub returns-clause-lone : goal.returns-clause-lone
 returns-clause-lone g c =
     let now = ap (λ w. w.value) c.client.view_is in
-    subst (λ (v : Client). IsLoneOpen v → LoneTells (probe c.args.lock) c.load_as-found.result v v) now
-    c.load_as-found.ensures.acted.told.1
+    subst (λ (v : Client). IsLoneOpen v → LoneTells (probe c.args.lock) c.load_as.result v v) now
+    c.load_as.ensures.acted.told.1

@@ -15,12 +15,11 @@ invariant_of-client g c =
       search rules,
       search rules,
       search rules,
-      search rules,
       subst Sorted (sym (ap (λ m. m.0.records) c.tick_as-found.ensures.acted.me))
           (after_sorted (unplaced r.renewal) (stripe_of r.stripes)
           (tick c.args.from (g.T.Tag.numbers c.args.tag.now) (g.W.Writes.pairs c.args.writes.now))
           c.tick_as-found.result v
-          c.client.invariant.5),
+          c.client.invariant.4),
     )
 
 pub returns-then-found-get-clause-after : goal.returns-then-found-get-clause-after

@@ -26,9 +26,8 @@ invariant_of-client g c =
       search rules,
       search rules,
       search rules,
-      search rules,
       subst Sorted (sym (ap (λ m. m.0.records) c.load_as.ensures.acted.me))
-          (after_sorted (unplaced r.renewal) (stripe_of r.stripes) (validate c.args.lock) _ v c.client.invariant.5),
+          (after_sorted (unplaced r.renewal) (stripe_of r.stripes) (validate c.args.lock) _ v c.client.invariant.4),
     )
 
 pub returns-clause-after : goal.returns-clause-after
