@@ -1,10 +1,11 @@
 #!/usr/bin/env python3
 """Draws 2,000 small histories of a key-value store, some with damaged lines, pending calls and equal times,
-and compares the verdicts of the program kv_judge with those of a search that tries every order. Then gives it
-hostile input: a history cut at each byte, keys of all bytes, values of 1 MiB, a million keys and words, bytes that are
-no text, too little memory, an input that cannot be read, an output that cannot be written, more steps than there are.
-Its argument is the program vacation, beside whose crate that of kv_judge stands; with none it is the one that the last
-build left."""
+and compares the verdicts of the program kv_judge with those of a search that tries every order. Draws 2,000 more in
+which keys have drawn first values, some with a damaged start file. Then gives it hostile input: a history and a start
+file cut at each byte, keys of all bytes, values of 1 MiB, a million keys and words, bytes that are no text, command
+lines that it must refuse, too little memory, an input that cannot be read, an output that cannot be written, more steps
+than there are. Its argument is the program vacation, beside whose crate that of kv_judge stands; with none it is the
+one that the last build left."""
 
 import os
 import random
@@ -136,8 +137,8 @@ def call_of(line):
     return client, begin, end, asked, reply
 
 
-def has_order(calls):
-    """Whether some order of the calls of one key is a linearization."""
+def has_order(calls, first=None):
+    """Whether some order of the calls of one key, which has this value at first, or none, is a linearization."""
     seen = set()
 
     def search(left, held):
@@ -155,11 +156,31 @@ def has_order(calls):
                 return True
         return False
 
-    return search(frozenset(range(len(calls))), None)
+    return search(frozenset(range(len(calls))), first)
 
 
-def expected_of(text):
-    """The verdict on a text: its first line, and the calls if all lines are calls."""
+def first_values_of(text):
+    """The values that keys have at first by the text of a start file, or the verdict that names its first fault."""
+    lines, firsts = text.split(b"\n"), {}
+    if not lines[-1]:
+        lines.pop()
+    for place, line in enumerate(lines):
+        words = line.split(b" ")
+        key = unquoted(words[0])
+        value = unquoted(words[1]) if len(words) == 2 else None
+        if key is None or len(words) > 2 or (len(words) == 2 and words[1] != b"-" and value is None):
+            return b"fault bad-start %d" % (place + 1)
+        if value is None:
+            return b"fault missing-value %d" % (place + 1)
+        if key in firsts:
+            return b"fault key-twice %d" % (place + 1)
+        firsts[key] = value
+    return firsts
+
+
+def expected_of(text, firsts):
+    """The verdict on a text where keys have these values at first: its first line, and the calls if all lines are
+    calls."""
     lines = text.split(b"\n")
     if not lines[-1]:
         lines.pop()
@@ -177,7 +198,7 @@ def expected_of(text):
         touches = touches or begin in ends
     keys = sorted({call[3][1] for call in calls})
     for key in keys:
-        if not has_order([call for call in calls if call[3][1] == key]):
+        if not has_order([call for call in calls if call[3][1] == key], firsts.get(key)):
             return b"illegal part " + quoted(key), calls
     if touches and len(keys) > 1:
         return b"touching", None
@@ -211,12 +232,14 @@ def drawn_operation(random, keys, values):
     return name, random.choice(keys), [random.choice(values) for _ in range(few)]
 
 
-def drawn_history(random):
-    """The text of a small history, most of whose replies are right in the order of its lines."""
-    clients, held, gone = [random.randrange(3) for _ in range(random.randint(1, 4))], {}, set()
+def drawn_history(random, begins=False):
+    """The text of a small history, most of whose replies are right in the order of its lines, and the values that keys
+    have at first, if it begins with some."""
+    clients, gone = [random.randrange(3) for _ in range(random.randint(1, 4))], set()
     keys = random.sample(BYTES, random.randint(1, 3))
     values = random.sample(BYTES, random.randint(1, 3))
-    lines = []
+    firsts = {key: random.choice(values) for key in keys if random.random() < 0.7} if begins else {}
+    held, lines = dict(firsts), []
     for _ in range(random.randint(0, 8)):
         client = random.randrange(len(clients))
         if client in gone:
@@ -234,7 +257,17 @@ def drawn_history(random):
             ended, reply = b"-", b"?" if random.random() < 0.95 else reply
         words = [b"%d" % client, b"%d" % begin, ended, name, quoted(key), *map(word_of, given), b"->", reply]
         lines.append(b" ".join(words))
-    return b"".join(line + b"\n" for line in lines)
+    return b"".join(line + b"\n" for line in lines), firsts
+
+
+def start_text(random, firsts):
+    """The text of a start file with these values of keys, sometimes with a line that it must not have."""
+    lines = [quoted(key) + b" " + quoted(value) for key, value in firsts.items()]
+    if random.random() < 0.3:
+        key = quoted(random.choice(BYTES))
+        line = random.choice([key, key + b" -", key + b' "x"', b"", key + b' "x" "y"'])
+        lines.insert(random.randint(0, len(lines)), line)
+    return b"\n".join(lines) + random.choice([b"\n", b"\n", b""]) if lines else b""
 
 
 def damaged(random, text):
@@ -256,10 +289,16 @@ def status_of(verdict):
     return STATUSES[verdict.split(b"\n")[0].split(b" ")[0]]
 
 
-def is_right(program, text):
-    """Whether the program's verdict on a text is the expected one. Returns that and the verdict."""
-    want, calls = expected_of(text)
-    done = subprocess.run([program], input=text, capture_output=True, timeout=60, check=False)
+def is_right(program, text, start=None):
+    """Whether the program's verdict on a text is the expected one, where the text of a start file has the values that
+    keys have at first. Returns that and the verdict."""
+    firsts = {} if start is None else first_values_of(start)
+    want, calls = (firsts, None) if isinstance(firsts, bytes) else expected_of(text, firsts)
+    with tempfile.NamedTemporaryFile() as file:
+        file.write(start or b"")
+        file.flush()
+        words = [program] if start is None else [program, "--start", file.name]
+        done = subprocess.run(words, input=text, capture_output=True, timeout=60, check=False)
     lines = done.stdout.split(b"\n")[:-1]
     if not lines or done.returncode != status_of(want):
         return False, want, done.stdout
@@ -298,12 +337,42 @@ def bears_cuts(program):
     draw = random.Random(19)
     text = b""
     while text.count(b"\n") < 6:
-        text = drawn_history(draw)
+        text, _ = drawn_history(draw)
     for place in range(len(text) + 1):
         right, want, got = is_right(program, text[:place])
         if not right:
             print(f"store: cut at {place}: expected {want!r}, got {got!r} for:\n{text[:place]!r}")
             return False
+    return True
+
+
+def bears_cut_starts(program):
+    """Whether a start file that is cut at any byte has the expected verdict."""
+    text = b'0 0 1 get "a" -> "%00%ff"\n0 2 3 get "b" -> ""\n'
+    start = b'"b" ""\n"a" "%00%ff"\n"c" "x"\n'
+    for place in range(len(start) + 1):
+        right, want, got = is_right(program, text, start[:place])
+        if not right:
+            print(f"store: start file cut at {place}: expected {want!r}, got {got!r}")
+            return False
+    return True
+
+
+def bears_usage(program):
+    """Whether command lines that the program does not know are refused, and nothing is judged then."""
+    refused = (["--begin"], ["--start"], ["--start", "/"], ["--start", f"{HERE}/none"], ["--start", __file__, "more"],
+               ["--help", "more"], ["history"], [""])
+    for words in refused:
+        done = subprocess.run([program, *words], input=b"0 0 1 get", capture_output=True, timeout=60, check=False)
+        # A folder is opened, and then cannot be read.
+        named = done.stdout == b"fault read\n" if words == ["--start", "/"] else done.stderr and not done.stdout
+        if done.returncode != STOPPED or not named:
+            print(f"store: {words}: status {done.returncode}, {done.stdout!r} {done.stderr!r}")
+            return False
+    done = subprocess.run([program, "--help"], stdin=subprocess.DEVNULL, capture_output=True, check=False)
+    if done.returncode or b"--start FILE" not in done.stdout:
+        print(f"store: help: status {done.returncode}, {done.stdout!r}")
+        return False
     return True
 
 
@@ -371,6 +440,32 @@ def bears_long_searches(program):
     return True
 
 
+def draws_are_right(program, begins, wanted):
+    """Whether the verdicts on drawn histories are right, which begin with first values or not, and each kind came up
+    that is wanted."""
+    draw = random.Random(23 if begins else 17)
+    kinds = {}
+    for _ in range(HISTORIES):
+        text, firsts = drawn_history(draw, begins)
+        start = start_text(draw, firsts) if begins else None
+        if draw.random() < 0.3:
+            if begins and draw.random() < 0.7:
+                start = damaged(draw, start)
+            else:
+                text = damaged(draw, text)
+        right, want, got = is_right(program, text, start)
+        kind = b" ".join(want.split(b" ")[:2 if want[:1] in b"fi" else 1])
+        kinds[kind] = kinds.get(kind, 0) + 1
+        if not right:
+            print(f"store: expected {want!r}, got {got!r} for:\n{text!r}\nand the start file {start!r}")
+            return False
+    told = ", ".join(f"{kind.decode()} {count}" for kind, count in sorted(kinds.items()))
+    print(f"store: {HISTORIES} verdicts{' with first values' if begins else ''} are right: {told}")
+    if wanted - set(kinds):
+        print(f"store: never drawn: {wanted - set(kinds)}")
+    return not wanted - set(kinds)
+
+
 def main():
     """Status 0: all verdicts are right and each kind came up."""
     vacation = sys.argv[1] if len(sys.argv) > 1 else f"{HERE}/../crates/vacation/out/vacation"
@@ -379,30 +474,16 @@ def main():
     if not os.access(program, os.X_OK):
         print(f"store: {program} is missing: build kv_judge first")
         return 1
-    draw = random.Random(17)
-    kinds = {}
-    for _ in range(HISTORIES):
-        text = drawn_history(draw)
-        if draw.random() < 0.3:
-            text = damaged(draw, text)
-        right, want, got = is_right(program, text)
-        kind = b" ".join(want.split(b" ")[:2 if want[:1] in b"fi" else 1])
-        kinds[kind] = kinds.get(kind, 0) + 1
-        if not right:
-            print(f"store: expected {want!r}, got {got!r} for:\n{text!r}")
-            return 1
-    told = ", ".join(f"{kind.decode()} {count}" for kind, count in sorted(kinds.items()))
-    print(f"store: {HISTORIES} verdicts are right: {told}")
     wanted = {b"legal", b"touching", b"illegal client", b"illegal part", b"fault bad-call", b"fault bad-number",
               b"fault bad-operation", b"fault bad-reply", b"fault half-call"}
-    if wanted - set(kinds):
-        print(f"store: never drawn: {wanted - set(kinds)}")
+    begun = {b"legal", b"illegal part", b"fault bad-start", b"fault missing-value", b"fault key-twice"}
+    if not (draws_are_right(program, False, wanted) and draws_are_right(program, True, begun)):
         return 1
-    bears = (bears_cuts, bears_size, bears_refusals, bears_streams, bears_long_searches)
+    bears = (bears_cuts, bears_cut_starts, bears_usage, bears_size, bears_refusals, bears_streams, bears_long_searches)
     if not all(one(program) for one in bears):
         return 1
     print("store: verdicts on cut, long and many words are right, also with little memory and few steps; streams that "
-          "fail are named")
+          "fail and command lines that are refused are named")
     return 0
 
 

@@ -44,7 +44,7 @@ with_one before c =
     ∙ ap forms (sym (asked_split c.client before c [] refl))
 
 -- where a call is its client's next, the client's calls with it ask for its first tasks
-asks_with : (work : List Asked) (before : List Call) (c : Call) → AskForFirst c.client work before
+pub asks_with : (work : List Asked) (before : List Call) (c : Call) → AskForFirst c.client work before
     → is_next work (calls_in [] (map Ok before)) c ≡ true → AskForFirst c.client work (before ++ c ∷ [])
 asks_with work before c a h =
     let tasks = forms (tasks_of c.client work) in
@@ -60,7 +60,7 @@ asks_with work before c a h =
     )
 
 -- and where they do, it is
-next_with : (work : List Asked) (before : List Call) (c : Call) → AskForFirst c.client work (before ++ c ∷ [])
+pub next_with : (work : List Asked) (before : List Call) (c : Call) → AskForFirst c.client work (before ++ c ∷ [])
     → is_next work (calls_in [] (map Ok before)) c ≡ true
 next_with work before c a =
     let m = made_by c.client (calls_in [] (map Ok before)) in
@@ -143,17 +143,17 @@ line_same : (k line : ℕ) → Some k ≡ Some line → k ≡ line
 line_same k line e = cc
 
 -- such a line stands after calls that ask for their clients' next tasks
-record OtherAt (work : List Asked) (earlier : List Call) (lines : List (Result Call CallFault)) (line : ℕ) :
+pub record OtherAt (work : List Asked) (earlier : List Call) (lines : List (Result Call CallFault)) (line : ℕ) :
     Type 0 where
-  before : List Call
-  call : Call
-  rest : List (Result Call CallFault)
-  listed : lines ≡ map Ok before ++ Ok call ∷ rest
-  number : line ≡ length earlier + length before + 1
-  none : first_foreign work earlier (map Ok before) ≡ None
-  other : is_next work (calls_in earlier (map Ok before)) call ≡ false
+  pub before : List Call
+  pub call : Call
+  pub rest : List (Result Call CallFault)
+  pub listed : lines ≡ map Ok before ++ Ok call ∷ rest
+  pub number : line ≡ length earlier + length before + 1
+  pub none : first_foreign work earlier (map Ok before) ≡ None
+  pub other : is_next work (calls_in earlier (map Ok before)) call ≡ false
 
-find_other : (work : List Asked) (earlier : List Call) (lines : List (Result Call CallFault)) (line : ℕ)
+pub find_other : (work : List Asked) (earlier : List Call) (lines : List (Result Call CallFault)) (line : ℕ)
     → first_foreign work earlier lines ≡ Some line → OtherAt work earlier lines line
 find_other work earlier [] line h = absurd (none_line line h)
 find_other work earlier (Err fault ∷ rest) line h = absurd (none_line line h)
@@ -188,7 +188,7 @@ find_other work earlier (Ok c ∷ rest) line h =
           other = e;
         }
 
-other_named : (work : List Asked) (earlier before : List Call) (call : Call) (rest : List (Result Call CallFault))
+pub other_named : (work : List Asked) (earlier before : List Call) (call : Call) (rest : List (Result Call CallFault))
     → first_foreign work earlier (map Ok before) ≡ None
     → is_next work (calls_in earlier (map Ok before)) call ≡ false
     → first_foreign work earlier (map Ok before ++ Ok call ∷ rest) ≡ Some (length earlier + length before + 1)

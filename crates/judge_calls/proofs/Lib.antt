@@ -13,3 +13,4 @@ pub mod BadTasks
 pub mod Foreign
 pub mod Missing
 pub mod Histories
+pub mod AnyOrder

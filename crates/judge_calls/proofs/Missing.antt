@@ -396,3 +396,16 @@ missing_is_first legal =
       missing_first legal n tasks bytes client number,
       first_left legal n tasks bytes client number,
     )
+
+-- the calls of the client do not reach the task
+pub few_made : (n : ℕ) (tasks bytes : List ℕ) (client number : ℕ) (h : IsFirstMissing n tasks bytes client number) →
+    length (asked_by client h.calls) < number
+few_made n tasks bytes client number h =
+    let k = h.task.client in
+    let m = length (tasks_of k h.before) in
+    let missing = of_left_out h.work h.calls h.before h.task h.after h.split (h.asked k) h.left_out in
+    let parts = open_parts (length (asked_by k h.calls)) m (has_stopped k h.calls)
+    (sym (missing_in k m h.calls) ∙ missing) in
+    let few : length (asked_by client h.calls) ≤ length (tasks_of client h.before) =
+    subst (λ c. length (asked_by c h.calls) ≤ length (tasks_of c h.before)) h.owner parts.0 in
+    omega (arith, few, h.number_is)

@@ -13,3 +13,4 @@ pub mod Holding
 pub mod HeldReading
 pub mod Whole
 pub mod NotWhole
+pub mod AnyOrder

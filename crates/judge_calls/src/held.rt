@@ -1,15 +1,17 @@
 //! Judging a history that is checked against a workload.
 
-ghost use Rattle.std.specs.Prelude.{◌≡◌, ◌≢◌, ◌≤◌, ◌++◌, IfOk, OnOk, OnErr, IfErr};
+ghost use Rattle.std.specs.Prelude.{◌≡◌, ◌≢◌, ◌≤◌, ◌++◌, IfOk, OnOk, OnErr, IfErr, List};
 ghost use Rattle.vac_lines.specs.Text.{Extends, field_text};
 ghost use Rattle.vac_lines.specs.Script.{as_line};
-ghost use Rattle.judge_calls.specs.Work.{comes_first, held_verdict, held_text, is_whole};
+ghost use Rattle.judge_calls.specs.Work.{Asked, comes_first, held_against_work, held_verdict};
+ghost use Rattle.judge_calls.specs.Work.{held_text, is_whole};
+ghost use Rattle.judge_calls.specs.Holding.{IsWork};
 ghost use Rattle.judge_calls.specs.HeldReading.{IsReadWhole, HasHeld, HasHeldStopped};
 
 use crate::holding::{first_missing, hold_calls};
 use crate::reading::judge_input;
 use crate::verdict::{Verdict, print_verdict};
-use crate::work::read_work;
+use crate::work::{Work, read_work};
 use std::alloc::{AllocError, Global};
 use std::io::{ErrorKind, Read, Write};
 use vac_lines::{append_field, keep_whole, write_and_flush};
@@ -42,6 +44,36 @@ fn comes_first(line: u64, verdict: &Verdict) -> bool
     }
 }
 
+/// Judges the text of a history, checked against a workload.
+pub(crate) fn hold_by_work(
+    alloc: Global,
+    blocks: u32,
+    work: &Work,
+    history: &[u8],
+) -> Result<HeldVerdict, StreamFault>
+    requires some { 1 ≤ blocks }
+    requires most { blocks ≤ MOST_BLOCKS }
+    ensures held { IfOk result (λ verdict. (asked : List Asked) → IsWork work.now asked →
+        verdict ≡ held_against_work blocks asked history.now) }
+    ensures fault { IfErr result (λ fault. fault ≢ StreamFault.Write) }
+{
+    let mut input = history;
+    let verdict = judge_input(alloc, blocks, &mut input)?;
+    let (held, foreign) = hold_calls(alloc, work, history)?;
+    if let Some(line) = foreign {
+        if comes_first(line, &verdict) {
+            return Ok(HeldVerdict::Foreign { line });
+        }
+        return Ok(HeldVerdict::Judged(verdict));
+    }
+    if let Verdict::Legal(_) = verdict {
+        if let Some((client, number)) = first_missing(alloc, work, &held)? {
+            return Ok(HeldVerdict::Missing { client, number });
+        }
+    }
+    Ok(HeldVerdict::Judged(verdict))
+}
+
 /// Judges the text of a history, checked against the text of the workload.
 fn hold(
     alloc: Global,
@@ -54,29 +86,14 @@ fn hold(
     ensures held { IfOk result (λ verdict. verdict ≡ held_verdict blocks tasks.now history.now) }
     ensures fault { IfErr result (λ fault. fault ≢ StreamFault.Write) }
 {
-    let work = match read_work(alloc, tasks)? {
-        Ok(work) => work,
-        Err(line) => return Ok(HeldVerdict::BadTasks { line }),
-    };
-    let mut input = history;
-    let verdict = judge_input(alloc, blocks, &mut input)?;
-    let (held, foreign) = hold_calls(alloc, &work, history)?;
-    if let Some(line) = foreign {
-        if comes_first(line, &verdict) {
-            return Ok(HeldVerdict::Foreign { line });
-        }
-        return Ok(HeldVerdict::Judged(verdict));
+    match read_work(alloc, tasks)? {
+        Ok(work) => hold_by_work(alloc, blocks, &work, history),
+        Err(line) => Ok(HeldVerdict::BadTasks { line }),
     }
-    if let Verdict::Legal(_) = verdict {
-        if let Some((client, number)) = first_missing(alloc, &work, &held)? {
-            return Ok(HeldVerdict::Missing { client, number });
-        }
-    }
-    Ok(HeldVerdict::Judged(verdict))
 }
 
 /// Appends a line of a text and a number.
-fn append_line(out: &mut Vec<u8>, text: &[u8], number: u64) -> Result<(), AllocError>
+pub(crate) fn append_line(out: &mut Vec<u8>, text: &[u8], number: u64) -> Result<(), AllocError>
     ensures ok { OnOk result
         (out.new.items ≡ out.old.items ++ as_line (field_text text.now number)) }
     ensures err { OnErr result (Extends out.old.items out.new.items) }
@@ -112,14 +129,14 @@ pub fn print_held(verdict: &HeldVerdict, out: &mut Vec<u8>) -> Result<(), AllocE
 
 /// Returns whether the verdict is that the history is legal and covers the workload, except for
 /// the tasks of a client after its pending call.
-fn is_whole(verdict: &HeldVerdict) -> bool
+pub(crate) fn is_whole(verdict: &HeldVerdict) -> bool
     ensures { result ≡ is_whole verdict.now }
 {
     matches!(verdict, HeldVerdict::Judged(Verdict::Legal(_)))
 }
 
 /// Reads an input to its end.
-fn read_all<R: Read>(alloc: Global, input: &mut R) -> Result<Vec<u8>, StreamFault>
+pub fn read_all<R: Read>(alloc: Global, input: &mut R) -> Result<Vec<u8>, StreamFault>
     ensures bytes { IfOk result (λ bytes.
         IsReadWhole (R.remaining input.old) (R.remaining input.new) bytes.items) }
     ensures fault { IfErr result (λ fault. fault ≢ StreamFault.Write) }

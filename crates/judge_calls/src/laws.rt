@@ -4,6 +4,8 @@ ghost use Rattle.judge_calls.specs.Laws.{LegalIsLinearization, LegalSummary};
 ghost use Rattle.judge_calls.specs.Wrongs.{IllegalIsFirstWrong, FaultIsFirst};
 ghost use Rattle.judge_calls.specs.Whole.{LegalIsWhole};
 ghost use Rattle.judge_calls.specs.NotWhole.{BadTasksIsFirst, ForeignIsFirst, MissingIsFirst};
+ghost use Rattle.judge_calls.specs.AnyOrder.{CoveredIsWhole, ForeignIsOfHistory};
+ghost use Rattle.judge_calls.specs.AnyOrder.{MissingIsNeverSubmitted, LeftOutIsPending};
 ghost use Rattle.std.specs.Prelude.{◌≡◌, ◌≤◌, length, true};
 ghost use Rattle.vac_model.specs.Ranges.{is_task};
 ghost use Rattle.vac_lines.specs.TaskText.{task_text};
@@ -78,6 +80,40 @@ pub fn a_missing_verdict_names_the_first_task_that_is_left_out()
     ensures { MissingIsFirst }
 {
     a_verdict_finds_the_linearizations();
+}
+
+/// States that an order of a history's calls covers the workload if and only if the order is a
+/// linearization whose calls are the whole workload: each client's calls of the order submit its
+/// tasks, in their order, or the first of them up to a pending call. Then each call of the history
+/// submits the next task of its client, also a call that the order leaves out.
+pub fn a_covered_order_is_the_whole_workload()
+    ensures { CoveredIsWhole }
+{
+    a_verdict_finds_the_linearizations();
+}
+
+/// States that the verdict on an order names a line as foreign if and only if the line of the
+/// history is the first whose call does not submit the next task of its client. The order that was
+/// found does not matter.
+pub fn a_foreign_task_is_named_by_its_line_of_the_history()
+    ensures { ForeignIsOfHistory }
+{}
+
+/// States that a task which the verdict on an order names as missing is the first that the order
+/// does not submit, and that no call of the history submits the task.
+pub fn a_missing_task_of_an_order_was_never_submitted()
+    ensures { MissingIsNeverSubmitted }
+{
+    a_missing_verdict_names_the_first_task_that_is_left_out();
+}
+
+/// States that the call of a line which the verdict on an order names as left out is pending, that
+/// the order does not have the call, and that its place among the calls of its client is the place
+/// of the first task that the order does not submit.
+pub fn a_call_that_an_order_leaves_out_is_pending()
+    ensures { LeftOutIsPending }
+{
+    a_missing_verdict_names_the_first_task_that_is_left_out();
 }
 
 /// States that the written line of a completed or pending call is no longer than a line of a

@@ -13,6 +13,7 @@ mod call;
 mod fault;
 mod held;
 mod holding;
+mod in_order;
 mod judge;
 mod laws;
 mod reading;
@@ -22,11 +23,15 @@ mod work;
 pub use answers::numbers_of_a_reply;
 pub use call::{Answer, CALL_BYTES, CallLine, read_call};
 pub use fault::CallFault;
-pub use held::{HeldVerdict, judge_work, print_held};
+pub use held::{HeldVerdict, judge_work, print_held, read_all};
+pub use in_order::{OrderVerdict, judge_work_in_order};
 pub use judge::Judge;
 pub use laws::{
-    a_call_never_answered_is_read, a_fault_names_the_first_line_that_is_no_call,
+    a_call_never_answered_is_read, a_call_that_an_order_leaves_out_is_pending,
+    a_covered_order_is_the_whole_workload, a_fault_names_the_first_line_that_is_no_call,
+    a_foreign_task_is_named_by_its_line_of_the_history,
     a_foreign_verdict_names_the_first_line_of_another_task, a_legal_history_has_this_summary,
+    a_missing_task_of_an_order_was_never_submitted,
     a_missing_verdict_names_the_first_task_that_is_left_out, a_verdict_finds_the_linearizations,
     a_whole_history_is_of_all_the_work, an_answered_call_is_read,
     an_illegal_verdict_names_the_first_wrong_line, bad_tasks_name_the_first_line_without_a_task,

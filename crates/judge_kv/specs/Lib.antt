@@ -4,3 +4,4 @@ pub mod Rules
 pub mod Shared
 pub mod Commands
 pub mod Words
+pub mod Starting

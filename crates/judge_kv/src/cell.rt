@@ -1,8 +1,9 @@
 //! The running state of one key.
 
-ghost use Rattle.std.specs.Prelude.{◌≡◌, true, None, Ok, IfOk};
+ghost use Rattle.std.specs.Prelude.{◌≡◌, true, None, Some, is_some, Ok, IfOk};
 ghost use Rattle.judge_kv.specs.Shared.{value_in};
 ghost use Rattle.judge_kv.specs.Commands.{does, makes};
+ghost use Rattle.judge_kv.specs.Operations.{CompareAndSet};
 ghost use Rattle.judge_kv.specs.Rules as spec;
 ghost use Rattle.judge_kv.specs.Rules.{cell, held_after, has, extended, increased, changed_by};
 
@@ -52,6 +53,21 @@ impl Cell {
         ensures { result ≡ None }
     {
         Cell { alloc, value: None }
+    }
+
+    /// A key that has this value.
+    pub(crate) fn with(alloc: Global, bytes: Vec<u8>) -> Result<Cell, AllocError>
+        ensures { IfOk result (λ cell. cell ≡ Some bytes.items) }
+    {
+        let value = Some(Rc::new(alloc, Value::from_bytes(bytes))?);
+        Ok(Cell { alloc, value })
+    }
+
+    /// Returns whether it has a value.
+    pub(crate) fn has_value(&self) -> bool
+        ensures { result ≡ is_some self.now }
+    {
+        self.value.is_some()
     }
 
     /// Returns whether it has just this value.
@@ -149,6 +165,20 @@ impl Cell {
         }
     }
 
+    /// Returns the state after a compare-and-set, and the reply.
+    fn compared(self, old: &Rc<Value>, new: &Rc<Value>) -> Result<(Cell, Answer), AllocError>
+        ensures { IfOk result (λ made.
+            held_after self (CompareAndSet old.now.value new.now.value) ≡ (made.0, made.1)) }
+    {
+        let alloc = self.alloc;
+        if self.has(old) {
+            let value = Some(new.clone()?);
+            Ok((Cell { alloc, value }, Answer::truth(true)))
+        } else {
+            Ok((self, Answer::truth(false)))
+        }
+    }
+
     /// Returns the state after a command, and the reply.
     fn after(self, command: &Command) -> Result<(Cell, Answer), AllocError>
         ensures { IfOk result (λ made. held_after self (does command.now) ≡ (made.0, made.1)) }
@@ -164,14 +194,7 @@ impl Cell {
                 Ok((Cell { alloc, value }, Answer::done()))
             }
             Command::Delete => Ok((Cell { alloc, value: None }, Answer::done())),
-            Command::CompareAndSet(old, new) => {
-                if self.has(old) {
-                    let value = Some(new.clone()?);
-                    Ok((Cell { alloc, value }, Answer::truth(true)))
-                } else {
-                    Ok((self, Answer::truth(false)))
-                }
-            }
+            Command::CompareAndSet(old, new) => self.compared(old, new),
             Command::Append(more) => {
                 let value = Some(self.extended(more)?);
                 Ok((Cell { alloc, value }, Answer::done()))

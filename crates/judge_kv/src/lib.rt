@@ -5,10 +5,12 @@
 mod answer;
 mod cell;
 mod command;
+mod starting;
 mod value;
 mod words;
 
 pub use answer::Answer;
 pub use cell::Cell;
 pub use command::{Change, Command, Operation};
+pub use starting::{FirstValues, StartFault, read_first_values};
 pub use value::Value;

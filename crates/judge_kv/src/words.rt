@@ -19,7 +19,7 @@ use std::rc::Rc;
 use vac_lines::read_memory_word;
 
 /// Returns whether a word is this name.
-fn is_name(word: &[u8], name: &[u8]) -> bool
+pub(crate) fn is_name(word: &[u8], name: &[u8]) -> bool
     ensures { result ≡ bytes_eq word.now name.now }
 {
     word == name

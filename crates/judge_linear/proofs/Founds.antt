@@ -30,7 +30,7 @@ use Rattle.judge_search.specs.Judging.{calls_at, IsLinearizedBy, HasNoOrder}
 use Rattle.judge_linear.specs.Reading.{first_wrong, texts_of, numbers_of, call_at, IsLineAt, AreKeptLines, ReadWhole}
 use Rattle.judge_linear.specs.Reading.{ReadWrong}
 use Rattle.judge_linear.specs.Found.{Wrong, NoOrder, Order, Undecided, calls_numbered}
-use Rattle.judge_linear.specs.Found.{AreKeptInOrder}
+use Rattle.judge_linear.specs.Found.{AreKeptInOrder, RunsWithin, TextRunsWithin}
 use Rattle.judge_linear.specs.Found.{told_by, line_at, order_text, placed_text, none_text, open_text}
 use Rattle.judge_linear.specs.Ordering.{FindsText, HasText}
 use Rattle.judge_search.proofs.Placing.{times}
@@ -237,11 +237,20 @@ module _ (lines kept : List (Line Task)) (k : AreKeptLines lines kept) (bytes : 
     merges = subst (IsMerge (calls_of lines)) (kept_calls lines kept k.each) k.merges;
   }
 
+  takes : (n steps : ℕ) → RunsWithin (empty_state n) (calls_of kept) steps → TextRunsWithin n bytes steps
+  takes n steps r = record {
+    calls = calls_of lines;
+    numbers = numbers_of kept;
+    kept = kept_are;
+    runs = subst (λ cs. RunsWithin (empty_state n) cs steps) (kept_calls lines kept k.each) r;
+  }
+
   pub finds_order : (n steps : ℕ) (places : List ℕ) (text : List ℕ) →
+      RunsWithin (empty_state n) (calls_of kept) steps →
       IsLinearizedBy reserving (empty_state n) (calls_of kept) places →
       text ≡ placed_text (texts_of kept) places
       → FindsText n steps bytes outcome.Ordered text
-  finds_order n steps places text h e =
+  finds_order n steps places text r h e =
       let within : All (λ p. p < length kept) places = subst (λ m. All (λ p. p < m) places)
       (length-map kept call_of) h.within in
       let numbers = numbers_at (numbers_of kept) places in
@@ -254,6 +263,7 @@ module _ (lines kept : List (Line Task)) (k : AreKeptLines lines kept) (bytes : 
         is = record {
           calls = calls_of lines;
           listed = listed;
+          right = right;
           numbers_are = record {
             distinct = numbers_distinct (numbers_of kept) places k.distinct h.distinct inside;
             first = order_first lines kept k.each places within;
@@ -263,16 +273,17 @@ module _ (lines kept : List (Line Task)) (k : AreKeptLines lines kept) (bytes : 
               (calls_at reserving (calls_of kept) places) k.merges h.orders);
           linearization = subst (IsLinearization n) calls h.linearization;
         };
+        takes = takes n steps r;
         answered = refl;
         text_is = e ∙ order_lines lines kept k.each bytes places texts within;
       }
 
   pub finds_none : (n steps most : ℕ) (made : ℕ → Bool) (s : State) (found : List (Stuck Reply)) (text : List ℕ)
-      → HasNoOrder reserving (empty_state n) (calls_of kept) most
+      → RunsWithin (empty_state n) (calls_of kept) steps → HasNoOrder reserving (empty_state n) (calls_of kept) most
       (record { rest = rest_of made 0 (calls_of kept); state = s }) →
       AreStuck reserving s made (calls_of kept) found
       → text ≡ none_text most (told_by (numbers_of kept) found) → FindsText n steps bytes outcome.Illegal text
-  finds_none n steps most made s found text h a e =
+  finds_none n steps most made s found text r h a e =
       let same = kept_calls lines kept k.each in
       record {
         found = NoOrder most (told_by (numbers_of kept) found);
@@ -291,14 +302,15 @@ module _ (lines kept : List (Line Task)) (k : AreKeptLines lines kept) (bytes : 
           are = subst (λ cs. AreStuck reserving s made cs found) same a;
           told = refl;
         };
+        takes = takes n steps r;
         answered = refl;
         text_is = e;
       }
 
-  pub finds_nothing : (n steps most : ℕ) (text : List ℕ) → IsUndecided reserving
-      (start (empty_state n) (calls_of kept)) steps most →
+  pub finds_nothing : (n steps most : ℕ) (text : List ℕ) → RunsWithin (empty_state n) (calls_of kept) steps →
+      IsUndecided reserving (start (empty_state n) (calls_of kept)) steps most →
       text ≡ open_text most → FindsText n steps bytes outcome.Undecided text
-  finds_nothing n steps most text h e = record {
+  finds_nothing n steps most text r h e = record {
     found = Undecided most;
     is = record {
       calls = calls_of lines;
@@ -307,6 +319,7 @@ module _ (lines kept : List (Line Task)) (k : AreKeptLines lines kept) (bytes : 
       undecided = subst (λ cs. IsUndecided reserving (start (empty_state n) cs) steps most)
           (kept_calls lines kept k.each) h;
     };
+    takes = takes n steps r;
     answered = refl;
     text_is = e;
   }
@@ -329,7 +342,8 @@ text_whole n steps unread left history result text r f =
 
 wrong_text : (n steps : ℕ) (bytes : List ℕ) (verdict : Verdict) (text : List ℕ) → text ≡ verdict_text verdict →
     first_wrong bytes ≡ Some verdict → FindsText n steps bytes outcome.Illegal text
-wrong_text n steps bytes verdict text e h = record { found = Wrong verdict; is = h; answered = refl; text_is = e }
+wrong_text n steps bytes verdict text e h =
+    record { found = Wrong verdict; is = h; takes = tt; answered = refl; text_is = e }
 
 of_whole : (n steps : ℕ) (unread left : Option (List ℕ)) (bytes : List ℕ) (result : Outcome) (text : List ℕ) →
     Consumes unread left bytes

@@ -5,3 +5,4 @@ pub mod Founds
 pub mod Printing
 pub mod Lawful
 pub mod Written
+pub mod WrongLines

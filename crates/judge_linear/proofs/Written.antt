@@ -16,6 +16,7 @@ use Rattle.judge_calls.specs.declared.fault.CallFault.{CallFault}
 use Rattle.judge_calls.specs.declared.fault.CallFault.TheVariants.{BadCall, Line}
 use Rattle.judge_calls.specs.Call.{Call, line_call, call_parts, parts_call, ◌>>=◌}
 use Rattle.judge_calls.specs.Laws.{Lists, LegalSummary}
+use Rattle.judge_calls.specs.AnyOrder.{CoveredIsWhole}
 use Rattle.judge_linear.specs.declared.ordering.Outcome.{Outcome}
 use Rattle.judge_linear.specs.declared.ordering.Outcome.TheVariants as outcome
 use Rattle.judge_search.specs.Calls.{no_call}
@@ -24,7 +25,8 @@ use Rattle.judge_linear.specs.Found.{FoundOfText, Wrong, Order, NoOrder, Undecid
 use Rattle.judge_linear.specs.Found.{order_text}
 use Rattle.judge_linear.specs.Found.{found_text}
 use Rattle.judge_linear.specs.Ordering.{outcome_of, FindsText}
-use Rattle.judge_linear.specs.Laws.{IsJudgedLegal, IsOrderOfText, OrderIsJudgedLegal}
+use Rattle.judge_linear.specs.Laws.{IsJudgedLegal, IsOrderOfText, OrderIsJudgedLegal, FoundIsReordered}
+use Rattle.judge_linear.specs.Laws.{CoveredMeansWhole}
 use Rattle.judge_linear.proofs.Lawful.{tail_same, calls_same}
 use Rattle.judge_reservations.specs.Reserving.{reserving}
 
@@ -139,3 +141,24 @@ order_is_judged_legal summary n steps unread left held holds h =
     of_input calls listed (Some input) f =
         let two = legal_text summary n steps input h.text f in
         subst (IsOrderOfText input) (calls_same two.0 calls (sym two.1.listed ∙ listed)) two.2
+
+pub found_is_reordered : LegalSummary → FoundIsReordered
+found_is_reordered summary n steps bytes text f =
+    let one = legal_text summary n steps bytes text f in
+    record {
+      calls = one.2.calls;
+      order = one.0;
+      reordered = record { listed = one.2.listed; written = one.1.listed; orders = one.2.orders };
+      linearization = one.1.linearization;
+    }
+
+pub covered_means_whole : LegalSummary → CoveredIsWhole → CoveredMeansWhole
+covered_means_whole summary covered n steps tasks bytes text f h =
+    let found = found_is_reordered summary n steps bytes text f in
+    record {
+      calls = found.calls;
+      order = found.order;
+      listed = found.reordered.listed;
+      orders = found.reordered.orders;
+      whole = (covered n tasks bytes text found.calls found.order found.reordered).0 h;
+    }

@@ -1,6 +1,6 @@
 -- The result for a history of which only each client's own order is known, and the text of the
 -- result.
-use Rattle.std.specs.Prelude.{◌≡◌, ◌≤◌, ◌-◌, ℕ, Bool, Some, None, All, List, [], ◌++◌, map, flat_map, length, get_or, codes, decimal}
+use Rattle.std.specs.Prelude.{◌≡◌, ◌≤◌, ◌-◌, ⊤, ℕ, Bool, Some, None, All, List, [], ◌++◌, map, flat_map, length, get_or, codes, decimal}
 use Rattle.vac_model.specs.State.{State, empty_state}
 use Rattle.vac_model.specs.declared.replies.Reply.{Reply}
 use Rattle.vac_lines.specs.Lines.{lines_of}
@@ -15,7 +15,7 @@ use Rattle.judge_reservations.specs.Reserving.{reserving}
 use Rattle.judge_search.specs.declared.stuck.Stuck.{Stuck}
 use Rattle.judge_search.specs.Configurations.{start, answered, PlacesAtMost, Deepest}
 use Rattle.judge_search.specs.Calls.{rest_of}
-use Rattle.judge_search.specs.Searching.{IsUndecided}
+use Rattle.judge_search.specs.Searching.{HasRun, IsUndecided}
 use Rattle.judge_search.specs.Walking.{AreDistinct}
 use Rattle.judge_search.specs.Stuck.{AreStuck}
 use Rattle.judge_linear.specs.Reading.{first_wrong, call_at}
@@ -39,11 +39,12 @@ pub record AreNumbers (calls : List Call) (numbers : List ℕ) : Type 0 where
   pub first : All (λ number. 1 ≤ number) numbers
   pub last : All (λ number. number ≤ length calls) numbers
 
--- the lines of a text are calls, and the calls of the lines with these numbers are an order of all
--- calls that is a linearization, for a system of n blocks
+-- the lines of a text are calls, the calls of each client are in turn, and the calls of the lines
+-- with these numbers are an order of all calls that is a linearization, for a system of n blocks
 pub record IsOrdered (n : ℕ) (bytes : List ℕ) (numbers : List ℕ) : Type 0 where
   pub calls : List Call
   pub listed : Lists bytes calls
+  pub right : first_wrong bytes ≡ None
   pub numbers_are : AreNumbers calls numbers
   pub orders : IsOrderOf calls (calls_numbered calls numbers)
   pub linearization : IsLinearization n (calls_numbered calls numbers)
@@ -89,7 +90,29 @@ pub record IsLeftOpen (n : ℕ) (bytes : List ℕ) (steps most : ℕ) : Type 0 w
   pub undecided : IsUndecided reserving (start (empty_state n) (calls_numbered calls numbers))
       steps most
 
--- the value is a result for the text, for a system of n blocks, after at most this many steps
+-- an exact search of the calls from a state on can make a number of steps, at most `steps`
+-- Not said: that the search whose result is given made this number. A search can always make no
+-- step, so nothing is said of the time that the search took, nor of the search by heuristics.
+pub record RunsWithin (s : State) (calls : List Call) (steps : ℕ) : Type 0 where
+  pub made : ℕ
+  pub within : made ≤ steps
+  pub run : HasRun reserving made (start s calls)
+
+-- an exact search of the calls of a text, for a system of n blocks, can make a number of steps, at
+-- most `steps`
+pub record TextRunsWithin (n : ℕ) (bytes : List ℕ) (steps : ℕ) : Type 0 where
+  pub calls : List Call
+  pub numbers : List ℕ
+  pub kept : AreKeptInOrder bytes calls numbers
+  pub runs : RunsWithin (empty_state n) (calls_numbered calls numbers) steps
+
+-- for a result of a search there is such a number; a wrong line is found without a search
+abbrev pub TakesWithin : ℕ → List ℕ → ℕ → FoundOfText → Type 0
+TakesWithin n bytes steps (Wrong verdict) = ⊤
+TakesWithin n bytes steps found = TextRunsWithin n bytes steps
+
+-- the value is a result for the text, for a system of n blocks, of a search that may make this many
+-- steps
 abbrev pub IsFound : ℕ → ℕ → List ℕ → FoundOfText → Type 0
 IsFound n steps bytes (Wrong verdict) = first_wrong bytes ≡ Some verdict
 IsFound n steps bytes (Order numbers) = IsOrdered n bytes numbers

@@ -2,7 +2,7 @@
 -- of the calls of a history, with each client's calls in their order, is a linearization, or no
 -- order is. The text that is written for an order is legal for a judge that trusts the order of
 -- the lines.
-use Rattle.std.specs.Prelude.{◌≡◌, ℕ, Option, IfSome, List, reverse}
+use Rattle.std.specs.Prelude.{◌≡◌, ℕ, true, Option, IfSome, List, reverse}
 use Rattle.std.specs.Io.KnownBytes.{Appends}
 use Rattle.vac_model.specs.State.{empty_state}
 use Rattle.vac_model.specs.declared.replies.Reply.{Reply}
@@ -10,11 +10,12 @@ use Rattle.judge_calls.specs.declared.verdict.Verdict.TheVariants.{Legal}
 use Rattle.judge_calls.specs.Call.{Call}
 use Rattle.judge_calls.specs.Verdict.{verdict_on, summary_of}
 use Rattle.judge_calls.specs.Laws.{Lists, IsLinearization, state_after}
+use Rattle.judge_calls.specs.AnyOrder.{IsReordered, IsWholeOrder, order_verdict, is_covered}
 use Rattle.judge_linear.specs.declared.ordering.Outcome.TheVariants as outcome
 use Rattle.judge_object.specs.Orders.{IsOrderOf, IsLinearizable}
 use Rattle.judge_reservations.specs.Reserving.{reserving}
 use Rattle.judge_linear.specs.Found.{Order, NoOrder, IsFound}
-use Rattle.judge_linear.specs.Ordering.{HasOrdered}
+use Rattle.judge_linear.specs.Ordering.{FindsText, HasOrdered}
 
 -- if an order is found, some order of the calls of the text is a linearization
 abbrev pub OrderIsLinearization : Type 0
@@ -56,3 +57,31 @@ pub record WroteLegal (n : ℕ) (unread held holds : Option (List ℕ)) : Type 0
 abbrev pub OrderIsJudgedLegal : Type 0
 OrderIsJudgedLegal = (n steps : ℕ) (unread left held holds : Option (List ℕ)) →
     HasOrdered n steps outcome.Ordered unread left held holds → WroteLegal n unread held holds
+
+-- the text that is written for an order that is found has the calls of the input, in an order that
+-- is a linearization
+pub record IsFoundOrder (n : ℕ) (bytes text : List ℕ) : Type 0 where
+  pub calls : List Call
+  pub order : List Call
+  pub reordered : IsReordered bytes text calls order
+  pub linearization : IsLinearization n order
+
+-- if an order is found, the text that is written has the calls of the input in this order
+abbrev pub FoundIsReordered : Type 0
+FoundIsReordered = (n steps : ℕ) (bytes text : List ℕ) →
+    FindsText n steps bytes outcome.Ordered text → IsFoundOrder n bytes text
+
+-- some order of the calls of a text is a linearization, and its calls are the whole workload
+pub record IsWholeInSomeOrder (n : ℕ) (tasks bytes : List ℕ) : Type 0 where
+  pub calls : List Call
+  pub order : List Call
+  pub listed : Lists bytes calls
+  pub orders : IsOrderOf calls order
+  pub whole : IsWholeOrder n tasks calls order
+
+-- if an order is found that covers a workload, some order of the calls of the input is a
+-- linearization whose calls are the whole workload
+abbrev pub CoveredMeansWhole : Type 0
+CoveredMeansWhole = (n steps : ℕ) (tasks bytes text : List ℕ) →
+    FindsText n steps bytes outcome.Ordered text →
+    is_covered (order_verdict n tasks bytes text) ≡ true → IsWholeInSomeOrder n tasks bytes

@@ -2,3 +2,4 @@ pub mod Reading
 pub mod Found
 pub mod Ordering
 pub mod Laws
+pub mod Wrongs

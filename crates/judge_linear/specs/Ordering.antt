@@ -6,7 +6,8 @@ use Rattle.vac_streams.specs.declared.fault.StreamFault.{StreamFault}
 use Rattle.vac_streams.specs.declared.fault.StreamFault.TheVariants as fault
 use Rattle.judge_linear.specs.declared.ordering.Outcome.{Outcome}
 use Rattle.judge_linear.specs.declared.ordering.Outcome.TheVariants as outcome
-use Rattle.judge_linear.specs.Found.{FoundOfText, Wrong, Order, NoOrder, Undecided, IsFound, found_text}
+use Rattle.judge_linear.specs.Found.{FoundOfText, Wrong, Order, NoOrder, Undecided, IsFound}
+use Rattle.judge_linear.specs.Found.{TakesWithin, found_text}
 
 -- the outcome that is returned for a result
 abbrev pub outcome_of : FoundOfText → Outcome
@@ -15,11 +16,13 @@ outcome_of (Order numbers) = outcome.Ordered
 outcome_of (NoOrder most stuck) = outcome.Illegal
 outcome_of (Undecided most) = outcome.Undecided
 
--- the text has some result; its output is this text, and its outcome is the returned one
+-- the text has some result of a search that may make `steps` steps; its output is this
+-- text, and its outcome is the returned one
 pub record FindsText (n steps : ℕ) (bytes : List ℕ) (result : Outcome) (text : List ℕ) :
     Type 0 where
   pub found : FoundOfText
   pub is : IsFound n steps bytes found
+  pub takes : TakesWithin n bytes steps found
   pub answered : result ≡ outcome_of found
   pub text_is : text ≡ found_text bytes found
 

@@ -1,8 +1,11 @@
 //! Laws on the results. Each law is the contract of a function that does nothing.
 
 ghost use Rattle.judge_linear.specs.Laws.{OrderIsLinearization, NoOrderMeansNone, OrderIsJudgedLegal};
+ghost use Rattle.judge_linear.specs.Laws.{FoundIsReordered, CoveredMeansWhole};
+ghost use Rattle.judge_linear.specs.Wrongs.{WrongIsFirst, FirstWrongIsWritten, WrongOrInTurn};
+ghost use Rattle.judge_linear.specs.Wrongs.{OutOfTurnIsLeftOut, OutOfTurnMeansNone};
 
-use judge_calls::a_legal_history_has_this_summary;
+use judge_calls::{a_covered_order_is_the_whole_workload, a_legal_history_has_this_summary};
 
 /// States that, if an order is found, some order of the calls of the history is a linearization.
 /// In such an order the calls of each client are in their order, and only pending calls are left
@@ -24,4 +27,53 @@ pub fn an_order_that_is_written_is_judged_legal()
     ensures { OrderIsJudgedLegal }
 {
     a_legal_history_has_this_summary();
+}
+
+/// States that the result for a history is a wrong line if and only if the line is the first that
+/// is no call or not in turn. If the line is no call, the result names the fault of the line. The
+/// lines before it are calls, each client's in turn.
+pub fn a_wrong_line_is_the_first()
+    ensures { WrongIsFirst }
+{}
+
+/// States that a history with a wrong line gets the verdict that names its first wrong line, and
+/// the outcome that the history is illegal. No search can lead to another text.
+pub fn the_first_wrong_line_is_written()
+    ensures { FirstWrongIsWritten }
+{}
+
+/// States that each text has a first wrong line, or is a history in which the calls of each client
+/// are in turn.
+pub fn a_text_is_in_turn_or_has_a_wrong_line()
+    ensures { WrongOrInTurn }
+{}
+
+/// States that an order of the calls which is a linearization leaves out the first call that is not
+/// in turn, and all later calls of its client, and that none of these calls is completed.
+pub fn a_call_out_of_turn_is_left_out()
+    ensures { OutOfTurnIsLeftOut }
+{}
+
+/// States that no order of the calls is a linearization if the first call that is not in turn is
+/// completed.
+pub fn a_completed_call_out_of_turn_means_no_order()
+    ensures { OutOfTurnMeansNone }
+{}
+
+/// States that the text which is written for an order that is found has the calls of the history,
+/// in an order that is a linearization. So the laws on verdicts of judge_calls that speak of such a
+/// text hold for it.
+pub fn an_order_that_is_found_is_written()
+    ensures { FoundIsReordered }
+{
+    a_legal_history_has_this_summary();
+}
+
+/// States that, if an order is found that covers a workload, some order of the calls of the history
+/// is a linearization whose calls are the whole workload.
+pub fn a_covered_workload_is_whole_in_some_order()
+    ensures { CoveredMeansWhole }
+{
+    a_legal_history_has_this_summary();
+    a_covered_order_is_the_whole_workload();
 }

@@ -4,6 +4,7 @@ ghost use Rattle.std.specs.Prelude.{◌≡◌, IfOk, IfSome};
 ghost use Rattle.judge_reservations.specs.Reserving.{reserving};
 ghost use Rattle.judge_search.specs.Calls.{calls_of};
 ghost use Rattle.judge_search.specs.Judging.{IsLinearizedBy, IsFoundOfCalls};
+ghost use Rattle.judge_linear.specs.Found.{RunsWithin};
 ghost use Rattle.judge_search.specs.Point.{point_at};
 ghost use Rattle.judge_search.specs.Walk.{IsWhole};
 ghost use Rattle.judge_linear.specs.Reading.{IsHeld, AreKeptLines};
@@ -12,7 +13,7 @@ use crate::history::History;
 use judge_heuristic::find_quickly;
 use judge_object::{Object, Watcher};
 use judge_reservations::{Asked, Reservations};
-use judge_search::{Calls, Finding, Point, find_linearization, is_linearization};
+use judge_search::{Calls, Finding, Found, Point, find_linearization, is_linearization};
 use std::alloc::{AllocError, Global};
 
 /// Returns the proposed positions if they are an order of the calls that is a linearization from a
@@ -47,28 +48,33 @@ fn judge_order<P: Watcher>(
     machine: Reservations,
     steps: u64,
     watcher: &mut P,
-) -> Result<Finding<Point<Reservations>>, AllocError>
+) -> Result<Found<Point<Reservations>>, AllocError>
     requires whole { IsWhole (calls_of calls.now.lines.items) }
-    ensures { IfOk result (λ found. IsFoundOfCalls reserving (point_at reserving calls.now) machine
-        (calls_of calls.now.lines.items) steps found) }
+    ensures judged { IfOk result (λ found.
+        IsFoundOfCalls reserving (point_at reserving calls.now) machine
+        (calls_of calls.now.lines.items) steps found.finding) }
+    ensures within { IfOk result (λ _.
+        RunsWithin machine (calls_of calls.now.lines.items) steps) }
 {
     let proposed = find_quickly(alloc, calls.as_slice(), machine.copy()?, steps, watcher)?;
     let first = machine.copy()?;
     if let Some(places) = checked_order(alloc, first, calls, proposed)? {
-        return Ok(Finding::Order(places));
+        return Ok(Found {
+            finding: Finding::Order(places),
+            steps: 0,
+        });
     }
-    let found = find_linearization(alloc, calls, machine, steps, watcher)?;
-    Ok(found.finding)
+    find_linearization(alloc, calls, machine, steps, watcher)
 }
 
-/// The calls of a history as the search keeps them, and the finding, which names positions in
-/// them.
+/// The calls of a history as the search keeps them, and the finding of the search, which names
+/// positions in them.
 #[derive(Drop)]
 pub(crate) struct Ordered {
     /// The calls in the order in which they ended.
     pub calls: Calls<Asked>,
-    /// The finding of the search.
-    pub finding: Finding<Point<Reservations>>,
+    /// The finding of the search, and the number of steps of the exact search.
+    pub found: Found<Point<Reservations>>,
 }
 
 /// Searches for a linearization of the calls of a history from a state on, in at most `steps`
@@ -85,9 +91,11 @@ pub(crate) fn judge_lines<P: Watcher>(
         AreKeptLines history.lines.items ordered.calls.lines.items) }
     ensures judged { IfOk result (λ ordered.
         IsFoundOfCalls reserving (point_at reserving ordered.calls) machine
-        (calls_of ordered.calls.lines.items) steps ordered.finding) }
+        (calls_of ordered.calls.lines.items) steps ordered.found.finding) }
+    ensures within { IfOk result (λ ordered.
+        RunsWithin machine (calls_of ordered.calls.lines.items) steps) }
 {
     let calls = Calls::new(alloc, history.lines)?;
-    let finding = judge_order(alloc, &calls, machine, steps, watcher)?;
-    Ok(Ordered { calls, finding })
+    let found = judge_order(alloc, &calls, machine, steps, watcher)?;
+    Ok(Ordered { calls, found })
 }

@@ -12,6 +12,7 @@ ghost use Rattle.judge_search.specs.Calls.{calls_of};
 ghost use Rattle.judge_search.specs.Judging.{IsFoundOfCalls};
 ghost use Rattle.judge_search.specs.Point.{point_at};
 ghost use Rattle.judge_linear.specs.Reading.{IsHeld, AreKeptLines, texts_of, first_wrong};
+ghost use Rattle.judge_linear.specs.Found.{RunsWithin};
 ghost use Rattle.judge_linear.specs.Ordering.{FindsText, HasText, HasOrdered, HasStoppedOrdering};
 
 use crate::found::{print_no_order, print_order, print_undecided};
@@ -66,12 +67,14 @@ fn print_finding(
         AreKeptLines lines ordered.now.calls.lines.items →
         IsFoundOfCalls reserving (point_at reserving ordered.now.calls) (empty_state n)
         (calls_of ordered.now.calls.lines.items)
-        steps ordered.now.finding → texts_of lines ≡ lines_of bytes →
+        steps ordered.now.found.finding →
+        RunsWithin (empty_state n) (calls_of ordered.now.calls.lines.items) steps →
+        texts_of lines ≡ lines_of bytes →
         Lists bytes (calls_of lines) → first_wrong bytes ≡ None → text.old.items ≡ [] →
         FindsText n steps bytes outcome text.new.items) }
 {
     let lines = ordered.calls.as_slice();
-    match &ordered.finding {
+    match &ordered.found.finding {
         Finding::Order(places) => {
             print_order(lines, places.as_slice(), text)?;
             Ok(Outcome::Ordered)

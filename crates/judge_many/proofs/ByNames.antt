@@ -1,7 +1,7 @@
 -- Lines in the order of their names, and the calls of each object among them.
 use Rattle.std.proofs.Common.{◌≡◌, ◌≢◌, ℕ, ◌+◌, ◌-◌, ◌<◌, ◌≤◌, suc, zero, Bool, true, false, not, cond, ◌&&◌, List, []}
 use Rattle.std.proofs.Common.{◌∷◌, ◌++◌, length, get_or, take, drop, refl, sym, ap, ◌∙◌, subst, inl, inr, arith}
-use Rattle.std.specs.Prelude.{◌⊎◌, ⊤}
+use Rattle.std.specs.Prelude.{◌⊎◌, ⊤, All}
 use Rattle.std.specs.List.{filter}
 use Rattle.std.specs.Str.{bytes_eq}
 use Rattle.std.specs.Ordering.{is_lt, is_eq, nat_cmp, ordering_reverse}
@@ -11,6 +11,8 @@ use Rattle.std.specs.Cmp.{IsStrictWeakOrder}
 use Rattle.std.specs.Cmp.Lexicographic.{slice_cmp, nat_list_cmp_total}
 use Rattle.std.specs.List.Sorted.{ties}
 use Rattle.std.proofs.lemmas.Map.Text.{is_eq-slice_cmp}
+use Rattle.std.proofs.lemmas.Slice.Eq.{bytes_eq-Decides}
+use Rattle.std.proofs.lemmas.List.Elements.{All-get_or, filter_passes}
 use Rattle.std.proofs.lemmas.List.{get_or-take, take-append-drop, length-take-le}
 use Rattle.std.proofs.lemmas.List.Sorted.{ranks_by, sorted_far, IsStrictWeakOrder-flip}
 use Rattle.judge_object.specs.Rules.{Rules}
@@ -29,10 +31,11 @@ use Rattle.judge_search.proofs.Places.{times_of, turns_of, precedence_of}
 use Rattle.judge_many.proofs.OfOne.{named, turn_part, each_part}
 
 -- each object's lines are all left, or none is and its calls have a linearization
-abbrev pub AreJudged : {T O R : Type 0} → Rules T O R → (O → List ℕ) → T → List (Line O) → List (Line O) → Type 0
+abbrev pub AreJudged : {T O R : Type 0} → Rules T O R → (O → List ℕ) → (List ℕ → T) → List (Line O) → List (Line O) →
+    Type 0
 AreJudged Y name s lines left = (k : List ℕ) →
     (lines_for name k left ≡ lines_for name k lines)
-    ⊎ ((lines_for name k left ≡ []) × IsLinearizable Y s (part name k (calls_of lines)))
+    ⊎ ((lines_for name k left ≡ []) × IsLinearizable Y (s k) (part name k (calls_of lines)))
 
 tied : (r t : Ordering) → t ≡ ordering_reverse r → (not (is_lt r) && not (is_lt t)) ≡ is_eq r
 tied Less t e = refl
@@ -154,6 +157,7 @@ module _ {O : Type 0} (name : O → List ℕ) where
   pub record IsRun (lines before run : List (Line O)) : Type 0 where
     pub for : List ℕ
     pub own : lines_for name for lines ≡ run
+    pub whole : lines_for name for run ≡ run
     pub gone : lines_for name for before ≡ []
     pub others : (k : List ℕ) → k ≢ for → lines_for name k before ≡ lines_for name k lines
     pub least : (k : List ℕ) → IsNameBefore k for → lines_for name k lines ≡ []
@@ -280,6 +284,7 @@ module _ {O : Type 0} (name : O → List ℕ) where
         for = for;
         own = ap (lines_for name for) (sym both) ∙ for_append for before run ∙
             ap (λ y. y ++ lines_for name for run) gone ∙ own;
+        whole = own;
         gone = gone;
         others = λ k other.
             sym (ap (lines_for name k) (sym both) ∙ for_append k before run ∙
@@ -290,6 +295,15 @@ module _ {O : Type 0} (name : O → List ℕ) where
         some = (let e : length run ≡ length (drop first lines) = ap length h.run_is in omega arith);
         less = (let e : length before ≡ length (take first lines) = ap length h.before_is in omega arith);
       }
+
+  -- the object that a line of a run is for
+  pub first_name : (run : List (Line O)) (for : List ℕ) (line : Line O) → 0 < length run →
+      lines_for name for run ≡ run → name (get_or run 0 line).op ≡ for
+  first_name run for line some whole =
+      (bytes_eq-Decides (name (get_or run 0 line).op) for).0
+      (All-get_or (λ (l : Line O). bytes_eq (name l.op) for ≡ true) run 0 line some
+      (subst (All (λ (l : Line O). bytes_eq (name l.op) for ≡ true)) whole
+      (filter_passes (λ (l : Line O). bytes_eq (name_of name l) for) run)))
 
   pub run_of : (lines before run : List (Line O)) → AreByName name lines → IsLastRun name lines before run →
       IsRun lines before run
@@ -303,12 +317,12 @@ module _ {T O R : Type 0} (Y : Rules T O R) (name : O → List ℕ) where
   Gone left (one ∷ others) = (lines_for name one.0 left ≡ []) × Gone left others
 
   -- no object has been judged
-  pub judged_none : (s : T) (lines sorted : List (Line O)) → IsSortOf name lines sorted →
+  pub judged_none : (s : List ℕ → T) (lines sorted : List (Line O)) → IsSortOf name lines sorted →
       AreJudged Y name s lines sorted
   judged_none s lines sorted h k = inl (sort_keeps name lines sorted h k)
 
   -- the last run has all lines for its object
-  pub run_lines : (s : T) (all lines before run : List (Line O)) →
+  pub run_lines : (s : List ℕ → T) (all lines before run : List (Line O)) →
       (h : IsRun name lines before run) → AreJudged Y name s all lines → lines_for name h.for all ≡ run
   run_lines s all lines before run h j =
       elim (j h.for) [
@@ -319,14 +333,14 @@ module _ {T O R : Type 0} (Y : Rules T O R) (name : O → List ℕ) where
       none : (ls : List (Line O)) → ls ≡ [] → 0 < length ls → ⊥
       none ls e l = let n : length ls ≡ 0 = ap length e in absurd (omega arith)
 
-  run_calls : (s : T) (all lines before run : List (Line O)) →
+  run_calls : (s : List ℕ → T) (all lines before run : List (Line O)) →
       (h : IsRun name lines before run) → AreJudged Y name s all lines →
       part name h.for (calls_of all) ≡ calls_of run
   run_calls s all lines before run h j =
       part_lines name h.for all ∙ ap calls_of (run_lines s all lines before run h j)
 
   -- whose calls are in turn
-  pub run_whole : (s : T) (all lines before run : List (Line O)) → IsWhole (calls_of all) →
+  pub run_whole : (s : List ℕ → T) (all lines before run : List (Line O)) → IsWhole (calls_of all) →
       IsRun name lines before run → AreJudged Y name s all lines → IsWhole (calls_of run)
   run_whole s all lines before run w h j =
       subst IsWhole (run_calls s all lines before run h j) (record {
@@ -336,16 +350,16 @@ module _ {T O R : Type 0} (Y : Rules T O R) (name : O → List ℕ) where
       })
 
   -- one more object has been judged
-  pub judged_more : (s : T) (all lines before run : List (Line O)) → IsRun name lines before run →
-      AreJudged Y name s all lines → IsLinearizable Y s (calls_of run) →
+  pub judged_more : (s : List ℕ → T) (all lines before run : List (Line O)) → (h : IsRun name lines before run) →
+      AreJudged Y name s all lines → IsLinearizable Y (s h.for) (calls_of run) →
       AreJudged Y name s all before
   judged_more s all lines before run h j good k =
       elim (named k h.for) [
         | inl n ↦
             inr (
               ap (λ i. lines_for name i before) n.1 ∙ h.gone,
-              subst (λ i. IsLinearizable Y s (part name i (calls_of all))) (sym n.1)
-                  (subst (IsLinearizable Y s) (sym (run_calls s all lines before run h j)) good),
+              subst (λ i. IsLinearizable Y (s i) (part name i (calls_of all))) (sym n.1)
+                  (subst (IsLinearizable Y (s h.for)) (sym (run_calls s all lines before run h j)) good),
             )
         | inr n ↦
             elim (j k) [
@@ -367,36 +381,38 @@ module _ {T O R : Type 0} (Y : Rules T O R) (name : O → List ℕ) where
   }
 
   -- an object of which no line is left has a linearization
-  judged_one : (s : T) (all left : List (Line O)) (k : List ℕ) → lines_for name k left ≡ [] →
-      AreJudged Y name s all left → IsLinearizable Y s (part name k (calls_of all))
+  judged_one : (s : List ℕ → T) (all left : List (Line O)) (k : List ℕ) → lines_for name k left ≡ [] →
+      AreJudged Y name s all left → IsLinearizable Y (s k) (part name k (calls_of all))
   judged_one s all left k none j =
       elim (j k) [
-        | inl h ↦ subst (IsLinearizable Y s) (sym (part_lines name k all ∙ ap calls_of (sym h ∙ none))) (no_calls s)
+        | inl h ↦ subst (IsLinearizable Y (s k)) (sym (part_lines name k all ∙ ap calls_of (sym h ∙ none)))
+            (no_calls (s k))
         | inr h ↦ h.1
       ]
 
   -- all with an earlier name have been judged
-  pub done_before : (s : T) (all lines before run : List (Line O)) → (h : IsRun name lines before run) →
+  pub done_before : (s : List ℕ → T) (all lines before run : List (Line O)) → (h : IsRun name lines before run) →
       AreJudged Y name s all lines → AreDoneBefore Y name s all h.for
   done_before s all lines before run h j k b = judged_one s all lines k (h.least k b) j
 
   -- the object of the last run is the first that has no linearization
-  pub judged_bad : (s : T) (all lines before run : List (Line O)) (b : Blocked O T) → IsRun name lines before run →
-      AreJudged Y name s all lines → IsBlocked Y s run b → IsFirstBlocked Y name s all b
+  pub judged_bad : (s : List ℕ → T) (all lines before run : List (Line O)) (b : Blocked O T) →
+      (h : IsRun name lines before run) → AreJudged Y name s all lines → IsBlocked Y (s h.for) run b →
+      IsFirstBlocked Y name s all b
   judged_bad s all lines before run b h j bad = record {
     for = h.for;
     before = done_before s all lines before run h j;
-    is = subst (λ ls. IsBlocked Y s ls b) (sym (run_lines s all lines before run h j)) bad;
+    is = subst (λ ls. IsBlocked Y (s h.for) ls b) (sym (run_lines s all lines before run h j)) bad;
   }
 
   -- the searches so far: of other objects than are left, and with the steps that they left
-  pub record IsSpent (s : T) (steps : ℕ) (all left : List (Line O)) (rest : ℕ) : Type 0 where
+  pub record IsSpent (s : List ℕ → T) (steps : ℕ) (all left : List (Line O)) (rest : ℕ) : Type 0 where
     pub others : List (List ℕ × ℕ)
     pub searched : HaveSearched Y name s all others
     pub gone : Gone left others
     pub sum : rest + steps_of others ≡ steps
 
-  pub spent_none : (s : T) (steps : ℕ) (all left : List (Line O)) → IsSpent s steps all left steps
+  pub spent_none : (s : List ℕ → T) (steps : ℕ) (all left : List (Line O)) → IsSpent s steps all left steps
   spent_none s steps all left = record {
     others = [];
     searched = tt;
@@ -423,15 +439,16 @@ module _ {T O R : Type 0} (Y : Rules T O R) (name : O → List ℕ) where
     gone_further lines before run h others n.1 g.1,
   )
 
-  searched_run : (s : T) (all lines before run : List (Line O)) (made : ℕ) → (h : IsRun name lines before run) →
-      AreJudged Y name s all lines → HasSearched Y s run made → HasSearchedOne Y name s all (h.for, made)
+  searched_run : (s : List ℕ → T) (all lines before run : List (Line O)) (made : ℕ) →
+      (h : IsRun name lines before run) →
+      AreJudged Y name s all lines → HasSearched Y (s h.for) run made → HasSearchedOne Y name s all (h.for, made)
   searched_run s all lines before run made h j searched =
-      subst (λ ls. HasSearched Y s ls made) (sym (run_lines s all lines before run h j)) searched
+      subst (λ ls. HasSearched Y (s h.for) ls made) (sym (run_lines s all lines before run h j)) searched
 
   -- one search more
-  pub spent_more : (s : T) (steps : ℕ) (all lines before run : List (Line O)) (rest made : ℕ) →
-      IsRun name lines before run → AreJudged Y name s all lines → IsSpent s steps all lines rest → made ≤ rest →
-      HasSearched Y s run made → IsSpent s steps all before (rest - made)
+  pub spent_more : (s : List ℕ → T) (steps : ℕ) (all lines before run : List (Line O)) (rest made : ℕ) →
+      (h : IsRun name lines before run) → AreJudged Y name s all lines → IsSpent s steps all lines rest → made ≤ rest →
+      HasSearched Y (s h.for) run made → IsSpent s steps all before (rest - made)
   spent_more s steps all lines before run rest made h j spent within searched =
       let none = none_left h.for lines run spent.others h.own h.some spent.gone in
       record {
@@ -442,9 +459,9 @@ module _ {T O R : Type 0} (Y : Rules T O R) (name : O → List ℕ) where
       }
 
   -- or the first that is undecided
-  pub judged_open : (s : T) (steps : ℕ) (all lines before run : List (Line O)) (rest : ℕ) (u : Undecided O) →
-      IsRun name lines before run → AreJudged Y name s all lines → IsSpent s steps all lines rest →
-      IsOpen Y s rest run u → IsFirstOpen Y name s steps all u
+  pub judged_open : (s : List ℕ → T) (steps : ℕ) (all lines before run : List (Line O)) (rest : ℕ) (u : Undecided O) →
+      (h : IsRun name lines before run) → AreJudged Y name s all lines → IsSpent s steps all lines rest →
+      IsOpen Y (s h.for) rest run u → IsFirstOpen Y name s steps all u
   judged_open s steps all lines before run rest u h j spent is_open = record {
     for = h.for;
     before = done_before s all lines before run h j;
@@ -453,12 +470,12 @@ module _ {T O R : Type 0} (Y : Rules T O R) (name : O → List ℕ) where
     apart = none_left h.for lines run spent.others h.own h.some spent.gone;
     own = rest;
     spent = spent.sum;
-    is = subst (λ ls. IsOpen Y s rest ls u) (sym (run_lines s all lines before run h j)) is_open;
+    is = subst (λ ls. IsOpen Y (s h.for) rest ls u) (sym (run_lines s all lines before run h j)) is_open;
   }
 
   -- all have been judged
-  pub judged_all : (s : T) (all left : List (Line O)) → length left ≡ 0 →
-      AreJudged Y name s all left → (k : List ℕ) → IsLinearizable Y s (part name k (calls_of all))
+  pub judged_all : (s : List ℕ → T) (all left : List (Line O)) → length left ≡ 0 →
+      AreJudged Y name s all left → (k : List ℕ) → IsLinearizable Y (s k) (part name k (calls_of all))
   judged_all s all left e j k = judged_one s all left k (ap (lines_for name k) (empty left e)) j
     where
       empty : (ls : List (Line O)) → length ls ≡ 0 → ls ≡ []

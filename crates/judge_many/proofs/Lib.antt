@@ -3,3 +3,5 @@ pub mod Whole
 pub mod ByNames
 pub mod Ends
 pub mod One
+pub mod Blocking
+pub mod Beginnings

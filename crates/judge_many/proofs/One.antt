@@ -47,17 +47,17 @@ module _ {T O R : Type 0} (Y : Rules T O R) (name : O → List ℕ) where
             ap (λ u. (Y.run u c.op).0) same) o.1 h.1,
       )
 
-  of_one : (s : T) (k : List ℕ) (calls : List (Call O)) → AreFor name k calls →
-      IsLinearizable Y s (part name k calls) → IsLinearizable (many Y name) (λ j. s) calls
+  of_one : (s : List ℕ → T) (k : List ℕ) (calls : List (Call O)) → AreFor name k calls →
+      IsLinearizable Y (s k) (part name k calls) → IsLinearizable (many Y name) s calls
   of_one s k calls o given =
-      let h = subst (IsLinearizable Y s) (part_all name k calls o) given in
+      let h = subst (IsLinearizable Y (s k)) (part_all name k calls o) given in
       let own = front_for name k h.order h.orders.left
       (each_order (λ (c : Call O). name c.op ≡ k) calls (h.order ++ h.orders.left) h.orders.merges o) in
       record {
         order = h.order;
         orders = h.orders;
         linearization = record {
-          replies = replies_many k (λ j. s) s h.order refl own h.linearization.replies;
+          replies = replies_many k s (s k) h.order refl own h.linearization.replies;
           times = h.linearization.times;
           clients = h.linearization.clients;
           precedence = h.linearization.precedence;
@@ -65,9 +65,9 @@ module _ {T O R : Type 0} (Y : Rules T O R) (name : O → List ℕ) where
       }
 
   -- where all calls are for one object, its linearization is one of all
-  pub one_alone : (s : T) (lines : List (Line O)) → AreOfOne name lines →
-      ((k : List ℕ) → IsLinearizable Y s (part name k (calls_of lines))) →
-      IsLinearizable (many Y name) (λ j. s) (calls_of lines)
+  pub one_alone : (s : List ℕ → T) (lines : List (Line O)) → AreOfOne name lines →
+      ((k : List ℕ) → IsLinearizable Y (s k) (part name k (calls_of lines))) →
+      IsLinearizable (many Y name) s (calls_of lines)
   one_alone s [] one h = of_one s [] [] tt (h [])
   one_alone s (l ∷ ls) one h =
       of_one s (name l.op) (calls_of (l ∷ ls)) (lines_from name (name l.op) (l ∷ ls) (λ i d w. one i d w))

@@ -13,20 +13,22 @@ use Rattle.judge_many.specs.Runs.{AreOfOne}
 use Rattle.judge_many.specs.Turns.{IsFirstOutOfTurn}
 
 module _ {S O R : Type 0} (X : Rules S O R) (name : O → List ℕ) where
-  -- some order of all calls is a linearization; each object begins in the state s
-  abbrev pub IsManyLinearizable : S → List (Line O) → Type 0
-  IsManyLinearizable s lines = IsLinearizable (many X name) (λ k. s) (calls_of lines)
+  -- some order of all calls is a linearization; s has the state in which the object of each name
+  -- begins
+  abbrev pub IsManyLinearizable : (List ℕ → S) → List (Line O) → Type 0
+  IsManyLinearizable s lines = IsLinearizable (many X name) s (calls_of lines)
 
   -- the calls are of several objects, and the calls of each object have a linearization; but some
   -- client began a call at the very time at which an earlier call of its own ended, so that
   -- locality says nothing of all calls together
-  pub record IsTouching (s : S) (lines : List (Line O)) : Type 0 where
-    pub parts : (k : List ℕ) → IsLinearizable X s (part name k (calls_of lines))
+  pub record IsTouching (s : List ℕ → S) (lines : List (Line O)) : Type 0 where
+    pub parts : (k : List ℕ) → IsLinearizable X (s k) (part name k (calls_of lines))
     pub touches : AreStrict (calls_of lines) → ⊥
     pub several : AreOfOne name lines → ⊥
 
-  -- what a verdict says of the calls of lines, each object beginning in the state s
-  abbrev pub IsVerdictOn : S → ℕ → List (Line O) → Verdict O S → Type 0
+  -- what a verdict says of the calls of lines; s has the state in which the object of each name
+  -- begins
+  abbrev pub IsVerdictOn : (List ℕ → S) → ℕ → List (Line O) → Verdict O S → Type 0
   IsVerdictOn s steps lines (verdict.OutOfTurn place) = IsFirstOutOfTurn (calls_of lines) place
   IsVerdictOn s steps lines verdict.Linearizable =
       IsWhole (calls_of lines) × IsManyLinearizable s lines

@@ -1,11 +1,13 @@
 //! Judging a history of many objects.
 
 ghost use Rattle.std.specs.Prelude.{◌≡◌, IfOk};
+ghost use Rattle.judge_many.specs.Starts.{start_of};
 ghost use Rattle.judge_many.specs.Verdict.{IsVerdictOn};
 
 use crate::named::Named;
 use crate::parts::{Blocked, Judged, Undecided, judge_parts};
 use crate::runs::is_of_one;
+use crate::starts::Starts;
 use crate::turns::{Turns, find_turns};
 use judge_object::{Line, Watcher};
 use std::alloc::{AllocError, Global};
@@ -29,24 +31,24 @@ pub enum Verdict<O, M> {
     Touching,
 }
 
-/// Judges a history of many objects, each of which begins in the state of a machine, in at most
-/// `steps` steps for all objects together.
+/// Judges a history of many objects, each of which begins in the state that is given for its name,
+/// in at most `steps` steps for all objects together.
 pub fn judge_many<M: Named + Drop, P: Watcher>(
     alloc: Global,
     lines: Vec<Line<M::Op>>,
-    machine: &M,
+    starts: &Starts<M>,
     steps: u64,
     watcher: &mut P,
 ) -> Result<Verdict<M::Op, M>, AllocError>
     ensures { IfOk result (λ verdict.
-        IsVerdictOn M.rules M.name machine.now steps lines.items verdict) }
+        IsVerdictOn M.rules M.name (start_of starts.now) steps lines.items verdict) }
 {
     let is_strict = match find_turns(alloc, lines.as_slice())? {
         Turns::Broken(place) => return Ok(Verdict::OutOfTurn(place)),
         Turns::Held(is_strict) => is_strict,
     };
     let is_one = is_of_one::<M>(lines.as_slice());
-    match judge_parts(alloc, lines, machine, steps, watcher)? {
+    match judge_parts(alloc, lines, starts, steps, watcher)? {
         Judged::Linearizable => {
             if is_strict {
                 Ok(Verdict::Linearizable)

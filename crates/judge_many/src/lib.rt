@@ -7,10 +7,12 @@ mod laws;
 mod named;
 mod parts;
 mod runs;
+mod starts;
 mod turns;
 
 pub use judging::{Verdict, judge_many};
 pub use laws::{a_linearizable_history_has_linearizable_parts, parts_make_a_linearizable_history};
 pub use named::Named;
 pub use parts::{Blocked, Judged, Undecided, judge_parts};
+pub use starts::Starts;
 pub use turns::{Turns, find_turns};

@@ -1,12 +1,15 @@
 //! Judging each object's calls.
 
-ghost use Rattle.std.specs.Prelude.{◌≡◌, IfOk};
+ghost use Rattle.std.specs.Prelude.{◌≡◌, ◌<◌, ℕ, List, IfOk, length};
 ghost use Rattle.judge_search.specs.Calls.{calls_of};
 ghost use Rattle.judge_search.specs.Walk.{IsWhole};
 ghost use Rattle.judge_many.specs.Judging.{SearchesRun, JudgesParts};
+ghost use Rattle.judge_many.specs.Runs.{lines_for};
+ghost use Rattle.judge_many.specs.Starts.{start_of};
 
 use crate::named::Named;
 use crate::runs::{sorted_by_name, take_run};
+use crate::starts::Starts;
 use judge_object::{Line, Watcher};
 use judge_search::{Calls, Finding, Found, Point, find_linearization};
 use std::alloc::{AllocError, Global};
@@ -53,18 +56,18 @@ struct Searched<O, M> {
 fn judge_run<M: Named + Drop, P: Watcher>(
     alloc: Global,
     run: Vec<Line<M::Op>>,
-    machine: &M,
+    machine: M,
     steps: u64,
     watcher: &mut P,
 ) -> Result<Searched<M::Op, M>, AllocError>
     requires whole { IsWhole (calls_of run.items) }
-    ensures { IfOk result (λ searched. SearchesRun M.rules machine.now steps run.items searched) }
+    ensures { IfOk result (λ searched. SearchesRun M.rules machine steps run.items searched) }
 {
     let calls = Calls::new(alloc, run)?;
     let Found {
         finding,
         steps: made,
-    } = find_linearization(alloc, &calls, machine.copy()?, steps, watcher)?;
+    } = find_linearization(alloc, &calls, machine, steps, watcher)?;
     match finding {
         Finding::Order(_) => Ok(Searched {
             judged: Judged::Linearizable,
@@ -81,25 +84,35 @@ fn judge_run<M: Named + Drop, P: Watcher>(
     }
 }
 
-/// Judges the calls of many objects, each from the state of a machine on, one object after the
-/// other in the order of their names, in at most `steps` steps of all searches together. Stops at
-/// the first object whose calls have no linearization, or of which neither is known when all steps
-/// are made.
+/// Returns the state in which the object begins that the first line is for.
+fn first_state<M: Named>(starts: &Starts<M>, run: &[Line<M::Op>]) -> Result<M, AllocError>
+    requires { 0 < length run.now }
+    ensures { IfOk result (λ state. (for : List ℕ) → lines_for M.name for run.now ≡ run.now →
+        state ≡ start_of starts.now for) }
+{
+    starts.get(M::name(&run[0].op))
+}
+
+/// Judges the calls of many objects, each from the state on that is given for its name, one object
+/// after the other in the order of their names, in at most `steps` steps of all searches together.
+/// Stops at the first object whose calls have no linearization, or of which neither is known when
+/// all steps are made.
 pub fn judge_parts<M: Named + Drop, P: Watcher>(
     alloc: Global,
     lines: Vec<Line<M::Op>>,
-    machine: &M,
+    starts: &Starts<M>,
     steps: u64,
     watcher: &mut P,
 ) -> Result<Judged<M::Op, M>, AllocError>
     requires whole { IsWhole (calls_of lines.items) }
     ensures { IfOk result (λ judged.
-        JudgesParts M.rules M.name machine.now steps lines.items judged) }
+        JudgesParts M.rules M.name (start_of starts.now) steps lines.items judged) }
 {
     let mut left = sorted_by_name::<M>(lines)?;
     let mut rest = steps;
     'runs: while 0 < left.len() {
         let run = take_run::<M>(&mut left)?;
+        let machine = first_state(starts, run.as_slice())?;
         let Searched {
             judged,
             steps: made,

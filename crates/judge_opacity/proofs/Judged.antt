@@ -20,7 +20,7 @@ use Rattle.judge_opacity.specs.Judging.{FollowsAttempts, JudgesAttempt, TakesAtt
 some_none : (b : Breach) → Some b ≡ None → ⊥
 some_none b e = cc
 
-by_place : (earlier : List Attempt) (attempt : Attempt) (place : Option Misplaced) →
+pub by_place : (earlier : List Attempt) (attempt : Attempt) (place : Option Misplaced) →
     misplaced itself (map span_of_attempt earlier) attempt.span ≡ place
     → breach_of earlier attempt ≡ place_first place (wrong_read (left_by earlier) attempt.accesses)
 by_place earlier attempt place h =
@@ -36,7 +36,7 @@ judges_place words after earlier attempt wrong h = record {
   taken = λ e. absurd (some_none (breach.Place wrong) e);
 }
 
-by_reads : (words : ℕ) (judge : Judge) (earlier : List Attempt) (attempt : Attempt) (found : Option Breach) →
+pub by_reads : (words : ℕ) (judge : Judge) (earlier : List Attempt) (attempt : Attempt) (found : Option Breach) →
     FollowsAttempts words judge earlier
     → misplaced itself (map span_of_attempt earlier) attempt.span ≡ None →
     wrong_read (image_of judge.memory.words.items) attempt.accesses ≡ found → breach_of earlier attempt ≡ found

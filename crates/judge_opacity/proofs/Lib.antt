@@ -5,3 +5,7 @@ pub mod Covering
 pub mod Parsing
 pub mod Judged
 pub mod Telling
+pub mod Greedy
+pub mod Searching
+pub mod Logging
+pub mod Places

@@ -8,3 +8,6 @@ pub mod Wrongs
 pub mod Judging
 pub mod Hearing
 pub mod Reading
+pub mod Placing
+pub mod Logs
+pub mod Placed

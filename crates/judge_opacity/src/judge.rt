@@ -1,10 +1,11 @@
 //! Judging one attempt after another.
 
-ghost use Rattle.std.specs.Prelude.{◌≡◌, ◌≢◌, ℕ, ◌+◌, ◌<◌, ◌^◌, length, IfOk, IfErr, MatchOption, List, [], if◌then◌else◌, Err};
+ghost use Rattle.std.specs.Prelude.{◌≡◌, ◌≢◌, ℕ, ◌+◌, ◌<◌, ◌^◌, ◌∷◌, length, IfOk, OnOk, IfErr, MatchOption, None, is_none, List, [], if◌then◌else◌, Err};
 ghost use Rattle.vac_streams.specs.declared.fault.StreamFault.TheVariants.{Write};
 ghost use Rattle.judge_opacity.specs.Attempt.{Attempt, text_attempt};
 ghost use Rattle.judge_opacity.specs.Parts.{AllAmong, attempt_of};
-ghost use Rattle.judge_opacity.specs.Verdict.{counts_of};
+ghost use Rattle.judge_opacity.specs.Verdict.{counts_of, breach_of};
+ghost use Rattle.judge_opacity.specs.Logs.{IsSameJudge};
 ghost use Rattle.judge_opacity.specs.Judging.{FollowsAttempts, JudgesAttempt, TakesAttempt, DecidesFinding};
 
 use crate::attempt::{Access, Head, read_attempt};
@@ -85,6 +86,46 @@ impl Judge {
             self.memory.undo();
         }
         Ok(None)
+    }
+
+    /// Returns whether an attempt has no fault after the attempts judged so far.
+    pub(crate) fn fits(&mut self, head: &Head, accesses: &[Access]) -> Result<bool, AllocError>
+        requires { AllAmong (length self.old.memory.words.items) accesses.now }
+        ensures same { OnOk result (IsSameJudge self.old self.new) }
+        ensures fits { IfOk result (λ fits. (words : ℕ) (earlier : List Attempt) →
+            FollowsAttempts words self.old earlier →
+            fits ≡ is_none (breach_of earlier (attempt_of head.now accesses.now))) }
+    {
+        if self.spans.find(&head.span).is_some() {
+            return Ok(false);
+        }
+        self.memory.keep();
+        let wrong = self.memory.run(accesses)?;
+        self.memory.undo();
+        Ok(wrong.is_none())
+    }
+
+    /// Takes an attempt that has no fault after the attempts judged so far.
+    pub(crate) fn take(&mut self, head: &Head, accesses: &[Access]) -> Result<(), StreamFault>
+        requires { AllAmong (length self.old.memory.words.items) accesses.now }
+        ensures size { OnOk result (length self.new.memory.words.items
+            ≡ length self.old.memory.words.items) }
+        ensures taken { OnOk result ((words : ℕ) (earlier : List Attempt) →
+            FollowsAttempts words self.old earlier →
+            breach_of earlier (attempt_of head.now accesses.now) ≡ None →
+            FollowsAttempts words self.new (attempt_of head.now accesses.now ∷ earlier)) }
+        ensures refused { IfErr result (λ fault. fault ≢ Write) }
+    {
+        let _line = self.next_line()?;
+        let committed = count_commit(self.committed, head.commits)?;
+        self.memory.keep();
+        self.memory.run(accesses)?;
+        self.spans.push(&head.span)?;
+        self.committed = committed;
+        if !head.commits {
+            self.memory.undo();
+        }
+        Ok(())
     }
 
     /// Judges a line, which is not too long and is given without its end. Returns the verdict if

@@ -1,6 +1,8 @@
 //! Laws on verdicts. Each is the contract of a function that does nothing.
 
 ghost use Rattle.judge_opacity.specs.Laws.{OpaqueIsOpacity, OpaqueCounts};
+ghost use Rattle.judge_opacity.specs.Placing.{PlacementsKeepAttempts};
+ghost use Rattle.judge_opacity.specs.Placed.{PlacedIsOpacity};
 ghost use Rattle.judge_opacity.specs.Wrongs.{IllegalIsFirstWrongAttempt, FaultIsFirstNoAttempt};
 
 /// States that a text of attempts is found opaque if and only if each of its lines is an attempt
@@ -34,4 +36,17 @@ pub fn a_finding_names_the_first_wrong_attempt()
 /// fault, and the order of the lines before it shows that the attempts are opaque.
 pub fn a_fault_names_the_first_line_that_is_no_attempt()
     ensures { FaultIsFirstNoAttempt }
+{}
+
+/// States that a verdict on a text of attempts of which only the committed writers have places is
+/// opaque if and only if each line is an attempt, and the other attempts have places at which the
+/// order shows that all attempts are opaque.
+pub fn a_placed_verdict_sees_opacity()
+    ensures { PlacedIsOpacity }
+{}
+
+/// States that places only move attempts: an order with places has the same attempts as the text,
+/// and its committed writers stand in the order of the text.
+pub fn places_keep_the_attempts()
+    ensures { PlacementsKeepAttempts }
 {}

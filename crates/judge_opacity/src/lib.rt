@@ -10,8 +10,12 @@ mod attempt;
 mod finding;
 mod judge;
 mod laws;
+mod log_reading;
+mod logged;
 mod memory;
 mod numbers;
+mod placed;
+mod placing;
 mod reading;
 mod words;
 
@@ -19,7 +23,9 @@ pub use attempt::{ATTEMPT_BYTES, Access};
 pub use finding::{Breach, Counts, Finding, print_finding};
 pub use laws::{
     a_fault_names_the_first_line_that_is_no_attempt, a_finding_names_the_first_wrong_attempt,
-    a_finding_sees_opacity, opaque_attempts_are_counted,
+    a_finding_sees_opacity, a_placed_verdict_sees_opacity, opaque_attempts_are_counted,
+    places_keep_the_attempts,
 };
 pub use memory::{MOST_WORDS, USUAL_WORDS};
+pub use placed::place_attempts;
 pub use reading::judge_attempts;

@@ -424,7 +424,7 @@ module _ (scope : Scope) (s p : State) (h : HasPart scope s p) where
           seen i found o n =
               let j = item_in_part scope s p h kind id i inside found in item_exists_made o kind id j.0 j.1 n
 
-      reserve_unseen : Fair (reserve s c kind id num) → Near scope (reserve s c kind id num).0 p
+      pub reserve_unseen : Fair (reserve s c kind id num) → Near scope (reserve s c kind id num).0 p
       reserve_unseen = reserve_cases s c kind id num (λ o. Fair o → Near scope o.0 p)
           (λ _ _. near) (λ _ _ _ _. near) (λ _ _ _ _ _ _. near) (λ _ _ _ _ _ _. near)
           (λ b i there found _ _ _ fair. moved_out scope s p near c kind id num out fair b i

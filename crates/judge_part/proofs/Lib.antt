@@ -1,3 +1,5 @@
+pub mod Cuts
+pub mod Changed
 pub mod Orders
 pub mod Sums
 pub mod Restricted
@@ -5,6 +7,14 @@ pub mod Effects
 pub mod Numbers
 pub mod Outside
 pub mod Commands
+pub mod Ranges
 pub mod Tasks
-pub mod Trips
+pub mod Replies
+pub mod UpdateParts
+pub mod Choices
+pub mod TripParts
+pub mod PendingParts
+pub mod TaskRanges
 pub mod Whole
+pub mod Numbered
+pub mod Larger

@@ -17,11 +17,25 @@ use Rattle.vac_model.proofs.Ids.{both_true}
 use Rattle.vac_model.proofs.Kept.{found_both}
 use Rattle.judge_part.specs.declared.scope.Scope.{Scope}
 use Rattle.judge_part.specs.Scopes.{has_customer, has_item, allows}
-use Rattle.judge_part.specs.Tasks.{command_changes, command_allowed, task_changes, task_allowed}
+use Rattle.judge_part.specs.Tasks.{command_changes, command_allowed}
 use Rattle.judge_part.proofs.Effects.{Near}
 use Rattle.judge_part.proofs.Outside.{command_out}
 
-same_kind : (a b : Kind) → (kind_number a == kind_number b) ≡ true → a ≡ b
+-- tests if a task may change the part of a state
+abbrev pub task_changes : Scope → Task → Bool
+task_changes scope (task.One c) = command_changes scope c
+task_changes scope (task.Trip customer asks) = has_customer scope customer
+task_changes scope (task.Leave customer) = has_customer scope customer
+task_changes scope (task.Update changes) = list_any (command_changes scope) changes
+
+-- tests if all that a task may book leaves closed items closed and whole customers whole
+abbrev pub task_allowed : Scope → Task → Bool
+task_allowed scope (task.One c) = command_allowed scope c
+task_allowed scope (task.Trip customer asks) = list_all (λ ask. allows scope customer ask) asks
+task_allowed scope (task.Leave customer) = true
+task_allowed scope (task.Update changes) = true
+
+pub same_kind : (a b : Kind) → (kind_number a == kind_number b) ≡ true → a ≡ b
 same_kind Car Car e = refl
 same_kind Car Flight e = absurd (let never : false ≡ true = e in cc)
 same_kind Car Room e = absurd (let never : false ≡ true = e in cc)
@@ -76,7 +90,7 @@ neither true false e = refl
 neither false b e = refl
 
 -- a change books nothing
-change_allowed : (scope : Scope) (c : Command) → is_change c ≡ true → command_allowed scope c ≡ true
+pub change_allowed : (scope : Scope) (c : Command) → is_change c ≡ true → command_allowed scope c ≡ true
 change_allowed scope (command.Add kind id num price) e = refl
 change_allowed scope (command.Delete kind id num) e = refl
 change_allowed scope (command.DropFlight id) e = refl

@@ -1,8 +1,7 @@
 -- The part of a completed task on a scope: a task with the text of its reply, or nothing.
 use Rattle.std.specs.Prelude.{ℕ, Bool, true, false, not, ◌&&◌, ◌||◌, Option, Some, None, List, if◌then◌else◌}
-use Rattle.std.specs.List.{list_any, list_all, starts_with}
+use Rattle.std.specs.List.{list_all}
 use Rattle.std.specs.Str.{bytes_eq}
-use Rattle.std.specs.Prelude.{codes, nat_eq}
 use Rattle.std.specs.Borrow.{Bor}
 use Rattle.std.specs.Option.{option_map}
 use Rattle.vac_model.specs.declared.items.Kind.{Kind}
@@ -17,8 +16,6 @@ use Rattle.vac_model.specs.declared.tasks.Task.{Task}
 use Rattle.vac_model.specs.declared.tasks.Task.TheVariants as task
 use Rattle.vac_model.specs.State.{Place}
 use Rattle.vac_lines.specs.Text.{reply_text}
-use Rattle.judge_part.specs.declared.answers.Part.{Part}
-use Rattle.judge_part.specs.declared.answers.Part.TheVariants.{Nothing, Same, Other}
 use Rattle.judge_part.specs.declared.scope.Scope.{Scope}
 use Rattle.judge_part.specs.Scopes.{has_customer, has_item, is_closed, is_whole, allows}
 
@@ -29,12 +26,6 @@ Answered = Task × List ℕ
 -- a command with the text of its reply, as code has it
 abbrev pub answered : Option (Command × Bor (List ℕ)) → Option Answered
 answered a = option_map (λ x. (task.One x.0, x.1.now)) a
-
--- a part, as code has it, of this task and reply
-abbrev pub part_of : Task → List ℕ → Part → Option Answered
-part_of t text Nothing = None
-part_of t text Same = Some (t, text)
-part_of t text (Other c seen) = Some (task.One c, seen.now)
 
 -- tests if a text is that of a reply
 abbrev pub is_reply : Reply → List ℕ → Bool
@@ -139,20 +130,6 @@ leave_part scope c text =
     else Some (task.One (command.DropCustomer c), reply_text reply.Done)
     ) else None
 
--- tests if a text begins so
-abbrev pub begins : List ℕ → List ℕ → Bool
-begins text first = starts_with nat_eq text first
-
--- a trip that asks for no item of the scope shows if its customer exists, or was added
-abbrev pub trip_part : Scope → ℕ → List ℕ → Option Answered
-trip_part scope c text =
-    if has_customer scope c then (
-    if begins text (codes "trip cust=true ")
-    then Some (task.One (command.NewCustomer c), reply_text reply.Done)
-    else if begins text (codes "trip cust=exists ") then customer_exists c
-    else None
-    ) else None
-
 -- tests if none of these items belongs to the scope
 abbrev pub are_outside : Scope → List Place → Bool
 are_outside scope asks = list_all (λ ask. not (has_item scope ask)) asks
@@ -173,13 +150,6 @@ command_changes scope (command.Cancel customer kind id) =
     has_customer scope customer && has_item scope (kind, id)
 command_changes scope command.Audit = false
 
--- tests if a task may change the part of a state
-abbrev pub task_changes : Scope → Task → Bool
-task_changes scope (task.One c) = command_changes scope c
-task_changes scope (task.Trip customer asks) = has_customer scope customer
-task_changes scope (task.Leave customer) = has_customer scope customer
-task_changes scope (task.Update changes) = list_any (command_changes scope) changes
-
 -- tests if all that a command may book, if it takes effect, leaves closed items closed and whole
 -- customers whole
 abbrev pub command_allowed : Scope → Command → Bool
@@ -194,32 +164,3 @@ command_allowed scope (command.Bill id) = true
 command_allowed scope (command.Reserve customer kind id num) = allows scope customer (kind, id)
 command_allowed scope (command.Cancel customer kind id) = true
 command_allowed scope command.Audit = true
-
--- tests if all that a task may book leaves closed items closed and whole customers whole
-abbrev pub task_allowed : Scope → Task → Bool
-task_allowed scope (task.One c) = command_allowed scope c
-task_allowed scope (task.Trip customer asks) = list_all (λ ask. allows scope customer ask) asks
-task_allowed scope (task.Leave customer) = true
-task_allowed scope (task.Update changes) = true
-
--- tests if a task cannot change the part of a state, nor book what the scope does not allow
-abbrev pub is_outside : Scope → Task → Bool
-is_outside scope t = task_allowed scope t && not (task_changes scope t)
-
--- tests if a completed task has a part: a leave has one, and a command that booked nothing that the
--- scope does not allow; so has a trip of a customer outside the scope, or for items outside the
--- scope. The part of an update is empty, and the update must be outside the scope.
-abbrev pub answer_fits : Scope → Task → List ℕ → Bool
-answer_fits scope (task.One c) text = not (is_reply reply.Done text) || command_allowed scope c
-answer_fits scope (task.Trip customer asks) text =
-    task_allowed scope (task.Trip customer asks)
-    && (not (has_customer scope customer) || are_outside scope asks)
-answer_fits scope (task.Leave customer) text = true
-answer_fits scope (task.Update changes) text = is_outside scope (task.Update changes)
-
--- the part of a completed task
-abbrev pub task_part : Scope → Task → List ℕ → Option Answered
-task_part scope (task.One c) text = command_part scope c text
-task_part scope (task.Trip customer asks) text = trip_part scope customer text
-task_part scope (task.Leave customer) text = leave_part scope customer text
-task_part scope (task.Update changes) text = None

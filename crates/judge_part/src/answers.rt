@@ -1,82 +1,96 @@
-//! The part of a completed command.
+//! The part of a completed task.
 
-ghost use Rattle.std.specs.Prelude.{◌≡◌, ◌&&◌, not, Some, None, if◌then◌else◌, List, ℕ};
+ghost use Rattle.std.specs.Prelude.{◌≡◌, ◌&&◌, not, Some, None, if◌then◌else◌, IfOk};
 ghost use Rattle.vac_model.specs.declared.commands.Command.TheVariants as command;
 ghost use Rattle.vac_model.specs.declared.commands.Why.TheVariants.{SoldOut};
 ghost use Rattle.vac_model.specs.declared.replies.Reply.TheVariants as reply;
-ghost use Rattle.vac_model.specs.declared.tasks.Task.{Task};
 ghost use Rattle.vac_model.specs.declared.tasks.Task.TheVariants as task;
 ghost use Rattle.vac_lines.specs.Text.{reply_text};
 ghost use Rattle.judge_part.specs.Scopes.{is_closed};
+ghost use Rattle.judge_part.specs.Completed as whole;
+ghost use Rattle.judge_part.specs.Completed.{made};
 ghost use Rattle.judge_part.specs.Tasks as spec;
 
 use crate::scope::Scope;
+use crate::trips::trip_part;
+use crate::updates::update_part;
+use std::alloc::{AllocError, Global};
 use vac_model::{Command, Kind, Task, Why};
 
-/// The part of a completed task.
-pub enum Part<'a> {
-    /// The task leaves nothing.
-    Nothing,
-    /// The task and its reply, as they are.
-    Same,
-    /// Another command, with the text of its reply.
-    Other(Command, &'a [u8]),
+/// A task with the text of its reply.
+#[derive(Drop)]
+pub struct AnsweredTask {
+    /// The task.
+    pub task: Task,
+    /// The text of the reply.
+    pub text: Vec<u8>,
 }
 
 /// A command with the text of its reply.
-type Answered<'a> = (Command, &'a [u8]);
+pub(crate) type Seen<'a> = (Command, &'a [u8]);
 
-/// Returns the part of a completed task on a scope.
-pub fn task_part<'a>(scope: &Scope, task: &Task, text: &'a [u8]) -> Part<'a>
-    ensures { spec.part_of task.now text.now result ≡ spec.task_part scope.now task.now text.now }
+/// Returns the part of a completed task on a scope, or `None` if nothing of the task is kept. A
+/// bill of a customer who is not whole, and the free units of an item that is not closed, are not
+/// kept, though their replies may show that the customer or the item exists.
+pub fn task_part(
+    alloc: Global,
+    scope: &Scope,
+    task: &Task,
+    text: &[u8],
+) -> Result<Option<AnsweredTask>, AllocError>
+    ensures { IfOk result (λ part. made part ≡ whole.task_part scope.now task.now text.now) }
 {
     match task {
-        Task::One(command) => match command_part(scope, *command, text) {
-            Some((command, seen)) => Part::Other(command, seen),
-            None => Part::Nothing,
-        },
-        Task::Leave { customer } => leave_part(scope, *customer, text),
-        Task::Trip { customer, .. } => trip_part(scope, *customer, text),
-        Task::Update { .. } => Part::Nothing,
+        Task::One(command) => owned(alloc, command_part(scope, *command, text)),
+        Task::Leave { customer } => leave_part(alloc, scope, *customer, text),
+        Task::Trip { customer, asks } => trip_part(alloc, scope, *customer, asks.as_slice(), text),
+        Task::Update { changes } => update_part(alloc, scope, changes.as_slice(), text),
     }
 }
 
-/// Returns the part of a completed trip that asks for no item of the scope.
-fn trip_part<'a>(scope: &Scope, customer: u32, text: &[u8]) -> Part<'a>
-    ensures { (t : Task) (given : List ℕ) → spec.part_of t given result
-        ≡ spec.trip_part scope.now customer text.now }
+/// Returns a command with a copy of the text of its reply.
+pub(crate) fn owned(
+    alloc: Global,
+    seen: Option<Seen<'_>>,
+) -> Result<Option<AnsweredTask>, AllocError>
+    ensures { IfOk result (λ part. made part ≡ spec.answered seen.entry) }
 {
-    if !scope.has_customer(customer) {
-        Part::Nothing
-    } else if text.starts_with(b"trip cust=true ") {
-        Part::Other(Command::NewCustomer { id: customer }, b"true")
-    } else if text.starts_with(b"trip cust=exists ") {
-        Part::Other(
-            Command::NewCustomer { id: customer },
-            refusal_text(Why::Exists),
-        )
-    } else {
-        Part::Nothing
+    match seen {
+        Some((command, text)) => Ok(Some(AnsweredTask {
+            task: Task::One(command),
+            text: Vec::from_slice(alloc, text)?,
+        })),
+        None => Ok(None),
     }
 }
 
 /// Returns the part of a completed leave.
-fn leave_part<'a>(scope: &Scope, customer: u32, text: &[u8]) -> Part<'a>
-    ensures { spec.part_of (task.Leave customer) text.now result
-        ≡ spec.leave_part scope.now customer text.now }
+fn leave_part(
+    alloc: Global,
+    scope: &Scope,
+    customer: u32,
+    text: &[u8],
+) -> Result<Option<AnsweredTask>, AllocError>
+    ensures { IfOk result (λ part. made part ≡ spec.leave_part scope.now customer text.now) }
 {
     if !scope.has_customer(customer) {
-        Part::Nothing
-    } else if scope.is_whole(customer) || text == b"-1".as_slice() {
-        Part::Same
-    } else {
-        Part::Other(Command::DropCustomer { id: customer }, b"true")
+        return Ok(None);
     }
+    if scope.is_whole(customer) || text == b"-1".as_slice() {
+        return Ok(Some(AnsweredTask {
+            task: Task::Leave { customer },
+            text: Vec::from_slice(alloc, text)?,
+        }));
+    }
+    owned(
+        alloc,
+        Some((Command::DropCustomer { id: customer }, b"true")),
+    )
 }
 
 /// Returns the part of a completed command on a scope: a command with the text of its reply, or
 /// nothing.
-fn command_part<'a>(scope: &Scope, command: Command, text: &'a [u8]) -> Option<Answered<'a>>
+fn command_part<'a>(scope: &Scope, command: Command, text: &'a [u8]) -> Option<Seen<'a>>
     ensures { spec.answered result ≡ spec.command_part scope.now command text.now }
 {
     match command {
@@ -151,7 +165,7 @@ fn is_refused(text: &[u8], why: Why) -> bool
 }
 
 /// Returns a command as it is, if a condition holds.
-fn kept_if(holds: bool, command: Command, text: &[u8]) -> Option<Answered<'_>>
+fn kept_if(holds: bool, command: Command, text: &[u8]) -> Option<Seen<'_>>
     ensures { spec.answered result
         ≡ (if holds then Some (task.One command, text.now) else None) }
 {
@@ -159,14 +173,14 @@ fn kept_if(holds: bool, command: Command, text: &[u8]) -> Option<Answered<'_>>
 }
 
 /// Returns a command as it is, unless no block was left.
-fn kept(command: Command, text: &[u8]) -> Option<Answered<'_>>
+fn kept(command: Command, text: &[u8]) -> Option<Seen<'_>>
     ensures { spec.answered result ≡ spec.kept (task.One command) text.now }
 {
     kept_if(!is_refused(text, Why::Full), command, text)
 }
 
 /// Returns a command that shows that a customer exists, and changes nothing.
-fn customer_exists<'a>(customer: u32) -> Option<Answered<'a>>
+pub(crate) fn customer_exists<'a>(customer: u32) -> Option<Seen<'a>>
     ensures { spec.answered result ≡ spec.customer_exists customer }
 {
     Some((
@@ -176,7 +190,7 @@ fn customer_exists<'a>(customer: u32) -> Option<Answered<'a>>
 }
 
 /// Returns a command that shows that a customer is missing.
-fn customer_missing<'a>(customer: u32) -> Option<Answered<'a>>
+fn customer_missing<'a>(customer: u32) -> Option<Seen<'a>>
     ensures { spec.answered result ≡ spec.customer_missing customer }
 {
     Some((Command::Bill { id: customer }, b"-1"))
@@ -195,14 +209,14 @@ fn probe(item: (Kind, u32)) -> Command
 }
 
 /// Returns a command that shows that an item exists, and changes nothing.
-fn item_exists<'a>(item: (Kind, u32)) -> Option<Answered<'a>>
+fn item_exists<'a>(item: (Kind, u32)) -> Option<Seen<'a>>
     ensures { spec.answered result ≡ spec.item_exists item.0 item.1 }
 {
     Some((probe(item), b"true"))
 }
 
 /// Returns a command that shows that an item is missing, and changes nothing.
-fn item_missing<'a>(item: (Kind, u32)) -> Option<Answered<'a>>
+fn item_missing<'a>(item: (Kind, u32)) -> Option<Seen<'a>>
     ensures { spec.answered result ≡ spec.item_missing item.0 item.1 }
 {
     Some((probe(item), refusal_text(Why::NeedsCountAndPrice)))
@@ -216,7 +230,7 @@ fn units_part<'a>(
     command: Command,
     text: &'a [u8],
     why: Why,
-) -> Option<Answered<'a>>
+) -> Option<Seen<'a>>
     ensures { spec.answered result
         ≡ spec.units_part scope.now item (task.One command) text.now why }
 {
@@ -231,7 +245,7 @@ fn units_part<'a>(
 
 /// Returns a command that shows if a customer exists, from the reply to a booking, or to the end of
 /// a booking, of an item outside the scope.
-fn customer_seen<'a>(customer: u32, text: &[u8]) -> Option<Answered<'a>>
+fn customer_seen<'a>(customer: u32, text: &[u8]) -> Option<Seen<'a>>
     ensures { spec.answered result
         ≡ spec.customer_seen customer text.now }
 {
@@ -244,7 +258,7 @@ fn customer_seen<'a>(customer: u32, text: &[u8]) -> Option<Answered<'a>>
 
 /// Returns a command that shows if an item exists, from the reply to a booking, or to the end of a
 /// booking, by a customer outside the scope.
-fn item_seen<'a>(item: (Kind, u32), text: &[u8]) -> Option<Answered<'a>>
+fn item_seen<'a>(item: (Kind, u32), text: &[u8]) -> Option<Seen<'a>>
     ensures { spec.answered result
         ≡ spec.item_seen item.0 item.1 text.now }
 {
@@ -264,8 +278,8 @@ fn booking_part<'a>(
     customer: u32,
     item: (Kind, u32),
     text: &[u8],
-    both: Option<Answered<'a>>,
-) -> Option<Answered<'a>>
+    both: Option<Seen<'a>>,
+) -> Option<Seen<'a>>
     ensures { spec.answered result
         ≡ spec.booking_part scope.now customer item.0 item.1 text.now
         (spec.answered both.entry) }
@@ -285,7 +299,7 @@ fn reserve_part<'a>(
     item: (Kind, u32),
     command: Command,
     text: &'a [u8],
-) -> Option<Answered<'a>>
+) -> Option<Seen<'a>>
     ensures { spec.answered result
         ≡ (if spec.is_reply (reply.No SoldOut) text.now && not (is_closed scope.now item)
         then spec.customer_exists customer else spec.kept (task.One command) text.now) }

@@ -69,7 +69,7 @@ module _ {S O R : Type 0} (X : Rules S O R) (name : O → List ℕ) (L : Languag
   same : (text : List ℕ) (a b : List (Call O)) → text_calls X L text ≡ Ok a → text_calls X L text ≡ Ok b → a ≡ b
   same text a b e f = ap calls_in (sym e ∙ f)
 
-  pub judged_decides : (s : S) (text : List ℕ) (steps : ℕ) (counts : Counts) (v : Verdict O S) →
+  pub judged_decides : (s : List ℕ → S) (text : List ℕ) (steps : ℕ) (counts : Counts) (v : Verdict O S) →
       IsJudgedText X name L s text steps counts v → DecidesLegal X name L s text (Judged counts v)
   judged_decides s text steps counts (verdict.OutOfTurn place) j = λ legal.
       out_of_turn (calls_of j.lines) place j.judged (subst InTurn
@@ -81,7 +81,7 @@ module _ {S O R : Type 0} (X : Rules S O R) (name : O → List ℕ) (L : Languag
     order = j.judged.1;
   }
   judged_decides s text steps counts (verdict.NotLinearizable blocked) j = λ legal.
-      j.judged.2 (subst (IsLinearizable (many X name) (λ k. s))
+      j.judged.2 (subst (IsLinearizable (many X name) s)
       (same text legal.calls (calls_of j.lines) legal.are j.are) legal.order)
   judged_decides s text steps counts (verdict.Unknown open_) j = tt
   judged_decides s text steps counts verdict.Touching j = tt

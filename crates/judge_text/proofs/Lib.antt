@@ -5,4 +5,5 @@ pub mod WordPlaces
 pub mod Legal
 pub mod Ending
 pub mod Counted
+pub mod Naming
 pub mod Printing

@@ -17,6 +17,7 @@ use Rattle.judge_text.specs.Language.{Language}
 use Rattle.judge_text.specs.Judging.{IsVerdictOnText, DecidesLegal}
 use Rattle.judge_text.specs.Texts.{part_text, stuck_text, outcome_of, AreWithin, IsPrinted, IsBlockedText, IsTextOf}
 use Rattle.judge_text.specs.Program.{JudgesText}
+use Rattle.judge_text.proofs.Naming.{names_if_blocked}
 
 -- what is known of the line at a position
 pub at_get : {A B : Type 0} (f : A → B) (lines : List A) (p : ℕ) (d : B) (e : A) → p < length lines →
@@ -61,7 +62,7 @@ module _ {S O R : Type 0} (X : Rules S O R) (name : O → List ℕ) where
       }
 
   -- a verdict holds, and its text was printed
-  pub judged : {E : Type 0} (L : Language O R) (s : S) (steps : ℕ) (bytes : List ℕ) (v : TextVerdict O S) →
+  pub judged : {E : Type 0} (L : Language O R) (s : List ℕ → S) (steps : ℕ) (bytes : List ℕ) (v : TextVerdict O S) →
       IsVerdictOnText X name L s bytes steps v → DecidesLegal X name L s bytes v →
       (r : Result (Outcome × Vec ℕ) E) → IfOk r (λ p. p.0 ≡ outcome_of v) →
       IfOk r (λ p. IsTextOf X name v p.1.items) →
@@ -72,5 +73,6 @@ module _ {S O R : Type 0} (X : Rules S O R) (name : O → List ℕ) where
     decides = decides;
     kind = k;
     text_is = t;
+    names = names_if_blocked X name L s bytes steps v p.1.items is t;
   }
   judged L s steps bytes v is decides (Err e) k t = tt

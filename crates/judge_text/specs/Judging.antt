@@ -19,16 +19,16 @@ use Rattle.judge_text.specs.Reading.{text_calls, AreNumbered}
 
 module _ {S O R : Type 0} (X : Rules S O R) (name : O → List ℕ) (L : Language O R) where
   -- each line of a text is a call, each client's calls are in turn, and the calls have a
-  -- linearization, each object beginning in the state s
-  pub record IsLegalText (s : S) (text : List ℕ) : Type 0 where
+  -- linearization; s has the state in which the object of each name begins
+  pub record IsLegalText (s : List ℕ → S) (text : List ℕ) : Type 0 where
     pub calls : List (Call O)
     pub are : text_calls X L text ≡ Ok calls
     pub turn : InTurn calls
-    pub order : IsLinearizable (many X name) (λ k. s) calls
+    pub order : IsLinearizable (many X name) s calls
 
   -- the counts and the verdict are those of the calls of the lines, which are numbered from 1
-  pub record IsJudgedText (s : S) (text : List ℕ) (steps : ℕ) (counts : Counts) (v : Verdict O S) :
-      Type 0 where
+  pub record IsJudgedText (s : List ℕ → S) (text : List ℕ) (steps : ℕ) (counts : Counts)
+      (v : Verdict O S) : Type 0 where
     pub lines : List (Line O)
     pub are : text_calls X L text ≡ Ok (calls_of lines)
     pub numbered : AreNumbered 1 lines
@@ -36,12 +36,12 @@ module _ {S O R : Type 0} (X : Rules S O R) (name : O → List ℕ) (L : Languag
     pub judged : IsVerdictOn X name s steps lines v
 
   -- what a verdict says of a text
-  abbrev pub IsVerdictOnText : S → List ℕ → ℕ → TextVerdict O S → Type 0
+  abbrev pub IsVerdictOnText : (List ℕ → S) → List ℕ → ℕ → TextVerdict O S → Type 0
   IsVerdictOnText s text steps (Fault number fault) = text_calls X L text ≡ Err (number, fault)
   IsVerdictOnText s text steps (Judged counts v) = IsJudgedText s text steps counts v
 
   -- a text is legal, or not, if the verdict says so
-  abbrev pub DecidesLegal : S → List ℕ → TextVerdict O S → Type 0
+  abbrev pub DecidesLegal : (List ℕ → S) → List ℕ → TextVerdict O S → Type 0
   DecidesLegal s text (Fault number fault) = IsLegalText s text → ⊥
   DecidesLegal s text (Judged counts verdict.Linearizable) = IsLegalText s text
   DecidesLegal s text (Judged counts (verdict.NotLinearizable blocked)) = IsLegalText s text → ⊥

@@ -6,4 +6,5 @@ pub mod Reading
 pub mod Counting
 pub mod Judging
 pub mod Texts
+pub mod Naming
 pub mod Program

@@ -12,6 +12,7 @@ use Rattle.judge_text.specs.declared.verdict.Outcome.TheVariants as outcome
 use Rattle.judge_text.specs.Language.{Language}
 use Rattle.judge_text.specs.Judging.{IsVerdictOnText, DecidesLegal}
 use Rattle.judge_text.specs.Texts.{IsTextOf, outcome_of}
+use Rattle.judge_text.specs.Naming.{NamesIfBlocked}
 
 -- the input had these bytes and was read to its end
 -- Not said: anything of streams whose bytes no contract describes.
@@ -32,15 +33,17 @@ fault_line fault.Write = []
 fault_line fault.Memory = as_line (codes "fault memory")
 fault_line fault.Bound = as_line (codes "fault bound")
 
-module _ {S O R : Type 0} (X : Rules S O R) (name : O → List ℕ) (L : Language O R) (s : S)
-    (steps : ℕ) where
-  -- some verdict holds of the bytes; this is its kind, and this its text
+module _ {S O R : Type 0} (X : Rules S O R) (name : O → List ℕ) (L : Language O R)
+    (s : List ℕ → S) (steps : ℕ) where
+  -- some verdict holds of the bytes; this is its kind, and this its text, which names a blocked
+  -- call if the calls of an object have no linearization
   pub record JudgesText (bytes : List ℕ) (result : Outcome) (text : List ℕ) : Type 0 where
     pub verdict : TextVerdict O S
     pub is : IsVerdictOnText X name L s bytes steps verdict
     pub decides : DecidesLegal X name L s bytes verdict
     pub kind : result ≡ outcome_of verdict
     pub text_is : IsTextOf X name verdict text
+    pub names : NamesIfBlocked X name L s bytes verdict text
 
   -- the input was read to its end, exactly the text of a verdict on its bytes was written, and the
   -- kind of that verdict was returned

@@ -71,10 +71,12 @@ module _ {O : Type 0} where
 
 module _ {S O R : Type 0} (X : Rules S O R) where
   -- the line of a blocked call: the number of its line, and the reply that the object would give
+  abbrev pub stuck_line : ℕ → R → List ℕ
+  stuck_line number expected =
+      codes "stuck " ++ decimal number ++ codes " " ++ as_line (X.text expected)
+
   abbrev pub stuck_text : List (Line O) → Stuck R → List ℕ
-  stuck_text lines one =
-      codes "stuck " ++ decimal (number_at lines one.place) ++ codes " "
-      ++ as_line (X.text one.expected)
+  stuck_text lines one = stuck_line (number_at lines one.place) one.expected
 
 module _ {O R : Type 0} (name : O → List ℕ) where
   -- the line of the first blocked call

@@ -1,13 +1,14 @@
 //! The verdict on a text.
 
 ghost use Rattle.std.specs.Prelude.{IfOk};
+ghost use Rattle.judge_many.specs.Starts.{start_of};
 ghost use Rattle.judge_text.specs.Judging.{IsVerdictOnText, DecidesLegal};
 
 use crate::counting::Counts;
 use crate::fault::CallFault;
 use crate::history::{Reading, read_history};
 use crate::worded::Worded;
-use judge_many::{Verdict, judge_many};
+use judge_many::{Starts, Verdict, judge_many};
 use judge_object::Watcher;
 use std::alloc::{AllocError, Global};
 
@@ -20,25 +21,25 @@ pub enum TextVerdict<O, M> {
     Judged(Counts, Verdict<O, M>),
 }
 
-/// Judges a text as a history of objects, each of which begins in the state of a machine, in at
-/// most `steps` steps for all objects together.
+/// Judges a text as a history of objects, each of which begins in the state that is given for its
+/// name, in at most `steps` steps for all objects together.
 pub fn judge_text<M: Worded + Drop, P: Watcher>(
     alloc: Global,
     text: &[u8],
-    machine: &M,
+    starts: &Starts<M>,
     steps: u64,
     watcher: &mut P,
 ) -> Result<TextVerdict<M::Op, M>, AllocError>
     ensures verdict { IfOk result (λ verdict.
-        IsVerdictOnText M.rules M.name M.language machine.now text.now steps verdict) }
+        IsVerdictOnText M.rules M.name M.language (start_of starts.now) text.now steps verdict) }
     ensures legal { IfOk result (λ verdict.
-        DecidesLegal M.rules M.name M.language machine.now text.now verdict) }
+        DecidesLegal M.rules M.name M.language (start_of starts.now) text.now verdict) }
 {
     match read_history::<M>(alloc, text)? {
         Reading::Fault(number, fault) => Ok(TextVerdict::Fault(number, fault)),
         Reading::History(lines) => {
             let counts = Counts::of::<M>(alloc, lines.as_slice())?;
-            let verdict = judge_many(alloc, lines, machine, steps, watcher)?;
+            let verdict = judge_many(alloc, lines, starts, steps, watcher)?;
             Ok(TextVerdict::Judged(counts, verdict))
         }
     }

@@ -2,12 +2,14 @@
 
 ghost use Rattle.std.specs.Prelude.{◌≡◌, ◌≢◌, IfOk, IfErr};
 ghost use Rattle.vac_lines.specs.Writing.{AppendsPrefix};
+ghost use Rattle.judge_many.specs.Starts.{start_of};
 ghost use Rattle.judge_text.specs.Program as spec;
 ghost use Rattle.judge_text.specs.Program.{HasRead, JudgesText, HasJudged, HasStopped, HasEnded};
 
 use crate::judging::judge_text;
 use crate::verdict::{Outcome, print_verdict};
 use crate::worded::Worded;
+use judge_many::Starts;
 use std::alloc::{AllocError, Global};
 use std::io::{ErrorKind, Read, Write};
 use vac_lines::{CHUNK_BYTES, MOST_READS, write_and_flush};
@@ -35,7 +37,7 @@ const UNDECIDED: u8 = 3;
 /// `Memory` if memory was refused.
 ///
 /// Not said: which of these faults it is.
-fn read_all<R: Read>(alloc: Global, input: &mut R) -> Result<Vec<u8>, StreamFault>
+pub fn read_all<R: Read>(alloc: Global, input: &mut R) -> Result<Vec<u8>, StreamFault>
     ensures ok { IfOk result (λ text.
         HasRead (R.remaining input.old) (R.remaining input.new) text.items) }
     ensures err { IfErr result (λ fault. fault ≢ StreamFault.Write) }
@@ -60,39 +62,40 @@ fn read_all<R: Read>(alloc: Global, input: &mut R) -> Result<Vec<u8>, StreamFaul
 /// Judges a text, and returns the kind and the text of the verdict.
 fn find_text<M: Worded + Drop>(
     alloc: Global,
-    machine: &M,
+    starts: &Starts<M>,
     steps: u64,
     text: &[u8],
 ) -> Result<(Outcome, Vec<u8>), AllocError>
-    ensures { IfOk result (λ found. JudgesText M.rules M.name M.language machine.now steps text.now
-        found.0 found.1.items) }
+    ensures { IfOk result (λ found. JudgesText M.rules M.name M.language (start_of starts.now) steps
+        text.now found.0 found.1.items) }
 {
-    let verdict = judge_text(alloc, text, machine, steps, &mut ())?;
+    let verdict = judge_text(alloc, text, starts, steps, &mut ())?;
     print_verdict::<M>(alloc, &verdict)
 }
 
 /// Reads the input to its end, judges it as a history of objects, each of which begins in the state
-/// of a machine, in at most `steps` steps, and writes the text of the verdict. Returns its kind.
+/// that is given for its name, in at most `steps` steps, and writes the text of the verdict.
+/// Returns its kind.
 ///
 /// After a fault of the output a prefix of the text was written, after any other fault nothing.
 pub fn judge_history<M: Worded + Drop, R: Read, W: Write>(
     alloc: Global,
-    machine: &M,
+    starts: &Starts<M>,
     steps: u64,
     input: &mut R,
     output: &mut W,
 ) -> Result<Outcome, StreamFault>
     ensures ok { IfOk result (λ outcome.
-        HasJudged M.rules M.name M.language machine.now steps outcome
+        HasJudged M.rules M.name M.language (start_of starts.now) steps outcome
         (R.remaining input.old) (R.remaining input.new)
         (W.contents output.old) (W.contents output.new)) }
     ensures err { IfErr result (λ fault.
-        HasStopped M.rules M.name M.language machine.now steps fault
+        HasStopped M.rules M.name M.language (start_of starts.now) steps fault
         (R.remaining input.old) (R.remaining input.new)
         (W.contents output.old) (W.contents output.new)) }
 {
     let bytes = read_all(alloc, input)?;
-    let (outcome, text) = find_text(alloc, machine, steps, bytes.as_slice())?;
+    let (outcome, text) = find_text(alloc, starts, steps, bytes.as_slice())?;
     write_and_flush(output, text.as_slice())?;
     Ok(outcome)
 }
@@ -130,25 +133,32 @@ fn write_fault<W: Write>(fault: StreamFault, output: &mut W)
     let _ = write_and_flush(output, fault_line(fault));
 }
 
-/// Judges the input as a history of objects, each of which begins in the state of a machine, in at
-/// most [`STEPS`] steps, and writes the text of the verdict, or after a fault its line. Returns the
-/// status of a program: 0 if the history is legal, 1 if it is not, 2 after a fault, 3 if neither is
-/// known.
+/// Writes the line of a fault, and returns the status of a program that a fault stopped.
+pub fn end_by_fault<W: Write>(fault: StreamFault, output: &mut W) -> u8
+    ensures status { result ≡ 2 }
+    ensures line { AppendsPrefix (W.contents output.old) (W.contents output.new)
+        (spec.fault_line fault) }
+{
+    write_fault(fault, output);
+    STOPPED
+}
+
+/// Judges the input as a history of objects, each of which begins in the state that is given for
+/// its name, in at most [`STEPS`] steps, and writes the text of the verdict, or after a fault its
+/// line. Returns the status of a program: 0 if the history is legal, 1 if it is not, 2 after a
+/// fault, 3 if neither is known.
 pub fn judge_input<M: Worded + Drop, R: Read, W: Write>(
     alloc: Global,
-    machine: &M,
+    starts: &Starts<M>,
     input: &mut R,
     output: &mut W,
 ) -> u8
-    ensures { HasEnded M.rules M.name M.language machine.now STEPS result
+    ensures { HasEnded M.rules M.name M.language (start_of starts.now) STEPS result
         (R.remaining input.old) (R.remaining input.new)
         (W.contents output.old) (W.contents output.new) }
 {
-    match judge_history(alloc, machine, STEPS, input, output) {
+    match judge_history(alloc, starts, STEPS, input, output) {
         Ok(outcome) => status_of(outcome),
-        Err(fault) => {
-            write_fault(fault, output);
-            STOPPED
-        }
+        Err(fault) => end_by_fault(fault, output),
     }
 }

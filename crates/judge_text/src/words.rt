@@ -12,7 +12,7 @@ use std::alloc::{AllocError, Global};
 use vac_lines::{cut_at, read_memory_word};
 
 /// Cuts a line at every space.
-pub(crate) fn split_words(alloc: Global, line: &[u8]) -> Result<Vec<&[u8]>, AllocError>
+pub fn split_words(alloc: Global, line: &[u8]) -> Result<Vec<&[u8]>, AllocError>
     ensures { IfOk result (λ words. texts words.items ≡ words_of line.now) }
 {
     let mut words = Vec::new(alloc);

@@ -2,12 +2,13 @@
 //! `CLIENT BEGIN END OPERATION -> REPLY`, in any order, each client's in its own.
 #![tactic(auto)]
 
+use judge_many::Starts;
 use judge_queue::Queue;
 use judge_text::judge_input;
 use std::process::ExitCode;
 
 fn main(rt: HostRuntime) -> ExitCode {
     let alloc = rt.alloc();
-    let start = Queue::new(alloc);
-    ExitCode::from(judge_input(alloc, &start, &mut rt.stdin(), &mut rt.stdout()))
+    let starts = Starts::new(alloc, Queue::new(alloc));
+    ExitCode::from(judge_input(alloc, &starts, &mut rt.stdin(), &mut rt.stdout()))
 }

@@ -1,6 +1,6 @@
-//! Parts of commands, leaves and trips.
+//! Parts of completed tasks.
 
-use judge_part::{Part, Scope, task_part};
+use judge_part::{Scope, task_part};
 use std::alloc::Global;
 use std::process::Abort;
 use vac_lines::{print_task, read_line};
@@ -104,7 +104,57 @@ const OPEN: &[Row] = &[
         "trip cust=true car=1:true flight=- room=-",
         "",
     ),
+    (
+        "trip 7 car 1 car 2 room 5",
+        "trip cust=true car=1:true flight=- room=5:true",
+        "trip 7 car 1 -> trip cust=true car=1:true flight=- room=-",
+    ),
+    (
+        "trip 7 car 1 car 2",
+        "trip cust=true car=2:true flight=- room=-",
+        "newcust 7 -> true",
+    ),
+    (
+        "trip 7 car 1 flight 3",
+        "trip cust=exists car=- flight=3:true room=-",
+        "newcust 7 -> false exists",
+    ),
+    (
+        "trip 7 car 1",
+        "trip cust=exists car=1:unit-limit flight=- room=-",
+        "trip 7 car 1 -> trip cust=exists car=1:unit-limit flight=- room=-",
+    ),
+    (
+        "trip 7 car 1",
+        "trip cust=exists car=1:sold-out flight=- room=-",
+        "newcust 7 -> false exists",
+    ),
+    (
+        "trip 7 car 1",
+        "trip cust=true car=1:full flight=- room=-",
+        "newcust 7 -> true",
+    ),
+    (
+        "trip 7 car 1",
+        "trip cust=full car=1:no-customer flight=- room=-",
+        "",
+    ),
     ("update add car 2 1 -", "update true", ""),
+    (
+        "update add car 1 1 - ; del room 1 1",
+        "update true no-item",
+        "update add car 1 1 - -> update true",
+    ),
+    (
+        "update del car 1 3 ; add car 1 2 70",
+        "update not-free true",
+        "update add car 1 0 - ; add car 1 2 70 -> update true true",
+    ),
+    (
+        "update add car 1 5 50 ; add car 2 1 9",
+        "update full full",
+        "",
+    ),
     (
         "audit",
         "cars=1 flights=0 rooms=0 customers=1 bookings=0 used=0 free=5 total=5 billed=0",
@@ -131,6 +181,16 @@ const SHUT: &[Row] = &[
         "reserve 7 car 1",
         "false sold-out",
         "reserve 7 car 1 -> false sold-out",
+    ),
+    (
+        "trip 7 car 1 car 2",
+        "trip cust=exists car=1:sold-out flight=- room=-",
+        "trip 7 car 1 -> trip cust=exists car=1:sold-out flight=- room=-",
+    ),
+    (
+        "update del car 1 3 ; add car 2 1 -",
+        "update not-free true",
+        "update del car 1 3 -> update not-free",
     ),
 ];
 
@@ -159,10 +219,9 @@ fn line_of(rt: &impl Abort, alloc: Global, task: &Task, text: &[u8]) -> Vec<u8> 
 fn part_of(rt: &impl Abort, alloc: Global, scope: &Scope, row: &Row) -> Vec<u8> {
     let task = read_line(alloc, row.0.as_bytes()).expect(rt, "the line is a task");
     let text = row.1.as_bytes();
-    match task_part(scope, &task, text) {
-        Part::Nothing => Vec::new(alloc),
-        Part::Same => line_of(rt, alloc, &task, text),
-        Part::Other(command, seen) => line_of(rt, alloc, &Task::One(command), seen),
+    match task_part(alloc, scope, &task, text).expect(rt, "there is memory") {
+        None => Vec::new(alloc),
+        Some(part) => line_of(rt, alloc, &part.task, part.text.as_slice()),
     }
 }
 

@@ -5,3 +5,5 @@
 mod commands;
 #[cfg(test)]
 mod fitting;
+#[cfg(test)]
+mod history;

@@ -16,7 +16,7 @@ use Rattle.vac_model.specs.declared.tasks.Task.{Task}
 use Rattle.vac_model.specs.declared.replies.Reply.{Reply}
 
 pub returns-in_ok-print_order-in-Order : goal.returns-in_ok-print_order-in-Order
-returns-in_ok-print_order-in-Order c = λ lines n steps bytes k j texts listed right none.
+returns-in_ok-print_order-in-Order c = λ lines n steps bytes k j runs texts listed right none.
     let calls = c.args.ordered.now.calls in
     let kept = calls.lines.items in
     let places = c.in-Order.places.items in
@@ -26,14 +26,14 @@ returns-in_ok-print_order-in-Order c = λ lines n steps bytes k j texts listed r
     subst (λ (s : List (Line Task)). All (λ p. p < length s) c.as_slice.result.now) (sym c.as_slice-lines.ensures)
     (subst (λ l. All (λ p. p < length kept) l) (sym c.as_slice.ensures.value)
     (subst (λ m. All (λ p. p < m) places) (length-map kept call_of) found.within)) in
-    finds_order lines kept k bytes texts listed right n steps places c.print_order.new.out.items found
+    finds_order lines kept k bytes texts listed right n steps places c.print_order.new.out.items runs found
     (c.in_ok-print_order-in-Order.ensures within
     ∙ ap (λ t. t ++ placed_text (texts_of c.as_slice-lines.result.now) c.as_slice.result.now) none
     ∙ ap (λ (s : List (Line Task)). placed_text (texts_of s) c.as_slice.result.now) c.as_slice-lines.ensures
     ∙ ap (placed_text (texts_of kept)) c.as_slice.ensures.value)
 
 pub returns-in_ok-print_no_order-in-NoOrder : goal.returns-in_ok-print_no_order-in-NoOrder
-returns-in_ok-print_no_order-in-NoOrder c = λ lines n steps bytes k j texts listed right none.
+returns-in_ok-print_no_order-in-NoOrder c = λ lines n steps bytes k j runs texts listed right none.
     let calls = c.args.ordered.now.calls in
     let kept = calls.lines.items in
     let most = c.in-NoOrder.most in
@@ -50,7 +50,7 @@ returns-in_ok-print_no_order-in-NoOrder c = λ lines n steps bytes k j texts lis
     (subst (λ l. All (λ (one : Stuck Reply). one.place < length kept) l) (sym c.as_slice-in-NoOrder.ensures.value)
     (subst (λ m. All (λ (one : Stuck Reply). one.place < m) stuck) (length-map kept call_of) are.within)) in
     finds_none lines kept k bytes texts listed right n steps most (made_of point)
-    point.machine stuck c.print_no_order.new.out.items found are
+    point.machine stuck c.print_no_order.new.out.items runs found are
     (c.in_ok-print_no_order-in-NoOrder.ensures within
     ∙ ap (λ t. t ++ none_text most (told_by (numbers_of c.as_slice-lines.result.now) c.as_slice-in-NoOrder.result.now))
     none
@@ -59,10 +59,11 @@ returns-in_ok-print_no_order-in-NoOrder c = λ lines n steps bytes k j texts lis
     ∙ ap (λ l. none_text most (told_by (numbers_of kept) l)) c.as_slice-in-NoOrder.ensures.value)
 
 pub returns-in_ok-print_undecided-in-Unknown : goal.returns-in_ok-print_undecided-in-Unknown
-returns-in_ok-print_undecided-in-Unknown c = λ lines n steps bytes k j texts listed right none.
+returns-in_ok-print_undecided-in-Unknown c = λ lines n steps bytes k j runs texts listed right none.
     let calls = c.args.ordered.now.calls in
     let kept = calls.lines.items in
     let found = subst (IsFoundOfCalls reserving (point_at reserving calls) (empty_state n) (calls_of kept) steps)
     c.in-Unknown.is j in
-    finds_nothing lines kept k bytes texts listed right n steps c.in-Unknown.most c.print_undecided.new.out.items found
+    finds_nothing lines kept k bytes texts listed right n steps c.in-Unknown.most c.print_undecided.new.out.items runs
+    found
     (c.in_ok-print_undecided-in-Unknown.ensures ∙ ap (λ t. t ++ open_text c.in-Unknown.most) none)

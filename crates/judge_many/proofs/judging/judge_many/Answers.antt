@@ -6,6 +6,7 @@ use Rattle.judge_many.specs.Judging.{JudgesParts}
 use Rattle.judge_many.proofs.OfOne.{parts}
 use Rattle.judge_many.proofs.ByNames.{part_lines}
 use Rattle.judge_many.specs.Runs.{AreOfOne}
+use Rattle.judge_many.specs.Starts.{start_of}
 use Rattle.judge_many.proofs.One.{one_alone}
 use Rattle.judge_many.proofs.Whole.{whole}
 use Rattle.judge_many.proofs.judging.judge_many.Goals as goal
@@ -19,8 +20,8 @@ returns-then-is_strict g c =
     (subst (λ ls. AreTurns (calls_of ls) c.in_ok-place.field-0)
     c.as_slice.ensures.value c.in_ok-place.ensures) in (
       turns.0,
-      whole rules name (λ k. c.args.machine.now) (calls_of lines) turns.0 (turns.1 c.if-is_strict.true)
-          (subst (JudgesParts rules name c.args.machine.now c.args.steps lines) c.in-Linearizable.is
+      whole rules name (start_of c.args.starts.now) (calls_of lines) turns.0 (turns.1 c.if-is_strict.true)
+          (subst (JudgesParts rules name (start_of c.args.starts.now) c.args.steps lines) c.in-Linearizable.is
           c.in_ok-judge_parts.ensures),
     )
 
@@ -33,9 +34,9 @@ returns-then-is_one g c =
     (subst (λ ls. AreTurns (calls_of ls) c.in_ok-place.field-0)
     c.as_slice.ensures.value c.in_ok-place.ensures) in (
       turns.0,
-      one_alone rules name c.args.machine.now lines
+      one_alone rules name (start_of c.args.starts.now) lines
           (subst (AreOfOne name) c.as_slice-2.ensures.value (c.is_of_one-is_one.ensures.one c.if-is_one.true))
-          (subst (JudgesParts rules name c.args.machine.now c.args.steps lines) c.in-Linearizable.is
+          (subst (JudgesParts rules name (start_of c.args.starts.now) c.args.steps lines) c.in-Linearizable.is
           c.in_ok-judge_parts.ensures),
     )
 
@@ -49,7 +50,7 @@ returns-else-is_one g c =
     c.as_slice.ensures.value c.in_ok-place.ensures) in (
       turns.0,
       record {
-        parts = subst (JudgesParts rules name c.args.machine.now c.args.steps lines) c.in-Linearizable.is
+        parts = subst (JudgesParts rules name (start_of c.args.starts.now) c.args.steps lines) c.in-Linearizable.is
             c.in_ok-judge_parts.ensures;
         touches = turns.2 c.if-is_strict.false;
         several = λ one. c.is_of_one-is_one.ensures.many c.if-is_one.false
@@ -65,12 +66,13 @@ returns-in-NotLinearizable g c =
     let turns = subst (AreTurns (calls_of lines)) c.in-Held.is
     (subst (λ ls. AreTurns (calls_of ls) c.in_ok-place.field-0)
     c.as_slice.ensures.value c.in_ok-place.ensures) in
-    let bad = subst (JudgesParts rules name c.args.machine.now c.args.steps lines) c.in-NotLinearizable.is
+    let bad = subst (JudgesParts rules name (start_of c.args.starts.now) c.args.steps lines) c.in-NotLinearizable.is
     c.in_ok-judge_parts.ensures in (
       turns.0,
       bad,
-      λ good. bad.is.none (subst (IsLinearizable rules c.args.machine.now) (part_lines name bad.for lines)
-          (parts rules name (λ k. c.args.machine.now) (calls_of lines) good bad.for)),
+      λ good. bad.is.none (subst (IsLinearizable rules (start_of c.args.starts.now bad.for))
+          (part_lines name bad.for lines)
+          (parts rules name (start_of c.args.starts.now) (calls_of lines) good bad.for)),
     )
 
 pub returns-in-Unknown : goal.returns-in-Unknown
@@ -82,7 +84,7 @@ returns-in-Unknown g c =
     (subst (λ ls. AreTurns (calls_of ls) c.in_ok-place.field-0)
     c.as_slice.ensures.value c.in_ok-place.ensures) in (
       turns.0,
-      subst (JudgesParts rules name c.args.machine.now c.args.steps lines) c.in-Unknown.is
+      subst (JudgesParts rules name (start_of c.args.starts.now) c.args.steps lines) c.in-Unknown.is
           c.in_ok-judge_parts.ensures,
     )
 

@@ -1,13 +1,14 @@
 use Rattle.std.proofs.Common.{length}
 use Rattle.judge_many.specs.Runs.{AreByName}
+use Rattle.judge_many.specs.Starts.{start_of}
 use Rattle.judge_many.proofs.ByNames.{AreJudged, IsSpent}
 use Rattle.judge_many.proofs.parts.judge_parts.Given as goal
 
 abbrev pub invariant-runs : goal.invariant-runs
 invariant-runs g l =
     AreByName (g.M.Named.name) l.left.items
-    × AreJudged (g.M.Object.rules) (g.M.Named.name) l.machine l.fn.lines.items l.left.items
-    × IsSpent (g.M.Object.rules) (g.M.Named.name) l.machine l.steps l.fn.lines.items l.left.items l.rest
+    × AreJudged (g.M.Object.rules) (g.M.Named.name) (start_of l.starts) l.fn.lines.items l.left.items
+    × IsSpent (g.M.Object.rules) (g.M.Named.name) (start_of l.starts) l.steps l.fn.lines.items l.left.items l.rest
 
 abbrev pub decreases-runs : goal.decreases-runs
 decreases-runs g l = length l.left.items

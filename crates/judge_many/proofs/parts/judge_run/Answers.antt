@@ -4,6 +4,8 @@ use Rattle.judge_search.specs.Judging.{calls_at, IsFoundIn, IsFoundOfCalls}
 use Rattle.judge_search.specs.Point.{point_at}
 use Rattle.judge_search.specs.Walking.{IsUnknown}
 use Rattle.judge_search.proofs.Judged.{whole_kept, order_given, none_given, found_in}
+use Rattle.judge_search.proofs.Clients.{turn_order}
+use Rattle.judge_many.proofs.Blocking.{blocked_there}
 use Rattle.judge_many.proofs.parts.judge_run.Goals as goal
 
 pub find_linearization-requires : goal.find_linearization-requires
@@ -15,14 +17,12 @@ find_linearization-requires g c = record {
 pub returns-in-Order : goal.returns-in-Order
 returns-in-Order g c =
     let rules = g.M.Object.rules in
-    let s = c.args.machine.now in
+    let s = c.args.machine in
     let calls = c.in_ok-calls.calls in
     let kept = calls_of calls.lines.items in
     let found = c.in_ok-finding.field-0 in
     let merges = c.in_ok-calls.ensures.merges c.requires.whole.turn in
-    let in_all : IsFoundIn rules (point_at rules calls) s kept c.args.steps found =
-    subst (λ m. IsFoundIn rules (point_at rules calls) m kept c.args.steps found) c.in_ok-copy.ensures
-    c.in_ok-finding.ensures in
+    let in_all : IsFoundIn rules (point_at rules calls) s kept c.args.steps found = c.in_ok-finding.ensures in
     let is = subst (IsFoundOfCalls rules (point_at rules calls) s kept c.args.steps) c.in-Order.is
     (found_in rules (point_at rules calls) s kept c.args.steps found in_all) in
     record {
@@ -41,14 +41,12 @@ returns-in-Order g c =
 pub returns-in-NoOrder : goal.returns-in-NoOrder
 returns-in-NoOrder g c =
     let rules = g.M.Object.rules in
-    let s = c.args.machine.now in
+    let s = c.args.machine in
     let calls = c.in_ok-calls.calls in
     let kept = calls_of calls.lines.items in
     let found = c.in_ok-finding.field-0 in
     let merges = c.in_ok-calls.ensures.merges c.requires.whole.turn in
-    let in_all : IsFoundIn rules (point_at rules calls) s kept c.args.steps found =
-    subst (λ m. IsFoundIn rules (point_at rules calls) m kept c.args.steps found) c.in_ok-copy.ensures
-    c.in_ok-finding.ensures in
+    let in_all : IsFoundIn rules (point_at rules calls) s kept c.args.steps found = c.in_ok-finding.ensures in
     let is = subst (IsFoundOfCalls rules (point_at rules calls) s kept c.args.steps) c.in-NoOrder.is
     (found_in rules (point_at rules calls) s kept c.args.steps found in_all) in
     record {
@@ -59,6 +57,8 @@ returns-in-NoOrder g c =
         kept = c.in_ok-calls.ensures.same;
         merges = merges;
         found = is;
+        stuck = blocked_there rules s calls c.in-NoOrder.most c.in-NoOrder.point
+            (turn_order (calls_of c.args.run.items) kept merges c.requires.whole.turn) is;
       };
       spent = λ none. absurd none;
     }
@@ -66,14 +66,12 @@ returns-in-NoOrder g c =
 pub returns-in-Unknown : goal.returns-in-Unknown
 returns-in-Unknown g c =
     let rules = g.M.Object.rules in
-    let s = c.args.machine.now in
+    let s = c.args.machine in
     let calls = c.in_ok-calls.calls in
     let kept = calls_of calls.lines.items in
     let found = c.in_ok-finding.field-0 in
     let merges = c.in_ok-calls.ensures.merges c.requires.whole.turn in
-    let in_all : IsFoundIn rules (point_at rules calls) s kept c.args.steps found =
-    subst (λ m. IsFoundIn rules (point_at rules calls) m kept c.args.steps found) c.in_ok-copy.ensures
-    c.in_ok-finding.ensures in
+    let in_all : IsFoundIn rules (point_at rules calls) s kept c.args.steps found = c.in_ok-finding.ensures in
     let is = subst (IsFoundOfCalls rules (point_at rules calls) s kept c.args.steps) c.in-Unknown.is
     (found_in rules (point_at rules calls) s kept c.args.steps found in_all) in
     record {

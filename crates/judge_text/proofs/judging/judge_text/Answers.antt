@@ -1,4 +1,5 @@
 use Rattle.std.proofs.Common.{subst}
+use Rattle.judge_many.specs.Starts.{start_of}
 use Rattle.judge_text.specs.Reading.{IsReadingOf}
 use Rattle.judge_text.proofs.Counted.{counted_lines}
 use Rattle.judge_text.proofs.Legal.{judged_decides}
@@ -12,7 +13,7 @@ returns-in_ok-verdict-in-History-clause-legal g c =
     let language = g.M.Worded.language in
     let text = c.args.text.now in
     let read = subst (IsReadingOf rules language text) c.in-History.is c.in_ok-number.ensures in
-    judged_decides rules name language c.args.machine.now text c.args.steps
+    judged_decides rules name language (start_of c.args.starts.now) text c.args.steps
     c.in_ok-counts-in-History.counts c.in_ok-verdict-in-History.verdict (record {
       lines = c.in-History.lines.items;
       are = read.0;

@@ -1,0 +1,5 @@
+pub mod Counting
+pub mod Keys
+pub mod Clients
+pub mod Greatest
+pub mod Texts

@@ -1,0 +1,10 @@
+use Rattle.std.proofs.Common.{◌≡◌, ◌≤◌, not, take}
+use Rattle.std.specs.List.{count_by}
+use Rattle.judge_coverage.proofs.attempts.count_read_only.Given as goal
+
+-- the count is that of the outcomes before
+abbrev pub invariant-outcomes : goal.invariant-outcomes
+invariant-outcomes l = record {
+  counted : l.count ≡ count_by (λ outcome. not outcome.writes) (take l.place l.outcomes);
+  fits : l.count ≤ l.place;
+}

@@ -1,0 +1,5 @@
+pub mod Coverage
+pub mod Attempts
+pub mod Moments
+pub mod Meetings
+pub mod Text

@@ -1,0 +1,21 @@
+//! Coverage of a log of calls, or of attempts of transactions: the figures that tell whether a
+//! verdict on the log says anything about concurrency.
+//!
+//! A verdict `legal` on a log in which hardly any calls overlapped says next to nothing. The
+//! figures of a log are its numbers of calls, clients and pending calls, the number of calls that
+//! began while a call of another client ran, and the greatest number of calls that ran at one
+//! moment. A call that only touches another does not overlap it here, though a judge lets either of
+//! two such calls come first.
+#![tactic(auto)]
+
+mod attempts;
+mod coverage;
+mod meetings;
+mod moments;
+mod text;
+
+pub use attempts::{AttemptCoverage, Outcome, measure_attempts};
+pub use coverage::{Coverage, measure_calls};
+pub use text::{
+    print_attempts_coverage, print_attempts_warning, print_calls_coverage, print_calls_warning,
+};

@@ -1,0 +1,19 @@
+use Rattle.std.proofs.Common.{sym, ◌∙◌}
+use Rattle.std.proofs.lemmas.List.Folds.{list_all-map}
+use Rattle.judge_part.specs.declared.scope.Scope.{Scope}
+use Rattle.judge_part.specs.Lines.{call_of, calls_of, has_part}
+use Rattle.judge_part.proofs.Larger.{whole_alone}
+use Rattle.judge_part.proofs.chosen.is_own.Goals as goal
+
+pub returns : goal.returns
+returns c = λ other is whole.
+    let one : Scope = record {
+      customers = c.in_ok-from_slice.field-0;
+      items = c.in_ok-from_slice-2.field-0;
+      closed = c.new.result;
+      whole = c.in_ok-from_slice-3.field-0;
+    } in
+    c.all_have_parts.ensures ∙ sym (list_all-map (has_part one) call_of c.args.lines.now)
+    ∙ whole_alone c.args.customers.now c.args.items.now (calls_of c.args.lines.now) one c.in_ok-from_slice.ensures.items
+    c.in_ok-from_slice-2.ensures.items c.args.customer c.new.ensures.items c.in_ok-from_slice-3.ensures.items other is
+    whole

@@ -1,0 +1,17 @@
+use Rattle.judge_part.specs.Lines.{calls_of}
+use Rattle.judge_part.proofs.Larger.{whole_more, whole_all, whole_none}
+use Rattle.judge_part.proofs.chosen.whole_customers.Goals as goal
+
+pub customers-init : goal.customers-init
+customers-init c = whole_none c.args.customers.now c.args.items.now (calls_of c.args.lines.now) _
+
+pub customers-preserved : goal.customers-preserved
+customers-preserved c =
+    whole_more c.args.customers.now c.args.items.now (calls_of c.args.lines.now) c.customers.at _
+    c.customers.whole.items _ _ c.customers-test.true c.customers.invariant c.in_ok-own.ensures
+    c.in_ok-push_if.ensures
+
+pub returns : goal.returns
+returns c =
+    whole_all c.args.customers.now c.args.items.now (calls_of c.args.lines.now) c.customers.at c.customers.whole.items
+    c.customers-test.false c.customers.invariant

@@ -1,0 +1,44 @@
+-- The call that a verdict names if the calls of an object have no linearization.
+use Rattle.std.specs.Prelude.{◌≡◌, ⊤, ℕ, ◌+◌, true, Ok, List, ◌++◌}
+use Rattle.judge_object.specs.Rules.{Rules, IsAnswerOf}
+use Rattle.judge_object.specs.Call.{Call, is_answered}
+use Rattle.judge_object.specs.Linear.{IsCallAt}
+use Rattle.judge_object.specs.Orders.{IsLinearizable}
+use Rattle.judge_many.specs.Many.{part}
+use Rattle.judge_many.specs.declared.judging.Verdict.TheVariants as verdict
+use Rattle.judge_text.specs.declared.judging.TextVerdict.{TextVerdict}
+use Rattle.judge_text.specs.declared.judging.TextVerdict.TheVariants.{Fault, Judged}
+use Rattle.judge_text.specs.Language.{Language}
+use Rattle.judge_text.specs.Reading.{text_calls}
+use Rattle.judge_text.specs.Texts.{named_text, stuck_line}
+
+module _ {S O R : Type 0} (X : Rules S O R) (name : O → List ℕ) (L : Language O R) where
+  -- the text names an object whose calls in the history have no linearization, and a blocked call:
+  -- a completed call of this object, by the number of its line. The text has this call first among
+  -- the blocked calls, with the reply that the object would give, which is not the one that the
+  -- history has
+  pub record NamesBlocked (s : List ℕ → S) (bytes text : List ℕ) : Type 0 where
+    pub calls : List (Call O)
+    pub are : text_calls X L bytes ≡ Ok calls
+    pub for : List ℕ
+    pub none : IsLinearizable X (s for) (part name for calls) → ⊥
+    pub place : ℕ
+    pub call : Call O
+    pub is : IsCallAt calls place call
+    pub own : name call.op ≡ for
+    pub completed : is_answered call ≡ true
+    pub expected : R
+    pub other : IsAnswerOf X expected call.reply → ⊥
+    pub rest : List ℕ
+    pub text_is : text ≡ named_text (place + 1) for ++ stuck_line X (place + 1) expected ++ rest
+
+  -- if a verdict is that the calls of an object have no linearization, its text names a blocked
+  -- call
+  abbrev pub NamesIfBlocked : (List ℕ → S) → List ℕ → TextVerdict O S → List ℕ → Type 0
+  NamesIfBlocked s bytes (Judged counts (verdict.NotLinearizable blocked)) text =
+      NamesBlocked s bytes text
+  NamesIfBlocked s bytes (Judged counts verdict.Linearizable) text = ⊤
+  NamesIfBlocked s bytes (Judged counts (verdict.OutOfTurn place)) text = ⊤
+  NamesIfBlocked s bytes (Judged counts (verdict.Unknown open_)) text = ⊤
+  NamesIfBlocked s bytes (Judged counts verdict.Touching) text = ⊤
+  NamesIfBlocked s bytes (Fault number fault) text = ⊤

@@ -1,0 +1,64 @@
+//! The command line.
+
+ghost use Rattle.std.specs.Prelude.{◌≡◌, map, string_bytes};
+ghost use Rattle.kv_judge.specs.Options as spec;
+ghost use Rattle.kv_judge.specs.Options.{request_in};
+
+/// A request of the command line.
+#[derive(Clone, Copy)]
+pub enum Asked<'a> {
+    /// To judge the input, where no key has a value at first.
+    Judge,
+    /// To judge the input, where keys have the values at first that the file of this name gives.
+    JudgeFrom(&'a str),
+    /// To show the help.
+    Help,
+    /// Nothing: the program does not know this word there.
+    Unknown(&'a str),
+    /// Nothing: the option `--start` has no file.
+    NoFile,
+}
+
+/// Returns what the words behind `--start` ask for.
+fn read_file(rest: &[String]) -> Asked<'_>
+    ensures { request_in result ≡ spec.file_request (map string_bytes rest.now) }
+{
+    match rest {
+        [] => Asked::NoFile,
+        [file] => Asked::JudgeFrom(file.as_str()),
+        [_, more, ..] => Asked::Unknown(more.as_str()),
+    }
+}
+
+/// Returns what the words behind `--help` ask for.
+fn read_help(rest: &[String]) -> Asked<'_>
+    ensures { request_in result ≡ spec.help_request (map string_bytes rest.now) }
+{
+    match rest {
+        [] => Asked::Help,
+        [more, ..] => Asked::Unknown(more.as_str()),
+    }
+}
+
+/// Returns what an option and the words behind it ask for.
+fn read_option<'a>(option: &'a str, rest: &'a [String]) -> Asked<'a>
+    ensures { request_in result ≡ spec.option_request option.now (map string_bytes rest.now) }
+{
+    if option == "--start" {
+        read_file(rest)
+    } else if option == "--help" {
+        read_help(rest)
+    } else {
+        Asked::Unknown(option)
+    }
+}
+
+/// Returns what a command line asks for, whose first word is the name of the program.
+pub fn read_asked(words: &[String]) -> Asked<'_>
+    ensures { request_in result ≡ spec.request_of (map string_bytes words.now) }
+{
+    match words {
+        [_, option, rest @ ..] => read_option(option.as_str(), rest),
+        _ => Asked::Judge,
+    }
+}

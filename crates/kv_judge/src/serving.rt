@@ -1,0 +1,160 @@
+//! Judging as the command line asks.
+
+ghost use Rattle.std.specs.Prelude.{◌≡◌, ℕ, List, None, IfOk, IfErr, OnOk, ◌++◌, map, string_bytes};
+ghost use Rattle.vac_lines.specs.Writing.{AppendsPrefix};
+ghost use Rattle.judge_kv.specs.Starting.{AreFirstValues};
+ghost use Rattle.judge_text.specs.Program.{HasRead};
+ghost use Rattle.kv_judge.specs.Options.{request_in, request_of};
+ghost use Rattle.kv_judge.specs.Serving as spec;
+ghost use Rattle.kv_judge.specs.Serving.{Judges, ReadsFile, Serves, EndsWith, IsRefused};
+
+use crate::files::Open;
+use crate::options::{Asked, read_asked};
+use judge_kv::{Cell, FirstValues, StartFault, read_first_values};
+use judge_many::Starts;
+use judge_text::{end_by_fault, judge_input, read_all};
+use std::alloc::{AllocError, Global};
+use std::io::{Read, Write};
+use vac_lines::{append_field, write_and_flush};
+use vac_streams::StreamFault;
+
+/// The help.
+const HELP: &[u8] = b"usage: kv_judge [--start FILE] < HISTORY\n\
+\n\
+Judges whether a history of a key-value store is linearizable. Each line is a call,\n\
+CLIENT BEGIN END OPERATION -> REPLY.\n\
+\n\
+  --start FILE  the values that keys have at first, a line KEY VALUE for each;\n\
+                other keys, and all keys without this option, have no value at first\n\
+  --help        this text\n\
+\n\
+The status is 0 if the history is legal, 1 if it is not or a line has a fault, 3 if neither is\n\
+known, and 2 after any other fault or if the command line is refused.\n";
+
+/// Status of a program that showed its help.
+const DONE: u8 = 0;
+
+/// Status of a program that found a fault in the start file.
+const FAULT: u8 = 1;
+
+/// Status of a program that was stopped or whose command line was refused.
+const REFUSED: u8 = 2;
+
+/// Reads a start file to its end.
+fn read_start<S: Read>(alloc: Global, file: &mut S) -> Result<FirstValues, StreamFault>
+    ensures { IfOk result (λ read. (text : List ℕ)
+        × HasRead (S.remaining file.old) (S.remaining file.new) text × AreFirstValues text read) }
+{
+    let text = read_all(alloc, file)?;
+    let read = read_first_values(alloc, text.as_slice())?;
+    Ok(read)
+}
+
+/// Returns the text that names the fault of a line of a start file.
+fn fault_text(alloc: Global, number: u64, fault: StartFault) -> Result<Vec<u8>, AllocError>
+    ensures { IfOk result (λ text. text.items ≡ spec.start_fault_text number fault) }
+{
+    let mut text = Vec::new(alloc);
+    text.extend_from_slice(b"fault ")?;
+    text.extend_from_slice(fault.name())?;
+    append_field(&mut text, b" ", number)?;
+    text.extend_from_slice(b"\n")?;
+    Ok(text)
+}
+
+/// Writes a text, and returns this status, or that of a stopped program if the output failed.
+fn end_with<W: Write>(done: u8, text: &[u8], output: &mut W) -> u8
+    ensures { EndsWith done text.now result (W.contents output.old) (W.contents output.new) }
+{
+    match write_and_flush(output, text) {
+        Ok(()) => done,
+        Err(_) => REFUSED,
+    }
+}
+
+/// Reads a start file, and judges the input where keys have its values at first.
+#[tactic(auto, using(crate::proofs::Serves::file_fault, crate::proofs::Serves::file_stopped))]
+fn judge_file<S: Read, R: Read, W: Write>(
+    alloc: Global,
+    file: &mut S,
+    input: &mut R,
+    output: &mut W,
+) -> u8
+    ensures { ReadsFile result (S.remaining file.old)
+        (R.remaining input.old) (R.remaining input.new)
+        (W.contents output.old) (W.contents output.new) }
+{
+    match read_start(alloc, file) {
+        Ok(FirstValues::Given(starts)) => judge_input(alloc, &starts, input, output),
+        Ok(FirstValues::Fault(number, fault)) => match fault_text(alloc, number, fault) {
+            Ok(text) => end_with(FAULT, text.as_slice(), output),
+            Err(_) => end_by_fault(StreamFault::Memory, output),
+        },
+        Err(fault) => end_by_fault(fault, output),
+    }
+}
+
+/// Judges the input where no key has a value at first.
+fn judge_alone<R: Read, W: Write>(alloc: Global, input: &mut R, output: &mut W) -> u8
+    ensures { Judges (λ key. None) result (R.remaining input.old) (R.remaining input.new)
+        (W.contents output.old) (W.contents output.new) }
+{
+    let starts = Starts::new(alloc, Cell::new(alloc));
+    judge_input(alloc, &starts, input, output)
+}
+
+/// Does what was asked for, and returns the status. Why a command line is refused goes to `errors`.
+fn serve_asked<F: Open, R: Read, W: Write, E: Write>(
+    alloc: Global,
+    files: &F,
+    asked: Asked<'_>,
+    input: &mut R,
+    output: &mut W,
+    errors: &mut E,
+) -> u8
+    ensures { Serves (F.holds files.now) (request_in asked.entry) result
+        (R.remaining input.old) (R.remaining input.new)
+        (W.contents output.old) (W.contents output.new) }
+{
+    match asked {
+        Asked::Judge => judge_alone(alloc, input, output),
+        Asked::JudgeFrom(name) => match files.open(name) {
+            Ok(file) => {
+                let mut file = file;
+                judge_file(alloc, &mut file, input, output)
+            }
+            Err(_) => {
+                let _ = write!(errors, "error: the file '{name}' cannot be opened\n");
+                REFUSED
+            }
+        },
+        Asked::Help => end_with(DONE, HELP, output),
+        Asked::Unknown(word) => {
+            let _ = write!(errors, "error: '{word}' is unknown: try kv_judge --help\n");
+            REFUSED
+        }
+        Asked::NoFile => {
+            let _ = write!(errors, "error: --start needs a FILE\n");
+            REFUSED
+        }
+    }
+}
+
+/// Runs the program on a command line, whose first word is the program's name, and returns its
+/// status: 0 if the history is legal or the help was shown, 1 if the history is not legal or a line
+/// of the start file has a fault, 3 if neither is known, 2 after any other fault or if the command
+/// line is refused. Why it is refused goes to `errors`.
+pub fn serve<F: Open, R: Read, W: Write, E: Write>(
+    alloc: Global,
+    files: &F,
+    words: &[String],
+    input: &mut R,
+    output: &mut W,
+    errors: &mut E,
+) -> u8
+    ensures { Serves (F.holds files.now) (request_of (map string_bytes words.now)) result
+        (R.remaining input.old) (R.remaining input.new)
+        (W.contents output.old) (W.contents output.new) }
+{
+    serve_asked(alloc, files, read_asked(words), input, output, errors)
+}
