@@ -3,7 +3,8 @@
 write with what the pages say. An example is a block of a page of which the first line begins with
 '$ ': each such line is a command for bash, and the lines behind it are what it writes. In a
 command './vacation' is the program, a file that is built already: the argument, or with none the
-one that the repository's last build left; './explain', './convert' and the files of docs are there, too."""
+one that the repository's last build left; './explain', './convert' and the files of docs are there, too. So is
+'kv_judge', if it is built in its crate beside that of the program; otherwise its examples are skipped."""
 
 import os
 import subprocess
@@ -13,6 +14,7 @@ import tempfile
 ROOT = os.path.join(os.path.dirname(os.path.realpath(__file__)), "..")
 PAGES = ["README.md", "docs/USING.md", "docs/RULES.md", "docs/JUDGE.md"]
 FENCE = "```"
+KEYS = "kv_judge"
 PROMPT = "$ "
 
 
@@ -54,7 +56,7 @@ def run(command, folder):
     ended = subprocess.run(
         ["bash", "-c", command], cwd=folder, stdin=subprocess.DEVNULL,
         stdout=subprocess.PIPE, timeout=60, check=False,
-        env=os.environ | {"VACATION": os.path.join(folder, "vacation")},
+        env=os.environ | {"VACATION": os.path.join(folder, "vacation"), "PATH": f"{folder}:{os.environ['PATH']}"},
     )
     return ended.stdout.decode("latin-1")
 
@@ -65,23 +67,31 @@ def main():
         program = sys.argv[1]
     if not os.access(program, os.X_OK):
         sys.exit(f"examples: there is no program at {program}: './vacation' builds it")
-    played = failed = 0
+    keys = os.path.join(os.path.dirname(os.path.realpath(program)), f"../../{KEYS}/out/{KEYS}")
+    has_keys = os.access(keys, os.X_OK)
+    played = failed = skipped = 0
     with tempfile.TemporaryDirectory() as folder:
         os.symlink(os.path.realpath(program), os.path.join(folder, "vacation"))
         for name in ("explain", "convert", "docs"):
             os.symlink(os.path.realpath(os.path.join(ROOT, name)), os.path.join(folder, name))
+        if has_keys:
+            os.symlink(os.path.realpath(keys), os.path.join(folder, KEYS))
         for page in PAGES:
             found = examples(os.path.join(ROOT, page))
             if not found:
                 sys.exit(f"examples: there are no examples in {page}")
             for number, command, wanted in found:
+                if KEYS in command and not has_keys:
+                    skipped += 1
+                    continue
                 played += 1
                 written = run(command, folder)
                 if written != wanted:
                     failed += 1
                     print(f"examples: {page}, line {number}: {command}", file=sys.stderr)
                     print(f"wanted:\n{wanted}written:\n{written}", file=sys.stderr)
-    print(f"examples: {played - failed} of {played} examples write what their pages say")
+    told = f", {skipped} skipped: {KEYS} is not built" if skipped else ""
+    print(f"examples: {played - failed} of {played} examples write what their pages say{told}")
     return 1 if failed else 0
 
 

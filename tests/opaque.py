@@ -2,8 +2,9 @@
 """Compares `vacation opaque` with a naive judge that stands here, written from the words of opacity
 and the lines in docs/JUDGE.md, apart from the program: over random attempts of a few clients at a
 few words, in an order that is opaque and in one that is damaged in one place. For each attempt it
-looks through all lines before it, and keeps no words. Its argument is the program; with none it is
-the one that the last build left."""
+looks through all lines before it, and keeps no words. With --place, if the program has that option,
+it compares drawn logs of up to six attempts with a search through all orders. Its argument is the
+program; with none it is the one that the last build left."""
 
 import os
 import random
@@ -133,18 +134,98 @@ def as_text(attempts, chance):
     return text[:-1] if text and chance.random() < 0.2 else text
 
 
-def run(program, text, words=WORDS):
+def run(program, text, options=()):
     """Returns what the program writes, its status, and its errors."""
-    command = [program, "opaque", "--words", str(words)]
+    command = [program, "opaque", "--words", str(WORDS), *options]
     ran = subprocess.run(command, input=text.encode(), capture_output=True, timeout=60, check=False)
     return ran.stdout.decode(), ran.returncode, ran.stderr.decode()
 
 
-def main():
-    here = os.path.dirname(os.path.realpath(__file__))
-    built = os.path.join(here, "..", "crates", "vacation", "out", "vacation")
-    program = sys.argv[1] if len(sys.argv) > 1 else built
-    wrong, found = 0, {}
+def fits(before, attempt):
+    """True if the attempt is right after the attempts before it."""
+    client, begin, end, _, accesses = attempt
+    if end < begin or any(other[0] == client and begin < other[2] or end < other[1] for other in before):
+        return False
+    return all(kind == "w" or value == expected(before, accesses[:at], word)
+               for at, (kind, word, value) in enumerate(accesses))
+
+
+def is_writer(attempt):
+    """True if the attempt committed and wrote a word."""
+    return attempt[3] and any(access[0] == "w" for access in attempt[4])
+
+
+def has_order(before, left):
+    """True if the attempts that are left can follow in some order that keeps that of the writers. All orders are tried."""
+    if not left:
+        return True
+    first = next((at for at, attempt in enumerate(left) if is_writer(attempt)), None)
+    return any(fits(before, attempt) and has_order(before + [attempt], left[:at] + left[at + 1:])
+               for at, attempt in enumerate(left) if at == first or not is_writer(attempt))
+
+
+def place(text):
+    """The verdict on a text of attempts of which only the committed writers have places."""
+    lines = text.split("\n")
+    lines = lines if lines[-1] else lines[:-1]
+    attempts = [parse(line) for line in lines]
+    for number, attempt in enumerate(attempts, 1):
+        if isinstance(attempt, str):
+            return f"fault {attempt} {number}\n"
+    if not has_order([], attempts):
+        return "illegal places\n"
+    done = sum(attempt[3] for attempt in attempts)
+    return f"opaque attempts={len(attempts)} committed={done} clients={len({one[0] for one in attempts})}\n"
+
+
+def draw_places(chance):
+    """A few random attempts, as lists of their words: the writers in their order, and others that read what some writers
+    left, mostly in their time, at any line."""
+    clock, images, attempts, free = 0, [[0] * 3], [], {}
+    for _ in range(chance.randrange(0, 7)):
+        client, clock = chance.randrange(3), clock + chance.randrange(0, 3)
+        begin = max(free.get(client, 0), clock - chance.randrange(0, 6))
+        end = max(begin, clock)
+        free[client], kind, accesses = end, chance.randrange(3), []
+        mine = list(images[-1] if kind == 0 else chance.choice(images[-3:]))
+        for _ in range(chance.randrange(1, 4)):
+            word = chance.randrange(3)
+            if kind != 2 and chance.random() < 0.4:
+                mine[word] = chance.randrange(3)
+                accesses.append(["w", str(word), str(mine[word])])
+            else:
+                value = mine[word] if chance.random() < 0.95 else chance.randrange(3)
+                accesses.append(["r", str(word), str(value)])
+        if kind == 0:
+            images.append(mine)
+        attempts.append([str(client), str(begin), str(end), "abort" if kind == 1 else "commit", accesses])
+    for _ in range(chance.randrange(0, 4)):
+        free_lines = [at for at, one in enumerate(attempts)
+                      if one[3] == "abort" or all(access[0] == "r" for access in one[4])]
+        if free_lines:
+            attempts.insert(chance.randrange(len(attempts)), attempts.pop(chance.choice(free_lines)))
+    if attempts and chance.random() < 0.1:
+        damage(attempts, chance)
+    return attempts
+
+
+def compare(program, text, wanted, options=()):
+    """Judges a text, and returns 1 if the verdict is not the wanted one, otherwise 0."""
+    got = run(program, text, options)
+    if got == (wanted, 0 if wanted.startswith("opaque") else 1, ""):
+        return 0
+    print(f"opaque: of {text[:400]!r} with {list(options)}: wanted {wanted!r}, got {got}")
+    return 1
+
+
+def takes_places(program):
+    """True if the program searches for places."""
+    ran = subprocess.run([program, "opaque", "--help"], capture_output=True, timeout=60, check=False)
+    return b"--place" in ran.stdout + ran.stderr
+
+
+def drawn_texts():
+    """Texts to be judged in their order: lines that are no attempt, and drawn ones, some of them damaged."""
     texts = [line + "\n" for line in BAD]
     for seed in range(TEXTS):
         chance = random.Random(seed)
@@ -152,23 +233,46 @@ def main():
         if attempts and seed % 3:
             damage(attempts, chance)
         texts.append(as_text(attempts, chance))
+    return texts
+
+
+def place_texts():
+    """Texts of which only the committed writers have places."""
+    texts = []
+    for seed in range(TEXTS):
+        chance = random.Random(seed)
+        texts.append(as_text(draw_places(chance), chance))
+    return texts
+
+
+def name_of(verdict):
+    """The first words of a verdict."""
+    return " ".join(word for word in verdict.split()[:2] if "=" not in word)
+
+
+def main():
+    here = os.path.dirname(os.path.realpath(__file__))
+    built = os.path.join(here, "..", "crates", "vacation", "out", "vacation")
+    program = sys.argv[1] if len(sys.argv) > 1 else built
+    wrong, found, texts = 0, {}, drawn_texts()
     for text in texts:
         wanted = judge(text)
-        got = run(program, text)
-        name = " ".join(word for word in wanted.split()[:2] if "=" not in word)
-        found[name] = found.get(name, 0) + 1
-        if got != (wanted, 0 if wanted.startswith("opaque") else 1, ""):
-            wrong += 1
-            print(f"opaque: of {text[:400]!r}: wanted {wanted!r}, got {got}")
+        found[name_of(wanted)] = found.get(name_of(wanted), 0) + 1
+        wrong += compare(program, text, wanted)
+    places = place_texts() if takes_places(program) else []
+    for text in places:
+        wanted = place(text)
+        found[name_of(wanted)] = found.get(name_of(wanted), 0) + 1
+        wrong += compare(program, text, wanted, ("--place",))
     for line, fault in BAD.items():
         if parse(line) != fault:
             wrong += 1
             print(f"opaque: the judge here says {parse(line)} of {line[:60]!r}, and not {fault}")
-    seen = {"opaque", "illegal client", "illegal time", "illegal read"}
+    seen = {"opaque", "illegal client", "illegal time", "illegal read"} | ({"illegal places"} if places else set())
     if not seen <= set(found):
         wrong += 1
         print(f"opaque: no text has the verdicts {sorted(seen - set(found))}")
-    print(f"opaque: {len(texts)} texts, {wrong} wrong; verdicts {dict(sorted(found.items()))}")
+    print(f"opaque: {len(texts) + len(places)} texts, {wrong} wrong; verdicts {dict(sorted(found.items()))}")
     sys.exit(1 if wrong else 0)
 
 

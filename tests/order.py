@@ -222,18 +222,22 @@ def hostile(program):
 
 
 def held(program):
-    """Judged in the order that is found, the calls are held against the work."""
+    """Judged in the order that is found, the calls are held against the work. Lines are those of the history."""
     history, work = "2 3 9 bill 1 -> 0\n1 0 5 newcust 1 -> true\n", "1 newcust 1\n2 bill 1\n"
-    legal = "legal calls=2 clients=2\n"
-    for tasks, status, begins in [(work, 0, legal), (work + "2 bill 2\n", 1, "illegal missing 2 2\n"),
-                                  ("2 newcust 1\n", 1, "illegal task 1\n"), ("x\n", 1, "fault bad-tasks 1\n")]:
+    pending, alone = "2 6 - bill 1 -> ?\n1 0 5 newcust 1 -> true\n", "1 0 5 newcust 1 -> true\n"
+    late, legal = "2 3 9 bill 2 -> -1\n1 0 5 newcust 1 -> true\n", "legal calls=2 clients=2\n"
+    for history, tasks, status, begins in [
+            (history, work, 0, legal), (history, work + "2 bill 2\n", 1, "illegal missing 2 2\n"),
+            (history, "2 newcust 1\n", 1, "illegal task 1\n"), (history, "x\n", 1, "fault bad-tasks 1\n"),
+            (late, work, 1, "illegal task 1\n"), (pending, work, 1, "illegal pending 1\n"),
+            (alone, work, 1, "illegal missing 2 1\n"), (pending + "1 9 9 audit -> x\n", work, 1, "illegal order 1\n")]:
         with tempfile.NamedTemporaryFile("w") as file:
             file.write(tasks)
             file.flush()
             ended = subprocess.run([program, "judge", "--any-order", "--tasks", file.name], input=history,
                                    capture_output=True, text=True, timeout=60, check=False)
         if ended.returncode != status or not ended.stdout.startswith(begins):
-            sys.exit(f"order: held against {tasks!r}: status {ended.returncode}, {ended.stdout!r}")
+            sys.exit(f"order: {history!r} held against {tasks!r}: status {ended.returncode}, {ended.stdout!r}")
 
 
 def main():

@@ -1,6 +1,6 @@
 #!/usr/bin/env python3
 """Packs the program, twice, and tries what was packed as someone would who has no toolchain: the tarball in
-an empty root with the C library alone, each subcommand, the history of a peer compiled from the shipped
+an empty root with the C library alone, each subcommand, the judge of keys and values, the history of a peer compiled from the shipped
 headers, a template over the shipped interface, a mutant, a database by the shipped harness, the links of the
 pages, the manual pages, the completions, and Debian's package. What this machine has no means for is
 skipped, with a word. Its argument is the program, a file that is built already; with none it is the one that
@@ -35,10 +35,10 @@ def skipped(text):
 
 
 def run(*words, given="", status=0, **others):
-    """What a command writes to standard output; it must end with the status."""
+    """What a command writes to standard output; it must end with the status, if one is given."""
     ended = subprocess.run(words, input=given, capture_output=True, text=True, timeout=PATIENCE, check=False,
                            **others)
-    want(ended.returncode == status, f"{' '.join(map(str, words))}: status {ended.returncode}\n{ended.stderr}")
+    want(status in (None, ended.returncode), f"{' '.join(map(str, words))}: status {ended.returncode}\n{ended.stderr}")
     return ended.stdout
 
 
@@ -46,11 +46,17 @@ def contents(folder):
     return {file.name: file.read_bytes() for file in folder.iterdir()}
 
 
+def judge_of_keys(program):
+    """The judge of keys and values, whose crate stands beside that of the program, if it is built."""
+    found = program.parent.parent.parent / "kv_judge/out/kv_judge"
+    return [found] if os.access(found, os.X_OK) else []
+
+
 def pack(program, folder):
     """Packs twice, with other umasks, zones and folders. Returns the folder of the first."""
-    first, second = folder / "first", folder / "a second one"
-    run("bash", "-c", 'umask 022; exec "$0" "$@"', ROOT / "dev", "package", program, first)
-    run("bash", "-c", 'umask 077; exec "$0" "$@"', ROOT / "dev", "package", program, second, cwd="/",
+    first, second, keys = folder / "first", folder / "a second one", judge_of_keys(program)
+    run("bash", "-c", 'umask 022; exec "$0" "$@"', ROOT / "dev", "package", program, first, *keys)
+    run("bash", "-c", 'umask 077; exec "$0" "$@"', ROOT / "dev", "package", program, second, *keys, cwd="/",
         env={**os.environ, "TZ": "Asia/Tokyo", "LC_ALL": "C"})
     want(contents(first) == contents(second), "two runs did not give the same bytes")
     sums = dict(reversed(line.split("  ")) for line in (first / "SHA256SUMS").read_text().splitlines())
@@ -65,7 +71,7 @@ def holds_tarball(tarball):
     with tarfile.open(tarball) as tar:
         for entry in tar:
             name = entry.name.partition("/")[2]
-            is_program = entry.isdir() or name in ("vacation", "explain", "convert", "benchmark/build", "benchmark/run",
+            is_program = entry.isdir() or name in ("vacation", "kv_judge", "explain", "convert", "benchmark/build", "benchmark/run",
                                                    "benchmark/checkers/run", "benchmark/databases/run")
             modes = (0o755,) if is_program else (0o755, 0o644) if name.endswith(".py") else (0o644,)
             want((entry.uid, entry.gid, entry.uname, entry.gname) == (0, 0, "root", "root"), f"owner of {entry.name}")
@@ -129,7 +135,9 @@ def holds_proved(ours, unpacked):
     want(head[0] == title and head[1].startswith(f"commit {commit}") and head[2] == kit, "the head of PROVED")
     changes = run("git", "-c", f"safe.directory={ROOT}", "status", "--porcelain", cwd=ROOT)
     want(("not committed" in head[1]) == bool(changes), "PROVED on changes that are not committed")
-    want(head[3] == f"sha256 {hashlib.sha256((unpacked / 'vacation').read_bytes()).hexdigest()}", "its sum")
+    for line, name in zip(head[3:], filter(lambda name: (unpacked / name).is_file(), ("vacation", "kv_judge"))):
+        sum = hashlib.sha256((unpacked / name).read_bytes()).hexdigest()
+        want(line in (f"sha256 {sum}", f"sha256 {sum} {name}"), f"the sum of {name}")
     said = " ".join(text.split())
     for heading, mark in (("What is promised", "- "), ("What is trusted", "| ")):
         part = (ROOT / "README.md").read_text(encoding="utf-8").split(f"## {heading}\n")[1].split("\n## ")[0]
@@ -213,8 +221,16 @@ def holds_conversion(unpacked):
     if sys.version_info < (3, 11):
         skipped("Python is older than 3.11: no conversion")
         return
-    text = run(sys.executable, "-B", unpacked / "convert", "porcupine", unpacked / "docs/histories/events.json")
+    words = (sys.executable, "-B", unpacked / "convert", "porcupine", unpacked / "docs/histories/events.json")
+    text = run(*words)
     want(text in (unpacked / "docs/JUDGE.md").read_text(encoding="utf-8") and text.count("\n") == 3, text)
+    if not (unpacked / "kv_judge").is_file():
+        skipped("kv_judge is not built")
+        return
+    verdict = run(unpacked / "kv_judge", given=text, status=None)
+    want(verdict.startswith(("legal ", "illegal ")), verdict)
+    judged = run(*words, "--judge", status=None, env={name: text for name, text in os.environ.items() if name != "KV_JUDGE"})
+    want(verdict.split()[0] in judged, judged)
 
 
 def shown(page):

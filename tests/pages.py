@@ -1,5 +1,5 @@
 #!/usr/bin/env python3
-"""Holds the pages against the tree: the ledger, files that the pages name and pieces of them, crates in their
+"""Holds the pages against the tree: the snapshot of clauses, files that the pages name and pieces of them, crates in their
 order, modules, the walks of a call, the number of rows, the sizes of the statements, lines beyond column 100 (of
 proofs, 120), and the toolchain's name. Checks that each link leads to a file and a heading, and that no sentence by
 hand is longer than its limit. Holds the plants against the tree too: their texts, and what they name. Needs no built
@@ -109,14 +109,12 @@ def holds_pieces(page):
             fault(page, f"no piece of {name}: {piece.splitlines()[0]}")
 
 
-def holds_ledger():
-    """The ledger is what its script makes of the tree."""
-    script = ROOT / "tools" / "ledger.py"
+def holds_clauses():
+    """The snapshot of clauses has just those of the tree."""
+    script = ROOT / "tools" / "contracts.py"
     told = subprocess.run([sys.executable, str(script), "--check"], capture_output=True, text=True)
-    for line in told.stdout.splitlines():
-        fault(ROOT / "docs" / "ledger", line)
-    if told.returncode != 0 and not told.stdout:
-        fault(script, "it did not come to its end")
+    if told.returncode != 0:
+        fault(ROOT / "docs" / "clauses.txt", told.stderr.strip() or "its script did not come to its end")
 
 
 def holds_plants():
@@ -179,9 +177,9 @@ def holds_sentences():
     """No sentence of a page by hand, or on what is not said, is longer than the limit."""
     found = [(page, text) for page in PAGES if page.name not in LONG_STILL
              for text in sentences(without_code(page))]
-    for page in sorted((ROOT / "docs" / "ledger").glob("*.md")):
-        for line in re.findall(r"^ *- Not said(?: by [^:]*)?: (.*)$", page.read_text(), flags=re.M):
-            found += [(page, text) for text in sentences(line)]
+    for name, made in ledger.pages().items():
+        for line in re.findall(r"^ *- Not said(?: by [^:]*)?: (.*)$", made, flags=re.M):
+            found += [(ledger.PAGES / name, text) for text in sentences(line)]
     for page, text in found:
         if words(text) > LONGEST:
             fault(page, f"a sentence of {words(text)} words: {text[:60]} ..")
@@ -253,7 +251,7 @@ def main():
         holds_files(page)
         holds_pieces(page)
         holds_links(page)
-    holds_ledger()
+    holds_clauses()
     holds_sizes()
     holds_plants()
     holds_sentences()

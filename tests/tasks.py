@@ -18,7 +18,7 @@ SETTINGS = [
     {"clients": 2, "tasks": 2000, "items": 300, "asks": 32, "user": 50, "seed": 7, "blocks": 4000},
     {"clients": 1, "tasks": 5000, "items": 65536, "asks": 32, "user": 10, "seed": 12,
      "blocks": 262144},
-    {"clients": 2, "tasks": 40, "tries": 1, "user": 100},
+    {"clients": 2, "tasks": 40, "user": 100},
 ]
 
 

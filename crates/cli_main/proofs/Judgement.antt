@@ -4,21 +4,26 @@ use Rattle.std.proofs.Common.{append-nil, Option, Some, None}
 use Rattle.std.specs.Borrow.{Bor}
 use Rattle.std.specs.Prelude.{Result, Ok, Err, IfOk, IfErr, IsSome, option_map}
 use Rattle.std.specs.Io.KnownBytes.{Appends}
+use Rattle.std.proofs.KnownBytes.{Consumes-whole}
 use Rattle.std.proofs.Math.Seq.{take-nil}
 use Rattle.vac_lines.specs.Writing.{AppendsPrefix}
 use Rattle.judge_calls.specs.Reading.{HasStoppedJudging}
 use Rattle.cli_main.specs.Ending.{fault_line, EndsJudged}
-use Rattle.judge_calls.specs.HeldReading.{HasHeld, HasHeldStopped}
+use Rattle.judge_calls.specs.HeldReading.{IsReadWhole, HasHeld, HasHeldStopped}
+use Rattle.judge_calls.specs.AnyOrder.{HasHeldOrder, HasHeldOrderStopped}
 use Rattle.vac_streams.specs.declared.fault.StreamFault.{StreamFault}
 use Rattle.vac_streams.specs.declared.fault.StreamFault.TheVariants as stream
 use Rattle.judge_linear.specs.declared.ordering.Outcome.{Outcome}
 use Rattle.judge_linear.specs.declared.ordering.Outcome.TheVariants as outcome
-use Rattle.judge_linear.specs.Ordering.{HasText, HasOrdered}
+use Rattle.judge_linear.specs.Ordering.{FindsText, HasText, HasOrdered}
 use Rattle.judge_linear.specs.Ordering as order
 use Rattle.judge_opacity.specs.Reading as opaque
-use Rattle.cli_main.specs.Judging.{Judges, JudgesHeld, JudgesWith, JudgeStopped, WorkStopped, NotOpened}
-use Rattle.cli_main.specs.Ordering.{OrderStopped, FindsNone, JudgesAnyOrder, JudgesAnyHeld, JudgesAnyWith, status_of}
-use Rattle.cli_main.specs.Asking.{AttemptsStopped, JudgesAs}
+use Rattle.cli_main.specs.Judging.{Judges, JudgesHeld, JudgesWith, JudgeStopped, WorkStopped, NotOpened, NamedAlone}
+use Rattle.cli_main.specs.Ordering.{OrderStopped, FindsNone, HasRefusedInPart, OrderWorkStopped, HoldsOrder}
+use Rattle.cli_main.specs.Ordering.{HoldsText, HoldsInAnyOrder}
+use Rattle.cli_main.specs.Ordering.{JudgesAnyOrder, JudgesAnyHeld, JudgesAnyWith, status_of}
+use Rattle.cli_options.specs.declared.asked.Judging.{Judging}
+use Rattle.cli_main.specs.Asking.{AttemptsStopped, JudgesAs, JudgesUnless, JudgesAsked, has_stray_settings}
 use Rattle.cli_main.proofs.Ending.{nothing_then}
 
 -- where nothing was written behind it
@@ -184,20 +189,96 @@ found_judged blocks steps status unread left rest held middle holds text has sam
           (Some text) rest h holds) same judged;
     })
 
--- or judged and held against work
-pub found_held : (tasks : Option (List ℕ)) (blocks steps status : ℕ)
-    (unread left rest held middle holds : Option (List ℕ)) (text : List ℕ)
-    → HasText blocks steps unread left outcome.Ordered text → middle ≡ held →
-    JudgesHeld tasks blocks status (Some text) rest middle holds
-    → JudgesAnyHeld tasks blocks steps status unread left held holds
-found_held tasks blocks steps status unread left rest held middle holds text has same judged =
+-- a fault ended the check of an order
+order_work_stopped : (tasks rest : Option (List ℕ)) (blocks : ℕ) (fault : StreamFault) (bytes text : List ℕ)
+    (held middle holds : Option (List ℕ)) → HasHeldOrderStopped blocks fault tasks rest bytes text held middle
+    → AppendsPrefix middle holds (fault_line fault) → OrderWorkStopped tasks blocks bytes text held holds
+order_work_stopped tasks rest blocks stream.Read bytes text held middle holds none line =
+    inr (named_stream stream.Read (λ e. absurd cc) held middle holds none line)
+order_work_stopped tasks rest blocks stream.Write bytes text held middle holds part line = inl (
+  rest,
+  record {
+    work = part.work;
+    work_read = part.work_read;
+    written = then_nothing held middle holds _ part.written line;
+  },
+)
+order_work_stopped tasks rest blocks stream.Memory bytes text held middle holds none line =
+    inr (named_stream stream.Memory (λ e. absurd cc) held middle holds none line)
+order_work_stopped tasks rest blocks stream.Bound bytes text held middle holds none line =
+    inr (named_stream stream.Bound (λ e. absurd cc) held middle holds none line)
+
+-- an order was checked against work
+pub order_held : (tasks rest : Option (List ℕ)) (blocks : ℕ) (r : Result Bool StreamFault) (status : ℕ)
+    (bytes text : List ℕ) (held middle holds : Option (List ℕ))
+    → IfOk r (λ covered. HasHeldOrder blocks covered tasks rest bytes text held middle)
+    → IfErr r (λ fault. HasHeldOrderStopped blocks fault tasks rest bytes text held middle)
+    → EndsJudged r status middle holds → HoldsOrder tasks blocks status bytes text held holds
+order_held tasks rest blocks (Ok true) status bytes text held middle holds ok err e =
+    inl (e.0, (rest, subst (λ h. HasHeldOrder blocks true tasks rest bytes text held h) (sym e.1) ok))
+order_held tasks rest blocks (Ok false) status bytes text held middle holds ok err e =
+    inr (e.0, inl (rest, subst (λ h. HasHeldOrder blocks false tasks rest bytes text held h) (sym e.1) ok))
+order_held tasks rest blocks (Err fault) status bytes text held middle holds ok err e =
+    inr (e.0, inr (order_work_stopped tasks rest blocks fault bytes text held middle holds err e.1))
+
+-- a history that was read whole, and then searched
+text_read : (blocks steps : ℕ) (unread left rest : Option (List ℕ)) (bytes : List ℕ) (found : Outcome)
+    (text : List ℕ) → IsReadWhole unread left bytes → HasText blocks steps (Some bytes) rest found text →
+    HasText blocks steps unread left found text
+text_read blocks steps unread left rest bytes found text read has = record {
+  bytes = bytes;
+  consumed = read.consumed;
+  of_read = inl (read.at_end, has.of_input);
+  of_input = Consumes-whole unread left bytes (λ input. FindsText blocks steps input found text) read.consumed
+      read.at_end has.of_input;
+}
+
+-- an order was found, and checked against work
+pub found_text : (tasks : Option (List ℕ)) (blocks steps status : ℕ) (rest held middle holds : Option (List ℕ))
+    (bytes text given : List ℕ) → given ≡ text → HasText blocks steps (Some bytes) rest outcome.Ordered text →
+    middle ≡ held → HoldsOrder tasks blocks status bytes given middle holds →
+    HoldsInAnyOrder tasks blocks steps status bytes held holds
+found_text tasks blocks steps status rest held middle holds bytes text given same has before judged =
     inl (record {
       text = text;
-      order = has;
-      rest = rest;
-      judged = subst (λ h. JudgesHeld tasks blocks status
-          (Some text) rest h holds) same judged;
+      order = has.of_input;
+      judged = subst (λ t. HoldsOrder tasks blocks status bytes t held holds) same
+          (subst (λ h. HoldsOrder tasks blocks status bytes given h holds) before judged);
     })
+
+-- no order was found
+none_in_slice : (blocks steps status : ℕ) (unread left rest held holds : Option (List ℕ)) (bytes shown : List ℕ) →
+    IsReadWhole unread left bytes → shown ≡ bytes → FindsNone blocks steps status (Some shown) rest held holds →
+    FindsNone blocks steps status unread left held holds
+none_in_slice blocks steps status unread left rest held holds bytes shown read is none =
+    go (subst (λ b. FindsNone blocks steps status (Some b) rest held holds) is none)
+  where
+    go : FindsNone blocks steps status (Some bytes) rest held holds →
+        FindsNone blocks steps status unread left held holds
+    go (inl f) = inl (
+      f.0,
+      f.1,
+      f.2,
+      record {
+        text = f.3.text;
+        is = text_read blocks steps unread left rest bytes f.0 f.3.text read f.3.is;
+        written = f.3.written;
+      },
+    )
+    go (inr f) = inr (f.0, part f.1)
+      where
+        part : HasRefusedInPart blocks steps (Some bytes) rest held holds ⊎ NamedAlone held holds →
+            HasRefusedInPart blocks steps unread left held holds ⊎ NamedAlone held holds
+        part (inl p) = inl (
+          record {
+            result = p.0.result;
+            text = p.0.text;
+            is = text_read blocks steps unread left rest bytes p.0.result p.0.text read p.0.is;
+            written = p.0.written;
+          },
+          p.1,
+        )
+        part (inr n) = inr n
 
 -- a history was judged and held against work
 pub held_judged : (tasks rest : Option (List ℕ)) (blocks : ℕ) (r : Result Bool StreamFault) (status : ℕ)
@@ -214,23 +295,19 @@ held_judged tasks rest blocks (Err fault) status unread left held middle holds o
 
 -- ---- as it is asked for
 
--- an order was found, and its lines were judged
-pub found_with : (work : Option (Option (List ℕ))) (blocks steps status : ℕ)
-    (unread left rest held middle holds : Option (List ℕ)) (text : List ℕ)
-    → HasText blocks steps unread left outcome.Ordered text → middle ≡ held
-    → JudgesWith work blocks status (Some text) rest middle holds
-    → JudgesAnyWith work blocks steps status unread left held holds
-found_with None blocks steps status unread left rest held middle holds text has same judged =
-    found_judged blocks steps status unread left rest held middle holds text has same judged
-found_with (Some tasks) blocks steps status unread left rest held middle holds text has same judged =
-    found_held tasks blocks steps status unread left rest held middle holds text has same judged
-
--- no order was found
-pub none_with : (work : Option (Option (List ℕ))) (blocks steps status : ℕ) (unread left held holds : Option (List ℕ))
-    → FindsNone blocks steps status unread left held holds
-    → JudgesAnyWith work blocks steps status unread left held holds
-none_with None blocks steps status unread left held holds none = inr none
-none_with (Some tasks) blocks steps status unread left held holds none = inr none
+-- a history was read whole, and then searched and checked
+pub held_in_slice : (tasks : Option (List ℕ)) (blocks steps status : ℕ) (unread left held holds : Option (List ℕ))
+    (bytes shown : List ℕ) → IsReadWhole unread left bytes → shown ≡ bytes →
+    HoldsInAnyOrder tasks blocks steps status shown held holds →
+    JudgesAnyHeld tasks blocks steps status unread left held holds
+held_in_slice tasks blocks steps status unread left held holds bytes shown read is (inl found) =
+    inl (record {
+      bytes = bytes;
+      read = read;
+      found = subst (λ b. HoldsText tasks blocks steps status b held holds) is found;
+    })
+held_in_slice tasks blocks steps status unread left held holds bytes shown read is (inr none) =
+    inr (none_in_slice blocks steps status unread left none.0 held holds bytes shown read is none.1)
 
 -- the work that the file of this name has
 abbrev pub work_in : (List ℕ → Option (List ℕ)) → Option (Bor (List ℕ)) → Option (Option (List ℕ))
@@ -274,3 +351,18 @@ not_opened_as files any None blocks steps status unread held holds some not =
     absurd (let k : false ≡ true = some in cc)
 not_opened_as files false (Some name) blocks steps status unread held holds some not = inr (refl, not)
 not_opened_as files true (Some name) blocks steps status unread held holds some not = inr (refl, not)
+
+-- the words give settings of a search and ask for none
+pub refused_as : (files : List ℕ → Option (List ℕ)) (how : Judging) (status : ℕ) (unread held : Option (List ℕ)) →
+    has_stray_settings how ≡ true → status ≡ 2 → JudgesAsked files how status unread unread held held
+refused_as files how status unread held stray refused =
+    subst (λ b. JudgesUnless b files how status unread unread held held) (sym stray) (refused, refl, refl)
+
+-- they do not
+pub asked_as : (files : List ℕ → Option (List ℕ)) (how : Judging) (status : ℕ)
+    (unread left held holds : Option (List ℕ))
+    → has_stray_settings how ≡ false
+    → JudgesAs files how.any_order how.tasks how.blocks how.search.steps status unread left held holds
+    → JudgesAsked files how status unread left held holds
+asked_as files how status unread left held holds stray judged =
+    subst (λ b. JudgesUnless b files how status unread left held holds) (sym stray) judged

@@ -22,7 +22,7 @@ use Rattle.cli_main.specs.Load.{EndsLoad, WroteLoad, WroteLoadInPart}
 use Rattle.cli_main.specs.Load.{EndsKept, WroteCalls, WroteCallsInPart, WroteTried, WroteTriedInPart}
 use Rattle.cli_main.specs.Ending.{EndsWithStatus, NamedAfter, NamedAfterWriting, fault_line, load_fault_line}
 use Rattle.cli_main.specs.Ordering.{Orders}
-use Rattle.cli_main.specs.Asking.{JudgesAs, JudgesAttempts}
+use Rattle.cli_main.specs.Asking.{JudgesAsked, JudgesAttempts}
 use Rattle.cli_options.specs.CommandLine.{vacation, AsksFor}
 
 -- the program runs a load, and writes its history or its two lines
@@ -82,8 +82,8 @@ Does files (Run blocks) status unread left held holds =
     RunsScript blocks status unread left held holds
 Does files (Dump blocks) status unread left held holds = Dumps blocks status unread left held holds
 Does files Check status unread left held holds = Checks status unread left held holds
-Does files (Judge blocks how) status unread left held holds =
-    JudgesAs files how.any_order how.tasks blocks how.search.steps status unread left held holds
+Does files (Judge how) status unread left held holds =
+    JudgesAsked files how status unread left held holds
 Does files (Order blocks search) status unread left held holds =
     Orders blocks search.steps status unread left held holds
 Does files (Opaque n) status unread left held holds =

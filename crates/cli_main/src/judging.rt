@@ -2,12 +2,12 @@
 
 ghost use Rattle.std.specs.Prelude.{◌≡◌, true, IfOk, IfErr, OnOk, IsSome, option_map};
 ghost use Rattle.vac_model.specs.Ranges.{is_block_count};
-ghost use Rattle.cli_main.specs.Judging.{JudgesWith, NotOpened};
-ghost use Rattle.cli_main.specs.Asking.{JudgesAs, JudgesAttempts};
+ghost use Rattle.cli_main.specs.Judging.{Judges, JudgesWith, NotOpened};
+ghost use Rattle.cli_main.specs.Asking.{has_stray_settings, JudgesAs, JudgesAsked, JudgesAttempts};
 
 use crate::files::Open;
 use crate::searching::judge_any;
-use crate::status::{end_by, end_judged, end_unopened};
+use crate::status::{REFUSED, end_by, end_judged, end_unopened};
 use cli_options::Judging;
 use judge_calls::{judge_history, judge_work};
 use judge_opacity::judge_attempts;
@@ -15,11 +15,26 @@ use std::alloc::Global;
 use std::io;
 use std::io::{ErrorKind, Read, Write};
 use std::time::Clock;
+use vac_lines::write_and_flush;
 use vac_streams::StreamFault;
+
+/// Judges a history, and returns the status: 0 if the history is legal.
+pub(crate) fn judge_alone<R: Read, W: Write>(
+    alloc: Global,
+    blocks: u32,
+    input: &mut R,
+    output: &mut W,
+) -> u8
+    requires { is_block_count blocks ≡ true }
+    ensures { Judges blocks result (R.remaining input.old) (R.remaining input.new)
+        (W.contents output.old) (W.contents output.new) }
+{
+    end_judged(judge_history(alloc, blocks, input, output), output)
+}
 
 /// Judges a history, checks it against these tasks if there are any, and returns the status: 0 if
 /// the history is legal and has all tasks.
-pub(crate) fn judge_with<F: Read + Drop, R: Read, W: Write>(
+fn judge_with<F: Read + Drop, R: Read, W: Write>(
     alloc: Global,
     blocks: u32,
     tasks: Option<F>,
@@ -32,7 +47,7 @@ pub(crate) fn judge_with<F: Read + Drop, R: Read, W: Write>(
         (W.contents output.old) (W.contents output.new) }
 {
     match tasks {
-        None => end_judged(judge_history(alloc, blocks, input, output), output),
+        None => judge_alone(alloc, blocks, input, output),
         Some(mut tasks) => {
             end_judged(judge_work(alloc, blocks, &mut tasks, input, output), output)
         }
@@ -73,18 +88,18 @@ fn open_tasks<F: Open, W: Write>(
     }
 }
 
-/// Judges a history as the command line asks, and returns the status.
-pub(crate) fn judge<T: Clock + AllocGlobal, F: Open, R: Read, W: Write, E: Write>(
+/// Judges a history in any order or in the order of its lines, against the tasks of a file if the
+/// settings name one, and returns the status.
+fn judge_as<T: Clock + AllocGlobal, F: Open, R: Read, W: Write, E: Write>(
     rt: &T,
     files: &F,
-    blocks: u32,
     how: Judging<'_>,
     input: &mut R,
     output: &mut W,
     errors: &mut E,
 ) -> u8
-    requires { is_block_count blocks ≡ true }
-    ensures { JudgesAs (F.holds files.now) how.entry.any_order how.entry.tasks blocks
+    requires { is_block_count how.blocks ≡ true }
+    ensures { JudgesAs (F.holds files.now) how.entry.any_order how.entry.tasks how.entry.blocks
         how.entry.search.steps result
         (R.remaining input.old) (R.remaining input.new)
         (W.contents output.old) (W.contents output.new) }
@@ -94,10 +109,46 @@ pub(crate) fn judge<T: Clock + AllocGlobal, F: Open, R: Read, W: Write, E: Write
         Err(status) => return status,
     };
     if how.any_order {
-        judge_any(rt, blocks, how.search, tasks, input, output, errors)
+        judge_any(rt, how, tasks, input, output, errors)
     } else {
-        judge_with(rt.alloc(), blocks, tasks, input, output)
+        judge_with(rt.alloc(), how.blocks, tasks, input, output)
     }
+}
+
+/// Returns whether the command line gives settings of a search, and asks for no search.
+fn has_stray_settings(how: &Judging<'_>) -> bool
+    ensures { result ≡ has_stray_settings how.now }
+{
+    how.names_search && !how.any_order
+}
+
+/// Writes that settings of a search are given without a search, and returns the status of a refused
+/// command line.
+fn refuse_search<E: Write>(errors: &mut E) -> u8
+    ensures { result ≡ 2 }
+{
+    let _ = write_and_flush(errors, b"error: --steps and --progress need --any-order\n");
+    REFUSED
+}
+
+/// Judges a history as the command line asks, and returns the status.
+pub(crate) fn judge<T: Clock + AllocGlobal, F: Open, R: Read, W: Write, E: Write>(
+    rt: &T,
+    files: &F,
+    how: Judging<'_>,
+    input: &mut R,
+    output: &mut W,
+    errors: &mut E,
+) -> u8
+    requires { is_block_count how.blocks ≡ true }
+    ensures { JudgesAsked (F.holds files.now) how.entry result
+        (R.remaining input.old) (R.remaining input.new)
+        (W.contents output.old) (W.contents output.new) }
+{
+    if has_stray_settings(&how) {
+        return refuse_search(errors);
+    }
+    judge_as(rt, files, how, input, output, errors)
 }
 
 /// Judges attempts on `words` words, and returns the status: 0 if they are opaque.

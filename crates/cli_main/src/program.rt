@@ -55,7 +55,7 @@ pub fn run_words<
         Ok(Asked::Run(blocks)) => run(alloc, blocks, input, output),
         Ok(Asked::Dump(blocks)) => dump(alloc, blocks, input, output),
         Ok(Asked::Check) => check(alloc, input, output),
-        Ok(Asked::Judge(blocks, how)) => judge(rt, files, blocks, how, input, output, errors),
+        Ok(Asked::Judge(how)) => judge(rt, files, how, input, output, errors),
         Ok(Asked::Order(blocks, search)) => order(rt, blocks, search, input, output, errors),
         Ok(Asked::Opaque(words)) => judge_opaque(alloc, words, input, output),
         Ok(Asked::Load(settings, how)) => load(rt, &settings, how, output, errors),

@@ -6,12 +6,14 @@ ghost use Rattle.vac_model.specs.Ranges.{is_block_count};
 ghost use Rattle.vac_lines.specs.Writing.{AppendsPrefix};
 ghost use Rattle.judge_linear.specs.declared.ordering.Outcome.TheVariants.{Ordered};
 ghost use Rattle.judge_linear.specs.Ordering.{HasText};
-ghost use Rattle.cli_main.specs.Ordering.{Orders, FindsNone, JudgesAnyWith, status_of};
+ghost use Rattle.cli_main.specs.Ordering.{Orders, FindsNone, HoldsOrder, JudgesAnyOrder};
+ghost use Rattle.cli_main.specs.Ordering.{HoldsInAnyOrder, JudgesAnyHeld, JudgesAnyWith, status_of};
 
-use crate::judging::judge_with;
-use crate::status::{DONE, FAULT, UNDECIDED, end_by};
+use crate::judging::judge_alone;
+use crate::status::{DONE, FAULT, UNDECIDED, end_by, end_judged};
 use crate::telling::has_passed;
-use cli_options::Search;
+use cli_options::{Judging, Search};
+use judge_calls::{judge_work_in_order, read_all};
 use judge_linear::{Outcome, order_history};
 use judge_object::Watcher;
 use std::alloc::Global;
@@ -144,28 +146,117 @@ fn order_kept<R: Read, W: Write, V: Watcher>(
     }
 }
 
+/// Judges a history in a linearization that is found, or writes that there is none, and returns the
+/// status.
+fn judge_found<R: Read, W: Write, V: Watcher>(
+    alloc: Global,
+    how: &Judging<'_>,
+    input: &mut R,
+    output: &mut W,
+    watcher: &mut V,
+) -> u8
+    requires { is_block_count how.now.blocks ≡ true }
+    ensures { JudgesAnyOrder how.now.blocks how.now.search.steps result
+        (R.remaining input.old) (R.remaining input.new)
+        (W.contents output.old) (W.contents output.new) }
+{
+    match order_kept(alloc, how.blocks, how.search.steps, input, output, watcher) {
+        Ok(text) => {
+            let mut order = text.as_slice();
+            judge_alone(alloc, how.blocks, &mut order, output)
+        }
+        Err(status) => status,
+    }
+}
+
+/// Checks a history and the text of a linearization of its calls against a workload, and returns
+/// the status: 0 if the linearization covers the workload.
+fn hold_found<V: Read, W: Write>(
+    alloc: Global,
+    blocks: u32,
+    tasks: &mut V,
+    history: &[u8],
+    order: &[u8],
+    output: &mut W,
+) -> u8
+    requires { is_block_count blocks ≡ true }
+    ensures { HoldsOrder (V.remaining tasks.old) blocks result history.now order.now
+        (W.contents output.old) (W.contents output.new) }
+{
+    end_judged(
+        judge_work_in_order(alloc, blocks, tasks, history, order, output),
+        output,
+    )
+}
+
+/// Searches for a linearization of the calls of a history, checks the history in this order against
+/// these tasks, or writes that there is no linearization, and returns the status.
+fn hold_in_any_order<F: Read, W: Write, V: Watcher>(
+    alloc: Global,
+    how: &Judging<'_>,
+    tasks: &mut F,
+    history: &[u8],
+    output: &mut W,
+    watcher: &mut V,
+) -> u8
+    requires { is_block_count how.now.blocks ≡ true }
+    ensures { HoldsInAnyOrder (F.remaining tasks.old) how.now.blocks how.now.search.steps result
+        history.now (W.contents output.old) (W.contents output.new) }
+{
+    let mut unread = history;
+    match order_kept(
+        alloc,
+        how.blocks,
+        how.search.steps,
+        &mut unread,
+        output,
+        watcher,
+    ) {
+        Ok(order) => hold_found(alloc, how.blocks, tasks, history, order.as_slice(), output),
+        Err(status) => status,
+    }
+}
+
+/// Reads a history to its end, checks it against these tasks in a linearization that is found, or
+/// writes that there is none, and returns the status.
+fn judge_found_work<F: Read, R: Read, W: Write, V: Watcher>(
+    alloc: Global,
+    how: &Judging<'_>,
+    tasks: &mut F,
+    input: &mut R,
+    output: &mut W,
+    watcher: &mut V,
+) -> u8
+    requires { is_block_count how.now.blocks ≡ true }
+    ensures { JudgesAnyHeld (F.remaining tasks.old) how.now.blocks how.now.search.steps result
+        (R.remaining input.old) (R.remaining input.new)
+        (W.contents output.old) (W.contents output.new) }
+{
+    match read_all(alloc, input) {
+        Ok(history) => { hold_in_any_order(alloc, how, tasks, history.as_slice(), output, watcher) }
+        Err(fault) => end_by(fault, output),
+    }
+}
+
 /// Judges a history in a linearization that is found, or writes that there is none, checks it
 /// against these tasks if there are any, and returns the status.
 pub(crate) fn judge_any<T: Clock + AllocGlobal, F: Read + Drop, R: Read, W: Write, E: Write>(
     rt: &T,
-    blocks: u32,
-    search: Search,
+    how: Judging<'_>,
     tasks: Option<F>,
     input: &mut R,
     output: &mut W,
     errors: &mut E,
 ) -> u8
-    requires { is_block_count blocks ≡ true }
-    ensures { JudgesAnyWith (option_map F.remaining tasks) blocks search.steps result
-        (R.remaining input.old) (R.remaining input.new)
+    requires { is_block_count how.blocks ≡ true }
+    ensures { JudgesAnyWith (option_map F.remaining tasks) how.entry.blocks how.entry.search.steps
+        result (R.remaining input.old) (R.remaining input.new)
         (W.contents output.old) (W.contents output.new) }
 {
-    let mut teller = Teller::new(rt, search.progress, errors);
-    match order_kept(rt.alloc(), blocks, search.steps, input, output, &mut teller) {
-        Ok(text) => {
-            let mut order = text.as_slice();
-            judge_with(rt.alloc(), blocks, tasks, &mut order, output)
-        }
-        Err(status) => status,
+    let alloc = rt.alloc();
+    let mut teller = Teller::new(rt, how.search.progress, errors);
+    match tasks {
+        None => judge_found(alloc, &how, input, output, &mut teller),
+        Some(mut tasks) => { judge_found_work(alloc, &how, &mut tasks, input, output, &mut teller) }
     }
 }

@@ -5,3 +5,4 @@ pub mod Walks
 pub mod Given
 pub mod Stops
 pub mod Naming
+pub mod Sources

@@ -12,8 +12,7 @@ use Rattle.clap.specs.declared.builder.arg.Arg.{Arg}
 use Rattle.clap.specs.declared.builder.value_parser.ValueParser.{ValueParser}
 use Rattle.clap.specs.declared.builder.texts.Texts.TheVariants.{One}
 use Rattle.cli_options.specs.CommandLine.{short_option, IsOption, IsCommand, AddsOptions, AddsCommands, with_commands}
-use Rattle.cli_options.specs.CommandLine.{with_rules, with_options, client_options, task_options, telling_options}
-use Rattle.cli_options.specs.CommandLine.{load_options, GetsOptions, GetsCommands}
+use Rattle.cli_options.specs.CommandLine.{with_rules, with_options, GetsOptions, GetsCommands}
 
 -- ---- options
 
@@ -109,18 +108,20 @@ command_gets (Ok before) (Ok after) first s more same is gets = record {
   own = gets.own ∙ is.own;
 }
 
--- a command that got options in three steps
-pub load_gets : (given first second result : Result Command AllocError) → GetsOptions given client_options first →
-    GetsOptions first task_options second → GetsOptions second telling_options result →
-    GetsOptions given load_options result
-load_gets given first second (Err e) a b c = tt
-load_gets given first (Err e) (Ok after) a b c = absurd c
-load_gets given (Err e) (Ok before) (Ok after) a b c = absurd b
-load_gets (Err e) (Ok middle) (Ok before) (Ok after) a b c = absurd a
-load_gets (Ok start) (Ok middle) (Ok before) (Ok after) a b c = record {
-  app = c.app ∙ ap (λ (w : App). with_rules w telling_options)
-      (b.app ∙ ap (λ (w : App). with_rules w task_options) a.app);
-  own = c.own ∙ b.own ∙ a.own;
+with_all_rules : (a : App) (first second : List Rule) →
+    with_rules a (first ++ second) ≡ with_rules (with_rules a first) second
+with_all_rules a [] second = refl
+with_all_rules a (option ∷ first) second = with_all_rules (with_rule a option) first second
+
+-- a command that got options in two steps
+pub gets_both : (given middle result : Result Command AllocError) (first second : List Rule) →
+    GetsOptions given first middle → GetsOptions middle second result → GetsOptions given (first ++ second) result
+gets_both given middle (Err e) first second a b = tt
+gets_both given (Err e) (Ok after) first second a b = absurd b
+gets_both (Err e) (Ok before) (Ok after) first second a b = absurd a
+gets_both (Ok start) (Ok before) (Ok after) first second a b = record {
+  app = b.app ∙ ap (λ (w : App). with_rules w second) a.app ∙ sym (with_all_rules (app_of start) first second);
+  own = b.own ∙ a.own;
 }
 
 -- a command with these texts of its help

@@ -43,7 +43,7 @@ use Rattle.cli_options.specs.declared.asked.TheConstants.{MOST_NUMBER, MOST_WORD
 use Rattle.cli_options.specs.CommandLine.{vacation, blocks_option, clients_option, tasks_option, rounds_option}
 use Rattle.cli_options.specs.CommandLine.{tries_option, items_option, asks_option, reads_option, user_option}
 use Rattle.cli_options.specs.CommandLine.{seed_option, steps_option, words_option, flag, Gives, GivesIn, Says, IsFlag}
-use Rattle.cli_options.specs.CommandLine.{HasSettings, HasSearch, HasJudging, Names}
+use Rattle.cli_options.specs.CommandLine.{HasDrawing, HasLoad, HasSearch, HasJudging, Names}
 use Rattle.cli_options.proofs.FoundRows.{Each, IsFit, found_each, found_passes, is_counted, no_fault, no_some}
 use Rattle.cli_options.proofs.FoundRows.{same_some}
 use Rattle.cli_options.proofs.Walks.{AllFit}
@@ -149,12 +149,16 @@ fit own plain valued = record { own = own; plain = plain; valued = valued }
 shape_at : ℕ → Shape
 shape_at k = slice_index_or (built vacation).subs k (new_shape [])
 
--- a subcommand with the option of the blocks alone, and one with the options of a load
+-- a subcommand with the option of the blocks alone
 with_blocks : Text → Shape
 with_blocks name = record (shape_at 0) { name = name }
 
-with_settings : Text → Shape
-with_settings name = record (shape_at 6) { name = name }
+-- the subcommands that run a load, and that draw its tasks
+loading : Shape
+loading = shape_at 6
+
+drawing : Shape
+drawing = shape_at 7
 
 -- the subcommands that judge, that find an order, and that judge attempts
 judging : Shape
@@ -191,9 +195,9 @@ blocks_fit : (name : Text) → AllFit (with_blocks name).rules
 unfolding shape_at with_blocks
 blocks_fit name = (fit refl refl refl, (fit refl refl refl, tt))
 
-settings_fit : (name : Text) → AllFit (with_settings name).rules
-unfolding shape_at with_settings
-settings_fit name = (
+loading_fit : AllFit loading.rules
+unfolding shape_at loading
+loading_fit = (
   fit refl refl refl,
   (
     fit refl refl refl,
@@ -215,7 +219,10 @@ settings_fit name = (
                     fit refl refl refl,
                     (
                       fit refl refl refl,
-                      (fit refl refl refl, (fit refl refl refl, (fit refl refl refl, (fit refl refl refl, tt)))),
+                      (
+                        fit refl refl refl,
+                        (fit refl refl refl, (fit refl refl refl, (fit refl refl refl, tt))),
+                      ),
                     ),
                   ),
                 ),
@@ -228,46 +235,80 @@ settings_fit name = (
   ),
 )
 
+drawing_fit : AllFit drawing.rules
+unfolding shape_at drawing
+drawing_fit = (
+  fit refl refl refl,
+  (
+    fit refl refl refl,
+    (
+      fit refl refl refl,
+      (
+        fit refl refl refl,
+        (
+          fit refl refl refl,
+          (
+            fit refl refl refl,
+            (fit refl refl refl, (fit refl refl refl, (fit refl refl refl, (fit refl refl refl, tt)))),
+          ),
+        ),
+      ),
+    ),
+  ),
+)
+
 -- ---- the values that the words give
 
-settings_number : (of : Text) (rows : List Row) → IsEntered (with_settings of) rows → (a : Rule) (least most : ℕ) →
-    a.parser ≡ Some (vp.Signed (pos least) (pos most))
-    → arg_by_id (with_settings of).rules a.id ≡ Some a → 0 < length a.defaults → GivesIn rows a.id least most
-settings_number of rows e a least most parser own some =
-    number_given rows a least most parser (subst (IsGiven a) e.rows_are
-    (level_gives (with_settings of) e.words a (settings_fit of) e.passes own some))
+-- the value of an option with a default, in a subcommand that was entered
+option_given : (s : Shape) (rows : List Row) → AllFit s.rules → IsEntered s rows → (a : Rule) →
+    arg_by_id s.rules a.id ≡ Some a → 0 < length a.defaults → IsGiven a rows
+option_given s rows all e a own some = subst (IsGiven a) e.rows_are (level_gives s e.words a all e.passes own some)
 
-settings_seed : (of : Text) (rows : List Row) → IsEntered (with_settings of) rows →
-    GivesIn rows (codes "seed") 0 MOST_NUMBER
-unfolding shape_at with_settings
-settings_seed of rows e = seed_given rows (filled seed_option) MOST_NUMBER refl
-    (subst (IsGiven (filled seed_option)) e.rows_are (level_gives (with_settings of) e.words (filled seed_option)
-    (settings_fit of) e.passes refl (omega arith)))
+-- the numbers that determine the tasks, in a subcommand that has their options
+drawing_given : (s : Shape) (rows : List Row) → ((a : Rule) → arg_by_id s.rules a.id ≡ Some a → 0 < length a.defaults →
+    IsGiven a rows) → arg_by_id s.rules (codes "clients") ≡ Some (filled clients_option) →
+    arg_by_id s.rules (codes "tasks") ≡ Some (filled tasks_option) →
+    arg_by_id s.rules (codes "items") ≡ Some (filled items_option) →
+    arg_by_id s.rules (codes "asks") ≡ Some (filled asks_option) →
+    arg_by_id s.rules (codes "reads") ≡ Some (filled reads_option) →
+    arg_by_id s.rules (codes "user") ≡ Some (filled user_option) →
+    arg_by_id s.rules (codes "seed") ≡ Some (filled seed_option) →
+    arg_by_id s.rules (codes "blocks") ≡ Some (filled blocks_option) →
+    arg_by_id s.rules (codes "rounds") ≡ Some (filled rounds_option) → HasDrawing rows
+drawing_given s rows given clients tasks items asks reads user seed blocks rounds = record {
+  clients = number_given rows (filled clients_option) 1 MOST_CLIENTS refl (given _ clients (omega arith));
+  tasks = number_given rows (filled tasks_option) 1 MOST_TASKS refl (given _ tasks (omega arith));
+  items = number_given rows (filled items_option) 1 MOST_ITEMS refl (given _ items (omega arith));
+  asks = number_given rows (filled asks_option) 1 MOST_PARTS refl (given _ asks (omega arith));
+  reads = number_given rows (filled reads_option) 0 PERCENT refl (given _ reads (omega arith));
+  user = number_given rows (filled user_option) 0 PERCENT refl (given _ user (omega arith));
+  seed = seed_given rows (filled seed_option) MOST_NUMBER refl (given _ seed (omega arith));
+  blocks = number_given rows (filled blocks_option) 1 MOST_BLOCKS refl (given _ blocks (omega arith));
+  rounds = number_given rows (filled rounds_option) 1 MOST_ROUNDS refl (given _ rounds (omega arith));
+}
 
-settings_flag : (of : Text) (rows : List Row) → IsEntered (with_settings of) rows → (name : Text) →
-    arg_by_id (with_settings of).rules name ≡ Some (filled (flag name)) → IsFlag rows name
-settings_flag of rows e name own = flag_given rows name
-    (subst (IsGiven (filled (flag name))) e.rows_are (level_gives (with_settings of) e.words (filled (flag name))
-    (settings_fit of) e.passes own (omega arith)))
+tasks_given : (rows : List Row) → IsEntered drawing rows → HasDrawing rows
+unfolding shape_at drawing
+tasks_given rows e = drawing_given drawing rows (λ a own some. option_given drawing rows drawing_fit e a own some) refl
+    refl refl refl refl refl refl refl refl
 
-settings_given : (of : Text) (rows : List Row) → IsEntered (with_settings of) rows → HasSettings rows
-unfolding shape_at with_settings
-settings_given of rows e = record {
-  clients = settings_number of rows e (filled clients_option) 1 MOST_CLIENTS refl refl (omega arith);
-  tasks = settings_number of rows e (filled tasks_option) 1 MOST_TASKS refl refl (omega arith);
-  items = settings_number of rows e (filled items_option) 1 MOST_ITEMS refl refl (omega arith);
-  asks = settings_number of rows e (filled asks_option) 1 MOST_PARTS refl refl (omega arith);
-  reads = settings_number of rows e (filled reads_option) 0 PERCENT refl refl (omega arith);
-  user = settings_number of rows e (filled user_option) 0 PERCENT refl refl (omega arith);
-  seed = settings_seed of rows e;
-  blocks = settings_number of rows e (filled blocks_option) 1 MOST_BLOCKS refl refl (omega arith);
-  tries = settings_number of rows e (filled tries_option) 1 MOST_TRIES refl refl (omega arith);
-  rounds = settings_number of rows e (filled rounds_option) 1 MOST_ROUNDS refl refl (omega arith);
+load_flag : (rows : List Row) → IsEntered loading rows → (name : Text) →
+    arg_by_id loading.rules name ≡ Some (filled (flag name)) → IsFlag rows name
+load_flag rows e name own = flag_given rows name (option_given loading rows loading_fit e (filled (flag name)) own
+    (omega arith))
+
+load_given : (rows : List Row) → IsEntered loading rows → HasLoad rows
+unfolding shape_at loading
+load_given rows e = record {
+  drawing = drawing_given loading rows (λ a own some. option_given loading rows loading_fit e a own some) refl refl refl
+      refl refl refl refl refl refl;
+  tries = number_given rows (filled tries_option) 1 MOST_TRIES refl
+      (option_given loading rows loading_fit e (filled tries_option) refl (omega arith));
   flags = record {
-    progress = settings_flag of rows e (codes "progress") refl;
-    stats = settings_flag of rows e (codes "stats") refl;
-    history = settings_flag of rows e (codes "history") refl;
-    attempts = settings_flag of rows e (codes "attempts") refl;
+    progress = load_flag rows e (codes "progress") refl;
+    stats = load_flag rows e (codes "stats") refl;
+    history = load_flag rows e (codes "history") refl;
+    attempts = load_flag rows e (codes "attempts") refl;
   };
 }
 
@@ -278,19 +319,11 @@ blocks_given of rows e = number_given rows (filled blocks_option) 1 MOST_BLOCKS 
     (subst (IsGiven (filled blocks_option)) e.rows_are (level_gives (with_blocks of) e.words (filled blocks_option)
     (blocks_fit of) e.passes refl (omega arith)))
 
--- the value of an option with a default, in a subcommand that was entered
-option_given : (s : Shape) (rows : List Row) → AllFit s.rules → IsEntered s rows → (a : Rule) →
-    arg_by_id s.rules a.id ≡ Some a → 0 < length a.defaults → IsGiven a rows
-option_given s rows all e a own some = subst (IsGiven a) e.rows_are (level_gives s e.words a all e.passes own some)
-
-judging_blocks : (rows : List Row) → IsEntered judging rows → GivesIn rows (codes "blocks") 1 MOST_BLOCKS
-unfolding shape_at judging
-judging_blocks rows e = number_given rows (filled blocks_option) 1 MOST_BLOCKS refl
-    (option_given judging rows judging_fit e (filled blocks_option) refl (omega arith))
-
 judging_given : (rows : List Row) → IsEntered judging rows → HasJudging rows
 unfolding shape_at judging
 judging_given rows e = record {
+  blocks = number_given rows (filled blocks_option) 1 MOST_BLOCKS refl
+      (option_given judging rows judging_fit e (filled blocks_option) refl (omega arith));
   any_order = flag_given rows (codes "any-order") (option_given judging rows judging_fit e
       (filled (flag (codes "any-order"))) refl (omega arith));
   search = record {
@@ -461,8 +494,8 @@ opaque_alone = (
   ),
 )
 
-load_alone : IsAlone (codes "load") (with_settings (codes "load"))
-unfolding shape_at with_settings
+load_alone : IsAlone (codes "load") loading
+unfolding shape_at loading
 load_alone = (
   λ e. absurd (differ _ _ refl e),
   (
@@ -483,8 +516,8 @@ load_alone = (
   ),
 )
 
-tasks_alone : IsAlone (codes "tasks") (with_settings (codes "tasks"))
-unfolding shape_at with_settings
+tasks_alone : IsAlone (codes "tasks") drawing
+unfolding shape_at drawing
 tasks_alone = (
   λ e. absurd (differ _ _ refl e),
   (
@@ -514,10 +547,6 @@ pub dump_blocks : (words : List Text) (rows : List Row) → fault_of vacation wo
     Names words (codes "dump") rows → GivesIn rows (codes "blocks") 1 MOST_BLOCKS
 dump_blocks words rows fault names = blocks_given _ rows (enters _ _ words rows dump_alone fault names)
 
-pub judge_blocks : (words : List Text) (rows : List Row) → fault_of vacation words ≡ [] →
-    Names words (codes "judge") rows → GivesIn rows (codes "blocks") 1 MOST_BLOCKS
-judge_blocks words rows fault names = judging_blocks rows (enters _ _ words rows judge_alone fault names)
-
 pub judge_options : (words : List Text) (rows : List Row) → fault_of vacation words ≡ [] →
     Names words (codes "judge") rows → HasJudging rows
 judge_options words rows fault names = judging_given rows (enters _ _ words rows judge_alone fault names)
@@ -534,13 +563,13 @@ pub opaque_words : (words : List Text) (rows : List Row) → fault_of vacation w
     Names words (codes "opaque") rows → GivesIn rows (codes "words") 1 MOST_WORDS
 opaque_words words rows fault names = opaque_given rows (enters _ _ words rows opaque_alone fault names)
 
-pub load_settings : (words : List Text) (rows : List Row) → fault_of vacation words ≡ [] →
-    Names words (codes "load") rows → HasSettings rows
-load_settings words rows fault names = settings_given _ rows (enters _ _ words rows load_alone fault names)
+pub load_options : (words : List Text) (rows : List Row) → fault_of vacation words ≡ [] →
+    Names words (codes "load") rows → HasLoad rows
+load_options words rows fault names = load_given rows (enters _ _ words rows load_alone fault names)
 
-pub tasks_settings : (words : List Text) (rows : List Row) → fault_of vacation words ≡ [] →
-    Names words (codes "tasks") rows → HasSettings rows
-tasks_settings words rows fault names = settings_given _ rows (enters _ _ words rows tasks_alone fault names)
+pub tasks_options : (words : List Text) (rows : List Row) → fault_of vacation words ≡ [] →
+    Names words (codes "tasks") rows → HasDrawing rows
+tasks_options words rows fault names = tasks_given rows (enters _ _ words rows tasks_alone fault names)
 
 has_subcommand : (rows : List Row) (has : Bool) → check_fault (built vacation).top rows has ≡ [] → has ≡ true
 has_subcommand rows true e = refl

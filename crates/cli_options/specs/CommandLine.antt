@@ -1,12 +1,16 @@
 -- The command line that the program takes, in clap's terms, and the request that its words make.
-use Rattle.std.specs.Prelude.{◌≡◌, ℕ, ◌+◌, pos, ◌≤◌, ◌⊎◌, Bool, true, false, Some, codes}
-use Rattle.std.specs.Prelude.{List, [], ◌∷◌, ◌++◌, Option, option_map, Result, IfOk, IsOkAnd}
+use Rattle.std.specs.Prelude.{◌≡◌, ℕ, ◌+◌, pos, ◌≤◌, ◌⊎◌, ◌||◌, Bool, true, false, Some, codes}
+use Rattle.std.specs.Prelude.{List, [], ◌∷◌, ◌++◌, Option, option_map, option_and_then, find}
+use Rattle.std.specs.Prelude.{Result, IfOk, IsOkAnd}
+use Rattle.std.specs.Str.{bytes_eq}
 use Rattle.std.specs.declared.alloc.AllocError.{AllocError}
 use Rattle.std.specs.Borrow.{Bor}
 use Rattle.std.specs.Str.Parse.{IsNumeral, digits_value, without_leading_plus}
 use Rattle.clap.specs.Simple.{new_shape}
 use Rattle.clap.specs.Values.{bool_text}
 use Rattle.clap.specs.Walk.{first_of, one_of}
+use Rattle.clap.specs.declared.parser.matches.ValueSource.{ValueSource}
+use Rattle.clap.specs.declared.parser.matches.ValueSource.TheVariants.{CommandLine}
 use Rattle.clap.specs.Words.{App, Shape, Rule, Row, Text, app_of, fault_of, new_rule, rule_of}
 use Rattle.clap.specs.Words.{subcommand_of, subcommand_rows_of, with_rule, with_subcommand}
 use Rattle.clap.specs.declared.builder.action.ArgAction.TheVariants.{SetTrue}
@@ -23,7 +27,7 @@ use Rattle.load_draws.specs.declared.settings.TheConstants.{MOST_ROUNDS, PERCENT
 use Rattle.load_draws.specs.declared.settings.Settings.{Settings}
 use Rattle.vac_model.specs.declared.limits.TheConstants.{MOST_TRIES}
 use Rattle.stm_words.specs.declared.version.TheConstants.{VERSION_LIMIT}
-use Rattle.cli_options.specs.declared.asked.TheConstants.{MOST_NUMBER, MOST_WORDS}
+use Rattle.cli_options.specs.declared.asked.TheConstants.{MOST_NUMBER, MOST_WORDS, DRAWN_TRIES}
 use Rattle.cli_options.specs.declared.asked.How.{How}
 use Rattle.cli_options.specs.declared.asked.Asked.{Asked}
 use Rattle.cli_options.specs.declared.asked.Asked.TheVariants.{Run, Dump, Check, Judge, Order}
@@ -79,9 +83,9 @@ rounds_option = number_option (codes "rounds") 1 MOST_ROUNDS (codes "1")
 abbrev pub tries_option : Rule
 tries_option = number_option (codes "tries") 1 MOST_TRIES (codes "64")
 
--- the options of a load for its clients, tasks, rounds and attempts
+-- the options for the clients of a load and the number of their tasks
 abbrev pub client_options : List Rule
-client_options = clients_option ∷ tasks_option ∷ rounds_option ∷ tries_option ∷ []
+client_options = clients_option ∷ tasks_option ∷ rounds_option ∷ []
 
 -- `-r`, `--items`: number of items of each kind, and number of customers
 abbrev pub items_option : Rule
@@ -103,10 +107,14 @@ reads_option = number_option (codes "reads") 0 PERCENT (codes "0")
 abbrev pub seed_option : Rule
 seed_option = short_option 115 (any_number_option (codes "seed") (codes "1"))
 
--- the options that determine the tasks
+-- the options for the tasks that each client draws
 abbrev pub task_options : List Rule
 task_options =
     items_option ∷ asks_option ∷ reads_option ∷ user_option ∷ seed_option ∷ blocks_option ∷ []
+
+-- all options that determine the tasks of a load
+abbrev pub drawing_options : List Rule
+drawing_options = client_options ++ task_options
 
 -- `--tasks FILE`: the tasks against which a history is checked
 abbrev pub file_option : Rule
@@ -138,9 +146,13 @@ abbrev pub telling_options : List Rule
 telling_options = flag (codes "progress") ∷ flag (codes "stats")
     ∷ flag (codes "history") ∷ flag (codes "attempts") ∷ []
 
+-- the options of a load that do not change its tasks
+abbrev pub running_options : List Rule
+running_options = tries_option ∷ telling_options
+
 -- all options of a load
 abbrev pub load_options : List Rule
-load_options = client_options ++ task_options ++ telling_options
+load_options = drawing_options ++ running_options
 
 -- a subcommand with these options
 abbrev pub with_options : Text → List Rule → Shape
@@ -171,7 +183,7 @@ judging_commands = with_options (codes "check") []
 -- the subcommands that run a load or write its tasks
 abbrev pub load_commands : List Shape
 load_commands = with_options (codes "load") load_options
-    ∷ with_options (codes "tasks") load_options ∷ []
+    ∷ with_options (codes "tasks") drawing_options ∷ []
 
 -- a command with further subcommands
 abbrev pub with_commands : App → List Shape → App
@@ -259,16 +271,31 @@ pub record IsSearchOfRows (rows : List Row) (search : Search) : Type 0 where
   pub steps : Gives rows (codes "steps") search.steps
   pub progress : Says rows (codes "progress") search.progress
 
--- the rows of clap have all that a judge needs besides its blocks
+-- true if a value stands in the words, and is no default
+abbrev pub is_of_words : Option ValueSource → Bool
+is_of_words (Some CommandLine) = true
+is_of_words source = false
+
+-- true if the words themselves give the option
+abbrev pub is_given : Text → List Row → Bool
+is_given option rows =
+    is_of_words (option_and_then (λ row. row.source) (find (λ row. bytes_eq row.id option) rows))
+
+-- the rows of clap have all that a judge needs
 pub record HasJudging (rows : List Row) : Type 0 where
+  pub blocks : GivesIn rows (codes "blocks") 1 MOST_BLOCKS
   pub any_order : IsFlag rows (codes "any-order")
   pub search : HasSearch rows
 
--- the judge's settings are those that its options give
+-- the judge's settings are those that its options give; the words name a search if they give its
+-- number of steps or ask for its progress
 pub record IsJudging (rows : List Row) (how : Judging) : Type 0 where
+  pub blocks : Gives rows (codes "blocks") how.blocks
+  pub room : is_block_count how.blocks ≡ true
   pub tasks : NamesFile rows (codes "tasks") how.tasks
   pub any_order : Says rows (codes "any-order") how.any_order
   pub search : IsSearchOfRows rows how.search
+  pub named : how.names_search ≡ (is_given (codes "steps") rows || how.search.progress)
 
 -- the rows of clap say of each flag of a load whether it is set
 pub record HasFlags (rows : List Row) : Type 0 where
@@ -277,9 +304,8 @@ pub record HasFlags (rows : List Row) : Type 0 where
   pub history : IsFlag rows (codes "history")
   pub attempts : IsFlag rows (codes "attempts")
 
--- the rows of clap give each option of a load a number in its range, and say of each flag whether
--- it is set
-pub record HasSettings (rows : List Row) : Type 0 where
+-- the rows of clap give each option that determines the tasks a number in its range
+pub record HasDrawing (rows : List Row) : Type 0 where
   pub clients : GivesIn rows (codes "clients") 1 MOST_CLIENTS
   pub tasks : GivesIn rows (codes "tasks") 1 MOST_TASKS
   pub items : GivesIn rows (codes "items") 1 MOST_ITEMS
@@ -288,13 +314,18 @@ pub record HasSettings (rows : List Row) : Type 0 where
   pub user : GivesIn rows (codes "user") 0 PERCENT
   pub seed : GivesIn rows (codes "seed") 0 MOST_NUMBER
   pub blocks : GivesIn rows (codes "blocks") 1 MOST_BLOCKS
-  pub tries : GivesIn rows (codes "tries") 1 MOST_TRIES
   pub rounds : GivesIn rows (codes "rounds") 1 MOST_ROUNDS
+
+-- the rows of clap give each option of a load a number in its range, and say of each flag whether
+-- it is set
+pub record HasLoad (rows : List Row) : Type 0 where
+  pub drawing : HasDrawing rows
+  pub tries : GivesIn rows (codes "tries") 1 MOST_TRIES
   pub flags : HasFlags rows
 
--- each setting is the value of the option of its name; the last version, which has no option, is
--- the largest
-pub record AreGiven (rows : List Row) (s : Settings) : Type 0 where
+-- each setting that determines the tasks is the value of the option of its name; the last version,
+-- which has no option, is the largest
+pub record AreDrawn (rows : List Row) (s : Settings) : Type 0 where
   pub clients : Gives rows (codes "clients") s.clients
   pub tasks : Gives rows (codes "tasks") s.tasks
   pub items : Gives rows (codes "items") s.items
@@ -303,9 +334,13 @@ pub record AreGiven (rows : List Row) (s : Settings) : Type 0 where
   pub user : Gives rows (codes "user") s.user
   pub seed : Gives rows (codes "seed") s.seed
   pub blocks : Gives rows (codes "blocks") s.blocks
-  pub tries : Gives rows (codes "tries") s.tries
   pub last : s.last + 1 ≡ VERSION_LIMIT
   pub rounds : Gives rows (codes "rounds") s.rounds
+
+-- each setting is the value of the option of its name
+pub record AreGiven (rows : List Row) (s : Settings) : Type 0 where
+  pub drawn : AreDrawn rows s
+  pub tries : Gives rows (codes "tries") s.tries
 
 -- the output of a load is as its flags say
 pub record IsTold (rows : List Row) (how : How) : Type 0 where
@@ -330,8 +365,8 @@ AsksFor words (Run blocks) = (rows : List Row) × Names words (codes "run") rows
 AsksFor words (Dump blocks) = (rows : List Row) × Names words (codes "dump") rows
     × Gives rows (codes "blocks") blocks × (is_block_count blocks ≡ true)
 AsksFor words Check = (rows : List Row) × Names words (codes "check") rows
-AsksFor words (Judge blocks how) = (rows : List Row) × Names words (codes "judge") rows
-    × Gives rows (codes "blocks") blocks × (is_block_count blocks ≡ true) × IsJudging rows how
+AsksFor words (Judge how) =
+    (rows : List Row) × Names words (codes "judge") rows × IsJudging rows how
 AsksFor words (Order blocks search) = (rows : List Row) × Names words (codes "order") rows
     × Gives rows (codes "blocks") blocks × (is_block_count blocks ≡ true)
     × IsSearchOfRows rows search
@@ -340,4 +375,4 @@ AsksFor words (Opaque n) = (rows : List Row) × Names words (codes "opaque") row
 AsksFor words (Load settings how) = (rows : List Row) × Names words (codes "load") rows
     × AreGiven rows settings × IsTold rows how
 AsksFor words (Tasks settings) = (rows : List Row) × Names words (codes "tasks") rows
-    × AreGiven rows settings
+    × AreDrawn rows settings × (settings.tries ≡ DRAWN_TRIES)

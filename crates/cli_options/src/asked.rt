@@ -6,12 +6,14 @@ ghost use Rattle.clap.specs.Words.{FailsBy, Row, Text, fault_of, found_of, rows_
 ghost use Rattle.clap.specs.Words.{subcommand_of, subcommand_rows_of};
 ghost use Rattle.vac_model.specs.declared.limits.TheConstants.{MOST_BLOCKS};
 ghost use Rattle.vac_model.specs.Ranges.{is_block_count};
-ghost use Rattle.cli_options.specs.CommandLine.{vacation, Gives, GivesIn, HasSettings, AreGiven};
+ghost use Rattle.cli_options.specs.CommandLine.{vacation, Gives, GivesIn, HasDrawing, AreDrawn};
+ghost use Rattle.cli_options.specs.CommandLine.{HasLoad, AreGiven, is_given, is_of_words};
 ghost use Rattle.cli_options.specs.CommandLine.{Says, IsFlag, HasFlags, IsTold, NamesFile, AsksFor};
 ghost use Rattle.cli_options.specs.CommandLine.{IsFoundIn};
 ghost use Rattle.cli_options.specs.CommandLine.{HasSearch, IsSearchOfRows, HasJudging, IsJudging};
 
 use crate::options::command_line;
+use clap::parser::ValueSource;
 use clap::{ArgMatches, Error};
 use load_draws::Settings;
 use std::alloc::Global;
@@ -19,6 +21,10 @@ use stm_words::VERSION_LIMIT;
 
 /// Largest value of an option for any 64-bit number: the seed of a load, or the steps of a search.
 pub const MOST_NUMBER: u64 = u64::MAX;
+
+/// Attempts of a task in the settings of a load that is only drawn and not run. The tasks are the
+/// same for any number.
+const DRAWN_TRIES: u32 = 1;
 
 /// The output of a load besides its two lines.
 #[derive(Clone, Copy)]
@@ -50,12 +56,16 @@ pub struct Search {
 /// The settings of a judge of a history.
 #[derive(Clone, Copy)]
 pub struct Judging<'a> {
+    /// Number of blocks of the system that was called.
+    pub blocks: u32,
     /// The file of the tasks against which the history is checked.
     pub tasks: Option<&'a str>,
     /// True if the judge searches for a linearization instead of trusting the order of the lines.
     pub any_order: bool,
     /// The settings of that search.
     pub search: Search,
+    /// True if the command line itself gives a setting of that search.
+    pub names_search: bool,
 }
 
 /// The request that a command line makes.
@@ -66,8 +76,8 @@ pub enum Asked<'a> {
     Dump(u32),
     /// Audits the words of a memory.
     Check,
-    /// Judges a history of a system of this many blocks.
-    Judge(u32, Judging<'a>),
+    /// Judges a history.
+    Judge(Judging<'a>),
     /// Finds a linearization of a history of a system of this many blocks.
     Order(u32, Search),
     /// Judges attempts on a memory of this many words.
@@ -170,15 +180,36 @@ fn search_of(matches: &ArgMatches) -> Search
     }
 }
 
+/// Returns whether a value stands in the words, and is no default.
+fn is_of_words(source: Option<ValueSource>) -> bool
+    ensures { result ≡ is_of_words source }
+{
+    match source {
+        Some(ValueSource::CommandLine) => true,
+        Some(ValueSource::DefaultValue) => false,
+        None => false,
+    }
+}
+
+/// Returns whether the words themselves give an option, so that its value is no default.
+fn is_given(matches: &ArgMatches, option: &str) -> bool
+    ensures { result ≡ is_given option.now (rows_of (found_of matches.now)) }
+{
+    is_of_words(matches.value_source(option))
+}
+
 /// Returns the settings of a judge of a history.
 fn judging_of<'a>(matches: &ArgMatches<'a>) -> Judging<'a>
     requires { HasJudging (rows_of (found_of matches.now)) }
     ensures { IsJudging (rows_of (found_of matches.now)) result }
 {
+    let search = search_of(matches);
     Judging {
+        blocks: blocks_of(matches),
         tasks: file_of(matches),
         any_order: flag_of(matches, "any-order"),
-        search: search_of(matches),
+        search,
+        names_search: is_given(matches, "steps") || search.progress,
     }
 }
 
@@ -192,10 +223,12 @@ fn words_of(matches: &ArgMatches) -> u32
     number_of(matches, "words")
 }
 
-/// Returns the settings of a load: the values of its options, or their defaults.
-fn settings_of(matches: &ArgMatches) -> Settings
-    requires { HasSettings (rows_of (found_of matches.now)) }
-    ensures { AreGiven (rows_of (found_of matches.now)) result }
+/// Returns the settings of a load with this number of attempts of a task: the values of the other
+/// options, or their defaults.
+fn settings_of(matches: &ArgMatches, tries: u32) -> Settings
+    requires { HasDrawing (rows_of (found_of matches.now)) }
+    ensures drawn { AreDrawn (rows_of (found_of matches.now)) result }
+    ensures tries { result.tries ≡ tries }
 {
     Settings {
         clients: number_of(matches, "clients"),
@@ -206,10 +239,18 @@ fn settings_of(matches: &ArgMatches) -> Settings
         user: number_of(matches, "user"),
         seed: any_number_of(matches, "seed"),
         blocks: number_of(matches, "blocks"),
-        tries: number_of(matches, "tries"),
+        tries,
         last: VERSION_LIMIT - 1,
         rounds: number_of(matches, "rounds"),
     }
+}
+
+/// Returns the number of attempts of a task that a load gives, or the default.
+fn tries_of(matches: &ArgMatches) -> u32
+    requires { HasLoad (rows_of (found_of matches.now)) }
+    ensures { Gives (rows_of (found_of matches.now)) (codes "tries") result }
+{
+    number_of(matches, "tries")
 }
 
 /// Returns the request in words that clap has parsed.
@@ -227,7 +268,7 @@ fn asked_of<'a>(matches: &ArgMatches<'a>) -> Asked<'a>
         return Asked::Check;
     }
     if let Some(judge) = named(matches, "judge") {
-        return Asked::Judge(blocks_of(judge), judging_of(judge));
+        return Asked::Judge(judging_of(judge));
     }
     if let Some(order) = named(matches, "order") {
         return Asked::Order(blocks_of(order), search_of(order));
@@ -236,10 +277,10 @@ fn asked_of<'a>(matches: &ArgMatches<'a>) -> Asked<'a>
         return Asked::Opaque(words_of(opaque));
     }
     if let Some(tasks) = named(matches, "tasks") {
-        return Asked::Tasks(settings_of(tasks));
+        return Asked::Tasks(settings_of(tasks, DRAWN_TRIES));
     }
     match named(matches, "load") {
-        Some(load) => Asked::Load(settings_of(load), how_of(load)),
+        Some(load) => Asked::Load(settings_of(load, tries_of(load)), how_of(load)),
         None => unreachable!(),
     }
 }

@@ -5,8 +5,9 @@ ghost use Rattle.clap.specs.Words.{AddsArg, AddsSubcommand, app_of};
 ghost use Rattle.cli_options.specs.CommandLine.{valued_option, number_parser, number_option};
 ghost use Rattle.cli_options.specs.CommandLine.{any_number_option, blocks_option, flag};
 ghost use Rattle.cli_options.specs.CommandLine.{file_option, words_option, with_options};
-ghost use Rattle.cli_options.specs.CommandLine.{client_options, task_options, telling_options};
-ghost use Rattle.cli_options.specs.CommandLine.{load_options, searching_options, judging_options};
+ghost use Rattle.cli_options.specs.CommandLine.{client_options, task_options, drawing_options};
+ghost use Rattle.cli_options.specs.CommandLine.{running_options, load_options};
+ghost use Rattle.cli_options.specs.CommandLine.{searching_options, judging_options};
 ghost use Rattle.cli_options.specs.CommandLine.{top_command, script_commands, judging_commands};
 ghost use Rattle.cli_options.specs.CommandLine.{load_commands, vacation, IsOption, IsCommand};
 ghost use Rattle.cli_options.specs.CommandLine.{GetsOptions, GetsCommands};
@@ -85,14 +86,11 @@ fn file_option<'a>(alloc: Global) -> Arg<'a>
         .help("Checks the history against the workload in this file, as tasks writes it")
 }
 
-/// Returns a flag, which the help shows if `is_shown`.
-fn flag<'a>(alloc: Global, name: &'a str, is_shown: bool) -> Arg<'a>
+/// Returns a flag.
+fn flag<'a>(alloc: Global, name: &'a str) -> Arg<'a>
     ensures { IsOption result (flag name.now) }
 {
-    Arg::new(alloc, name)
-        .long(name)
-        .hide(!is_shown)
-        .action(ArgAction::SetTrue)
+    Arg::new(alloc, name).long(name).action(ArgAction::SetTrue)
 }
 
 /// Adds an option to a command.
@@ -103,7 +101,7 @@ fn add_option<'a>(command: Made<'a>, option: Arg<'a>) -> Made<'a>
     command?.arg(option)
 }
 
-/// Adds the options of a load for its clients, tasks, rounds and attempts.
+/// Adds the options for the clients of a load and the number of their tasks.
 fn add_client_options<'a>(alloc: Global, command: Made<'a>) -> Made<'a>
     ensures { GetsOptions command.entry client_options result }
 {
@@ -116,12 +114,10 @@ fn add_client_options<'a>(alloc: Global, command: Made<'a>) -> Made<'a>
     let rounds = number_option(alloc, "rounds", 1, MOST_ROUNDS, "1").help(
         "Rounds, each with a new version clock",
     );
-    let tries = number_option(alloc, "tries", 1, MOST_TRIES, "64").help("Most attempts of a task");
-    let command = add_option(add_option(command, clients), tasks);
-    add_option(add_option(command, rounds), tries)
+    add_option(add_option(add_option(command, clients), tasks), rounds)
 }
 
-/// Adds the options that determine the tasks of a load.
+/// Adds the options for the tasks that each client of a load draws.
 fn add_task_options<'a>(alloc: Global, command: Made<'a>) -> Made<'a>
     ensures { GetsOptions command.entry task_options result }
 {
@@ -145,34 +141,37 @@ fn add_task_options<'a>(alloc: Global, command: Made<'a>) -> Made<'a>
     add_option(add_option(command, seed), blocks_option(alloc))
 }
 
-/// Adds the flags for the output of a load. If no load is run, the flags change nothing and the
-/// help does not show them.
-fn add_telling_options<'a>(alloc: Global, command: Made<'a>, is_run: bool) -> Made<'a>
-    ensures { GetsOptions command.entry telling_options result }
+/// Adds all options that determine the tasks of a load.
+fn add_drawing_options<'a>(alloc: Global, command: Made<'a>) -> Made<'a>
+    ensures { GetsOptions command.entry drawing_options result }
 {
-    let progress = flag(alloc, "progress", is_run).help(
-        "Reports completed tasks on standard error, at most twice a second",
-    );
-    let stats = flag(alloc, "stats", is_run).help(
-        "Reports time, attempts and conflicts on standard error",
-    );
-    let history = flag(alloc, "history", is_run).help(
-        "Writes the completed calls for judge; the two lines go to standard error",
-    );
-    let attempts = flag(alloc, "attempts", is_run).help(
-        "Writes the attempts for opaque; the two lines go to standard error",
-    );
-    let command = add_option(add_option(command, progress), stats);
-    add_option(add_option(command, history), attempts)
+    add_task_options(alloc, add_client_options(alloc, command))
 }
 
-/// Adds all options of a load, for the subcommand that runs the load or for the one that writes
-/// its tasks.
-fn add_load_options<'a>(alloc: Global, command: Made<'a>, is_run: bool) -> Made<'a>
+/// Adds the options of a load that do not change its tasks.
+fn add_running_options<'a>(alloc: Global, command: Made<'a>) -> Made<'a>
+    ensures { GetsOptions command.entry running_options result }
+{
+    let tries = number_option(alloc, "tries", 1, MOST_TRIES, "64").help("Most attempts of a task");
+    let progress = flag(alloc, "progress").help(
+        "Reports completed tasks on standard error, at most twice a second",
+    );
+    let stats = flag(alloc, "stats").help("Reports time, attempts and conflicts on standard error");
+    let history = flag(alloc, "history").help(
+        "Writes the completed calls for judge; the two lines go to standard error",
+    );
+    let attempts = flag(alloc, "attempts").help(
+        "Writes the attempts for opaque; the two lines go to standard error",
+    );
+    let command = add_option(add_option(command, tries), progress);
+    add_option(add_option(add_option(command, stats), history), attempts)
+}
+
+/// Adds all options of a load.
+fn add_load_options<'a>(alloc: Global, command: Made<'a>) -> Made<'a>
     ensures { GetsOptions command.entry load_options result }
 {
-    let command = add_client_options(alloc, command);
-    add_telling_options(alloc, add_task_options(alloc, command), is_run)
+    add_running_options(alloc, add_drawing_options(alloc, command))
 }
 
 /// Adds the options of a search for a linearization.
@@ -182,7 +181,7 @@ fn add_searching_options<'a>(alloc: Global, command: Made<'a>) -> Made<'a>
     let steps = any_number_option(alloc, "steps", "10000000").help(
         "Most steps of each of the two searches",
     );
-    let progress = flag(alloc, "progress", true).help(
+    let progress = flag(alloc, "progress").help(
         "Reports the progress of the search on standard error, at most twice a second",
     );
     add_option(add_option(command, steps), progress)
@@ -219,8 +218,8 @@ fn opaque_command<'a>(alloc: Global) -> Made<'a>
 fn judge_command<'a>(alloc: Global) -> Made<'a>
     ensures { IfOk result (λ c. IsCommand c (with_options (codes "judge") judging_options)) }
 {
-    let any_order = flag(alloc, "any-order", true).help(
-        "Searches for a linearization instead of trusting the order of the lines",
+    let any_order = flag(alloc, "any-order").help(
+        "Searches for a linearization instead of trusting the lines; needed by --steps, --progress",
     );
     let command = Command::new(alloc, "judge")
         .about("Judges whether the lines of the history on standard input are a linearization")
@@ -263,8 +262,8 @@ fn add_load_commands<'a>(alloc: Global, top: Made<'a>) -> Made<'a>
     let tasks = Command::new(alloc, "tasks")
         .about("Writes the tasks that a load of these options draws, one a line, and runs nothing")
         .after_help("Example:\n  vacation tasks --clients 2 --tasks 3");
-    let top = add_command(top, add_load_options(alloc, Ok(load), true));
-    add_command(top, add_load_options(alloc, Ok(tasks), false))
+    let top = add_command(top, add_load_options(alloc, Ok(load)));
+    add_command(top, add_drawing_options(alloc, Ok(tasks)))
 }
 
 /// Adds the subcommands that judge memories, histories and attempts.

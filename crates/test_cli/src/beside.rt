@@ -4,7 +4,7 @@ ghost use Rattle.std.specs.Prelude.{◌≡◌, ◌*◌};
 use crate::loading::opened;
 use crate::same::{holds, same};
 use crate::small_load::SETTINGS;
-use load_run::{FixedDraws, PcgDraws, Settings, Tally, client_loop};
+use load_run::{FixedDraws, PcgDraws, Settings, Tally, count_loop};
 use std::alloc::Global;
 use std::process::Abort;
 use std::sync::atomic::{AtomicU32, Ordering};
@@ -13,7 +13,7 @@ use std::thread;
 use std::thread::Threads;
 use stm_attempt::{Gate, Point};
 use vac_audit::{AuditFault, audit_words};
-use vac_manager::{Client, Manager, call};
+use vac_manager::{Client, Manager, Unkept, call};
 use vac_model::{Command, Reply, Report, Task};
 
 /// Number of loops.
@@ -107,7 +107,9 @@ fn run_loop(alloc: Global, manager: &Manager, client: Client, shown: &Shown, str
     let mut caller = manager.caller(client);
     let mut draws = PcgDraws::new(TRIPS.seed, stream);
     let mut gate = Paced { shown, answers: 0 };
-    let tally = client_loop(alloc, &mut caller, &mut draws, &TRIPS, &mut gate);
+    let keep = &mut Unkept;
+    let counts = count_loop(alloc, &mut caller, &mut draws, &TRIPS, &mut gate, keep);
+    let (tally, _efforts) = counts.apart();
     shown.over.fetch_add(1, Ordering::SeqCst);
     (caller.into_user(), tally)
 }
@@ -162,14 +164,14 @@ fn two_loops<R: Threads + Sync>(
     rt: &R,
     alloc: Global,
     manager: &Manager,
-    first: Client,
-    second: Client,
+    clients: (Client, Client),
     shown: &Shown,
     stream: u64,
 ) -> (Looped, Looped)
-    requires { (first.table ≡ manager.now.table) × (second.table ≡ manager.now.table) }
+    requires { (clients.0.table ≡ manager.now.table) × (clients.1.table ≡ manager.now.table) }
     ensures { (result.0.0.table ≡ manager.now.table) × (result.1.0.table ≡ manager.now.table) }
 {
+    let (first, second) = clients;
     let next = stream.wrapping_add(1);
     thread::join(
         rt,
@@ -200,14 +202,14 @@ fn two_loops_and_reports<R: Threads + Sync>(
         × (result.0.1.0.table ≡ manager.now.table) }
     ensures other { result.1.0.table ≡ manager.now.table }
 {
-    let (first, second) = clients;
     thread::join(
         rt,
         move || -> (Looped, Looped)
-            requires { (first.table ≡ manager.now.table) × (second.table ≡ manager.now.table) }
+            requires { (clients.0.table ≡ manager.now.table)
+                × (clients.1.table ≡ manager.now.table) }
             ensures { (result.0.0.table ≡ manager.entry.now.table)
                 × (result.1.0.table ≡ manager.entry.now.table) }
-        { two_loops(rt, alloc, manager, first, second, shown, 3) },
+        { two_loops(rt, alloc, manager, clients, shown, 3) },
         move || -> (Client, Reports)
             requires { other.table ≡ manager.now.table }
             ensures { result.0.table ≡ manager.entry.now.table }
@@ -265,7 +267,7 @@ fn four_loops_and_reports<R: Threads + Sync + Abort>(
             requires { (a.table ≡ manager.now.table) × (b.table ≡ manager.now.table) }
             ensures { (result.0.0.table ≡ manager.entry.now.table)
                 × (result.1.0.table ≡ manager.entry.now.table) }
-        { two_loops(rt, alloc, manager, a, b, shown, 1) },
+        { two_loops(rt, alloc, manager, (a, b), shown, 1) },
         move || -> ((Looped, Looped), (Client, Reports))
             requires { (c.table ≡ manager.now.table) × (d.table ≡ manager.now.table)
                 × (e.table ≡ manager.now.table) }

@@ -5,10 +5,10 @@ ghost use Rattle.load_draws.specs.Setting.{is_settings};
 use crate::loading::opened;
 use crate::same::same;
 use crate::small_load::SETTINGS;
-use load_run::{FixedDraws, Settings, Tally, client_loop};
+use load_run::{FixedDraws, Settings, Tally, count_loop};
 use std::alloc::Global;
 use stm_attempt::{Gate, Point};
-use vac_manager::{Caller, call};
+use vac_manager::{Caller, Unkept, call};
 use vac_model::{Command, Kind, Task};
 
 const RIVAL: Task = Task::One(Command::Reserve {
@@ -44,7 +44,9 @@ fn loop_beside_rival(
     requires { is_settings settings.now ≡ true }
 {
     let mut gate = Rival { other, answered: 0 };
-    let tally = client_loop(alloc, caller, &mut FixedDraws(0), settings, &mut gate);
+    let mut draws = FixedDraws(0);
+    let counts = count_loop(alloc, caller, &mut draws, settings, &mut gate, &mut Unkept);
+    let (tally, _efforts) = counts.apart();
     (tally, gate.answered)
 }
 

@@ -41,7 +41,7 @@ pub(crate) fn run_line<
 const VERSION: &[u8] = b"vacation 0.1.0\nrattle-kit-13f logic dac8208d650f15bf\n";
 
 /// Command lines, with their statuses and outputs.
-const ROWS: [(&[&str], u8, &[u8]); 16] = [
+const ROWS: [(&[&str], u8, &[u8]); 21] = [
     (&["vacation", "run"], 0, ANSWERS),
     (&["vacation", "run", "--blocks", "1"], 0, ANSWERS),
     (&["vacation", "run", "--blocks=262144"], 0, ANSWERS),
@@ -58,6 +58,11 @@ const ROWS: [(&[&str], u8, &[u8]); 16] = [
     (&["vacation", "-V", "run"], 0, VERSION),
     (&["vacation", "run", "--version"], 2, b""),
     (&["vacation", "--version=1"], 2, b""),
+    (&["vacation", "judge", "--steps", "9"], 2, b""),
+    (&["vacation", "judge", "--steps=10000000"], 2, b""),
+    (&["vacation", "judge", "--progress"], 2, b""),
+    (&["vacation", "tasks", "--history"], 2, b""),
+    (&["vacation", "tasks", "--tries", "64"], 2, b""),
 ];
 
 #[test]

@@ -3,13 +3,15 @@
 ghost use Rattle.std.specs.Prelude.{◌≡◌, true, IfOk};
 ghost use Rattle.load_draws.specs.Setting.{is_settings};
 
-use load_run::{Draws, FixedDraws, LoadFault, LoadReport, Settings, open, run_load, run_load_with};
+use load_run::{
+    Draws, FixedDraws, LoadFault, LoadReport, Settings, open_kept, run_load, run_load_with,
+};
 use std::alloc::Global;
 use std::process::Abort;
 use std::sync::Wait;
 use std::thread::Threads;
 use stm_attempt::{Gate, NoGate};
-use vac_manager::{Client, Fault, Manager};
+use vac_manager::{Client, Fault, Manager, Unkept};
 
 /// Runs a load of one client that draws only zeros.
 pub(crate) fn load_of_zeros<R: Threads + Wait + AllocGlobal>(
@@ -56,7 +58,7 @@ pub(crate) fn opened<D: Draws>(
 {
     let (manager, client) = Manager::new(alloc, settings.blocks, settings.last)?;
     let mut caller = manager.caller(client);
-    open(&mut caller, draws, settings)?;
+    open_kept(&mut caller, draws, settings, &mut Unkept)?;
     let client = caller.into_user();
     Ok((manager, client))
 }

@@ -6,10 +6,10 @@ ghost use Rattle.load_draws.specs.Setting.{is_settings};
 use crate::loading::opened;
 use crate::same::same;
 use crate::small_load::{SETTINGS, THREE_TRIPS, all_answered, spent_at};
-use load_run::{Draws, FixedDraws, PcgDraws, Settings, Tally, client_loop};
+use load_run::{Draws, FixedDraws, PcgDraws, Settings, Tally, count_loop};
 use std::alloc::Global;
 use stm_attempt::{Gate, Point};
-use vac_manager::{Fault, call};
+use vac_manager::{Fault, Unkept, call};
 use vac_model::{Command, Reply, Task};
 
 /// A gate that counts the completed calls.
@@ -37,7 +37,8 @@ fn loop_alone<D: Draws>(
     let mut gate = Answers(0);
     let (manager, client) = opened(alloc, settings, opening)?;
     let mut caller = manager.caller(client);
-    let tally = client_loop(alloc, &mut caller, draws, settings, &mut gate);
+    let counts = count_loop(alloc, &mut caller, draws, settings, &mut gate, &mut Unkept);
+    let (tally, _efforts) = counts.apart();
     let audit = call(&mut caller, &Task::One(Command::Audit), 1)?;
     Ok((tally, gate.0, audit))
 }
@@ -65,7 +66,16 @@ fn drawn_tasks_are_answered(rt: HostRuntime) {
     );
     let mut caller = manager.caller(client);
     let (mut draws, mut gate) = (PcgDraws::new(1, 1), Answers(0));
-    let tally = client_loop(rt.alloc(), &mut caller, &mut draws, &settings, &mut gate);
+    let alloc = rt.alloc();
+    let counts = count_loop(
+        alloc,
+        &mut caller,
+        &mut draws,
+        &settings,
+        &mut gate,
+        &mut Unkept,
+    );
+    let (tally, _efforts) = counts.apart();
     same(&rt, &(tally, gate.0), &(all_answered(200), 200));
 }
 

@@ -84,6 +84,61 @@ fn histories_against_work(rt: HostRuntime) {
     }
 }
 
+/// Tasks in the file, a history, the status of the judge in any order, and its output. Lines are
+/// those of the history, and a call that the order leaves out is told apart from a missing task.
+const IN_ANY_ORDER: [(&[u8], &[u8], u8, &[u8]); 7] = [
+    (b"1 newcust 1\n", HISTORY, 0, WHOLE),
+    (
+        b"1 newcust 1\n2 bill 1\n",
+        b"2 3 9 bill 1 -> 0\n1 0 5 newcust 1 -> true\n",
+        0,
+        b"legal calls=2 clients=2\ncars=0 flights=0 rooms=0 customers=1 bookings=0 used=0 free=0 \
+            total=0 billed=0\n",
+    ),
+    (
+        b"1 newcust 1\n2 bill 1\n",
+        b"2 3 9 bill 2 -> -1\n1 0 5 newcust 1 -> true\n",
+        1,
+        b"illegal task 1\n",
+    ),
+    (
+        b"1 newcust 1\n2 bill 1\n",
+        b"2 6 - bill 1 -> ?\n1 0 5 newcust 1 -> true\n",
+        1,
+        b"illegal pending 1\n",
+    ),
+    (
+        b"1 newcust 1\n2 bill 1\n",
+        HISTORY,
+        1,
+        b"illegal missing 2 1\n",
+    ),
+    (b"1 newcust\n", HISTORY, 1, b"fault bad-tasks 1\n"),
+    (
+        b"1 newcust 1\n",
+        b"1 0 5 bill 1 -> 7\n",
+        1,
+        b"illegal order 0\nstuck 1 -1\n",
+    ),
+];
+
+#[test]
+fn histories_in_any_order_against_work(rt: HostRuntime) {
+    for (bytes, history, status, output) in IN_ANY_ORDER {
+        let files = Shelf {
+            bytes,
+            fails_at: NEVER,
+            missing: ErrorKind::NotFound,
+        };
+        let mut input = history;
+        let mut out = Sink::new(rt.alloc(), NEVER, NEVER, Stop::Nothing);
+        let words = &["vacation", "judge", "--any-order", "--tasks", NAME];
+        let ended = run_line(&rt, &files, words, &mut input, &mut out);
+        let found = (ended, out.taken.as_slice(), out.is_flushed);
+        same(&rt, &found, &((status, true), output, true));
+    }
+}
+
 /// The name of the file, the read of the file that fails, the error of opening other files, the
 /// output, and the number of reads of the history.
 const FAILING: [(&str, usize, ErrorKind, &[u8], usize); 4] = [

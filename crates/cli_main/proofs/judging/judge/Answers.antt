@@ -1,15 +1,11 @@
-use Rattle.std.proofs.Common.{rules}
-use Rattle.cli_main.proofs.Judgement.{judged_as, any_judged_as, not_opened_as}
+use Rattle.std.proofs.Common.{sym, ◌∙◌}
+use Rattle.cli_main.proofs.Judgement.{refused_as, asked_as}
 use Rattle.cli_main.proofs.judging.judge.Goals as goal
 
-pub returns-in-Err : goal.returns-in-Err
-returns-in-Err g c = not_opened_as (g.F.Open.holds c.args.files.now) c.args.how.any_order c.args.how.tasks _ _ _ _ _ _
-    c.in-Err.ensures.named c.in-Err.ensures.refused
+pub returns-then-has_stray_settings : goal.returns-then-has_stray_settings
+returns-then-has_stray_settings g c = refused_as _ _ _ _ _
+    (sym c.has_stray_settings.ensures ∙ c.if-has_stray_settings.true) c.refuse_search.ensures
 
-pub returns-then-how : goal.returns-then-how
-returns-then-how g c = any_judged_as (g.F.Open.holds c.args.files.now) c.args.how.any_order c.args.how.tasks _ _ _ _ _ _
-    _ _ _ (search rules) c.in-Ok.ensures.opened c.in-Ok.ensures.unwritten c.judge_any.ensures
-
-pub returns-else-how : goal.returns-else-how
-returns-else-how g c = judged_as (g.F.Open.holds c.args.files.now) c.args.how.any_order c.args.how.tasks _ _ _ _ _ _
-    _ _ _ (search rules) c.in-Ok.ensures.opened c.in-Ok.ensures.unwritten c.judge_with.ensures
+pub returns : goal.returns
+returns g c = asked_as _ _ _ _ _ _ _ (sym c.has_stray_settings.ensures ∙ c.if-has_stray_settings.false)
+    c.judge_as.ensures

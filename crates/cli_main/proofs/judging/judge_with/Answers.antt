@@ -1,17 +1,9 @@
 use Rattle.std.proofs.Common.{leb-true, ℕ, List, Option, ap, sym, subst}
 use Rattle.std.specs.Prelude.{option_map}
 use Rattle.std.proofs.lemmas.Bool.{and_parts}
-use Rattle.judge_calls.specs.Reading.{HasJudged, HasStoppedJudging}
-use Rattle.cli_main.specs.Judging.{JudgeStopped, JudgesWith}
-use Rattle.cli_main.proofs.Ending.{judged}
-use Rattle.cli_main.proofs.Judgement.{judge_stopped, held_judged}
+use Rattle.cli_main.specs.Judging.{JudgesWith}
+use Rattle.cli_main.proofs.Judgement.{held_judged}
 use Rattle.cli_main.proofs.judging.judge_with.Goals as goal
-
-pub judge_history-requires-clause-some : goal.judge_history-requires-clause-some
-judge_history-requires-clause-some g c = leb-true _ _ (and_parts _ _ c.requires).0
-
-pub judge_history-requires-clause-most : goal.judge_history-requires-clause-most
-judge_history-requires-clause-most g c = leb-true _ _ (and_parts _ _ c.requires).1
 
 pub judge_work-requires-clause-some : goal.judge_work-requires-clause-some
 judge_work-requires-clause-some g c = leb-true _ _ (and_parts _ _ c.requires).0
@@ -21,22 +13,16 @@ judge_work-requires-clause-most g c = leb-true _ _ (and_parts _ _ c.requires).1
 
 pub returns-in-None : goal.returns-in-None
 returns-in-None g c =
-    let unread = g.R.Read.remaining c.args.input.now in
-    let left = g.R.Read.remaining c.judge_history.new.input in
-    let held = g.W.Write.contents c.args.output.now in
-    subst (λ (w : Option (Option (List ℕ))). JudgesWith w c.args.blocks c.end_judged.result unread left held
-    (g.W.Write.contents c.end_judged.new.output)) (sym (ap (option_map g.F.Read.remaining) c.in-None.is))
-    (judged (λ legal h. HasJudged c.args.blocks legal unread left held h)
-    (λ fault. HasStoppedJudging c.args.blocks fault unread left held (g.W.Write.contents c.judge_history.new.output))
-    (JudgeStopped c.args.blocks unread left held (g.W.Write.contents c.end_judged.new.output))
-    c.judge_history.result _ _ _ (λ fault s line. judge_stopped c.args.blocks fault unread left held _ _ s line)
-    c.judge_history.ensures.ok c.judge_history.ensures.err c.end_judged.ensures)
+    subst (λ (w : Option (Option (List ℕ))). JudgesWith w c.args.blocks c.judge_alone.result
+    (g.R.Read.remaining c.args.input.now) (g.R.Read.remaining c.judge_alone.new.input)
+    (g.W.Write.contents c.args.output.now) (g.W.Write.contents c.judge_alone.new.output))
+    (sym (ap (option_map g.F.Read.remaining) c.in-None.is)) c.judge_alone.ensures
 
 pub returns-in-Some : goal.returns-in-Some
 returns-in-Some g c =
-    subst (λ (w : Option (Option (List ℕ))). JudgesWith w c.args.blocks c.end_judged-in-Some.result
+    subst (λ (w : Option (Option (List ℕ))). JudgesWith w c.args.blocks c.end_judged.result
     (g.R.Read.remaining c.args.input.now) (g.R.Read.remaining c.judge_work.new.input)
-    (g.W.Write.contents c.args.output.now) (g.W.Write.contents c.end_judged-in-Some.new.output))
+    (g.W.Write.contents c.args.output.now) (g.W.Write.contents c.end_judged.new.output))
     (sym (ap (option_map g.F.Read.remaining) c.in-Some.is))
     (held_judged _ _ c.args.blocks c.judge_work.result _ _ _ _ _ _ c.judge_work.ensures.ok
-    c.judge_work.ensures.err c.end_judged-in-Some.ensures)
+    c.judge_work.ensures.err c.end_judged.ensures)

@@ -1,6 +1,6 @@
 use Rattle.std.proofs.Common.{◌∙◌, sym}
-use Rattle.cli_options.proofs.Naming.{run_blocks, dump_blocks, judge_blocks, judge_options, order_blocks, order_search}
-use Rattle.cli_options.proofs.Naming.{opaque_words, tasks_settings, load_settings, one_is_named, none_is_named}
+use Rattle.cli_options.proofs.Naming.{run_blocks, dump_blocks, judge_options, order_blocks, order_search}
+use Rattle.cli_options.proofs.Naming.{opaque_words, tasks_options, load_options, one_is_named, none_is_named}
 use Rattle.cli_options.proofs.asked.asked_of.Goals as goal
 
 pub blocks_of-requires : goal.blocks_of-requires
@@ -9,10 +9,6 @@ blocks_of-requires c = run_blocks c.requires.0 _ c.requires.1.taken (sym c.requi
 pub blocks_of-requires-in-Some-named : goal.blocks_of-requires-in-Some-named
 blocks_of-requires-in-Some-named c = dump_blocks c.requires.0 _ c.requires.1.taken
     (sym c.requires.1.found ∙ c.in-Some-named.ensures.some)
-
-pub blocks_of-requires-in-Some-named-2 : goal.blocks_of-requires-in-Some-named-2
-blocks_of-requires-in-Some-named-2 c = judge_blocks c.requires.0 _ c.requires.1.taken
-    (sym c.requires.1.found ∙ c.in-Some-named-2.ensures.some)
 
 pub judging_of-requires : goal.judging_of-requires
 judging_of-requires c = judge_options c.requires.0 _ c.requires.1.taken
@@ -31,15 +27,19 @@ words_of-requires c = opaque_words c.requires.0 _ c.requires.1.taken
     (sym c.requires.1.found ∙ c.in-Some-named-4.ensures.some)
 
 pub settings_of-requires : goal.settings_of-requires
-settings_of-requires c = tasks_settings c.requires.0 _ c.requires.1.taken
+settings_of-requires c = tasks_options c.requires.0 _ c.requires.1.taken
     (sym c.requires.1.found ∙ c.in-Some-named-5.ensures.some)
 
 pub settings_of-requires-in-Some-named-6 : goal.settings_of-requires-in-Some-named-6
-settings_of-requires-in-Some-named-6 c = load_settings c.requires.0 _ c.requires.1.taken
+settings_of-requires-in-Some-named-6 c = (load_options c.requires.0 _ c.requires.1.taken
+    (sym c.requires.1.found ∙ c.in-Some-named-6.ensures.some)).drawing
+
+pub tries_of-requires : goal.tries_of-requires
+tries_of-requires c = load_options c.requires.0 _ c.requires.1.taken
     (sym c.requires.1.found ∙ c.in-Some-named-6.ensures.some)
 
 pub how_of-requires : goal.how_of-requires
-how_of-requires c = (load_settings c.requires.0 _ c.requires.1.taken
+how_of-requires c = (load_options c.requires.0 _ c.requires.1.taken
     (sym c.requires.1.found ∙ c.in-Some-named-6.ensures.some)).flags
 
 pub unreachable-requires : goal.unreachable-requires
@@ -71,8 +71,6 @@ pub returns-in-Some-named-2 : goal.returns-in-Some-named-2
 returns-in-Some-named-2 c = λ words is. (
   _,
   sym is.found ∙ c.in-Some-named-2.ensures.some,
-  c.blocks_of-in-Some-named-2.ensures.given,
-  c.blocks_of-in-Some-named-2.ensures.range,
   c.judging_of.ensures,
 )
 
@@ -98,5 +96,6 @@ pub returns-in-Some-named-5 : goal.returns-in-Some-named-5
 returns-in-Some-named-5 c = λ words is. (
   _,
   sym is.found ∙ c.in-Some-named-5.ensures.some,
-  c.settings_of.ensures,
+  c.settings_of.ensures.drawn,
+  c.settings_of.ensures.tries,
 )

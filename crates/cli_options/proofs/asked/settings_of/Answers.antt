@@ -23,7 +23,4 @@ pub number_of-requires-7 : goal.number_of-requires-7
 number_of-requires-7 c = (_, _, omega arith, c.requires.blocks)
 
 pub number_of-requires-8 : goal.number_of-requires-8
-number_of-requires-8 c = (_, _, omega arith, c.requires.tries)
-
-pub number_of-requires-9 : goal.number_of-requires-9
-number_of-requires-9 c = (_, _, omega arith, c.requires.rounds)
+number_of-requires-8 c = (_, _, omega arith, c.requires.rounds)

@@ -9,6 +9,6 @@ returns c =
     let tasks = new_command _ _ _ _ _ _ c.new-2.ensures.app c.new-2.ensures.local c.about-2.ensures
     c.after_help-tasks.ensures in
     let with_load = command_gets (Ok c.after_help-load.result) _ _ _ _ refl load c.add_load_options.ensures in
-    let with_tasks = command_gets (Ok c.after_help-tasks.result) _ _ _ _ refl tasks c.add_load_options-2.ensures in
+    let with_tasks = command_gets (Ok c.after_help-tasks.result) _ _ _ _ refl tasks c.add_drawing_options.ensures in
     let s1 = command_more _ _ _ _ [] _ (no_command c.args.top) c.add_command-top.ensures with_load in
     command_more _ _ _ _ _ _ s1 c.add_command.ensures with_tasks

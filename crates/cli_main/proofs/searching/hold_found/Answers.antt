@@ -1,0 +1,14 @@
+use Rattle.std.proofs.Common.{leb-true}
+use Rattle.std.proofs.lemmas.Bool.{and_parts}
+use Rattle.cli_main.proofs.Judgement.{order_held}
+use Rattle.cli_main.proofs.searching.hold_found.Goals as goal
+
+pub judge_work_in_order-requires-clause-some : goal.judge_work_in_order-requires-clause-some
+judge_work_in_order-requires-clause-some g c = leb-true _ _ (and_parts _ _ c.requires).0
+
+pub judge_work_in_order-requires-clause-most : goal.judge_work_in_order-requires-clause-most
+judge_work_in_order-requires-clause-most g c = leb-true _ _ (and_parts _ _ c.requires).1
+
+pub returns : goal.returns
+returns g c = order_held _ _ c.args.blocks c.judge_work_in_order.result _ _ _ _ _ _ c.judge_work_in_order.ensures.ok
+    c.judge_work_in_order.ensures.err c.end_judged.ensures
