@@ -1,7 +1,8 @@
 #!/usr/bin/env python3
-"""Proves and builds the program, from crates/vacation, and the libraries that it stands on: side by side,
+"""Proves and builds the program of the crate in the current folder, and the libraries that it stands on: side by side,
 those with the longest chain behind them first. Its argument is how many processors it may use; it prints a
-line for each library that is done, and builds only what is not built already.
+line for each library that is done, and builds only what is not built already. A program that is built is run once,
+on no input.
 
 `rt all check` and `rt run` would do the same with one job a crate, so that most processors stand still
 while the last crates of the chain are proved. Here the one with the longest chain behind it gets a second
@@ -161,7 +162,8 @@ class Building:
         if program.compile(["--jobs", str(jobs)], f"{made}.o") or program.call(f"{kit.KIT}/bin/rattle-link", *words):
             self.tell(program)
             return False
-        ran = subprocess.run([f"{made}.new", "run"], stdin=subprocess.DEVNULL, check=False)
+        words = ["run"] if program.name == self.caller else []
+        ran = subprocess.run([f"{made}.new", *words], stdin=subprocess.DEVNULL, stdout=subprocess.DEVNULL, check=False)
         if ran.returncode == 0:
             os.replace(f"{made}.new", made)
         return ran.returncode == 0

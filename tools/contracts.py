@@ -2,6 +2,8 @@
 """Lists every clause of every public call, one on a line, so that two states of the tree can be compared.
 
     tools/contracts.py                  all clauses: CRATE FUNCTION requires|ensures NAME: TEXT
+    tools/contracts.py --write          writes them into docs/clauses.txt, so that a review shows each clause that went
+    tools/contracts.py --check          compares docs/clauses.txt with the tree; status 1 if they differ
     tools/contracts.py --since REV      what changed since a commit: clauses that went (-) and that came (+);
                                         a clause that only moved to another crate or function is marked (=)
 
@@ -16,6 +18,9 @@ from dataclasses import dataclass
 from pathlib import Path
 
 import ledger
+
+TOP = Path(__file__).resolve().parent.parent
+SNAPSHOT = TOP / "docs" / "clauses.txt"
 
 
 @dataclass(frozen=True, order=True)
@@ -48,9 +53,8 @@ def lines_of(root):
 
 def lines_at(revision):
     """The clauses of the tree at a commit."""
-    top = Path(__file__).resolve().parent.parent
     with tempfile.TemporaryDirectory() as folder:
-        archive = subprocess.run(["git", "-C", str(top), "archive", revision], stdout=subprocess.PIPE, check=True)
+        archive = subprocess.run(["git", "-C", str(TOP), "archive", revision], stdout=subprocess.PIPE, check=True)
         subprocess.run(["tar", "-x", "-C", folder], input=archive.stdout, check=True)
         return lines_of(Path(folder))
 
@@ -67,14 +71,24 @@ def print_changes(before, after):
         print("+", line)
 
 
+def snapshot():
+    """The text of the snapshot: each clause of each public call, in the order of the crates."""
+    return "".join(f"{line}\n" for line in lines_of(TOP))
+
+
 def main(words):
-    root = Path(__file__).resolve().parent.parent
     match words:
         case []:
-            print(*lines_of(root), sep="\n")
+            print(snapshot(), end="")
+        case ["--write"]:
+            SNAPSHOT.write_text(snapshot(), encoding="utf-8")
+        case ["--check"]:
+            if not SNAPSHOT.is_file() or SNAPSHOT.read_text(encoding="utf-8") != snapshot():
+                sys.exit("docs/clauses.txt differs from the tree: compare the clauses by git diff after "
+                         "./dev contracts --write")
         case ["--since", revision]:
             before = lines_at(revision)
-            print_changes(before, lines_of(root))
+            print_changes(before, lines_of(TOP))
         case _:
             sys.exit(__doc__)
 

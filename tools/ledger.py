@@ -1,15 +1,12 @@
 #!/usr/bin/env python3
-"""Writes docs/ledger: what each crate promises, as its own files say it.
+"""Writes out/ledger: what each crate promises, as its own files say it. A release has these pages as docs/ledger.
 
 A page for each crate of crates.txt has its public calls with the first sentence of their `///`, their
 clauses with the definitions that these cite and the first sentence of each definition's comment, the
 must-fail edits in their code, the tests that name them, and what is not said. That last stands right at
-the statement: lines `/// Not said: ..` of a call, lines `-- Not said: ..` above a definition.
-
-With --check nothing is written: the differences are told, and the status is 1 where there are any."""
+the statement: lines `/// Not said: ..` of a call, lines `-- Not said: ..` above a definition."""
 
 import re
-import sys
 from dataclasses import dataclass, field
 from functools import lru_cache
 from pathlib import Path
@@ -18,7 +15,7 @@ import sizes
 
 ROOT = Path(__file__).resolve().parent.parent
 CRATES = ROOT / "crates"
-PAGES = ROOT / "docs" / "ledger"
+PAGES = ROOT / "out" / "ledger"
 MOST_TESTS = 8
 MOST_CLAUSE = 72
 
@@ -748,11 +745,10 @@ def page_of(crate, tests, common):
 
 def index_of(crates, counts):
     out = ["# Ledger", "",
-           "What each crate promises, made from its own files by `tools/ledger.py`: change those, run it, "
-           "and commit what it writes. A promise is a clause of a public call, in the words of the "
-           "definition that it cites. What is not said stands where the statement stands. The promises "
-           "of the first page are in [PROMISES.md](../PROMISES.md); how large each crate is, in "
-           "[SIZES.md](SIZES.md).", "",
+           "This page is for whoever looks for a promise of one crate. It is made of the crates' own files by "
+           "`./dev ledger`. A promise is a clause of a public call, in the words of the definition that the clause "
+           "cites. What is not said stands where the statement stands. The promises of the first page are in "
+           "[PROMISES.md](../../docs/PROMISES.md); how large each crate is, in [SIZES.md](SIZES.md).", "",
            "An edit is a wrong body that the prover must refuse; it is listed at the function in whose "
            "text it stands. Where goals of that function are proved by hand, a refusal may say no more "
            "than that this proof does not fit the other body. A test is listed where it names the call, "
@@ -790,31 +786,15 @@ def pages():
     return written
 
 
-def differences(written):
-    told = []
-    there = {f.name for f in PAGES.glob("*.md")} if PAGES.is_dir() else set()
-    for name in sorted(there - set(written)):
-        told.append(f"docs/ledger/{name} is of no crate")
-    for name, text in written.items():
-        if name not in there or (PAGES / name).read_text() != text:
-            told.append(f"docs/ledger/{name} is not what tools/ledger.py makes")
-    return told
-
-
 def main():
     written = pages()
-    if sys.argv[1:] == ["--check"]:
-        told = differences(written)
-        for line in told:
-            print(f"ledger: {line}")
-        sys.exit(1 if told else 0)
-    PAGES.mkdir(exist_ok=True)
+    PAGES.mkdir(parents=True, exist_ok=True)
     for file in PAGES.glob("*.md"):
         if file.name not in written:
             file.unlink()
     for name, text in written.items():
         (PAGES / name).write_text(text)
-    print(f"ledger: {len(written)} pages")
+    print(f"ledger: {len(written)} pages in {PAGES.relative_to(ROOT)}")
 
 
 if __name__ == "__main__":

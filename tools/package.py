@@ -1,7 +1,8 @@
 #!/usr/bin/env python3
 """Packs a program that is built already, with its pages, its manual, the benchmark with its peers, the
-interface and the templates, as a tarball and as a package for Debian, with their sums. Its arguments are the program and the folder that gets them. The same
-commit and the same program give the same bytes: owners, modes, times and orders are fixed."""
+interface and the templates, as a tarball and as a package for Debian, with their sums. Its arguments are the
+program, the folder that gets them, and, to be packed beside the program, the judge of keys and values. The same
+commit and the same programs give the same bytes: owners, modes, times and orders are fixed."""
 
 import gzip
 import hashlib
@@ -16,6 +17,7 @@ import time
 from pathlib import Path
 from shutil import which
 
+import ledger
 import manual
 
 ROOT = Path(__file__).resolve().parent.parent
@@ -24,7 +26,9 @@ PAGES = ("JUDGE.md", "DATABASES.md", "USING.md", "RULES.md", "PROMISES.md", "THE
 LICENSES = ("LICENSE-MIT", "LICENSE-APACHE")
 # What is packed as it stands in the tree, beside pages and licenses: folders, files and pictures.
 AS_IT_STANDS = ("benchmark", "explain", "tools/explaining", "convert", "tools/converting", "include", "share",
-                "docs/*.svg", "docs/anomaly", "docs/histories", "docs/measured.csv")
+                "docs/*.svg", "docs/anomaly", "docs/histories", "docs/measured.csv", "docs/clauses.txt")
+# The judge of keys and values, beside the program.
+KEYS = "kv_judge"
 # Debian has a package named vacation already, which answers letters.
 DEBIAN_NAME = "pighvelo"
 PROGRAM_MODE, TEXT_MODE = 0o755, 0o644
@@ -41,11 +45,13 @@ def page(name):
 
 
 class Release:
-    """What is packed: the program, what it says of itself, and the commit."""
+    """What is packed: the programs by their names, what the first one says of itself, and the commit."""
 
-    def __init__(self, program):
+    def __init__(self, program, keys=None):
         self.program = Path(program).resolve()
-        self.bytes = self.program.read_bytes()
+        self.programs = {"vacation": self.program.read_bytes()}
+        if keys:
+            self.programs[KEYS] = Path(keys).read_bytes()
         first, *kit = said(self.program, "--version").splitlines()
         self.title, self.version, self.kit = first, first.split()[-1], " ".join(kit)
         git = ("git", "-c", f"safe.directory={ROOT}")
@@ -57,16 +63,17 @@ class Release:
                          for name, _ in self.whole.commands if name != "help"}
 
     def library(self):
-        """The version of the C library that the program asks for."""
-        asked = re.findall(rb"\0GLIBC_(\d+)\.(\d+)", self.bytes)
+        """The version of the C library that the programs ask for."""
+        asked = [found for data in self.programs.values() for found in re.findall(rb"\0GLIBC_(\d+)\.(\d+)", data)]
         return "{}.{}".format(*max((int(major), int(minor)) for major, minor in asked))
 
 
 def proved(release):
     """What the program was made of, what is promised of it, and on what that rests."""
     changed = ", with changes that are not committed" if release.is_changed else ""
-    text = "\n".join([release.title, f"commit {release.commit}{changed}", release.kit,
-                      f"sha256 {hashlib.sha256(release.bytes).hexdigest()}", ""])
+    sums = [f"sha256 {hashlib.sha256(data).hexdigest()}" + ("" if name == "vacation" else f" {name}")
+            for name, data in release.programs.items()]
+    text = "\n".join([release.title, f"commit {release.commit}{changed}", release.kit, *sums, ""])
     text += "\n" + manual.wrapped(
         "The program tells its version, and that of the prover and its logic, itself (`vacation --version`). That"
         " it was built in the tree of this commit is the word of whoever packed it. Promises and assumptions are"
@@ -97,8 +104,8 @@ def files_as_they_stand():
     return {name: PROGRAM_MODE if os.access(ROOT / name, os.X_OK) else TEXT_MODE for name in names}
 
 
-def without_dead_links(name, packed):
-    """A page whose links to what is not packed are plain words."""
+def without_dead_links(name, text, packed):
+    """The text of a page, in which links to what is not packed are plain words."""
     def kept(link):
         mark, words, target = link.groups()
         path = os.path.normpath(os.path.join(os.path.dirname(name), target.partition("#")[0] or os.path.basename(name)))
@@ -106,14 +113,15 @@ def without_dead_links(name, packed):
             return link.group(0)
         return "" if mark else words
 
-    return re.sub(r"(!?)\[([^\]]*)\]\(([^)\s]+)\)", kept, page(name))
+    return re.sub(r"(!?)\[([^\]]*)\]\(([^)\s]+)\)", kept, text)
 
 
 def pages():
-    """The pages that are packed."""
-    names = ["benchmark/README.md", *(f"docs/{name}" for name in PAGES)]
-    packed = {*names, *files_as_they_stand()}
-    return {name: without_dead_links(name, packed) for name in names}
+    """The pages that are packed, and the ledger, which is made here."""
+    found = {name: page(name) for name in ("benchmark/README.md", *(f"docs/{name}" for name in PAGES))}
+    found |= {f"docs/ledger/{name}": text for name, text in ledger.pages().items()}
+    packed = {*found, *files_as_they_stand()}
+    return {name: without_dead_links(name, text, packed) for name, text in found.items()}
 
 
 def texts(release):
@@ -197,8 +205,8 @@ def debian_files(release, files):
     """Where Debian has each file of the tarball."""
     documents = f"usr/share/doc/{DEBIAN_NAME}"
     holder = re.search(r"^Copyright \(c\) (.+)$", page("LICENSE-MIT"), flags=re.M).group(1)
-    found = {"usr/bin/vacation": (release.bytes, PROGRAM_MODE),
-             f"{documents}/copyright": (COPYRIGHT.format(holder=holder).encode(), TEXT_MODE)}
+    found = {f"usr/bin/{name}": (data, PROGRAM_MODE) for name, data in release.programs.items()}
+    found[f"{documents}/copyright"] = (COPYRIGHT.format(holder=holder).encode(), TEXT_MODE)
     for name, (data, mode) in files.items():
         if name.startswith("share/man/"):
             found[f"usr/{name}.gz"] = (zipped(data, release.seconds), mode)
@@ -232,14 +240,14 @@ def debian(release, files, place):
 
 
 def main():
-    program, folder = sys.argv[1], Path(sys.argv[2])
-    release = Release(program)
+    program, folder, *keys = sys.argv[1:]
+    folder, release = Path(folder), Release(program, *keys)
     files = texts(release)
     name = f"vacation-{release.version}-x86_64-linux"
     folder.mkdir(parents=True, exist_ok=True)
+    programs = {name: (data, PROGRAM_MODE) for name, data in release.programs.items()}
     made = {f"{name}.tar.gz": tarball(
-        {f"{name}/{file}": entry
-         for file, entry in {**files, "vacation": (release.bytes, PROGRAM_MODE)}.items()}, release.seconds)}
+        {f"{name}/{file}": entry for file, entry in {**files, **programs}.items()}, release.seconds)}
     package = f"vacation_{release.version}_amd64.deb"
     (folder / package).unlink(missing_ok=True)
     if which("dpkg-deb"):

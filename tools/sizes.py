@@ -1,10 +1,11 @@
 #!/usr/bin/env python3
 """How large the house is: lines of code, contracts, definitions and proofs of each library, how many clauses
 its functions have, and which names of definitions two crates have. tools/ledger.py writes the table into
-docs/ledger/SIZES.md. With a folder as its argument, another tree that is laid out so, it prints that tree's
+out/ledger/SIZES.md. With a folder as its argument, another tree that is laid out so, it prints that tree's
 table, so that two states of the house can be held against each other. With --objects, in front of the folder if one
 is given, it prints what a call of a shared object costs its readers: lines and clauses of the crates of objects,
-functions with many parameters, the walks of docs/ARCHITECTURE.md, and how many lines of definitions a call cites."""
+functions with many parameters, the walks of docs/ARCHITECTURE.md, and how many lines of definitions a call cites.
+With --tree it prints how many crates a reader meets, how far a call goes, and what a reader stumbles over."""
 
 import re
 import sys
@@ -224,9 +225,13 @@ def objects(root, ledger):
 
 def main():
     import ledger
-    words = [word for word in sys.argv[1:] if word != "--objects"]
+    words = [word for word in sys.argv[1:] if word not in ("--objects", "--tree")]
     root = Path(words[0]).resolve() if words else ledger.ROOT
-    print(objects(root, ledger) if "--objects" in sys.argv else page(root, ledger.functions), end="")
+    if "--tree" in sys.argv:
+        import shape
+        print(shape.table(root, ledger), end="")
+    else:
+        print(objects(root, ledger) if "--objects" in sys.argv else page(root, ledger.functions), end="")
 
 
 if __name__ == "__main__":

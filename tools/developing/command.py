@@ -2,6 +2,8 @@
 
 from __future__ import annotations
 
+import os
+import sys
 from collections.abc import Callable, Sequence
 from dataclasses import dataclass
 
@@ -55,14 +57,17 @@ def mutate(words: Sequence[str]) -> int:
 
 
 def package(words: Sequence[str]) -> int:
-    """Packs the program for those without the toolchain, after a build if no program is named."""
-    if len(words) not in (0, 2) or {"-h", "--help"} & set(words):
-        say("usage: ./dev package [PROGRAM FOLDER]")
+    """Packs the programs for those without the toolchain, after a build if no program is named."""
+    if len(words) not in (0, 2, 3) or {"-h", "--help"} & set(words):
+        say("usage: ./dev package [PROGRAM FOLDER [KV_JUDGE]]")
         return 2
     if not words:
         if status := run([ROOT / "vacation", "--version"]):
             return status
-        words = [str(PROGRAM), str(ROOT / "out/release")]
+        keys = ROOT / "crates/kv_judge"
+        if status := run([sys.executable, ROOT / "tools/build_program.py", str(os.cpu_count() or 1)], keys):
+            return status
+        words = [str(PROGRAM), str(ROOT / "out/release"), str(keys / "out/kv_judge")]
     return python("tools/package.py", words)
 
 
@@ -75,14 +80,15 @@ COMMANDS = {
     "unproved": Command("PROGRAM", "build the program with nothing proved, to measure it",
                         script("tools/unproved.py"), ("rt",)),
     "bench": Command("[OPTION]..", "measure the program beside its peers", script("benchmark/measure.py")),
-    "package": Command("[PROGRAM FOLDER]", "pack a tarball and a Debian package", package, ("git",)),
+    "package": Command("[PROGRAM FOLDER [KV_JUDGE]]", "pack a tarball and a Debian package", package, ("git",)),
     "new-law": Command("NAME", "write a crate with a transactional object of its own", script("tools/new_law")),
     "new-object": Command("NAME", "write a crate with a sequential object, and a judge of its histories",
                           script("tools/new_object")),
-    "sizes": Command("[--objects]", "print lines, clauses, frames and parameters of the tree", script("tools/sizes.py")),
-    "contracts": Command("[--since REV]", "print the clauses that changed", script("tools/contracts.py")),
+    "sizes": Command("[--objects|--tree]", "print lines, clauses, frames and parameters of the tree", script("tools/sizes.py")),
+    "contracts": Command("[--write|--check|--since REV]", "print all clauses, keep them in docs/clauses.txt, or compare",
+                         script("tools/contracts.py")),
     "budget": Command("", "print the size of each promise's definitions", script("tools/budget.py")),
-    "ledger": Command("", "write docs/ledger", script("tools/ledger.py")),
+    "ledger": Command("", "write out/ledger: what each crate promises", script("tools/ledger.py")),
 }
 
 

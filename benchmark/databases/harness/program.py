@@ -107,7 +107,7 @@ def _own_program() -> Path:
 def _judge_of_keys() -> Path:
     """Returns the judge of keys of this checkout, or of this unpacked tarball."""
     own = ROOT / "crates/kv_judge/out/kv_judge"
-    return next((file for file in (own, ROOT / "bin/kv_judge") if file.exists()), own)
+    return next((file for file in (own, ROOT / "kv_judge", ROOT / "bin/kv_judge") if file.exists()), own)
 
 
 def _chosen(word: str) -> list[tuple[str, Database, Setting]]:
