@@ -17,6 +17,8 @@ ROOT = Path(__file__).resolve().parent.parent
 TEMPLATES = ROOT / "share/vacation/templates"
 PATIENCE = 400
 MOST_RUNS = 20
+# In one crash of seven others have seen the effect of a call that was cut short.
+CRASHES = 30
 COMPILERS = ("cc", "rustc", "go", "ghc")
 failed, skipped = [], []
 
@@ -152,14 +154,16 @@ def try_faults(folder, template, commands):
 
 
 def try_faulty_object(folder):
-    """The same of an object, which the program `peer` looks after."""
+    """The same of an object, which the program `peer` looks after. The calls that were cut short are pending."""
     (folder.path / "faulty.c").write_text(FAULTY, encoding="ascii")
     folder.run("cc -fPIC -shared -I include faulty.c -o faulty.so")
-    for environment, status in (("CRASH=1", 1), ("", 3)):
-        done = folder.run(f"{environment} peer ./faulty.so --history --patience 2 < work > log")
-        judged = folder.run("vacation judge --any-order < log").stdout
-        want(done.returncode == status and judged.startswith("legal calls="),
-             f"a faulty object {environment}: status {done.returncode}, the judge says {judged!r}")
+    for environment, status, runs in (("CRASH=1", 1, CRASHES), ("", 3, 1)):
+        for _ in range(runs):
+            done = folder.run(f"{environment} peer ./faulty.so --history --patience 2 < work > log")
+            is_cut_short = (folder.path / "log").read_bytes().endswith(b" -> ?\n")
+            judged = folder.run("vacation judge --any-order < log").stdout
+            want(done.returncode == status and is_cut_short and judged.startswith("legal calls="),
+                 f"a faulty object {environment}: status {done.returncode}, the judge says {judged!r}")
 
 
 def try_template(folder, template, needed, mistake):

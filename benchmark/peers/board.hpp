@@ -17,7 +17,8 @@
 
 namespace vacation {
 
-// How far a client is. Its counts and its history are there as far as its calls have ended.
+// How far a client is. Its counts and its history are there as far as its calls have ended. Behind
+// the answered calls of the history stands the one that is pending.
 struct alignas(APART) Progress {
     std::atomic<Word> answered{0}, given_up{0};
     // The time of its last answer, once it has no more to do.
@@ -26,6 +27,13 @@ struct alignas(APART) Progress {
     Answered* history = nullptr;
 
     Word calls() const { return answered.load(std::memory_order_acquire) + given_up.load(); }
+
+    // The call that has begun and not ended, where a history of so many calls at most is kept.
+    const Answered* pending(std::size_t most) const
+    {
+        const Word count = answered.load(std::memory_order_acquire);
+        return count < most && history[count].call != nullptr ? history + count : nullptr;
+    }
 };
 
 struct Board {

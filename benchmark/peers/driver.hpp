@@ -81,20 +81,36 @@ inline void look_at(const Reply& reply)
     asm volatile("" : : "r"(&reply) : "memory");
 }
 
-// One call; where a history is kept and it was answered, it stands there before it is counted.
+// Has the call stand as pending in this room of the history. All of its steps come later, so that
+// whoever has seen one of them has the call in the history, also if the process ends in between.
+inline void begin_pending(Answered& room, const Call* call)
+{
+    room.begin = nanoseconds();
+    std::atomic_thread_fence(std::memory_order_release);
+    room.call = call;
+    std::atomic_thread_fence(std::memory_order_seq_cst);
+}
+
+// One call; where a history is kept, it stands there from its beginning on, and remains if it was
+// answered.
 template <class Client>
 void run_call(Client& client, const Task& task, const Call* call, const Options& options,
               Progress& progress)
 {
+    Answered* room = nullptr;
+    if (options.history) {
+        room = progress.history + progress.answered.load(std::memory_order_relaxed);
+        begin_pending(*room, call);
+    }
     Reply reply;
-    const Word begin = options.history ? nanoseconds() : 0;
     const bool answered = client.call(task, reply, static_cast<unsigned>(options.tries));
     look_at(reply);
+    if (room != nullptr && answered)
+        *room = {client.place(), room->begin, nanoseconds(), call, reply};
+    else if (room != nullptr)
+        room->call = nullptr;
     auto& count = answered ? progress.answered : progress.given_up;
-    const Word before = count.load(std::memory_order_relaxed);
-    if (answered && options.history)
-        progress.history[before] = {client.place(), begin, nanoseconds(), call, reply};
-    count.store(before + 1, std::memory_order_release);
+    count.store(count.load(std::memory_order_relaxed) + 1, std::memory_order_release);
 }
 
 // The calls of a client, of tasks that were read.
@@ -249,7 +265,15 @@ inline std::string read_file(int file)
     return text;
 }
 
-// What was asked for of the calls and attempts that have ended, also where the child crashed.
+// The calls that had begun and not ended when the clients were ended.
+inline void print_all_pending(const Run& run)
+{
+    for (std::size_t i = 0; i < run.calls.size(); ++i)
+        if (const Answered* pending = run.progress[i].pending(run.calls[i].calls.size()))
+            print_pending(run.calls[i].client, *pending);
+}
+
+// The history and the attempts as far as they are asked for, also where the child crashed.
 inline void print_records(const Run& run)
 {
     std::vector<HistoryLine> lines;
@@ -261,8 +285,10 @@ inline void print_records(const Run& run)
         if (run.options.attempts)
             files.push_back(read_file(run.files[i]));
     }
-    if (run.options.history)
+    if (run.options.history) {
         print_history(lines);
+        print_all_pending(run);
+    }
     if (run.options.attempts)
         print_attempts(spread_words(static_cast<std::uint32_t>(run.options.blocks)), files);
 }

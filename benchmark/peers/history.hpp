@@ -13,6 +13,7 @@
 
 namespace vacation {
 
+// A call of a client. While it is pending, only its beginning and its task are there.
 struct Answered {
     Word place;
     Word begin, end;
@@ -48,6 +49,13 @@ inline void print_history(std::vector<HistoryLine>& lines)
         text.append(text_of(answered.call->task, answered.reply)).append("\n");
         std::fwrite(text.data(), 1, text.size(), stdout);
     }
+}
+
+// A call that the clients' end cut short: it may have taken effect, so that others have seen it.
+inline void print_pending(std::uint32_t client, const Answered& pending)
+{
+    std::printf("%u %llu - %.*s -> ?\n", client, static_cast<unsigned long long>(pending.begin),
+                static_cast<int>(pending.call->line.size()), pending.call->line.data());
 }
 
 // ---- attempts

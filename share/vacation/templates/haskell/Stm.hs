@@ -10,7 +10,8 @@
 -- transaction that does not allocate is never stopped. Each line of the log is written as its call ends,
 -- so that a run which crashes or stands still leaves a log, too. With --mistake some words are read
 -- without the transaction's knowledge: the judge shall find that. GHC does not show its attempts, so
--- only calls are logged. Other options: --patience SECONDS, and, to test this file, --crash-at N and
+-- only calls are logged. A call that a crash cuts short has no line, though others may have seen its
+-- effect: the log of a crash may be illegal for that alone. Other options: --patience SECONDS, and, to test this file, --crash-at N and
 -- --hang-at N.
 {-# LANGUAGE ForeignFunctionInterface #-}
 {-# LANGUAGE OverloadedStrings #-}

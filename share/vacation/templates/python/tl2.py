@@ -5,10 +5,11 @@
     python3 share/vacation/templates/python/tl2.py ./libvacation_body.so < work > log
     vacation judge --any-order --tasks work < log
 
-(`libvacation_body.so` is built by `benchmark/build FOLDER`.) Each line of the log is written as its call
-ends, so that a run which crashes or stands still leaves a log, too. With --attempts it logs attempts in
-the order of their versions, for `vacation opaque`. With --mistake a commit does not validate what was
-read: the judge shall find that.
+(`libvacation_body.so` is built by `benchmark/build FOLDER`.) The clients run in a child process, and each
+line of the log is written as its call ends, so that a run which crashes or stands still leaves a log, too.
+Calls that were cut short stand at its end as pending calls: others may have seen their effects. With
+--attempts it logs attempts in the order of their versions, for `vacation opaque`. With --mistake a commit
+does not validate what was read: the judge shall find that.
 """
 
 import argparse
@@ -169,7 +170,7 @@ class Run:
         return reply
 
     def client(self, client, lines):
-        """All tasks of a client. A call is logged as it ends."""
+        """All tasks of a client. A call is logged as it begins, as a pending one, and as it ends."""
         body = self.bodies.library.vacation_body_new(client)
         draws = random.Random(client)
 
@@ -180,6 +181,8 @@ class Run:
         for number, line in enumerate(lines):
             self.fail_where_asked(client, number)
             begin = time.monotonic_ns()
+            if not self.options.attempts:
+                self.log(f"{client} {begin} - {line} -> ?")
             while (reply := self.attempt(client, body, line, pause)) is None:
                 time.sleep(0)
             if not self.options.attempts:
@@ -217,6 +220,33 @@ def read_work():
     return work
 
 
+def look_after(child, log):
+    """Writes what the child logs, but pending calls only when it has ended and they have not. Returns its
+    status as a shell tells it."""
+    pending = {}
+    with os.fdopen(log, encoding="utf-8") as lines:
+        for line in lines:
+            if line.endswith(" -> ?\n"):
+                pending[line.split(" ", 1)[0]] = line
+            else:
+                pending.pop(line.split(" ", 1)[0], None)
+                print(line, end="", flush=True)
+    print(end="".join(pending.values()), flush=True)
+    status = os.waitstatus_to_exitcode(os.waitpid(child, 0)[1])
+    return status if status >= 0 else 128 - status
+
+
+def run_child():
+    """Begins a child process whose standard output can be read from a file. Returns both, or None in the
+    child."""
+    log, output = os.pipe()
+    child = os.fork()
+    if child == 0:
+        os.dup2(output, sys.stdout.fileno())
+    os.close(output)
+    return (child, log) if child != 0 else None
+
+
 def main():
     parser = argparse.ArgumentParser(description=__doc__, formatter_class=argparse.RawDescriptionHelpFormatter)
     parser.add_argument("library", help="libvacation_body.so")
@@ -225,7 +255,10 @@ def main():
     parser.add_argument("--patience", type=float, default=60, help="seconds without the end of a call")
     parser.add_argument("--crash-at", type=int, help="crash before this call of a client")
     parser.add_argument("--hang-at", type=int, help="stand still before this call of each client")
-    run, work = Run(parser.parse_args()), read_work()
+    options = parser.parse_args()
+    if (begun := run_child()) is not None:
+        sys.exit(look_after(*begun))
+    run, work = Run(options), read_work()
     sys.setswitchinterval(0.0005)
     threading.Thread(target=run.watch, daemon=True).start()
     run.client(0, work.pop(0))
