@@ -483,14 +483,25 @@ def loops_of(pids):
     return {loop for loop in losetup() if loop[0] in mounted}
 
 
+def catches(pid, number):
+    """Returns whether a process has a handler for a signal."""
+    try:
+        status = Path(f"/proc/{pid}/status").read_text(encoding="ascii", errors="replace")
+    except OSError:
+        return False
+    return bool(int(re.search(r"^SigCgt:\s*(\w+)", status, re.M)[1], 16) >> number - 1 & 1)
+
+
 def end_harness(program, folder, number, options, is_late):
-    """Ends a harness by a signal at a random moment after its start, or after the first calls, and returns how many
-    processes and loop devices it had. No process, namespace or loop device stays, and no folder but after SIGKILL."""
+    """Ends a harness by a signal at a random moment after it took over its signals (while Python starts, SIGINT gives
+    status 1), or after the first calls. Returns how many processes and loop devices it had. No process, namespace or
+    loop device stays, and no folder but after SIGKILL."""
     progress = folder / "progress"
     with open(progress, "wb") as file:
         started = subprocess.Popen([RUN, "--program", program, *options, "--runs", "9", "--keep", folder / "kept"],
                                    stdout=subprocess.DEVNULL, stderr=file, env=os.environ | {"TMPDIR": str(folder)})
     try:
+        wait_for(lambda: started.poll() is not None or catches(started.pid, signal.SIGTERM), "no handlers", PATIENCE)
         if is_late:
             wait_for(lambda: started.poll() is not None or b" calls, " in progress.read_bytes(), "no calls", PATIENCE)
         moment = random.uniform(0, LATEST)
