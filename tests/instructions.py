@@ -21,11 +21,11 @@ from programs import options_of
 
 # The most instructions of a task, by setting.
 MOST = {
-    "large": 8_650,
-    "crowded": 9_600,
-    "defaults": 7_800,
-    "apart": 7_550,
-    "readers": 5_130,
+    "large": 8_450,
+    "crowded": 9_270,
+    "defaults": 7_400,
+    "apart": 7_330,
+    "readers": 4_980,
 }
 TASKS = 2_000
 # Enough for a run under callgrind on a busy machine, in seconds.

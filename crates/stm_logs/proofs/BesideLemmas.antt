@@ -70,23 +70,23 @@ slot_here es ss list i s e l is =
     ∙ ap (λ (ns : List Node). let t : Slot = record { node = (at ns i).slot; finger = (at ns i).finger } in t) is
 
 -- a node is put at a position
-pub entry_put : (es : List Entry) (ss : List Slot) (n r : ℕ) (b : Block) (i : ℕ) (x : Entry) (more : List Entry) →
+pub entry_put : (es : List Entry) (ss : List Slot) (n : ℕ) (b : Block) (i : ℕ) (x : Entry) (more : List Entry) →
     length es ≡ length ss → i < length es
-    → record { list = beside es ss; count = n; recent = r } ≡ b → more ≡ set es i x
-    → record { list = beside more ss; count = n; recent = r } ≡ with_node b i (with_entry (at b.list i) x)
-entry_put es ss n r b i x more e l is put =
-    ap (λ (ns : List Node). let c : Block = record { list = ns; count = n; recent = r } in
+    → record { list = beside es ss; count = n } ≡ b → more ≡ set es i x
+    → record { list = beside more ss; count = n } ≡ with_node b i (with_entry (at b.list i) x)
+entry_put es ss n b i x more e l is put =
+    ap (λ (ns : List Node). let c : Block = record { list = ns; count = n } in
     c) (ap (λ (xs : List Entry). beside xs ss) put ∙ entry_set es ss i x e l)
     ∙ ap (λ (c : Block). with_node c i (with_entry (at c.list i) x)) is
 
 -- a place of the index is put at a position
-pub slot_put : (es : List Entry) (ss : List Slot) (n r : ℕ) (b : Block) (i : ℕ) (s : Slot) (more : List Slot) →
+pub slot_put : (es : List Entry) (ss : List Slot) (n : ℕ) (b : Block) (i : ℕ) (s : Slot) (more : List Slot) →
     length es ≡ length ss → i < length es
-    → record { list = beside es ss; count = n; recent = r } ≡ b → more ≡ set ss i s
-    → record { list = beside es more; count = n; recent = r } ≡ with_node b i
+    → record { list = beside es ss; count = n } ≡ b → more ≡ set ss i s
+    → record { list = beside es more; count = n } ≡ with_node b i
     (record (at b.list i) { slot = s.node; finger = s.finger })
-slot_put es ss n r b i s more e l is put =
-    ap (λ (ns : List Node). let c : Block = record { list = ns; count = n; recent = r } in
+slot_put es ss n b i s more e l is put =
+    ap (λ (ns : List Node). let c : Block = record { list = ns; count = n } in
     c) (ap (λ (xs : List Slot). beside es xs) put ∙ slot_set es ss i s e l)
     ∙ ap (λ (c : Block). with_node c i (record (at c.list i) { slot = s.node; finger = s.finger })) is
 

@@ -47,7 +47,7 @@ cleared_more old new n e q c is l =
     }
 
 pub cleared_log : (old : Block) (new : List Node) → IsLog old → Cleared old.list new old.count old.count
-    → IsLog (record { list = set new 0 (with_next (at new 0) 0); count = 0; recent = 0 })
+    → IsLog (record { list = set new 0 (with_next (at new 0) 0); count = 0 })
 cleared_log old new log c =
     let y : Node = with_next (at new 0) 0 in
     let places = log.places in

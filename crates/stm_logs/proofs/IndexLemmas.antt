@@ -133,18 +133,18 @@ entered ns ns' n q y ix room an free w = record {
 abbrev pub placed : Node → ℕ → ℕ → ℕ → Node
 placed y place slot finger = record y { place = place; slot = slot; finger = finger }
 
-abbrev pub leads : Node → ℕ → Node
-leads y slot = record y { slot = slot }
+abbrev pub leads : Node → ℕ → ℕ → Node
+leads y slot finger = record y { slot = slot; finger = finger }
 
 unplaced : (y b : Node) (q s f : ℕ) → SameNode (placed y q s f) b → SameNode y b
 unplaced y b q s f h = record { value = h.value; number = h.number; lock = h.lock; next = h.next }
 
-pub written : (ns : List Node) (n q f : ℕ) (y : Node) → n + 1 < length ns → q < length ns → (at ns q).slot ≡ 0
+pub written : (ns : List Node) (n q f h : ℕ) (y : Node) → n + 1 < length ns → q < length ns → (at ns q).slot ≡ 0
     → Written ns (set (set ns (n + 1) (placed y q (at ns (n + 1)).slot f)) q
-    (leads (at (set ns (n + 1) (placed y q (at ns (n + 1)).slot f)) q) (n + 1))) n q y
-written ns n q f y room l free =
+    (leads (at (set ns (n + 1) (placed y q (at ns (n + 1)).slot f)) q) (n + 1) h)) n q y
+written ns n q f h y room l free =
     let mid : List Node = set ns (n + 1) (placed y q (at ns (n + 1)).slot f) in
-    let z : Node = leads (at mid q) (n + 1) in
+    let z : Node = leads (at mid q) (n + 1) h in
     let end : List Node = set mid q z in
     let m : length mid ≡ length ns = length-set ns (n + 1) (placed y q (at ns (n + 1)).slot f) in
     let lm : q < length mid = omega (arith, m) in

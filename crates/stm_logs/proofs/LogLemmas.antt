@@ -76,13 +76,11 @@ sights_value ns ns' n s = same_log _ _
     (λ e z m. (s e m).lock))
 
 -- ---- a log by its parts
-pub log_of : (b : Block) (ns : List Node) (n r : ℕ) → b.list ≡ ns → b.count ≡ n → b.recent ≡ r →
-    IsIndexedAndChained ns n →
-    4 ≤ length ns → r ≤ n → IsLog b
-log_of b ns n r list count recent ready places inside = record {
+pub log_of : (b : Block) (ns : List Node) (n : ℕ) → b.list ≡ ns → b.count ≡ n → IsIndexedAndChained ns n →
+    4 ≤ length ns → IsLog b
+log_of b ns n list count ready places = record {
   ready = subst (λ xs. IsIndexedAndChained xs b.count) (sym list) (subst (IsIndexedAndChained ns) (sym count) ready);
   places = subst (λ (xs : List Node). 4 ≤ length xs) (sym list) places;
-  recent = omega (arith, count, recent, inside);
 }
 
 -- ---- the value of a word that is there
@@ -212,11 +210,10 @@ module _ (ns mid : List Node) (n b a l v : ℕ) (ready : IsIndexedAndChained ns 
 pub none_log : (ns : List Node) → 4 ≤ length ns → length ns ≤ 2147483648 →
     ((q : ℕ) → q < length ns → (at ns q).slot ≡ 0)
     → (at ns 0).number ≡ TOP → (at ns 0).lock ≡ TOP → (at ns 0).next ≡ 0 →
-    IsLog (record { list = ns; count = 0; recent = 0 })
+    IsLog (record { list = ns; count = 0 })
 none_log ns some limit free number lock next = record {
   ready = record { indexed = indexed_none ns (omega arith) limit free; chained = chain_none ns number lock next };
   places = some;
-  recent = omega arith;
 }
 
 -- ---- a copy
@@ -290,11 +287,10 @@ fingers_ready ns ns' n f ready = record {
   chained = chain_kept ns ns' n (λ e _. ((f.same e).number, f.locks e)) (λ e _. f.nexts e) ready.chained;
 }
 
-pub fingers_log : (b b' : Block) → OnlyFingers b.list b'.list → b'.count ≡ b.count → b'.recent ≡ b.recent → IsLog b →
-    IsLog b'
-fingers_log b b' f count recent log =
-    log_of b' b'.list b.count b.recent refl count recent (fingers_ready b.list b'.list b.count f log.ready)
-    (omega (arith, f.len, log.places)) log.recent
+pub fingers_log : (b b' : Block) → OnlyFingers b.list b'.list → b'.count ≡ b.count → IsLog b → IsLog b'
+fingers_log b b' f count log =
+    log_of b' b'.list b.count refl count (fingers_ready b.list b'.list b.count f log.ready)
+    (omega (arith, f.len, log.places))
 
 pub fingers_none : (b b' : Block) (number : ℕ) → OnlyFingers b.list b'.list → b'.count ≡ b.count →
     HasNoNumber b.list b.count number → HasNoNumber b'.list b'.count number

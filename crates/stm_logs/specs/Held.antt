@@ -15,7 +15,6 @@ pub record IsIndexedAndChained (ns : List Node) (n : ℕ) : Type 0 where
 pub record IsLog (b : Block) : Type 0 where
   pub ready : IsIndexedAndChained b.list b.count
   pub places : 4 ≤ length b.list
-  pub recent : b.recent ≤ b.count
 
 -- the log of a table; the empty log if there is no table yet
 abbrev pub held_value : Option LogValue → LogValue

@@ -1,6 +1,6 @@
 -- The nodes of a write log, as a list: the root first, then the written words in the order in
 -- which they entered. Beside each node stands a place of the index.
-use Rattle.std.specs.Prelude.{◌≡◌, ℕ, List, [], ◌∷◌, length, slice_index_or, slice_set}
+use Rattle.std.specs.Prelude.{◌≡◌, ℕ, Bool, cond, List, [], ◌∷◌, length, slice_index_or, slice_set}
 use Rattle.stm_logs.specs.declared.nodes.Entry.{Entry}
 use Rattle.stm_logs.specs.declared.nodes.Slot.{Slot}
 use Rattle.stm_logs.specs.declared.nodes.TheConstants.{TOP}
@@ -62,6 +62,10 @@ with_next node next = record node { next = next }
 abbrev pub with_finger : Node → ℕ → Node
 with_finger node finger = record node { finger = finger }
 
+-- the finger of the position if it is kept, otherwise 0
+abbrev pub kept_finger : Bool → Node → ℕ
+kept_finger keeps node = cond keeps node.finger 0
+
 -- the positions of some nodes and some places of the index, paired in order
 abbrev pub beside : List Entry → List Slot → List Node
 beside [] slots = []
@@ -73,12 +77,10 @@ beside (e ∷ es) (s ∷ slots) =
 abbrev pub at : List Node → ℕ → Node
 at nodes e = slice_index_or nodes e blank_node
 
--- a block of positions: their contents, the number of nodes besides the root, and the node that
--- was chained last
+-- a block of positions: their contents, and the number of nodes besides the root
 pub record Block : Type 0 where
   pub list : List Node
   pub count : ℕ
-  pub recent : ℕ
 
 -- the block with another position e
 abbrev pub with_node : Block → ℕ → Node → Block
@@ -87,4 +89,4 @@ with_node b e node = record b { list = slice_set b.list e node }
 -- a block with `len` blank positions
 abbrev pub IsBlank : Block → ℕ → Type 0
 IsBlank b len =
-    (length b.list ≡ len) × (b.count ≡ 0) × (b.recent ≡ 0) × ((k : ℕ) → at b.list k ≡ blank_node)
+    (length b.list ≡ len) × (b.count ≡ 0) × ((k : ℕ) → at b.list k ≡ blank_node)

@@ -241,7 +241,6 @@ fn point_at<A: Allocator>(nodes: &mut Nodes<A>, range: Range, e: usize, rank: u6
     requires bits { range.bits ≤ ALL }
     ensures same { OnlyFingers nodes.old.list nodes.new.list }
     ensures count { nodes.new.count ≡ nodes.old.count }
-    ensures recent { nodes.new.recent ≡ nodes.old.recent }
 {
     let found = finger_of(nodes, range);
     if found == 0 || node_rank(nodes.get(found)) < rank {
@@ -257,7 +256,6 @@ fn point_among<A: Allocator>(nodes: &mut Nodes<A>, among: Among, lock: u32, numb
     requires fits { e ≤ MAX_PLACES }
     ensures same { OnlyFingers nodes.old.list nodes.new.list }
     ensures count { nodes.new.count ≡ nodes.old.count }
-    ensures recent { nodes.new.recent ≡ nodes.old.recent }
 {
     for scale in 0..SCALES {
         let range = Range::at(among, scale, nodes.len(), lock, number);
@@ -273,7 +271,6 @@ pub(crate) fn point<A: Allocator>(nodes: &mut Nodes<A>, lock: u32, number: u32, 
     requires fits { e ≤ MAX_PLACES }
     ensures same { OnlyFingers nodes.old.list nodes.new.list }
     ensures count { nodes.new.count ≡ nodes.old.count }
-    ensures recent { nodes.new.recent ≡ nodes.old.recent }
 {
     if shows(nodes, lock) {
         point_among(nodes, Among::WordsOf(lock), lock, number, e);
@@ -287,7 +284,6 @@ pub(crate) fn point_all<A: Allocator>(nodes: &mut Nodes<A>)
     requires limit { length nodes.old.list ≤ MAX_PLACES }
     ensures same { OnlyFingers nodes.old.list nodes.new.list }
     ensures count { nodes.new.count ≡ nodes.old.count }
-    ensures recent { nodes.new.recent ≡ nodes.old.recent }
 {
     for e in 0..nodes.count() {
         let node = *nodes.get(e + 1);
@@ -301,7 +297,6 @@ pub(crate) fn point_all_if<A: Allocator>(nodes: &mut Nodes<A>, is_due: bool)
     requires limit { length nodes.old.list ≤ MAX_PLACES }
     ensures same { OnlyFingers nodes.old.list nodes.new.list }
     ensures count { nodes.new.count ≡ nodes.old.count }
-    ensures recent { nodes.new.recent ≡ nodes.old.recent }
 {
     if is_due {
         point_all(nodes);

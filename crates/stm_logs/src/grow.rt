@@ -39,7 +39,6 @@ pub(crate) fn grown<A: Allocator + Copy>(old: &Nodes<A>) -> Result<Nodes<A>, All
     }
     let mut new = Nodes::new(old.alloc(), 2 * places)?;
     copy(old, &mut new);
-    new.set_recent(old.recent());
     let is_long = is_long(&new);
     point_all_if(&mut new, is_long);
     Ok(new)
@@ -59,7 +58,7 @@ fn copy<A: Allocator>(old: &Nodes<A>, new: &mut Nodes<A>)
     for e in 0..old.count() {
         let node = *old.get(e + 1);
         let place = probe(new, node.number);
-        enter(new, e + 1, place, node);
+        enter(new, e + 1, place, node, false);
         new.set_count(e + 1);
     }
 }

@@ -1,7 +1,7 @@
 //! The index of a write log: open addressing with linear probing.
 ghost use Rattle.std.specs.Prelude.{◌≡◌, ◌+◌, ◌*◌, ◌<◌, ◌≤◌, length};
 ghost use Rattle.stm_logs.specs.declared.nodes.TheConstants.{MAX_PLACES};
-ghost use Rattle.stm_logs.specs.Nodes.{at, bare};
+ghost use Rattle.stm_logs.specs.Nodes.{at, bare, kept_finger, with_finger, with_node, with_slot};
 ghost use Rattle.stm_logs.specs.Index.{home, IsFoundNode, IsIndexed, HasNoNumber, Answers, Entered};
 
 use crate::nodes::{Entry, NUMBERS, Nodes};
@@ -66,9 +66,15 @@ pub(crate) fn find<A: Allocator>(nodes: &Nodes<A>, number: u32) -> usize
 }
 
 /// Adds a node after the others, at the free place of the index that the search for its number
-/// found. The caller counts the node.
+/// found. In a long log the place keeps its finger. The caller counts the node.
 #[inline]
-pub(crate) fn enter<A: Allocator>(nodes: &mut Nodes<A>, position: usize, place: usize, node: Entry)
+pub(crate) fn enter<A: Allocator>(
+    nodes: &mut Nodes<A>,
+    position: usize,
+    place: usize,
+    node: Entry,
+    is_long: bool,
+)
     requires indexed { IsIndexed nodes.old.list nodes.old.count }
     requires room { nodes.old.count + 1 < length nodes.old.list }
     requires position { position ≡ nodes.old.count + 1 }
@@ -76,7 +82,6 @@ pub(crate) fn enter<A: Allocator>(nodes: &mut Nodes<A>, position: usize, place: 
     requires free { (at nodes.old.list place).slot ≡ 0 }
     ensures entered { Entered nodes.old.list nodes.new.list nodes.old.count (bare node) }
     ensures count { nodes.new.count ≡ nodes.old.count }
-    ensures recent { nodes.new.recent ≡ nodes.old.recent }
 {
     nodes.put(
         position,
@@ -85,5 +90,21 @@ pub(crate) fn enter<A: Allocator>(nodes: &mut Nodes<A>, position: usize, place: 
             ..node
         },
     );
-    nodes.set_slot(place, position as u32);
+    set_place(nodes, place, position as u32, is_long);
+}
+
+/// Lets a place of the index lead to a node. In a short log, in which walks use no fingers, the
+/// finger at the place becomes 0, so that the place need not be loaded first.
+#[inline]
+fn set_place<A: Allocator>(nodes: &mut Nodes<A>, place: usize, node: u32, is_long: bool)
+    requires { place < length nodes.old.list }
+    ensures { nodes.new ≡ with_node nodes.old place (with_finger
+        (with_slot (at nodes.old.list place) node)
+        (kept_finger is_long (at nodes.old.list place))) }
+{
+    if is_long {
+        nodes.set_slot(place, node);
+    } else {
+        nodes.lead(place, node);
+    }
 }

@@ -57,7 +57,8 @@ pub(crate) const BLANK: Entry = Entry {
 pub(crate) const FREE: Slot = Slot { node: 0, finger: 0 };
 
 /// A block of nodes with a block of as many places of the index. All places are filled. The block
-/// knows the number of nodes besides the root, and the node that was chained last, or 0.
+/// knows the number of nodes besides the root, which is also the position of the node that entered
+/// last.
 pub(crate) struct Nodes<A: Allocator> {
     alloc: A,
     row: Row<Entry>,
@@ -66,7 +67,6 @@ pub(crate) struct Nodes<A: Allocator> {
     index_right: Right<Slot, A>,
     len: usize,
     count: usize,
-    recent: usize,
 }
 
 impl<A: Allocator> Model for Nodes<A> {
@@ -80,7 +80,6 @@ impl<A: Allocator> Model for Nodes<A> {
     ghost view = { λ s. record {
       list = beside s.row.items s.index.items;
       count = s.count;
-      recent = s.recent;
     } };
 
     ghost invariant = { λ s. IsFull s.row s.len × Frees s.alloc s.row s.right
@@ -97,7 +96,6 @@ impl<A: Allocator> Drop for Nodes<A> {
             index_right,
             len: _,
             count: _,
-            recent: _,
         } = self;
         release(&alloc, row, right);
         release(&alloc, index, index_right);
@@ -130,7 +128,6 @@ impl<A: Allocator> Nodes<A> {
             index_right,
             len,
             count: 0,
-            recent: 0,
         })
     }
 
@@ -165,21 +162,6 @@ impl<A: Allocator> Nodes<A> {
         self.count = count;
     }
 
-    /// Returns the node that was chained last, or 0.
-    #[inline]
-    pub(crate) fn recent(&self) -> usize
-        ensures { result ≡ self.now.recent }
-    {
-        self.recent
-    }
-
-    #[inline]
-    pub(crate) fn set_recent(&mut self, recent: usize)
-        ensures { self.new ≡ record self.old { recent = recent } }
-    {
-        self.recent = recent;
-    }
-
     /// Returns the node at a position.
     #[inline]
     pub(crate) fn get(&self, i: usize) -> &Entry
@@ -206,6 +188,7 @@ impl<A: Allocator> Nodes<A> {
         self.index.get(place).node as usize
     }
 
+    /// Lets a place of the index lead to a node, and keeps the finger at the place.
     #[inline]
     pub(crate) fn set_slot(&mut self, place: usize, node: u32)
         requires { place < length self.old.list }

@@ -48,7 +48,6 @@ pub(crate) fn seek<A: Allocator>(nodes: &Nodes<A>, lock: u32, number: u32, is_lo
     requires chained { IsChained nodes.now.list nodes.now.count }
     requires room { nodes.now.count < length nodes.now.list }
     requires limit { length nodes.now.list ≤ MAX_PLACES }
-    requires recent { nodes.now.recent ≤ nodes.now.count }
     ensures { IsBefore nodes.now.list nodes.now.count (rank_of_number lock number) result }
 {
     let rank = rank(lock, number);
@@ -60,17 +59,16 @@ pub(crate) fn seek<A: Allocator>(nodes: &Nodes<A>, lock: u32, number: u32, is_lo
     }
 }
 
-/// Returns the node that was chained last if its rank is below the given one, else the root.
+/// Returns the node that entered last if its rank is below the given one, else the root.
 #[inline]
 fn near<A: Allocator>(nodes: &Nodes<A>, rank: u64) -> usize
     requires chained { IsChained nodes.now.list nodes.now.count }
     requires room { nodes.now.count < length nodes.now.list }
-    requires recent { nodes.now.recent ≤ nodes.now.count }
     ensures { IsBelow nodes.now.list nodes.now.count rank result }
 {
-    let recent = nodes.recent();
-    if node_rank(nodes.get(recent)) < rank {
-        recent
+    let last = nodes.count();
+    if node_rank(nodes.get(last)) < rank {
+        last
     } else {
         0
     }

@@ -198,7 +198,6 @@ fn clear_nodes<A: Allocator>(nodes: &mut Nodes<A>)
         nodes.lead(place, 0);
     }
     set_next(nodes, 0, 0);
-    nodes.set_recent(0);
     nodes.set_count(0);
 }
 
@@ -299,8 +298,7 @@ fn put_word<A: Allocator>(
         place: 0,
     };
     let position = nodes.count() + 1;
-    enter(nodes, position, place, node);
+    enter(nodes, position, place, node, is_long);
     set_next(nodes, before, position);
-    nodes.set_recent(position);
     nodes.set_count(position);
 }

@@ -1,6 +1,6 @@
 -- Units are booked of an item that has so many: by a customer who has no booking of it.
 use Rattle.std.proofs.Common.{◌≡◌, inl, inr, ℕ, ◌+◌, ◌<◌, ◌≤◌, ◌^◌, List, [], ◌∷◌, length, Option, Some, None, true}
-use Rattle.std.proofs.Common.{false, nat_le, nat_lt, refl, sym, ap, ◌∙◌, subst, arith}
+use Rattle.std.proofs.Common.{false, nat_le, nat_lt, nat_eq, refl, sym, ap, ◌∙◌, subst, arith}
 use Rattle.std.proofs.lemmas.Bool.Decides.{nat_tests}
 use Rattle.std.specs.FinMap.{get, insert}
 use Rattle.tx_memory.specs.Seen.{same_or}
@@ -17,7 +17,8 @@ use Rattle.vac_model.proofs.States.{item_of-with_bookings}
 use Rattle.tx_alloc.specs.Pointer.{pointer}
 use Rattle.tx_alloc.specs.Drawing.{DrawnBlock, IsDrawing}
 use Rattle.tx_alloc.specs.Pool.{NoneFree}
-use Rattle.tx_alloc.specs.Rows.{Rows, times, block_at}
+use Rattle.tx_alloc.specs.Rows.{Rows, times, put_row, block_at}
+use Rattle.tx_alloc.proofs.Order.{at_put}
 use Rattle.tx_alloc.proofs.Sums.{sum_has}
 use Rattle.vac_bookings.specs.declared.search.Spot.{Spot}
 use Rattle.vac_bookings.specs.Bookings.{IsList}
@@ -32,7 +33,7 @@ use Rattle.vac_records.specs.Customers.{head_of, IsLoose, IsBooked, BookedAt}
 use Rattle.vac_records.specs.Heap.{used_in, count_in}
 use Rattle.vac_records.specs.Represents.{Represents, IsState}
 use Rattle.vac_records.specs.InMemory.{HoldsState}
-use Rattle.vac_records.specs.Laws.{Stays, IsItemAt, IsCustomerAt, ListGrown}
+use Rattle.vac_records.specs.Laws.{Stays, IsItemAt, IsCustomerAt, IsBookingAt, ListGrown}
 use Rattle.vac_records.specs.Steps.{kept_both, stood}
 use Rattle.vac_records.proofs.Items.{item_replaced}
 use Rattle.vac_records.proofs.Booked.{booking_found, booking_inserted}
@@ -45,6 +46,8 @@ use Rattle.vac_records.proofs.Single.{none_left, some_left}
 use Rattle.vac_commands.specs.declared.bookings.Offer.{Offer}
 use Rattle.vac_commands.specs.Entries.{ItemIsAt, CustomerIsAt}
 use Rattle.vac_commands.specs.BookingSteps.{booking_block, Here, AtSpot, HasSpot, IsOffered, Lands, ServesCommand}
+use Rattle.vac_commands.specs.Starts.{LeavesBooking}
+use Rattle.vac_commands.proofs.Listed.{list_of_item, list_same, customer_still, list_after}
 use Rattle.vac_commands.proofs.Serving.{reads_serve}
 use Rattle.vac_commands.proofs.Owners.{here_at, owned, at_owner, its_list, at_item, its_item, not_booked}
 use Rattle.vac_commands.proofs.Owners.{owner_in_table, owner_is_block}
@@ -72,6 +75,12 @@ customer_stays : (m m' : ℕ → ℕ) (n : ℕ) (out out' : List ℕ) (s : State
 customer_stays m m' n out out' s h customer owner bs g at =
     let four : 3 < 4 = omega arith in
     record { at = ap (λ (rs : Rows). block_at rs customer) (g.tables 3 four) ∙ at.at; some = at.some; there = at.there }
+
+-- a row that is put in is found
+row_put : (rows : Rows) (key b : ℕ) → block_at (put_row rows key b) key ≡ b
+row_put rows key b =
+    let same : nat_eq key key ≡ true = grind (arith, nat_tests) in
+    at_put rows key b key ∙ rw same refl
 
 -- a booking that the state does not have is in no list
 no_row : (m : ℕ → ℕ) (n : ℕ) (out : List ℕ) (s : State) (h : Represents m n out s) (customer owner : ℕ) (bs : Bookings)
@@ -203,6 +212,26 @@ module _ (m : ℕ → ℕ) (n : ℕ) (s : State) (h : IsState m n s) (customer o
                 (with_bookings s customer (insert had (kind, id) x)) kind id (taken (item_in m item) num))) booked
                 ∙ ap (λ (x : Item). done (with_item more kind id x)) put);
             stays = record { after = after.after; tables = λ i l. after.tables i l ∙ joined.tables i l };
+          }
+
+      pub added_booking : (m3 : ℕ → ℕ) → IsItemNow m2 m3 item (taken (item_in m2 item) num) → (s3 : State) →
+          (h3 : IsState m3 n s3) → IsBookingAt h3.represents owner (kind, id) b
+      added_booking m3 made s3 h3 =
+          let key = place_key (kind, id) in
+          let rows = written.after.parts.lists owner in
+          let whose = owner_in_table m n s h customer owner kind id item e in
+          let still = customer_still m m2 n [] [] s more h.represents owner joined whose in
+          let same = list_same m2 n [] more joined.after owner (put_row rows key b) still grown.list in
+          let l3 = list_of_item m2 m3 n [] more joined.after kind id item owner item_at made.others still in
+          let after = item_replaced m2 m3 n [] more kind id item joined.after item_at made.others in
+          let last = with_item more kind id (item_in m3 item) in
+          let still3 = customer_still m2 m3 n [] [] more last joined.after owner after still in
+          let same3 = list_after m3 n last s3 after.after h3.represents owner (joined.after.parts.lists owner) still3 l3
+          in
+          record {
+            small = e.small;
+            at = ap (λ (rs : Rows). block_at rs key) (same3 ∙ same) ∙ row_put rows key b;
+            some = omega (arith, t.block.1.1);
           }
 
 -- the customer has no booking where the spot has none
@@ -338,4 +367,19 @@ module _ (s : View) (customer owner : ℕ) (kind : Kind) (id item num : ℕ) (of
             (mem s2 image) num offer.price (its_booking image state i2 i1 h p) (enough_at image i0)
             (o.price_is image i0) (mem s3 image)
             (made.changed image i (free_now image state i2 i1 i0 h p));
+      }
+
+      pub add_stays : (s3 : View) → ItemChangedOf s2 s3 item offer.free (λ x. taken x num) →
+          LeavesBooking s s3 owner (kind, id) b (AtSpot customer owner kind id item spot)
+      add_stays s3 made = record {
+        room = omega (arith, t.room, w.kept.size, made.kept.size);
+        at = λ image state state' i h p h'.
+            let i2 = made.kept.seen image i in
+            let i1 = w.kept.seen image i2 in
+            let i0 = t.kept.seen image i1 in
+            added_booking (mem s image) (length image) state h customer owner kind id item p.here (none image state h p)
+            (mem s1 image) b start (its_taking image state i1 h)
+            (mem s2 image) num offer.price (its_booking image state i2 i1 h p) (enough_at image i0)
+            (o.price_is image i0) (mem s3 image)
+            (made.changed image i (free_now image state i2 i1 i0 h p)) state' h';
       }

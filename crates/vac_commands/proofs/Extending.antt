@@ -16,22 +16,26 @@ use Rattle.vac_model.specs.State.{State, Bookings, item_of, with_item, with_book
 use Rattle.vac_model.specs.Step.{done, refused, step, taken, extended, unit_limit}
 use Rattle.vac_model.specs.Balanced.{IsBooking}
 use Rattle.vac_model.proofs.States.{item_of-with_bookings}
+use Rattle.tx_alloc.specs.Rows.{Rows, block_at}
 use Rattle.vac_records.specs.Items.{mem, item_in, IsItemNow, CanMakeOf, ItemChangedOf}
-use Rattle.vac_records.specs.Bookings.{booking_in}
+use Rattle.vac_records.specs.Bookings.{place_key, booking_in}
 use Rattle.vac_records.specs.Customers.{IsBookingNow, CanExtend, BookingChanged}
 use Rattle.vac_records.specs.Represents.{IsState}
 use Rattle.vac_records.specs.InMemory.{HoldsState}
-use Rattle.vac_records.specs.Laws.{Stays, IsItemAt}
+use Rattle.vac_records.specs.Laws.{Stays, IsItemAt, IsBookingAt}
 use Rattle.vac_records.specs.Steps.{kept_both, stood}
+use Rattle.vac_records.proofs.Keyed.{row_at, row_times}
 use Rattle.vac_records.proofs.Items.{item_replaced}
 use Rattle.vac_records.proofs.Booked.{booking_replaced}
 use Rattle.vac_commands.specs.declared.bookings.Offer.{Offer}
 use Rattle.vac_commands.specs.Entries.{ItemIsAt, CustomerIsAt}
 use Rattle.vac_commands.specs.BookingSteps.{booking_block, Here, AtBooking, HasBookingAt, IsOffered, Lands}
 use Rattle.vac_commands.specs.BookingSteps.{ServesCommand}
+use Rattle.vac_commands.specs.Starts.{LeavesBooking}
+use Rattle.vac_commands.proofs.Listed.{list_of_item, list_of_booking, list_same, customer_still, list_after}
 use Rattle.vac_commands.proofs.Serving.{reads_serve}
 use Rattle.vac_commands.proofs.Held.{item_stood}
-use Rattle.vac_commands.proofs.Owners.{here_at, owned, at_owner, at_item, its_item, booked_at}
+use Rattle.vac_commands.proofs.Owners.{here_at, owned, at_owner, at_item, its_item, booked_at, owner_in_table}
 use Rattle.vac_commands.proofs.Cancelling.{item_stays, item_words}
 
 -- an item that is offered has a price in its range
@@ -124,6 +128,23 @@ module _ (m : ℕ → ℕ) (n : ℕ) (s : State) (h : IsState m n s) (customer o
               ∙ ap (λ (x : Item). done (with_item more kind id x)) put);
           stays = record { after = after.after; tables = λ i l. after.tables i l ∙ grown.tables i l };
         }
+
+    pub extended_booking : (m3 : ℕ → ℕ) → IsItemNow m2 m3 item (taken (item_in m2 item) num) → (s3 : State) →
+        (h3 : IsState m3 n s3) → IsBookingAt h3.represents owner (kind, id) b
+    extended_booking m3 made s3 h3 =
+        let key = place_key (kind, id) in
+        let rows = h.represents.parts.lists owner in
+        let whose = owner_in_table m n s h customer owner kind id item e in
+        let inside = row_times key b rows (row_at key b rows is some) in
+        let l2 = list_of_booking m m2 n [] s h.represents owner b inside now.others whose in
+        let still = customer_still m m2 n [] [] s more h.represents owner grown whose in
+        let same = list_same m2 n [] more grown.after owner rows still l2 in
+        let l3 = list_of_item m2 m3 n [] more grown.after kind id item owner item_at made.others still in
+        let after = item_replaced m2 m3 n [] more kind id item grown.after item_at made.others in
+        let last = with_item more kind id (item_in m3 item) in
+        let still3 = customer_still m2 m3 n [] [] more last grown.after owner after still in
+        let same3 = list_after m3 n last s3 after.after h3.represents owner (grown.after.parts.lists owner) still3 l3 in
+        record { small = e.small; at = ap (λ (rs : Rows). block_at rs key) (same3 ∙ same) ∙ is; some = some }
 
 -- the calls, under each image
 module _ (s : View) (customer owner : ℕ) (kind : Kind) (id item num : ℕ) (offer : Offer) (b : ℕ)
@@ -218,4 +239,17 @@ module _ (s : View) (customer owner : ℕ) (kind : Kind) (id item num : ℕ) (of
             (mem s2 image) num offer.price (enough_at image i0) (o.price_is image i0) (its_change image i2)
             (mem s3 image) (omega (arith, under, l.answer image i1))
             (made.changed image i (free_now image state i2 i0 h p));
+      }
+
+      pub extend_stays : (s3 : View) → ItemChangedOf s2 s3 item offer.free (λ x. taken x num) → b + 8 ≤ s.size →
+          LeavesBooking s s3 owner (kind, id) b (AtBooking customer owner kind id item b)
+      extend_stays s3 made room = record {
+        room = omega (arith, room, l.kept.size, w.kept.size, made.kept.size);
+        at = λ image state state' i h p h'.
+            let i2 = made.kept.seen image i in
+            let i1 = w.kept.seen image i2 in
+            let i0 = l.kept.seen image i1 in
+            extended_booking (mem s image) (length image) state h customer owner kind id item b p.here p.is b_some
+            (mem s2 image) num offer.price (enough_at image i0) (o.price_is image i0) (its_change image i2)
+            (mem s3 image) (made.changed image i (free_now image state i2 i0 h p)) state' h';
       }

@@ -8,6 +8,9 @@ pub mod ItemLess
 pub mod Answering
 pub mod Serving
 pub mod Owners
+pub mod Starting
+pub mod Listed
+pub mod Staying
 pub mod Refusals
 pub mod Cancelling
 pub mod Extending

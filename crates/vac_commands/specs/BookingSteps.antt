@@ -1,11 +1,13 @@
 -- The conditions and effects of commands on bookings after their customer and their item have been
 -- found.
-use Rattle.std.specs.Prelude.{◌≡◌, ◌≢◌, ℕ, ◌+◌, ◌<◌, ◌≤◌, ◌^◌, List, [], length, true}
+use Rattle.std.specs.Prelude.{◌≡◌, ◌≢◌, ℕ, ◌+◌, ◌<◌, ◌≤◌, ◌^◌, List, [], length, Option, Some, None, true}
 use Rattle.tx_memory.specs.View.{View, Sees, RestsOn, Kept}
 use Rattle.vac_model.specs.declared.commands.Command.{Command}
 use Rattle.vac_model.specs.declared.commands.Command.TheVariants.{Reserve, Cancel}
+use Rattle.vac_model.specs.declared.commands.Why.{Why}
 use Rattle.vac_model.specs.declared.items.Kind.{Kind}
 use Rattle.vac_model.specs.declared.replies.Reply.{Reply}
+use Rattle.vac_model.specs.declared.replies.Reply.TheVariants as reply
 use Rattle.vac_model.specs.State.{State, Place}
 use Rattle.vac_model.specs.Step.{step}
 use Rattle.vac_model.specs.Ranges.{is_command}
@@ -106,6 +108,11 @@ pub record CanReserveMore (s : View) (who : CustomerAt) (what : ItemAt) (offer :
     (b : ℕ) : Type 0 where
   pub ready : CanReserve s who what offer
   pub booking : HasBookingAt s who.owner (what.kind, what.id) b
+
+-- the reply of a command on a booking, from the reason of its refusal, if it was refused
+abbrev pub served_reply : Option Why → Reply
+served_reply None = reply.Done
+served_reply (Some why) = reply.No why
 
 -- the memory represents the state after the command, with the same tables, and the reply is that
 -- of the command

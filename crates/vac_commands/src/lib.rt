@@ -11,7 +11,7 @@ mod customers;
 mod find;
 mod items;
 
-pub use bookings::{CustomerAt, ItemAt, cancel, reserve, reserve_at};
+pub use bookings::{CustomerAt, ItemAt, cancel, reserve, reserve_at, reserve_from};
 pub use customers::{add_customer, bill, bill_at, drop_customer, drop_customer_at, new_customer};
 pub use find::{find_customer, find_item};
 pub use items::{add, delete, drop_flight, free, price};

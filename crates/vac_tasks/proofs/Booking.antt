@@ -1,6 +1,6 @@
 -- The customer of a trip, and the bookings.
-use Rattle.std.proofs.Common.{◌≡◌, ◌≢◌, ℕ, ◌<◌, ◌^◌, List, [], ◌∷◌, length, Option, Some, None, Bool, true, false, refl}
-use Rattle.std.proofs.Common.{sym, ap, ◌∙◌, subst, inl, inr, arith}
+use Rattle.std.proofs.Common.{◌≡◌, ◌≢◌, ℕ, ◌+◌, ◌<◌, ◌≤◌, ◌^◌, List, [], ◌∷◌, length, Option, Some, None, Bool}
+use Rattle.std.proofs.Common.{true, false, refl, sym, ap, ◌∙◌, subst, inl, inr, arith}
 use Rattle.std.specs.Prelude.{◌≡◌, IfSome, is_some, ◌||◌, if◌then◌else◌, true}
 use Rattle.std.proofs.lemmas.Bool.{cases_lt}
 use Rattle.std.specs.FinMap.{empty}
@@ -22,7 +22,10 @@ use Rattle.vac_model.specs.Ranges.{is_command}
 use Rattle.vac_model.specs.Run.{joined_of, refusal_of, choice_of, reserve_choice, book_choices, trip_with, trip}
 use Rattle.vac_model.proofs.Refused.{step_untouched}
 use Rattle.vac_records.specs.Items.{mem}
+use Rattle.vac_records.specs.Bookings.{place_key}
+use Rattle.vac_records.specs.Customers.{head_of}
 use Rattle.tx_alloc.specs.Pointer.{IsWithin}
+use Rattle.tx_alloc.specs.Rows.{Rows}
 use Rattle.vac_records.specs.Steps.{kept_none, kept_both, stood}
 use Rattle.vac_records.specs.Represents.{IsState}
 use Rattle.vac_records.specs.InMemory.{HoldsState, OnlyRead}
@@ -30,7 +33,8 @@ use Rattle.vac_records.proofs.Customers.{customer_found, customer_missing}
 use Rattle.vac_records.proofs.Single.{one_state}
 use Rattle.vac_commands.specs.Entries.{item_block, customer_block, LacksCustomer, HasCustomerAt, ItemsStay}
 use Rattle.vac_commands.specs.CustomerSteps.{RanOn, ItemsStayOn, HasSeat}
-use Rattle.vac_commands.specs.BookingSteps.{Here, AtBlocks, Lands, ServesCommand}
+use Rattle.vac_commands.specs.BookingSteps.{Lands, ServesCommand, served_reply}
+use Rattle.vac_commands.specs.Starts.{MayStart, AtStart, HasStart, LeavesStart}
 use Rattle.vac_commands.specs.Ran.{IsOutcome, Ran, joining}
 use Rattle.vac_tasks.specs.declared.trip.Choice.{Choice}
 use Rattle.vac_tasks.specs.declared.trip.Choices.{Choices}
@@ -38,10 +42,13 @@ use Rattle.vac_tasks.specs.declared.trip.Owner.{Owner}
 use Rattle.vac_tasks.specs.RanTask.{RanTask}
 use Rattle.vac_tasks.specs.Runs.{Runs, RunsWhere, BlocksStay}
 use Rattle.vac_tasks.specs.Trips.{priced, choice_in, any_chosen, IsKnownItem, AreKnownItems, ChoiceIsAt, ChoicesAreAt}
+use Rattle.vac_tasks.specs.Trips.{first_key, next_key, StartsAt, CanStart, LeavesTurn}
 use Rattle.vac_tasks.specs.Trips.{IsChoiceAt, AtChoices, Chosen, IsOwner, IsOwnerAt, AtPick, asked_to_join, HasJoined}
 use Rattle.vac_commands.proofs.Held.{read_none, state_on, customer_is, customer_none, items_stay_reads}
 use Rattle.vac_commands.proofs.Held.{customers_stay_reads, item_found_at, item_at_stays, customer_at_stays}
 use Rattle.vac_commands.proofs.Serving.{outcome_lands, item_lands, customer_lands}
+use Rattle.vac_commands.proofs.Starting.{start_later}
+use Rattle.vac_commands.proofs.Staying.{start_head, has_head, lists_one}
 use Rattle.vac_commands.proofs.Billing.{ran_missing}
 use Rattle.vac_tasks.proofs.Parts.{outcome_is, held_runs}
 
@@ -166,19 +173,19 @@ abbrev picks : ℕ → Kind → Option Choice → State → State × Option Pick
 picks id kind o state = reserve_choice state id kind (priced o)
 
 -- nothing was chosen
-pub reserved_none : (s : View) (id : ℕ) (block : Option ℕ) (kind : Kind) (o : Option Choice) → o ≡ None →
-    RunsWhere s s (picks id kind o) None (AtPick id block kind o)
-reserved_none s id block kind o e = rw e (record {
+pub reserved_none : (s : View) (id : ℕ) (block : Option ℕ) (kind : Kind) (o : Option Choice) (link : ℕ) → o ≡ None →
+    RunsWhere s s (picks id kind o) None (AtPick id block kind o link)
+reserved_none s id block kind o link e = rw e (record {
   kept = kept_none s;
   state = λ image state i h p. h;
   answer = λ image state i h p. refl;
 })
 
-pub reserved_missing : (s : View) (id : ℕ) (kind : Kind) (block : Option ℕ) (o : Option Choice) (c : Choice) →
-    o ≡ Some c → block ≡ None →
+pub reserved_missing : (s : View) (id : ℕ) (kind : Kind) (block : Option ℕ) (o : Option Choice) (c : Choice)
+    (link : ℕ) → o ≡ Some c → block ≡ None →
     RunsWhere s s (picks id kind o) (Some (record { id = c.id; price = c.price; refused = Some NoCustomer }))
-    (AtPick id block kind o)
-reserved_missing s id kind block o c e none =
+    (AtPick id block kind o link)
+reserved_missing s id kind block o c link e none =
     let pick : Option Pick = Some (record { id = c.id; price = c.price; refused = Some NoCustomer }) in
     let step : (image : List ℕ) (state : State) (h : IsState (mem s image) (length image) state) →
     customer_block h id ≡ 0 → picks id kind (Some c) state ≡ (state, pick) = λ image state h at.
@@ -200,58 +207,116 @@ blocks_same s P = record {
       id;
 }
 
+-- bookings of a kind come after the first key of the kind, and before the next kind's
+key_after : (kind : Kind) (id : ℕ) → first_key kind ≤ place_key (kind, id)
+key_after kind id = omega arith
+
+key_before : (kind : Kind) (id : ℕ) → id < 2 ^ 32 → place_key (kind, id) + 1 ≤ next_key kind
+key_before kind id small = omega (arith, small)
+
+first_before : (kind : Kind) → first_key kind ≤ next_key kind
+first_before kind = omega arith
+
 -- where the pick's customer and item stand in the blocks, the command was run
 pick_here : (m : ℕ → ℕ) (n : ℕ) (state : State) (h : IsState m n state) (id : ℕ) (kind : Kind) (block : Option ℕ)
-    (o : Option Choice) (b : ℕ) (c : Choice) → block ≡ Some b → o ≡ Some c → b ≢ 0 → c.item ≢ 0 → c.id < 2 ^ 32 →
-    AtPick id block kind o m n state h → Here h id b kind c.id c.item
-pick_here m n state h id kind block o b c is_b is_c b_some c_some small p = record {
-  owner_is = subst (λ (x : Option ℕ). IsOwnerAt h id x) is_b p.owner;
-  owner_some = b_some;
-  item_is = subst (λ (x : Option Choice). IsChoiceAt h kind x) is_c p.chosen;
-  item_some = c_some;
-  small = small;
+    (o : Option Choice) (b : ℕ) (c : Choice) (link : ℕ) → block ≡ Some b → o ≡ Some c → b ≢ 0 → c.item ≢ 0 →
+    c.id < 2 ^ 32 → AtPick id block kind o link m n state h → AtStart id b kind c.id c.item link m n state h
+pick_here m n state h id kind block o b c link is_b is_c b_some c_some small p = record {
+  here = record {
+    owner_is = subst (λ (x : Option ℕ). IsOwnerAt h id x) is_b p.owner;
+    owner_some = b_some;
+    item_is = subst (λ (x : Option Choice). IsChoiceAt h kind x) is_c p.chosen;
+    item_some = c_some;
+    small = small;
+  };
+  start = start_later (head_of b) link (first_key kind) (place_key (kind, c.id)) (h.represents.parts.lists b)
+      (key_after kind c.id) (subst (λ (x : Option ℕ). StartsAt h x link (first_key kind)) is_b p.start);
+}
+
+-- the customer's list is searched for an item of the kind from where it may be searched for the kind
+pub has_later : (s : View) (b link : ℕ) (kind : Kind) (id : ℕ) → HasStart s b link (first_key kind) →
+    HasStart s b link (place_key (kind, id))
+has_later s b link kind id t = record {
+  room = t.room;
+  at = λ image state i h. start_later (head_of b) link (first_key kind) (place_key (kind, id))
+      (h.represents.parts.lists b) (key_after kind id) (t.at image state i h);
+}
+
+-- nothing was done for a kind, so the next kind may be searched from the same link
+pub turn_same : (s : View) (id : ℕ) (block : Option ℕ) (kind : Kind) (o : Option Choice) (link : ℕ) →
+    IsOwner s id block → CanStart s block link (first_key kind) →
+    LeavesTurn s s block link (next_key kind) (AtPick id block kind o link)
+turn_same s id None kind o link at can = record { room = tt; at = λ image state state' i h p h'. tt }
+turn_same s id (Some b) kind o link at can = record {
+  room = can.room;
+  at = λ image state state' i h p h'.
+      let e = lists_one (mem s image) (length image) state state' h h' id b p.owner at.some in
+      subst (λ (rs : Rows). MayStart (head_of b) link (next_key kind) rs) (sym e)
+      (start_later (head_of b) link (first_key kind) (next_key kind) (h.represents.parts.lists b)
+      (first_before kind) p.start);
 }
 
 pub reserve_range : (id : ℕ) (kind : Kind) (item : ℕ) → is_id id ≡ true → is_id item ≡ true →
     is_command (command.Reserve id kind item 1) ≡ true
 reserve_range id kind item a b = rw (a, b) refl
 
+-- the refusal of a reply that was made of a refusal
+refusal_back : (why : Option Why) → refusal_of (served_reply why) ≡ why
+refusal_back None = refl
+refusal_back (Some why) = refl
+
 pub reserved : (s s' : View) (id : ℕ) (kind : Kind) (block : Option ℕ) (o : Option Choice) (b : ℕ) (c : Choice)
-    (r : Reply) (why : Option Why) → block ≡ Some b → o ≡ Some c → b ≢ 0 → c.item ≢ 0 → c.id < 2 ^ 32 →
-    is_command (command.Reserve id kind c.id 1) ≡ true → ServesCommand s s' (command.Reserve id kind c.id 1) r
-    (AtBlocks id b kind c.id c.item) → why ≡ refusal_of r →
+    (link : ℕ) (why : Option Why) → block ≡ Some b → o ≡ Some c → b ≢ 0 → c.item ≢ 0 → c.id < 2 ^ 32 →
+    is_command (command.Reserve id kind c.id 1) ≡ true →
+    ServesCommand s s' (command.Reserve id kind c.id 1) (served_reply why) (AtStart id b kind c.id c.item link) →
     RunsWhere s s' (picks id kind o) (Some (record { id = c.id; price = c.price; refused = why }))
-    (AtPick id block kind o)
-reserved s s' id kind block o b c r why is_b is_c b_some c_some small range v w =
+    (AtPick id block kind o link)
+reserved s s' id kind block o b c link why is_b is_c b_some c_some small range v =
+    let r = served_reply why in
     let out : (image : List ℕ) (state : State) → Sees s' image → (h : IsState (mem s image) (length image) state) →
-    AtPick id block kind o (mem s image) (length image) state h →
+    AtPick id block kind o link (mem s image) (length image) state h →
     IsOutcome (mem s' image) (length image) (step state (command.Reserve id kind c.id 1)) r = λ image state i h p.
-    let e = pick_here (mem s image) (length image) state h id kind block o b c is_b is_c b_some c_some small p in
+    let e = pick_here (mem s image) (length image) state h id kind block o b c link is_b is_c b_some c_some small p in
     outcome_lands (mem s image) (mem s' image) (length image) state (command.Reserve id kind c.id 1) r h range
     (v.lands image state i h e) in
     record {
       kept = v.kept;
       state = λ image state i h p. rw is_c (out image state i h p).state;
-      answer = λ image state i h p. rw (is_c, w) (ap (λ (x : Reply). Some
-          (record { id = c.id; price = c.price; refused = refusal_of x })) (out image state i h p).reply_is);
+      answer = λ image state i h p. rw is_c (ap (λ (x : Reply). Some
+          (record { id = c.id; price = c.price; refused = refusal_of x })) (out image state i h p).reply_is ∙
+          ap (λ (x : Option Why). Some (record { id = c.id; price = c.price; refused = x })) (refusal_back why));
     }
 
 pub reserved_stays : (s s' : View) (id : ℕ) (kind : Kind) (block : Option ℕ) (o : Option Choice) (b : ℕ) (c : Choice)
-    (r : Reply) → block ≡ Some b → o ≡ Some c → b ≢ 0 → c.item ≢ 0 → c.id < 2 ^ 32 →
-    ServesCommand s s' (command.Reserve id kind c.id 1) r (AtBlocks id b kind c.id c.item) →
-    BlocksStay s s' (AtPick id block kind o)
-reserved_stays s s' id kind block o b c r is_b is_c b_some c_some small v =
+    (link : ℕ) (r : Reply) → block ≡ Some b → o ≡ Some c → b ≢ 0 → c.item ≢ 0 → c.id < 2 ^ 32 →
+    ServesCommand s s' (command.Reserve id kind c.id 1) r (AtStart id b kind c.id c.item link) →
+    BlocksStay s s' (AtPick id block kind o link)
+reserved_stays s s' id kind block o b c link r is_b is_c b_some c_some small v =
     let lands : (image : List ℕ) (state : State) → Sees s' image → (h : IsState (mem s image) (length image) state) →
-    AtPick id block kind o (mem s image) (length image) state h →
+    AtPick id block kind o link (mem s image) (length image) state h →
     Lands h (mem s' image) (command.Reserve id kind c.id 1) r = λ image state i h p.
-    v.lands image state i h (pick_here (mem s image) (length image) state h id kind block o b c is_b is_c b_some c_some
-    small p) in
+    v.lands image state i h (pick_here (mem s image) (length image) state h id kind block o b c link is_b is_c b_some
+    c_some small p) in
     record {
       items = λ image state state' i h p h' kind' id'. item_lands (mem s image) (mem s' image)
           (length image) state state' (command.Reserve id kind c.id 1) r h h' (lands image state i h p) kind' id';
       customers = λ image state state' i h p h' id'. customer_lands (mem s image) (mem s' image)
           (length image) state state' (command.Reserve id kind c.id 1) r h h' (lands image state i h p) id';
     }
+
+-- the next kind may be searched from where the booking left the link
+pub reserved_turn : (s s' : View) (id : ℕ) (kind : Kind) (block : Option ℕ) (o : Option Choice) (b : ℕ) (c : Choice)
+    (link link' : ℕ) → block ≡ Some b → o ≡ Some c → b ≢ 0 → c.item ≢ 0 → c.id < 2 ^ 32 →
+    LeavesStart s s' b link' (place_key (kind, c.id) + 1) (AtStart id b kind c.id c.item link) →
+    LeavesTurn s s' block link' (next_key kind) (AtPick id block kind o link)
+reserved_turn s s' id kind block o b c link link' is_b is_c b_some c_some small v = record {
+  room = subst (λ (x : Option ℕ). IfSome x (λ _. link' < s'.size)) (sym is_b) v.room;
+  at = λ image state state' i h p h'.
+      let e = pick_here (mem s image) (length image) state h id kind block o b c link is_b is_c b_some c_some small p in
+      subst (λ (x : Option ℕ). StartsAt h' x link' (next_key kind)) (sym is_b)
+      (start_later (head_of b) link' (place_key (kind, c.id) + 1) (next_key kind) (h'.represents.parts.lists b)
+      (key_before kind c.id small) (v.at image state state' i h e h'));
+}
 
 -- what is known of a state's blocks is known of another one's that has them
 choice_moves : {m m' : ℕ → ℕ} {n n' : ℕ} {s s' : State} → (h : IsState m n s) (h' : IsState m' n' s') (kind : Kind)
@@ -266,11 +331,12 @@ owner_moves : {m m' : ℕ → ℕ} {n n' : ℕ} {s s' : State} → (h : IsState 
 owner_moves h h' id None same at = same id ∙ at
 owner_moves h h' id (Some c) same at = same id ∙ at
 
--- a memory on which what was chosen can be booked
-pub record Ready (s : View) (id : ℕ) (block : Option ℕ) (cs : Choices) : Type 0 where
+-- a memory on which what was chosen can be booked, and the customer's list can be searched from the link on
+pub record Ready (s : View) (id : ℕ) (block : Option ℕ) (cs : Choices) (link key : ℕ) : Type 0 where
   pub state : HoldsState s
   pub owner : IsOwner s id block
   pub known : ChoicesAreAt s cs
+  pub start : CanStart s block link key
 
 -- what is so at the size is so of each state there
 owner_at : (s : View) (id : ℕ) (block : Option ℕ) → IsOwner s id block → (image : List ℕ) (state : State) →
@@ -323,46 +389,95 @@ owner_seated s s' id (Some c) held kept room seat = record {
   at = λ image state' i h'. (let t = held.under image (stood kept image i) in seat image t.0 state' i.sees t.1 h');
 }
 
-pub ready_joined : (s s' : View) (id : ℕ) (owner : Owner) (cs : Choices) → HoldsState s → ChoicesAreAt s cs →
-    HasJoined s s' id owner → Ready s' id owner.block cs
-ready_joined s s' id owner cs held known j = record {
-  state = held_runs s s' (asked_to_join id) owner.joined j.runs held;
-  owner = owner_seated s s' id owner.block held j.runs.kept j.room j.seat;
-  known = record {
-    known = λ kind. choice_stays s s' kind (choice_in cs kind) held j.runs.kept
-        (λ image state state' i h h' kind id. j.items.stay image state state' i.sees h h' kind id) (known.known kind);
-  };
-}
+-- the link is the head of the list of the customer, if the customer exists
+abbrev pub IsHead : Option ℕ → ℕ → Type 0
+IsHead block link = IfSome block (λ b. link ≡ head_of b)
+
+starts_at_head : (s : View) (id : ℕ) (block : Option ℕ) (link key : ℕ) → IsOwner s id block → IsHead block link →
+    CanStart s block link key
+starts_at_head s id None link key at is = tt
+starts_at_head s id (Some b) link key at is =
+    subst (λ (x : ℕ). HasStart s b x key) (sym is) (has_head s id b key at)
+
+pub ready_joined : (s s' : View) (id : ℕ) (owner : Owner) (cs : Choices) (link key : ℕ) → HoldsState s →
+    ChoicesAreAt s cs → HasJoined s s' id owner → IsHead owner.block link → Ready s' id owner.block cs link key
+ready_joined s s' id owner cs link key held known j is =
+    let seated = owner_seated s s' id owner.block held j.runs.kept j.room j.seat in
+    record {
+      state = held_runs s s' (asked_to_join id) owner.joined j.runs held;
+      owner = seated;
+      known = record {
+        known = λ kind. choice_stays s s' kind (choice_in cs kind) held j.runs.kept
+            (λ image state state' i h h' kind id. j.items.stay image state state' i.sees h h' kind id)
+            (known.known kind);
+      };
+      start = starts_at_head s' id owner.block link key seated is;
+    }
+
+-- a customer's block lies within the addresses
+within_fits : (s s' : View) (block : Option ℕ) → s.size ≤ 2 ^ 32 → Kept s s' → IsWithin s' block →
+    IfSome block (λ b. b + 8 ≤ 2 ^ 32)
+within_fits s s' None small kept room = tt
+within_fits s s' (Some b) small kept room = omega (arith, small, kept.size, room.1)
+
+pub block_fits : (s s' : View) (id : ℕ) (owner : Owner) → HoldsState s → HasJoined s s' id owner →
+    IfSome owner.block (λ b. b + 8 ≤ 2 ^ 32)
+block_fits s s' id owner held j = within_fits s s' owner.block held.small j.runs.kept j.room
+
+start_there : (s : View) (block : Option ℕ) (link key : ℕ) → CanStart s block link key → (image : List ℕ)
+    (state : State) → RestsOn s image → (h : IsState (mem s image) (length image) state) → StartsAt h block link key
+start_there s None link key can image state i h = tt
+start_there s (Some b) link key can image state i h = can.at image state i h
 
 -- a pick's blocks at the size
-pick_at : (s : View) (id : ℕ) (block : Option ℕ) (cs : Choices) (kind : Kind) → Ready s id block cs →
+pick_at : (s : View) (id : ℕ) (block : Option ℕ) (cs : Choices) (kind : Kind) (link : ℕ) →
+    Ready s id block cs link (first_key kind) →
     (image : List ℕ) (state : State) → RestsOn s image → (h : IsState (mem s image) (length image) state) →
-    AtPick id block kind (choice_in cs kind) (mem s image) (length image) state h
-pick_at s id block cs kind r image state i h = record {
+    AtPick id block kind (choice_in cs kind) link (mem s image) (length image) state h
+pick_at s id block cs kind link r image state i h = record {
   owner = owner_at s id block r.owner image state i h;
   chosen = choice_at s kind (choice_in cs kind) (r.known.known kind) image state i h;
+  start = start_there s block link (first_key kind) r.start image state i h;
 }
 
-pub ready_next : {A : Type 0} (s s' : View) (id : ℕ) (block : Option ℕ) (cs : Choices) (kind : Kind) (f : State →
-    State × A) (a : A) →
-    Ready s id block cs → RunsWhere s s' f a (AtPick id block kind (choice_in cs kind)) →
-    BlocksStay s s' (AtPick id block kind (choice_in cs kind)) → Ready s' id block cs
-ready_next s s' id block cs kind f a r runs stays = record {
+-- what a turn left holds at the size
+turn_there : (s s' : View) (block : Option ℕ) (link key : ℕ) (P : (m : ℕ → ℕ) (n : ℕ) (state : State) →
+    IsState m n state → Type 0) → HoldsState s → Kept s s' → ((image : List ℕ) (state : State) → RestsOn s image →
+    (h : IsState (mem s image) (length image) state) → P (mem s image) (length image) state h) →
+    LeavesTurn s s' block link key P → CanStart s' block link key
+turn_there s s' None link key P held kept all v = tt
+turn_there s s' (Some b) link key P held kept all v = record {
+  room = v.room;
+  at = λ image state' i h'.
+      let i0 = stood kept image i in
+      let t = held.under image i0 in
+      v.at image t.0 state' i.sees t.1 (all image t.0 i0 t.1) h';
+}
+
+pub ready_next : {A : Type 0} (s s' : View) (id : ℕ) (block : Option ℕ) (cs : Choices) (kind : Kind) (link link' : ℕ)
+    (f : State → State × A) (a : A) → Ready s id block cs link (first_key kind) →
+    RunsWhere s s' f a (AtPick id block kind (choice_in cs kind) link) →
+    BlocksStay s s' (AtPick id block kind (choice_in cs kind) link) →
+    LeavesTurn s s' block link' (next_key kind) (AtPick id block kind (choice_in cs kind) link) →
+    Ready s' id block cs link' (next_key kind)
+ready_next s s' id block cs kind link link' f a r runs stays turn = record {
   state = record {
     inside = omega (arith, r.state.inside, runs.kept.size);
     small = omega (arith, r.state.small, runs.kept.size);
     under = λ image i.
         let i0 = stood runs.kept image i in
         let t = r.state.under image i0 in
-        ((f t.0).0, runs.state image t.0 i.sees t.1 (pick_at s id block cs kind r image t.0 i0 t.1));
+        ((f t.0).0, runs.state image t.0 i.sees t.1 (pick_at s id block cs kind link r image t.0 i0 t.1));
   };
   owner = owner_stays s s' id block r.state runs.kept (λ image state state' i h h' id'. stays.customers image state
-      state' i.sees h (pick_at s id block cs kind r image state (stood runs.kept image i) h) h' id') r.owner;
+      state' i.sees h (pick_at s id block cs kind link r image state (stood runs.kept image i) h) h' id') r.owner;
   known = record {
     known = λ k. choice_stays s s' k (choice_in cs k) r.state runs.kept
         (λ image state state' i h h' kind' id'. stays.items image state state' i.sees h
-        (pick_at s id block cs kind r image state (stood runs.kept image i) h) h' kind' id') (r.known.known k);
+        (pick_at s id block cs kind link r image state (stood runs.kept image i) h) h' kind' id') (r.known.known k);
   };
+  start = turn_there s s' block link' (next_key kind) (AtPick id block kind (choice_in cs kind) link) r.state runs.kept
+      (pick_at s id block cs kind link r) turn;
 }
 
 -- what was found can be booked
@@ -374,14 +489,24 @@ choice_found s kind (Some c) k = record { id = k.id; at = item_found_at s kind c
 pub choices_found : (s : View) (cs : Choices) → AreKnownItems s cs → ChoicesAreAt s cs
 choices_found s cs k = record { known = λ kind. choice_found s kind (choice_in cs kind) (k.known kind) }
 
+-- a search may start at the head
+starts_first : {m : ℕ → ℕ} {n : ℕ} {s : State} (h : IsState m n s) (block : Option ℕ) (link key : ℕ) →
+    IsHead block link → StartsAt h block link key
+starts_first h None link key is = tt
+starts_first h (Some b) link key is =
+    subst (λ (x : ℕ). MayStart (head_of b) x key (h.represents.parts.lists b)) (sym is)
+    (start_head (head_of b) key (h.represents.parts.lists b))
+
 -- the customer and the three bookings, one after the other
-module _ (s s1 s2 s3 s4 : View) (id : ℕ) (owner : Owner) (cs : Choices) (car flight room : Option Pick)
-    (j : HasJoined s s1 id owner)
-    (a : RunsWhere s1 s2 (picks id Car cs.car) car (AtPick id owner.block Car cs.car))
-    (sa : BlocksStay s1 s2 (AtPick id owner.block Car cs.car))
-    (b : RunsWhere s2 s3 (picks id Flight cs.flight) flight (AtPick id owner.block Flight cs.flight))
-    (sb : BlocksStay s2 s3 (AtPick id owner.block Flight cs.flight))
-    (c : RunsWhere s3 s4 (picks id Room cs.room) room (AtPick id owner.block Room cs.room)) where
+module _ (s s1 s2 s3 s4 : View) (id : ℕ) (owner : Owner) (cs : Choices) (l1 l2 l3 : ℕ) (car flight room : Option Pick)
+    (j : HasJoined s s1 id owner) (first : IsHead owner.block l1)
+    (a : RunsWhere s1 s2 (picks id Car cs.car) car (AtPick id owner.block Car cs.car l1))
+    (sa : BlocksStay s1 s2 (AtPick id owner.block Car cs.car l1))
+    (ta : LeavesTurn s1 s2 owner.block l2 (next_key Car) (AtPick id owner.block Car cs.car l1))
+    (b : RunsWhere s2 s3 (picks id Flight cs.flight) flight (AtPick id owner.block Flight cs.flight l2))
+    (sb : BlocksStay s2 s3 (AtPick id owner.block Flight cs.flight l2))
+    (tb : LeavesTurn s2 s3 owner.block l3 (next_key Flight) (AtPick id owner.block Flight cs.flight l2))
+    (c : RunsWhere s3 s4 (picks id Room cs.room) room (AtPick id owner.block Room cs.room l3)) where
   all : (image : List ℕ) (state : State) → Sees s4 image → (h : IsState (mem s image) (length image) state) →
       AtChoices cs (mem s image) (length image) state h →
       IsState (mem s4 image) (length image) (book_choices state id (priced cs.car) (priced cs.flight)
@@ -400,23 +525,28 @@ module _ (s s1 s2 s3 s4 : View) (id : ℕ) (owner : Owner) (cs : Choices) (car f
       (j.items.stay image state _ i1 h h1) (p.at Flight) in
       let room_at : IsChoiceAt h1 Room cs.room = choice_moves h h1 Room cs.room (j.items.stay image state _ i1 h h1)
       (p.at Room) in
-      let p1 : AtPick id owner.block Car cs.car (mem s1 image) (length image) _ h1 =
-      record { owner = seat1; chosen = car_at } in
+      let p1 : AtPick id owner.block Car cs.car l1 (mem s1 image) (length image) _ h1 = record {
+        owner = seat1;
+        chosen = car_at;
+        start = starts_first h1 owner.block l1 (first_key Car) first;
+      } in
       let h2 = a.state image _ i2 h1 p1 in
       let items2 = sa.items image _ _ i2 h1 p1 h2 in
       let customers2 = sa.customers image _ _ i2 h1 p1 h2 in
-      let p2 : AtPick id owner.block Flight cs.flight (mem s2 image) (length image) _ h2 =
+      let p2 : AtPick id owner.block Flight cs.flight l2 (mem s2 image) (length image) _ h2 =
       record {
         owner = owner_moves h1 h2 id owner.block customers2 seat1;
         chosen = choice_moves h1 h2 Flight cs.flight items2 flight_at;
+        start = ta.at image _ _ i2 h1 p1 h2;
       } in
       let h3 = b.state image _ i3 h2 p2 in
       let items3 = sb.items image _ _ i3 h2 p2 h3 in
       let customers3 = sb.customers image _ _ i3 h2 p2 h3 in
-      let p3 : AtPick id owner.block Room cs.room (mem s3 image) (length image) _ h3 =
+      let p3 : AtPick id owner.block Room cs.room l3 (mem s3 image) (length image) _ h3 =
       record {
         owner = owner_moves h2 h3 id owner.block customers3 p2.owner;
         chosen = choice_moves h2 h3 Room cs.room items3 (choice_moves h1 h2 Room cs.room items2 room_at);
+        start = tb.at image _ _ i3 h2 p2 h3;
       } in
       let e = j.runs.answer image state i1 h in
       let ea = a.answer image _ i2 h1 p1 in

@@ -1,5 +1,5 @@
 -- The effects of the parts of a trip on a memory that holds a state, under every possible image.
-use Rattle.std.specs.Prelude.{◌≡◌, ℕ, List, Option, Some, None, IfSome, MatchOption, length, nat_lt, ◌||◌, Bool, is_some, if◌then◌else◌, true}
+use Rattle.std.specs.Prelude.{◌≡◌, ℕ, ◌+◌, ◌^◌, ◌<◌, List, Option, Some, None, IfSome, MatchOption, length, nat_lt, ◌||◌, Bool, is_some, if◌then◌else◌, true}
 use Rattle.std.specs.Option.{option_map}
 use Rattle.tx_memory.specs.View.{View, Sees}
 use Rattle.vac_model.specs.declared.items.Kind.{Kind}
@@ -12,9 +12,12 @@ use Rattle.vac_model.specs.Step.{step, price_of}
 use Rattle.vac_model.specs.Run.{choice_of, joined_of}
 use Rattle.tx_alloc.specs.Pointer.{IsWithin}
 use Rattle.vac_records.specs.Items.{mem}
+use Rattle.vac_records.specs.Bookings.{place_key}
+use Rattle.vac_records.specs.Customers.{head_of}
 use Rattle.vac_records.specs.Represents.{IsState}
 use Rattle.vac_records.specs.InMemory.{OnlyRead}
 use Rattle.vac_commands.specs.Entries.{item_block, customer_block, HasItemAt, ItemIsAt, CustomerIsAt, CustomerIsMissing, ItemsStay}
+use Rattle.vac_commands.specs.Starts.{MayStart, HasStart}
 use Rattle.vac_tasks.specs.declared.trip.Choice.{Choice}
 use Rattle.vac_tasks.specs.declared.trip.Choices.{Choices}
 use Rattle.vac_tasks.specs.declared.trip.Owner.{Owner}
@@ -107,11 +110,40 @@ abbrev pub IsOwnerAt : {m : ℕ → ℕ} {n : ℕ} {s : State} → IsState m n s
 IsOwnerAt h id block =
     MatchOption block (customer_block h id ≡ 0) (λ c. customer_block h id ≡ c)
 
--- the customer and the chosen item of a kind are in these blocks
-pub record AtPick (id : ℕ) (block : Option ℕ) (kind : Kind) (choice : Option Choice)
+-- the least key of a booking of the kind
+abbrev pub first_key : Kind → ℕ
+first_key kind = place_key (kind, 0)
+
+-- the least key of a booking of the kind after this one
+abbrev pub next_key : Kind → ℕ
+next_key kind = first_key kind + 2 ^ 32
+
+-- if the customer exists, a search for the key in the customer's list may start at the link
+abbrev pub StartsAt : {m : ℕ → ℕ} {n : ℕ} {s : State} → IsState m n s → Option ℕ → ℕ → ℕ → Type 0
+StartsAt h block link key =
+    IfSome block (λ b. MayStart (head_of b) link key (h.represents.parts.lists b))
+
+-- the customer and the chosen item of a kind are in these blocks, and a search for the customer's
+-- bookings of the kind may start at the link
+pub record AtPick (id : ℕ) (block : Option ℕ) (kind : Kind) (choice : Option Choice) (link : ℕ)
     (m : ℕ → ℕ) (n : ℕ) (s : State) (h : IsState m n s) : Type 0 where
   pub owner : IsOwnerAt h id block
   pub chosen : IsChoiceAt h kind choice
+  pub start : StartsAt h block link (first_key kind)
+
+-- if the customer exists, then under each possible image of the memory's size a search for the key
+-- in the customer's list may start at the link
+abbrev pub CanStart : View → Option ℕ → ℕ → ℕ → Type 0
+CanStart s block link key = IfSome block (λ b. HasStart s b link key)
+
+-- if the customer exists, then under each possible image on which the memory represented a state
+-- with the property P, a search for the key in the customer's list may now start at the link
+pub record LeavesTurn (s s' : View) (block : Option ℕ) (link key : ℕ)
+    (P : (m : ℕ → ℕ) (n : ℕ) (state : State) → IsState m n state → Type 0) : Type 0 where
+  pub room : IfSome block (λ _. link < s'.size)
+  pub at : (image : List ℕ) (state state' : State) → Sees s' image →
+      (h : IsState (mem s image) (length image) state) → P (mem s image) (length image) state h →
+      (h' : IsState (mem s' image) (length image) state') → StartsAt h' block link key
 
 -- the state after NewCustomer was run for the customer, and the result for the trip
 abbrev pub asked_to_join : ℕ → State → State × Joined

@@ -1,21 +1,23 @@
 //! Trips: for one customer, a booking of the dearest item of each kind among the asks.
 
-ghost use Rattle.std.specs.Prelude.{◌≡◌, IfOk, IfSome, true};
+ghost use Rattle.std.specs.Prelude.{◌≡◌, ◌+◌, ◌≤◌, ◌^◌, IfOk, IfSome, true};
 ghost use Rattle.std.specs.List.{list_all};
 ghost use Rattle.vac_model.specs.Amounts.{is_id};
 ghost use Rattle.vac_model.specs.Ranges.{is_task};
 ghost use Rattle.vac_model.specs.Run as rules;
+ghost use Rattle.vac_records.specs.Customers.{head_of};
 ghost use Rattle.vac_records.specs.InMemory.{HoldsState};
 ghost use Rattle.vac_tasks.specs.RanTask.{RanTask};
 ghost use Rattle.vac_tasks.specs.Runs.{RunsWhere, BlocksStay};
 ghost use Rattle.vac_tasks.specs.Trips.{priced, any_chosen, dearer_of, with_found};
+ghost use Rattle.vac_tasks.specs.Trips.{first_key, next_key, CanStart, LeavesTurn};
 ghost use Rattle.vac_tasks.specs.Trips.{ChoiceIsAt, ChoicesAreAt, AtPick, AtChoices, LookedUp, Chosen, IsOwner, HasJoined};
 
-use crate::commands::refusal;
 use tx_alloc::{Block, FreeList};
-use tx_memory::{TxMem, TxRead};
-use vac_commands::{CustomerAt, ItemAt, add_customer, find_customer, find_item, reserve_at};
+use tx_memory::{Addr, TxMem, TxRead};
+use vac_commands::{CustomerAt, ItemAt, add_customer, find_customer, find_item, reserve_from};
 use vac_model::{Joined, Kind, Pick, Reply, Task, TripReply, Why};
+use vac_records::place::BOOKINGS;
 use vac_records::price_at;
 
 /// An item that a trip may book: its id, its price and its block.
@@ -39,6 +41,25 @@ struct Choices {
 struct Owner {
     joined: Joined,
     block: Option<Block>,
+}
+
+/// The customer of a trip, and the customer's block, if the customer exists.
+#[derive(Clone, Copy)]
+struct Traveller {
+    customer: u32,
+    block: Option<Block>,
+}
+
+/// Returns the head of the list of bookings of the customer in a block, or any address if there is
+/// no block.
+fn list_head(block: Option<Block>) -> Addr
+    requires { IfSome block (λ b. b + 8 ≤ 2 ^ 32) }
+    ensures { IfSome block (λ b. result.0 ≡ head_of b) }
+{
+    match block {
+        Some(block) => block.word(BOOKINGS),
+        None => Addr(0),
+    }
 }
 
 /// Returns the dearer of two items; the first one if both cost the same.
@@ -140,47 +161,56 @@ fn join<M: TxMem>(memory: &mut M, customer: u32, start: FreeList) -> Result<Owne
     }
 }
 
-/// Books one unit of the chosen item of a kind. Without a customer the pick is refused.
+/// Books one unit of the chosen item of a kind. Without a customer the pick is refused. The
+/// customer's list is searched from the link `from` on: no booking of the kind or of a later kind
+/// stands before that link. The call leaves in `from` such a link for the later kinds.
 fn reserve_choice<M: TxMem>(
     memory: &mut M,
-    customer: u32,
-    owner: Option<Block>,
+    who: &Traveller,
     kind: Kind,
     choice: Option<Choice>,
     start: FreeList,
+    from: &mut Addr,
 ) -> Result<Option<Pick>, M::Stop>
     requires state { HoldsState (M.view memory.old) }
-    requires range { is_id customer ≡ true }
-    requires owner { IsOwner (M.view memory.old) customer owner }
+    requires range { is_id who.now.customer ≡ true }
+    requires owner { IsOwner (M.view memory.old) who.now.customer who.now.block }
     requires known { IfSome choice (λ c. ChoiceIsAt (M.view memory.old) kind c) }
+    requires from { CanStart (M.view memory.old) who.now.block from.old.0 (first_key kind) }
     ensures origin { M.origin memory.new ≡ M.origin memory.old }
     ensures answer { IfOk result (λ pick. RunsWhere (M.view memory.old) (M.view memory.new)
-        (λ state. rules.reserve_choice state customer kind (priced choice)) pick
-        (AtPick customer owner kind choice)) }
+        (λ state. rules.reserve_choice state who.now.customer kind (priced choice)) pick
+        (AtPick who.now.customer who.now.block kind choice from.old.0)) }
     ensures blocks { IfOk result (λ _. BlocksStay (M.view memory.old) (M.view memory.new)
-        (AtPick customer owner kind choice)) }
+        (AtPick who.now.customer who.now.block kind choice from.old.0)) }
+    ensures from { IfOk result (λ _. LeavesTurn (M.view memory.old) (M.view memory.new)
+        who.now.block from.new.0 (next_key kind)
+        (AtPick who.now.customer who.now.block kind choice from.old.0)) }
 {
     let Some(chosen) = choice else {
         return Ok(None);
     };
-    let Some(owner) = owner else {
+    let Some(owner) = who.block else {
         return Ok(Some(Pick {
             id: chosen.id,
             price: chosen.price,
             refused: Some(Why::NoCustomer),
         }));
     };
-    let who = CustomerAt { customer, owner };
+    let customer = CustomerAt {
+        customer: who.customer,
+        owner,
+    };
     let what = ItemAt {
         kind,
         id: chosen.id,
         item: chosen.item,
     };
-    let reply = reserve_at(memory, who, what, 1, start)?;
+    let refused = reserve_from(memory, customer, what, 1, start, from)?;
     Ok(Some(Pick {
         id: chosen.id,
         price: chosen.price,
-        refused: refusal(&reply),
+        refused,
     }))
 }
 
@@ -201,16 +231,14 @@ fn book_choices<M: TxMem>(
 {
     let owner = join(memory, customer, start)?;
     let block = &owner.block;
-    let car = reserve_choice(memory, customer, *block, Kind::Car, choices.car, start)?;
-    let flight = reserve_choice(
-        memory,
+    let who = Traveller {
         customer,
-        *block,
-        Kind::Flight,
-        choices.flight,
-        start,
-    )?;
-    let room = reserve_choice(memory, customer, *block, Kind::Room, choices.room, start)?;
+        block: *block,
+    };
+    let mut from = list_head(*block);
+    let car = reserve_choice(memory, &who, Kind::Car, choices.car, start, &mut from)?;
+    let flight = reserve_choice(memory, &who, Kind::Flight, choices.flight, start, &mut from)?;
+    let room = reserve_choice(memory, &who, Kind::Room, choices.room, start, &mut from)?;
     Ok(Reply::Trip(TripReply {
         joined: owner.joined,
         picks: [car, flight, room],

@@ -6,7 +6,6 @@ pub loop-scale-preserved : goal.loop-scale-preserved
 loop-scale-preserved g c = record {
   same = fingers_both _ _ _ c.loop-scale.invariant.same c.point_at.ensures.same;
   count = c.point_at.ensures.count ∙ c.loop-scale.invariant.count;
-  recent = c.point_at.ensures.recent ∙ c.loop-scale.invariant.recent;
 }
 
 pub point_at-requires-clause-room : goal.point_at-requires-clause-room

@@ -6,5 +6,4 @@ abbrev pub invariant-loop-scale : goal.invariant-loop-scale
 invariant-loop-scale g l = record {
   same : OnlyFingers l.fn.nodes.list l.nodes.list;
   count : l.nodes.count ≡ l.fn.nodes.count;
-  recent : l.nodes.recent ≡ l.fn.nodes.recent;
 }

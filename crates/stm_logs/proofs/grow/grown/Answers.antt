@@ -1,4 +1,4 @@
-use Rattle.std.proofs.Common.{◌≡◌, ◌*◌, List, length, ap, ◌∙◌, arith}
+use Rattle.std.proofs.Common.{◌≡◌, ◌*◌, List, length, refl, ap, ◌∙◌, arith}
 use Rattle.stm_logs.specs.Nodes.{Node, Block}
 use Rattle.stm_logs.specs.Held.{IsLog}
 use Rattle.stm_logs.specs.Order.{log_value, block_log}
@@ -9,30 +9,26 @@ pub returns : goal.returns
 returns g c =
     let old : Block = c.args.old.now in
     let new : List Node = c.copy.new.new.list in
-    let mid : Block = c.set_recent.new.self in
+    let mid : Block = c.copy.new.new in
     let end : Block = c.point_all_if.new.nodes in
     let copied = c.copy.ensures.copied in
-    let list : mid.list ≡ new = ap (λ (b : Block). b.list) c.set_recent.ensures in
-    let count : mid.count ≡ old.count = ap (λ (b : Block). b.count) c.set_recent.ensures ∙ c.copy.ensures.count in
-    let recent : mid.recent ≡ old.recent = ap (λ (b : Block). b.recent) c.set_recent.ensures ∙ c.recent.ensures in
+    let count : mid.count ≡ old.count = c.copy.ensures.count in
     let len : length new ≡ 2 * length old.list = omega (
       arith,
       c.copy.ensures.places,
       c.in_ok-new.ensures.0,
       c.len-places.ensures,
     ) in
-    let mid_len : length mid.list ≡ 2 * length old.list = ap (λ (xs : List Node). length xs) list ∙ len in
-    let log : IsLog mid = log_of mid new old.count old.recent list count recent
+    let log : IsLog mid = log_of mid new old.count refl count
     (copied_ready old.list new old.count c.requires.ready copied)
-    (omega (arith, len, c.requires.places)) c.requires.recent in
-    let value : block_log mid ≡ block_log old = ap (λ (xs : List Node). log_value xs mid.count) list ∙
-    ap (log_value new) count ∙ copied_value old.list new old.count copied in
+    (omega (arith, len, c.requires.places)) in
+    let value : block_log mid ≡ block_log old = ap (log_value new) count ∙ copied_value old.list new old.count copied in
     let same = c.point_all_if.ensures.same in
     let some = c.requires.places in
     let room = c.requires.ready.indexed.room in
     record {
-      log = fingers_log mid end same c.point_all_if.ensures.count c.point_all_if.ensures.recent log;
-      room = omega (arith, c.point_all_if.ensures.count, count, same.len, mid_len);
+      log = fingers_log mid end same c.point_all_if.ensures.count log;
+      room = omega (arith, c.point_all_if.ensures.count, count, same.len, len);
       same = ap (log_value end.list) c.point_all_if.ensures.count ∙ fingers_value mid.list end.list mid.count same ∙
           value;
     }

@@ -53,11 +53,8 @@ returns-clause-log g c =
     let cleared : Cleared old new n n = subst (λ k. Cleared old new n k) all c.loop-e.invariant.cleared in
     let log = cleared_log c.args.nodes.now new c.requires cleared in
     let list : end.list ≡ set new 0 (with_next (at new 0) 0) =
-    ap (λ (b : Block). b.list) c.set_count.ensures ∙ ap (λ (b : Block). b.list) c.set_recent.ensures ∙
-    ap (λ (b : Block). b.list) c.set_next.ensures in
-    let recent : end.recent ≡ 0 = ap (λ (b : Block). b.recent) c.set_count.ensures ∙
-    ap (λ (b : Block). b.recent) c.set_recent.ensures in
-    log_of end _ 0 0 list (ap (λ (b : Block). b.count) c.set_count.ensures) recent log.ready log.places (omega arith)
+    ap (λ (b : Block). b.list) c.set_count.ensures ∙ ap (λ (b : Block). b.list) c.set_next.ensures in
+    log_of end _ 0 list (ap (λ (b : Block). b.count) c.set_count.ensures) log.ready log.places
 
 pub returns-clause-value : goal.returns-clause-value
 returns-clause-value g c =

@@ -8,7 +8,7 @@ use Rattle.stm_logs.proofs.table.put_long.Goals as goal
 
 pub put_word-requires-clause-log : goal.put_word-requires-clause-log
 put_word-requires-clause-log g c = fingers_log c.args.nodes.now c.point_all_if.new.nodes c.point_all_if.ensures.same
-    c.point_all_if.ensures.count c.point_all_if.ensures.recent c.requires.log
+    c.point_all_if.ensures.count c.requires.log
 
 pub put_word-requires-clause-room : goal.put_word-requires-clause-room
 put_word-requires-clause-room g c = omega (
@@ -38,6 +38,6 @@ returns g c =
     let before : block_log start ≡ block_log old = ap (log_value start.list) c.point_all_if.ensures.count ∙
     fingers_value old.list start.list old.count c.point_all_if.ensures.same in
     record {
-      log = fingers_log mid end c.point.ensures.same c.point.ensures.count c.point.ensures.recent more.log;
+      log = fingers_log mid end c.point.ensures.same c.point.ensures.count more.log;
       same = value ∙ more.same ∙ ap (λ (w : LogValue). with_word w c.args.number c.args.lock c.args.value) before;
     }

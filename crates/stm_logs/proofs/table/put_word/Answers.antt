@@ -37,16 +37,11 @@ module _ (g : given.Over) (c : goal.After-set_count g) where
 
   list : c.set_count.new.self.list ≡ set mid b (with_next (at mid b) (n + 1))
   list =
-      ap (λ (x : Block). x.list) c.set_count.ensures ∙ ap (λ (x : Block). x.list) c.set_recent.ensures ∙
-      ap (λ (x : Block). x.list) c.set_next.ensures
+      ap (λ (x : Block). x.list) c.set_count.ensures ∙ ap (λ (x : Block). x.list) c.set_next.ensures
       ∙ ap (λ q. set mid b (with_next (at mid b) q)) position
 
   count : c.set_count.new.self.count ≡ n + 1
   count = ap (λ (x : Block). x.count) c.set_count.ensures ∙ position
-
-  recent : c.set_count.new.self.recent ≡ n + 1
-  recent = ap (λ (x : Block). x.recent) c.set_count.ensures ∙ ap (λ (x : Block). x.recent) c.set_recent.ensures ∙
-      position
 
   ready : IsIndexedAndChained (set mid b (with_next (at mid b) (n + 1))) (n + 1)
   ready = entered_ready ns mid n b c.args.number c.args.lock c.args.value c.requires.log.ready c.seek-before.ensures
@@ -58,8 +53,7 @@ module _ (g : given.Over) (c : goal.After-set_count g) where
 
 pub returns-clause-more : goal.returns-clause-more
 returns-clause-more g c = record {
-  log = log_of _ _ _ _ (list g c) (count g c) (recent g c) (ready g c) (omega (arith, len g c, c.requires.log.places))
-      (omega arith);
+  log = log_of _ _ _ (list g c) (count g c) (ready g c) (omega (arith, len g c, c.requires.log.places));
   same =
       ap (λ (xs : List Node). log_value xs c.set_count.new.self.count) (list g c) ∙
       ap (λ k. log_value (set (mid g c) (b g c) (with_next (at (mid g c) (b g c)) (n g c + 1))) k) (count g c)

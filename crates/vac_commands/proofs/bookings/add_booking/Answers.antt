@@ -1,6 +1,6 @@
 use Rattle.vac_commands.proofs.Held.{pool_held}
 use Rattle.vac_commands.proofs.Extending.{price_small, sum_small}
-use Rattle.vac_commands.proofs.AddingBookings.{no_block, block_node, spot_room, can_make, add_done}
+use Rattle.vac_commands.proofs.AddingBookings.{no_block, block_node, spot_room, can_make, add_done, add_stays}
 use Rattle.vac_commands.proofs.Small.{reserve_small}
 use Rattle.vac_commands.proofs.bookings.add_booking.Goals as goal
 
@@ -43,6 +43,12 @@ make_of-requires-clause-units g c =
 
 pub returns-clause-answer : goal.returns-clause-answer
 returns-clause-answer g c = add_done _ c.args.who.customer c.args.who.owner c.args.what.kind c.args.what.id _ _ _
+    c.args.spot
+    c.requires.ready.offered c.requires.missing _ _ _ (rw c.in-Some.is at c.in_ok-block.ensures.answer) _
+    c.in_ok-book_at.ensures.answer _ c.in_ok-make_of.ensures.answer
+
+pub returns-clause-block : goal.returns-clause-block
+returns-clause-block g c = add_stays _ c.args.who.customer c.args.who.owner c.args.what.kind c.args.what.id _ _ _
     c.args.spot
     c.requires.ready.offered c.requires.missing _ _ _ (rw c.in-Some.is at c.in_ok-block.ensures.answer) _
     c.in_ok-book_at.ensures.answer _ c.in_ok-make_of.ensures.answer

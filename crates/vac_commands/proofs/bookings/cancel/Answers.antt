@@ -1,4 +1,3 @@
-use Rattle.vac_commands.proofs.Answering.{if_ok}
 use Rattle.vac_commands.proofs.Held.{held_on, read_both, item_at_on, customer_at_on, item_found_at, customer_found_at}
 use Rattle.vac_commands.proofs.Held.{ran_after}
 use Rattle.vac_commands.proofs.Refusals.{cancel_needs, lacks_customer, lacks_item}
@@ -45,9 +44,8 @@ cancel_at-requires-clause-spot g c =
 
 pub returns-clause-answer : goal.returns-clause-answer
 returns-clause-answer g c =
-    if_ok _ _ _ (λ r h. ran_after _ _ _ _ r (read_both _ _ _ c.in_ok-owner.ensures.reads c.in_ok-item.ensures.reads)
-    (cancelled_found _ _ _ _ _ _ _ _ _ r c.requires.range (customer_at_on _ _ _ _ c.in_ok-item.ensures.reads
-    (rw c.in-Some.is at c.in_ok-owner.ensures.answer))
+    rw c.reply_of.ensures (ran_after _ _ _ _ _ (read_both _ _ _ c.in_ok-owner.ensures.reads
+    c.in_ok-item.ensures.reads) (cancelled_found _ _ _ _ _ _ _ _ _ _ c.requires.range
+    (customer_at_on _ _ _ _ c.in_ok-item.ensures.reads (rw c.in-Some.is at c.in_ok-owner.ensures.answer))
     (rw c.in-Some-2.is at c.in_ok-item.ensures.answer) (cancel_small c.args.customer c.args.place.0 c.args.place.1
-    c.requires.range) c.in_ok-spot.ensures.answer h).ran)
-    c.cancel_at.ensures.answer
+    c.requires.range) c.in_ok-spot.ensures.answer c.in_ok-refused.ensures.answer).ran)

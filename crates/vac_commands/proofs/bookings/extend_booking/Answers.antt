@@ -1,7 +1,8 @@
 use Rattle.std.proofs.Common.{arith}
 use Rattle.vac_commands.proofs.Owners.{some_booking}
 use Rattle.vac_commands.proofs.Extending.{price_small, sum_small, units_small, too_many, can_extend, can_make}
-use Rattle.vac_commands.proofs.Extending.{extend_done}
+use Rattle.vac_commands.proofs.Extending.{extend_done, extend_stays}
+use Rattle.vac_commands.proofs.Staying.{booking_reads}
 use Rattle.vac_commands.proofs.Small.{reserve_small}
 use Rattle.vac_commands.proofs.bookings.extend_booking.Goals as goal
 
@@ -54,3 +55,15 @@ returns-clause-answer g c =
     extend_done _ _ _ _ _ _ _ _ _ c.requires.ready.offered (some_booking _ _ _ _ c.requires.booking) _ _
     c.in_ok-units_at.ensures.answer _ c.in_ok-book_more.ensures.answer
     _ c.if-branch-offer-gt-MOST_UNITS.false c.in_ok-make_of.ensures.answer
+
+pub returns-then-branch-offer-gt-MOST_UNITS-clause-block : goal.returns-then-branch-offer-gt-MOST_UNITS-clause-block
+returns-then-branch-offer-gt-MOST_UNITS-clause-block g c =
+    let l = c.in_ok-units_at.ensures.answer in
+    booking_reads _ _ _ _ _ _ _ _ (some_booking _ _ _ _ c.requires.booking) c.requires.booking.inside.1
+    (record { kept = l.kept; writes = l.writes })
+
+pub returns-clause-block : goal.returns-clause-block
+returns-clause-block g c =
+    extend_stays _ _ _ _ _ _ _ _ _ c.requires.ready.offered (some_booking _ _ _ _ c.requires.booking) _ _
+    c.in_ok-units_at.ensures.answer _ c.in_ok-book_more.ensures.answer
+    _ c.in_ok-make_of.ensures.answer c.requires.booking.inside.1

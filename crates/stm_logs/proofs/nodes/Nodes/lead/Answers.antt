@@ -19,4 +19,4 @@ returns g c =
     let p = place_in _ _ s.len s.row.items s.index.items _ c.args.place s.row.ok.0 s.index.ok.0 c.self.invariant.0.0
     c.self.invariant.2.0 list c.requires in
     let l : c.args.place < length s.row.items = omega (arith, p.1, s.row.ok.0, c.self.invariant.0.0) in
-    slot_put _ _ s.count s.recent _ _ _ _ p.0 l c.self.view_is c.put.ensures.items
+    slot_put _ _ s.count _ _ _ _ p.0 l c.self.view_is c.put.ensures.items

@@ -21,4 +21,4 @@ returns g c =
     let places : length c.fill-2.new.row.items ≡ c.args.len =
     omega (arith, c.fill-2.new.row.ok.0, c.fill-2.ensures.places.1, c.in-Ok.ensures.0) in
     let same : length c.fill.new.row.items ≡ length c.fill-2.new.row.items = nodes ∙ sym places in
-    (len_beside _ _ same ∙ nodes, refl, refl, blank_beside _ _ same c.fill.ensures.items c.fill-2.ensures.items)
+    (len_beside _ _ same ∙ nodes, refl, blank_beside _ _ same c.fill.ensures.items c.fill-2.ensures.items)

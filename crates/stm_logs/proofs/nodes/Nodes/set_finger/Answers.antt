@@ -31,7 +31,7 @@ returns g c =
     c.self.invariant.2.0 list c.requires in
     let l : c.args.place < length s.row.items = omega (arith, p.1, s.row.ok.0, c.self.invariant.0.0) in
     let here = c.get.ensures ∙ slot_here _ _ _ _ _ p.0 l list in
-    slot_put _ _ s.count s.recent _ _ _ _ p.0 l c.self.view_is c.put.ensures.items
+    slot_put _ _ s.count _ _ _ _ p.0 l c.self.view_is c.put.ensures.items
     ∙ ap (λ (f : ℕ). with_node c.args.self.now c.args.place (record (at c.args.self.now.list c.args.place) {
       slot = f;
       finger = c.args.finger;

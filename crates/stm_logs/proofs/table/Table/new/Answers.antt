@@ -9,7 +9,7 @@ invariant_of-result g c =
     let s : Block = c.in_ok-nodes.nodes in
     let blank = c.in_ok-nodes.ensures in
     let len : length s.list ≡ 64 = blank.0 in
-    let root = blank.3 0 in
-    let log = none_log s.list (omega arith) (omega arith) (λ q _. ap (λ x. x.slot) (blank.3 q))
+    let root = blank.2 0 in
+    let log = none_log s.list (omega arith) (omega arith) (λ q _. ap (λ x. x.slot) (blank.2 q))
     (ap (λ x. x.number) root) (ap (λ x. x.lock) root) (ap (λ x. x.next) root) in
-    log_of s s.list 0 0 refl blank.1 blank.2 log.ready log.places (omega arith)
+    log_of s s.list 0 refl blank.1 log.ready log.places

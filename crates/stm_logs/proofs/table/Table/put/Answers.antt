@@ -74,15 +74,14 @@ module _ (g : given.Over) (c : goal.After-put g) where
 
 pub invariant_of-self-2 : goal.invariant_of-self-2
 invariant_of-self-2 g c =
-    log_of c.put.new.self (new g c) (old g c).count (old g c).recent (list_is g c) (count_is g c)
-    (ap (λ (b : Block). b.recent) c.put.ensures)
+    log_of c.put.new.self (new g c) (old g c).count (list_is g c) (count_is g c)
     (replaced_ready _ _ _ _ c.self.invariant.ready (found g c).0)
     (omega (
       arith,
       c.self.invariant.places,
       length-set (old g c).list c.slot-word.result
           (with_value (at (old g c).list c.slot-word.result) c.args.value),
-    )) c.self.invariant.recent
+    ))
 
 pub returns-clause-answer : goal.returns-clause-answer
 returns-clause-answer g c = value_is g c
