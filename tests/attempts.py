@@ -57,6 +57,15 @@ def laid(lines):
     return sum(1 for line in lines if line.startswith("0 0 0 commit w ") and " r " not in line)
 
 
+def look_at_words(settings, first):
+    """The first lines lay the words of the heap that are not 0, one for each block, in the order of
+    their addresses."""
+    addresses = [int(address) for line in first for address in re.findall(r" w (\d+) ", line)]
+    want(laid(first) == len(first), f"{settings}: a line before those that lay the words")
+    want(addresses == sorted(set(addresses)), f"{settings}: the words are not in their order")
+    want(len(addresses) == settings.get("blocks", 1024), f"{settings}: {len(addresses)} words")
+
+
 def look_at_times(settings, heads, nanos):
     """No attempt ends before it begins, most take time, none longer than the run did, and none of a
     client begins before the opening is over."""
@@ -92,6 +101,7 @@ def look_at(program, settings, *more):
     opened = sum(client == 0 for client, _, _ in heads)
     want(opened == laid(lines) + 4 * settings["items"], f"{settings}: {opened} of client 0")
     want(all(client <= settings["clients"] for client, _, _ in heads), f"{settings}: a client")
+    look_at_words(settings, lines[:laid(lines)])
     look_at_times(settings, heads[laid(lines):], nanos)
     BUSY.append(int(told[2]))
     # the attempts that it counted are those that it wrote

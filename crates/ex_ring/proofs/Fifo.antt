@@ -1,7 +1,7 @@
 -- What comes out of a history is what went in, but for what is still in.
-use Rattle.std.proofs.Common.{◌≡◌, ◌≢◌, ℕ, zero, suc, ◌+◌, ◌-◌, ◌%◌, ◌<◌, true, false, List, [], ◌∷◌, ◌++◌, slice_index}
-use Rattle.std.proofs.Common.{slice_set, refl, sym, ap, ◌∙◌, arith, length-set, get_or-set_same, get_or-set_other}
-use Rattle.std.proofs.Common.{append_assoc, subst, rules, replicate}
+use Rattle.std.proofs.Common.{◌≡◌, ◌≢◌, ℕ, zero, suc, ◌+◌, ◌-◌, ◌%◌, ◌<◌, ◌≤◌, true, false, List, [], ◌∷◌, ◌++◌}
+use Rattle.std.proofs.Common.{slice_index, slice_set, replicate, refl, sym, ap, subst, ◌∙◌, append_assoc, arith, rules}
+use Rattle.std.proofs.Common.{get_or-set_same, get_or-set_other}
 use Rattle.ex_ring.specs.declared.entry.Entry.{Entry}
 use Rattle.ex_ring.specs.declared.entry.Entry.TheVariants.{Push, Pop, Empty, Len}
 use Rattle.ex_ring.specs.declared.law.TheConstants.{SLOTS, HEAD, TAIL, WORDS}
@@ -11,20 +11,16 @@ use Rattle.stm_region.specs.Shown.{RegionShown}
 use Rattle.stm_core.specs.Client.{Client, Record}
 use Rattle.stm_object.specs.History.{IsHistory, Closes}
 use Rattle.stm_object.specs.Object.{IsBeginning}
-use Rattle.stm_object.specs.Steps.{shows_its_words, shows_words, fits_its_words, begins_words}
+use Rattle.stm_object.specs.Steps.{shows_its_words, shows_words, begins_words}
 use Rattle.ex_ring.specs.Turns.{IsFifo, ClosesInOrder}
 
--- values whose slots are all the same are the same
-same_values : (xs ys : List ℕ) (from n : ℕ)
-    → ((k : ℕ) → k < n → slice_index ys ((from + k) % SLOTS) ≡ slice_index xs ((from + k) % SLOTS))
-    → values ys from n ≡ values xs from n
-same_values xs ys from zero same = refl
-same_values xs ys from (suc n) same =
-    let here : slice_index ys (from % SLOTS) ≡ slice_index xs (from % SLOTS) =
-    (let e : from + 0 ≡ from = omega arith in let s = same 0 (omega arith) in rw e at s) in
-    let rest = same_values xs ys (from + 1) n (λ k less.
-    let e : from + suc k ≡ from + 1 + k = omega arith in
-    let s = same (suc k) (omega (arith, less)) in rw e at s) in
+-- values stay the same where another word is set
+values_kept : (xs : List ℕ) (i v from n : ℕ) → ((k : ℕ) → from ≤ k → k < from + n → k % SLOTS ≢ i)
+    → values (slice_set xs i v) from n ≡ values xs from n
+values_kept xs i v from zero other = refl
+values_kept xs i v from (suc n) other =
+    let here = get_or-set_other xs i (from % SLOTS) v 0 (other from (omega arith) (omega arith)) in
+    let rest = values_kept xs i v (from + 1) n (λ k low high. other k (omega (arith, low)) (omega (arith, high))) in
     rw (here, rest) refl
 
 -- one value more, at the end
@@ -44,19 +40,13 @@ pushed_content xs v b room =
     let q = pushing_tail xs v b.size in
     let n = tail xs - head xs in
     let t = tail xs in
-    let at : head xs + n ≡ t = omega (arith, b.order) in
     let slot = t % SLOTS in
-    let long = length-set xs slot v in
-    let new : slice_index (pushing xs v) slot ≡ v =
-    (let ne : slot ≢ TAIL = omega arith in
-    get_or-set_other (slice_set xs slot v) TAIL slot (t + 1) 0 ne
-    ∙ get_or-set_same xs slot v 0 (omega (arith, b.size))) in
-    let old = same_values xs (pushing xs v) (head xs) n (λ k less.
-    let i = (head xs + k) % SLOTS in
-    let ne : i ≢ TAIL = omega arith in
-    let other : i ≢ slot = omega (arith, less, room, b.order) in
-    get_or-set_other (slice_set xs slot v) TAIL i (t + 1) 0 ne
-    ∙ get_or-set_other xs slot i v 0 other) in
+    let ys = slice_set xs slot v in
+    let at : head xs + n ≡ t = omega (arith, b.order) in
+    let new : slice_index (pushing xs v) slot ≡ v = get_or-set_other ys TAIL slot (t + 1) 0 (omega arith)
+    ∙ get_or-set_same xs slot v 0 (omega (arith, b.size)) in
+    let old = values_kept ys TAIL (t + 1) (head xs) n (λ k low high. omega arith)
+    ∙ values_kept xs slot v (head xs) n (λ k low high. omega (arith, low, high, room, b.order)) in
     let count : tail (pushing xs v) - head (pushing xs v) ≡ n + 1 = omega (arith, p, q, b.order) in
     rw (count, p) (one_more (pushing xs v) (head xs) n ∙ rw (old, at, new) refl)
 
@@ -68,9 +58,7 @@ popped_content xs b some =
     let q = popping_tail xs (head xs + 1) in
     let n = tail ys - head ys in
     let count : tail xs - head xs ≡ suc n = omega (arith, p, q, some) in
-    let rest = same_values xs ys (head xs + 1) n (λ k less.
-    let ne : (head xs + 1 + k) % SLOTS ≢ HEAD = omega arith in
-    get_or-set_other xs HEAD ((head xs + 1 + k) % SLOTS) (head xs + 1) 0 ne) in
+    let rest = values_kept xs HEAD (head xs + 1) (head xs + 1) n (λ k low high. omega arith) in
     ap (λ (m : ℕ). values xs (head xs) m) count
     ∙ ap (λ (zs : List ℕ). slice_index xs (head xs % SLOTS) ∷ zs) (sym rest ∙ ap (λ (h : ℕ). values ys h n) (sym p))
 
@@ -107,8 +95,7 @@ fifo rs es last h = flows (replicate WORDS 0) rs es last empty_ring h
 pub in_turn : (region : RegionShown) (v : Client) (words : List ℕ) (version : ℕ) → region.first ≡ replicate WORDS 0
     → Closes ring region v words version → ClosesInOrder region v words version
 in_turn region v words version empty k =
-    let first = fits_its_words WORDS IsRing (λ e. Unit {0}) Finds after code region.first k.fitting.value
-    k.fitting.shown in
+    let first : IsRing region.first = rw empty empty_ring in
     let l = k.lead region.first (shows_words WORDS IsRing (λ e. Unit {0}) Finds after code region.first first) in
     let h = subst (λ (ys : List ℕ). IsHistory ring region.first v.records l.entries ys)
     (shows_its_words WORDS IsRing (λ e. Unit {0}) Finds after code words l.last l.shown) l.history in
@@ -116,6 +103,5 @@ in_turn region v words version empty k =
       closes = k;
       entries = l.entries;
       history = h;
-      fifo = fifo v.records l.entries words (subst (λ (ys : List ℕ). IsHistory ring ys v.records l.entries words) empty
-          h);
+      fifo = fifo v.records l.entries words (subst (λ ys. IsHistory ring ys v.records l.entries words) empty h);
     }

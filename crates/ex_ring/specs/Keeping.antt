@@ -11,10 +11,8 @@ use Rattle.ex_ring.specs.Queue.{IsRing, head, tail, after, Finds, pushing, code}
 
 pub pushing_head : (xs : List ℕ) (v : ℕ) → head (pushing xs v) ≡ head xs
 pushing_head xs v =
-    let a : HEAD ≢ TAIL = omega arith in
-    let b : HEAD ≢ tail xs % SLOTS = omega arith in
-    get_or-set_other (slice_set xs (tail xs % SLOTS) v) TAIL HEAD (tail xs + 1) 0 a
-    ∙ get_or-set_other xs (tail xs % SLOTS) HEAD v 0 b
+    get_or-set_other (slice_set xs (tail xs % SLOTS) v) TAIL HEAD (tail xs + 1) 0 (omega arith)
+    ∙ get_or-set_other xs (tail xs % SLOTS) HEAD v 0 (omega arith)
 
 pub pushing_tail : (xs : List ℕ) (v : ℕ) → length xs ≡ WORDS → tail (pushing xs v) ≡ tail xs + 1
 pushing_tail xs v long =
@@ -25,9 +23,7 @@ pub popping_head : (xs : List ℕ) (v : ℕ) → length xs ≡ WORDS → head (s
 popping_head xs v long = get_or-set_same xs HEAD v 0 (omega (arith, long))
 
 pub popping_tail : (xs : List ℕ) (v : ℕ) → tail (slice_set xs HEAD v) ≡ tail xs
-popping_tail xs v =
-    let a : TAIL ≢ HEAD = omega arith in
-    get_or-set_other xs HEAD TAIL v 0 a
+popping_tail xs v = get_or-set_other xs HEAD TAIL v 0 (omega arith)
 
 pub ring_after : (e : Entry) (xs : List ℕ) → IsRing xs → Finds e xs → IsRing (after e xs)
 ring_after (Push v true) xs b h =

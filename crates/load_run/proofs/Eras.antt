@@ -9,9 +9,9 @@ use Rattle.stm_region.specs.Shown.{RegionShown}
 use Rattle.vac_manager.specs.Legal.{HaveOneWriter, AreVersioned}
 use Rattle.vac_manager.specs.Called.{ClientShown}
 use Rattle.vac_manager.specs.Renewed.{ClosesSomewhere}
-use Rattle.load_draws.specs.Draws.{Reader}
+use Rattle.load_tasks.specs.Draws.{Reader}
 use Rattle.vac_model.specs.declared.commands.Command.{Command}
-use Rattle.load_client.specs.Opening.{RanDrawn}
+use Rattle.load_run.specs.Opening.{RanDrawn}
 use Rattle.load_run.specs.Alone.{IsInRenewal}
 
 none_versioned : AreVersioned []

@@ -3,8 +3,8 @@ use Rattle.std.proofs.Common.{◌≡◌, ◌∙◌, ℕ, ◌+◌, min, List, [],
 use Rattle.stm_core.specs.Client.{Client, Record, merged}
 use Rattle.stm_region.specs.Shown.{with_gathered}
 use Rattle.vac_manager.specs.Called.{CallerShown}
-use Rattle.load_client.specs.declared.tally.Tally.{Tally}
-use Rattle.load_client.specs.Looping.{plus}
+use Rattle.load_run.specs.declared.outcomes.Outcomes.{Outcomes}
+use Rattle.load_run.specs.Looping.{plus}
 use Rattle.load_run.specs.Several.{sum_of, added_up}
 use Rattle.load_run.specs.Load.{all_merged, Gathered}
 
@@ -12,7 +12,7 @@ sum_more : {X : Type 0} (f : X → ℕ) (xs : List X) (x : X) → sum_of f (xs +
 sum_more f [] x = omega arith
 sum_more f (y ∷ xs) x = omega (arith, sum_more f xs x)
 
-added_more : {X : Type 0} (f : X → Tally) (xs : List X) (x : X) →
+added_more : {X : Type 0} (f : X → Outcomes) (xs : List X) (x : X) →
     added_up f (xs ++ (x ∷ [])) ≡ plus (added_up f xs) (f x)
 added_more f xs x = λ i. record {
   answered = sum_more (λ y. (f y).answered) xs x i;
@@ -26,7 +26,7 @@ merged_more : {X : Type 0} (records_of : X → List Record) (first : List Record
 merged_more records_of first [] y = refl
 merged_more records_of first (x ∷ xs) y = merged_more records_of (merged first (records_of x)) xs y
 
-pub gathered_one : {X : Type 0} (records_of : X → List Record) (tally_of : X → Tally) (x : X) →
+pub gathered_one : {X : Type 0} (records_of : X → List Record) (tally_of : X → Outcomes) (x : X) →
     Gathered records_of tally_of x [] (records_of x) (tally_of x)
 gathered_one records_of tally_of x = record {
   records_are = refl;
@@ -42,14 +42,14 @@ gathered_one records_of tally_of x = record {
     zero_more n = omega arith
 
 pub gathered_more : {X : Type 0} (records_of : X → List Record) (tally_of : X →
-    Tally) (x : X) (xs : List X) (y : X) (v v' : Client) (t t' : Tally) →
+    Outcomes) (x : X) (xs : List X) (y : X) (v v' : Client) (t t' : Outcomes) →
     Gathered records_of tally_of x xs v.records t →
     v'.records ≡ merged v.records (records_of y) → t' ≡ plus t (tally_of y) →
     Gathered records_of tally_of x (xs ++ (y ∷ [])) v'.records t'
 gathered_more records_of tally_of x xs y v v' t t' h e f = record {
   records_are = e ∙ (ap (λ (l : List Record). merged l (records_of y)) h.records_are ∙
       sym (merged_more records_of (records_of x) xs y));
-  tallies = f ∙ (ap (λ (u : Tally). plus u (tally_of y)) h.tallies ∙ sym (added_more tally_of (x ∷ xs) y));
+  tallies = f ∙ (ap (λ (u : Outcomes). plus u (tally_of y)) h.tallies ∙ sym (added_more tally_of (x ∷ xs) y));
 }
 
 -- a caller after it took in another

@@ -8,18 +8,18 @@ use Rattle.stm_region.specs.Shown.{RegionShown}
 use Rattle.vac_manager.specs.Called.{ClientShown, CallerShown}
 use Rattle.vac_manager.specs.Renewed.{ClosesSomewhere}
 use Rattle.stm_core.specs.History.{Sub, done, keep, skip}
-use Rattle.load_draws.specs.declared.settings.Settings.{Settings}
+use Rattle.load_tasks.specs.declared.settings.Settings.{Settings}
 use Rattle.load_run.specs.declared.rounds.Round.{Round}
-use Rattle.load_client.specs.declared.tally.Tally.{Tally}
-use Rattle.load_client.specs.Looping.{total, AreKnown, plus}
+use Rattle.load_run.specs.declared.outcomes.Outcomes.{Outcomes}
+use Rattle.load_run.specs.Looping.{total, AreKnown, plus}
 use Rattle.load_run.specs.Several.{sum_of, added_up}
-use Rattle.load_client.specs.Lists.{Paired, none, both}
-use Rattle.load_run.specs.Seats.{SeatShown}
+use Rattle.load_run.specs.Lists.{Paired, none, both}
+use Rattle.load_run.specs.Slots.{SlotShown}
 use Rattle.load_run.specs.Load.{InterleavedAll, Share, drawn_share, HasShare, HasKeptShare, RanAll, RoundHasRun}
-use Rattle.load_draws.proofs.Drawing.{drawn_both}
-use Rattle.load_client.proofs.Answering.{are_of_both}
+use Rattle.load_tasks.proofs.Drawing.{drawn_both}
+use Rattle.load_run.proofs.Answering.{are_of_both}
 use Rattle.load_run.proofs.Merging.{interleaved_both}
-use Rattle.load_client.proofs.Notes.{are_kept_both}
+use Rattle.load_run.proofs.Notes.{are_kept_both}
 use Rattle.load_run.proofs.Pairs.{paired_through, paired_length}
 
 sub_after : {A : Type 0} (us bs xs : List A) → Sub xs bs → Sub xs (us ++ bs)
@@ -33,7 +33,7 @@ sub_both ys vs (skip y p) q = skip y (sub_both ys vs p q)
 
 -- what a client did in some rounds and then in others
 abbrev joined_share : {D : Type 0} → Share D → Share D → Share D
-joined_share x y = record { records = x.records ++ y.records; tally = plus x.tally y.tally; left = y.left }
+joined_share x y = record { records = x.records ++ y.records; outcomes = plus x.outcomes y.outcomes; left = y.left }
 
 share_both : {D : Type 0} (leads : D → ℕ → D → Type 0) (s : Settings) (n m : ℕ) (state : D) (x y : Share D) →
     HasShare leads s n state x → HasShare leads s m x.left y → HasShare leads s (n + m) state (joined_share x y)
@@ -48,8 +48,8 @@ share_both leads s n m state x y h k = record {
 }
 
 -- the same with what was kept
-kept_share_both : {D : Type 0} (leads : D → ℕ → D → Type 0) (s : Settings) (n m : ℕ) (state : SeatShown D)
-    (x y : Share (SeatShown D)) → HasKeptShare leads s n state x → HasKeptShare leads s m x.left y →
+kept_share_both : {D : Type 0} (leads : D → ℕ → D → Type 0) (s : Settings) (n m : ℕ) (state : SlotShown D)
+    (x y : Share (SlotShown D)) → HasKeptShare leads s n state x → HasKeptShare leads s m x.left y →
     HasKeptShare leads s (n + m) state (joined_share x y)
 kept_share_both leads s n m state x y h k = record {
   has = share_both leads s n m state.draws (drawn_share x) (drawn_share y) h.has k.has;
@@ -61,8 +61,8 @@ zipped [] ys = []
 zipped (x ∷ xs) [] = []
 zipped (x ∷ xs) (y ∷ ys) = joined_share x y ∷ zipped xs ys
 
-module _ {D P : Type 0} (leads : D → ℕ → D → Type 0) (s : Settings) (shown_of : P → SeatShown D) (n m : ℕ) where
-  zip_each : (ps : List P) (xs ys : List (Share (SeatShown D))) →
+module _ {D P : Type 0} (leads : D → ℕ → D → Type 0) (s : Settings) (shown_of : P → SlotShown D) (n m : ℕ) where
+  zip_each : (ps : List P) (xs ys : List (Share (SlotShown D))) →
       Paired (λ p x. HasKeptShare leads s n (shown_of p) x) ps xs →
       Paired (λ x y. HasKeptShare leads s m x.left y) xs ys →
       Paired (λ p x. HasKeptShare leads s (n + m) (shown_of p) x) ps (zipped xs ys)
@@ -74,7 +74,7 @@ module _ {D P : Type 0} (leads : D → ℕ → D → Type 0) (s : Settings) (sho
   zip_each [] [] (y ∷ ys) hs ks = elim ks [ ]
   zip_each (p ∷ ps) (x ∷ xs) [] hs ks = elim ks [ ]
 
-  zip_left : (xs ys : List (Share (SeatShown D))) (ps : List P) →
+  zip_left : (xs ys : List (Share (SlotShown D))) (ps : List P) →
       Paired (λ x y. HasKeptShare leads s m x.left y) xs ys → Paired (λ y p. shown_of p ≡ y.left) ys ps →
       Paired (λ x p. shown_of p ≡ x.left) (zipped xs ys) ps
   zip_left [] [] [] none none = none
@@ -84,11 +84,11 @@ module _ {D P : Type 0} (leads : D → ℕ → D → Type 0) (s : Settings) (sho
   zip_left [] [] (p ∷ ps) hs ks = elim ks [ ]
   zip_left (x ∷ xs) (y ∷ ys) [] hs ks = elim ks [ ]
 
-  zip_once : (xs ys : List (Share (SeatShown D))) (k l : List Record) →
+  zip_once : (xs ys : List (Share (SlotShown D))) (k l : List Record) →
       Paired (λ x y. HasKeptShare leads s m x.left y) xs ys →
-      InterleavedAll (λ (x : Share (SeatShown D)). x.records) xs k →
-      InterleavedAll (λ (x : Share (SeatShown D)). x.records) ys l →
-      InterleavedAll (λ (x : Share (SeatShown D)). x.records) (zipped xs ys) (k ++ l)
+      InterleavedAll (λ (x : Share (SlotShown D)). x.records) xs k →
+      InterleavedAll (λ (x : Share (SlotShown D)). x.records) ys l →
+      InterleavedAll (λ (x : Share (SlotShown D)). x.records) (zipped xs ys) (k ++ l)
   zip_once [] [] k l none a b = ap (λ (r : List Record). r ++ l) a ∙ b
   zip_once (x ∷ xs) (y ∷ ys) k l (both h hs) a b = (
     a.0 ++ b.0,
@@ -99,33 +99,33 @@ module _ {D P : Type 0} (leads : D → ℕ → D → Type 0) (s : Settings) (sho
   zip_once (x ∷ xs) [] k l hs a b = elim hs [ ]
 
   -- sums over shares of what adds up
-  zip_sum : (f : Share (SeatShown D) → ℕ) → ((x y : Share (SeatShown D)) → f (joined_share x y) ≡ f x + f y) →
-      (xs ys : List (Share (SeatShown D))) → Paired (λ x y. HasKeptShare leads s m x.left y) xs ys →
+  zip_sum : (f : Share (SlotShown D) → ℕ) → ((x y : Share (SlotShown D)) → f (joined_share x y) ≡ f x + f y) →
+      (xs ys : List (Share (SlotShown D))) → Paired (λ x y. HasKeptShare leads s m x.left y) xs ys →
       sum_of f (zipped xs ys) ≡ sum_of f xs + sum_of f ys
   zip_sum f adds [] [] none = refl
   zip_sum f adds (x ∷ xs) (y ∷ ys) (both h hs) = omega (arith, adds x y, zip_sum f adds xs ys hs)
   zip_sum f adds [] (y ∷ ys) hs = elim hs [ ]
   zip_sum f adds (x ∷ xs) [] hs = elim hs [ ]
 
-  zip_tallies : (xs ys : List (Share (SeatShown D))) → Paired (λ x y. HasKeptShare leads s m x.left y) xs ys →
-      added_up (λ (x : Share (SeatShown D)). x.tally) (zipped xs ys) ≡ plus
-      (added_up (λ (x : Share (SeatShown D)). x.tally) xs) (added_up (λ (x : Share (SeatShown D)). x.tally) ys)
+  zip_tallies : (xs ys : List (Share (SlotShown D))) → Paired (λ x y. HasKeptShare leads s m x.left y) xs ys →
+      added_up (λ (x : Share (SlotShown D)). x.outcomes) (zipped xs ys) ≡ plus
+      (added_up (λ (x : Share (SlotShown D)). x.outcomes) xs) (added_up (λ (x : Share (SlotShown D)). x.outcomes) ys)
   zip_tallies xs ys h = λ i. record {
-    answered = zip_sum (λ (x : Share (SeatShown D)). x.tally.answered) (λ x y. refl) xs ys h i;
-    busy = zip_sum (λ (x : Share (SeatShown D)). x.tally.busy) (λ x y. refl) xs ys h i;
-    memory = zip_sum (λ (x : Share (SeatShown D)). x.tally.memory) (λ x y. refl) xs ys h i;
-    spent = zip_sum (λ (x : Share (SeatShown D)). x.tally.spent) (λ x y. refl) xs ys h i;
+    answered = zip_sum (λ (x : Share (SlotShown D)). x.outcomes.answered) (λ x y. refl) xs ys h i;
+    busy = zip_sum (λ (x : Share (SlotShown D)). x.outcomes.busy) (λ x y. refl) xs ys h i;
+    memory = zip_sum (λ (x : Share (SlotShown D)). x.outcomes.memory) (λ x y. refl) xs ys h i;
+    spent = zip_sum (λ (x : Share (SlotShown D)). x.outcomes.spent) (λ x y. refl) xs ys h i;
   }
 
-  pub ran_both : (before middle after : List Record) (pairs between left : List P) (t u : Tally) →
+  pub ran_both : (before middle after : List Record) (pairs between left : List P) (t u : Outcomes) →
       RanAll leads s shown_of n before pairs middle between t → RanAll leads s shown_of m middle between after left u →
       RanAll leads s shown_of (n + m) before pairs after left (plus t u)
   ran_both before middle after pairs between left t u h k =
       let goes : Paired (λ x y. HasKeptShare leads s m x.left y) h.shares k.shares =
-      paired_through (λ (x : Share (SeatShown D)) p. shown_of p ≡ x.left)
-      (λ p (y : Share (SeatShown D)). HasKeptShare leads s m (shown_of p) y)
-      (λ (x : Share (SeatShown D)) y. HasKeptShare leads s m x.left y)
-      (λ x p y e f. subst (λ (d : SeatShown D). HasKeptShare leads s m d y) e f) h.shares between k.shares h.left_are
+      paired_through (λ (x : Share (SlotShown D)) p. shown_of p ≡ x.left)
+      (λ p (y : Share (SlotShown D)). HasKeptShare leads s m (shown_of p) y)
+      (λ (x : Share (SlotShown D)) y. HasKeptShare leads s m x.left y)
+      (λ x p y e f. subst (λ (d : SlotShown D). HasKeptShare leads s m d y) e f) h.shares between k.shares h.left_are
       k.each in
       record {
         shares = zipped h.shares k.shares;
@@ -134,8 +134,8 @@ module _ {D P : Type 0} (leads : D → ℕ → D → Type 0) (s : Settings) (sho
         rest = h.rest ++ k.rest;
         behind = k.behind ∙ (ap (λ (l : List Record). l ++ k.rest) h.behind ∙ append_assoc before h.rest k.rest);
         each_once = zip_once h.shares k.shares h.rest k.rest goes h.each_once k.each_once;
-        tallies = ap (λ (x : Tally). plus x u) h.tallies ∙ (ap
-            (λ (x : Tally). plus (added_up (λ (y : Share (SeatShown D)). y.tally) h.shares) x) k.tallies ∙
+        tallies = ap (λ (x : Outcomes). plus x u) h.tallies ∙ (ap
+            (λ (x : Outcomes). plus (added_up (λ (y : Share (SlotShown D)). y.outcomes) h.shares) x) k.tallies ∙
             sym (zip_tallies h.shares k.shares goes));
         alone = λ one. (
             let same : length between ≡ length pairs = paired_length _ h.shares between h.left_are ∙
@@ -152,46 +152,47 @@ module _ {D P : Type 0} (leads : D → ℕ → D → Type 0) (s : Settings) (sho
       }
 
 -- one round more
-pub ran_more : {W D : Type 0} (leads : D → ℕ → D → Type 0) (shown_of : W → SeatShown D) (s : Settings) (rounds : ℕ)
-    (y ready : CallerShown) (seats : List W) (r more : Round W) (t : Tally) →
-    RoundHasRun leads shown_of s (rounds * s.tasks) y seats r →
+pub ran_more : {W D : Type 0} (leads : D → ℕ → D → Type 0) (shown_of : W → SlotShown D) (s : Settings) (rounds : ℕ)
+    (y ready : CallerShown) (slots : List W) (r more : Round W) (t : Outcomes) →
+    RoundHasRun leads shown_of s (rounds * s.tasks) y slots r →
     ready.user.value.records ≡ r.client.value.records →
-    RoundHasRun leads shown_of s s.tasks ready r.seats.items more → t ≡ plus r.tally.tally more.tally.tally →
-    RanAll leads s shown_of ((rounds + 1) * s.tasks) y.user.value.records seats
-    more.client.value.records more.seats.items t
-ran_more leads shown_of s rounds y ready seats r more t h same k e =
+    RoundHasRun leads shown_of s s.tasks ready r.slots.items more →
+    t ≡ plus r.outcomes.outcomes more.outcomes.outcomes →
+    RanAll leads s shown_of ((rounds + 1) * s.tasks) y.user.value.records slots
+    more.client.value.records more.slots.items t
+ran_more leads shown_of s rounds y ready slots r more t h same k e =
     let n : rounds * s.tasks + s.tasks ≡ (rounds + 1) * s.tasks = grind arith in
     let first = y.user.value.records in
     let middle = r.client.value.records in
     let last = more.client.value.records in
-    let next : RanAll leads s shown_of s.tasks middle r.seats.items last more.seats.items more.tally.tally =
-    subst (λ (l : List Record). RanAll leads s shown_of s.tasks l r.seats.items last more.seats.items
-    more.tally.tally) same k in
-    subst (λ (j : ℕ). RanAll leads s shown_of j first seats last more.seats.items t) n
-    (subst (λ (u : Tally). RanAll leads s shown_of (rounds * s.tasks + s.tasks) first seats last
-    more.seats.items u) (sym e)
-    (ran_both leads s shown_of (rounds * s.tasks) s.tasks first middle last seats r.seats.items more.seats.items
-    r.tally.tally more.tally.tally h next))
+    let next : RanAll leads s shown_of s.tasks middle r.slots.items last more.slots.items more.outcomes.outcomes =
+    subst (λ (l : List Record). RanAll leads s shown_of s.tasks l r.slots.items last more.slots.items
+    more.outcomes.outcomes) same k in
+    subst (λ (j : ℕ). RanAll leads s shown_of j first slots last more.slots.items t) n
+    (subst (λ (u : Outcomes). RanAll leads s shown_of (rounds * s.tasks + s.tasks) first slots last
+    more.slots.items u) (sym e)
+    (ran_both leads s shown_of (rounds * s.tasks) s.tasks first middle last slots r.slots.items more.slots.items
+    r.outcomes.outcomes more.outcomes.outcomes h next))
 
 -- tallies of so many tasks each
 total_of : {D P : Type 0} (leads : D → ℕ → D → Type 0) (s : Settings) (shown_of : P →
-    SeatShown D) (n : ℕ) (pairs : List P) (shares : List (Share (SeatShown D))) →
+    SlotShown D) (n : ℕ) (pairs : List P) (shares : List (Share (SlotShown D))) →
     Paired (λ p x. HasKeptShare leads s n (shown_of p) x) pairs shares →
-    total (added_up (λ (x : Share (SeatShown D)). x.tally) shares) ≡ length pairs * n
+    total (added_up (λ (x : Share (SlotShown D)). x.outcomes) shares) ≡ length pairs * n
 total_of leads s shown_of n [] [] none = omega arith
 total_of leads s shown_of n (p ∷ pairs) (x ∷ shares) (both h hs) =
     counts (total_of leads s shown_of n pairs shares hs) h.has.all
   where
-    counts : total (added_up (λ (y : Share _). y.tally) shares) ≡ length pairs * n → total x.tally ≡ n →
-        total (added_up (λ (y : Share _). y.tally) (x ∷ shares)) ≡ suc (length pairs) * n
+    counts : total (added_up (λ (y : Share _). y.outcomes) shares) ≡ length pairs * n → total x.outcomes ≡ n →
+        total (added_up (λ (y : Share _). y.outcomes) (x ∷ shares)) ≡ suc (length pairs) * n
     counts e f = omega (arith, e, f)
 total_of leads s shown_of n [] (x ∷ shares) hs = elim hs [ ]
 total_of leads s shown_of n (p ∷ pairs) [] hs = elim hs [ ]
 
 pub ran_total : {D P : Type 0} (leads : D → ℕ → D → Type 0) (s : Settings) (shown_of : P →
-    SeatShown D) (n : ℕ) (before after : List Record) (pairs left : List P) (t : Tally) →
+    SlotShown D) (n : ℕ) (before after : List Record) (pairs left : List P) (t : Outcomes) →
     RanAll leads s shown_of n before pairs after left t → total t ≡ length pairs * n
-ran_total leads s shown_of n before after pairs left t h = ap (λ (u : Tally). total u) h.tallies ∙
+ran_total leads s shown_of n before after pairs left t h = ap (λ (u : Outcomes). total u) h.tallies ∙
     total_of leads s shown_of n pairs h.shares h.each
 
 -- the product of numbers below bounds

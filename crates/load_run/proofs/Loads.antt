@@ -1,6 +1,5 @@
 -- A load as a whole: the opening, the clients, and the report.
-use Rattle.std.proofs.lemmas.Bool.Decides.{nat_tests}
-use Rattle.std.proofs.Common.{Bool, true, false, Result, Ok, Err, IsErrOf, ◌↔◌, nat_eq, ◌≡◌, ◌∙◌, ◌⊎◌, ℕ, ◌+◌, ◌*◌, ◌-◌}
+use Rattle.std.proofs.Common.{true, false, Result, Ok, IsErrOf, ◌↔◌, ◌≡◌, ◌∙◌, ◌⊎◌, ℕ, ◌+◌, ◌*◌, ◌-◌}
 use Rattle.std.proofs.Common.{◌/◌, List, [], ◌∷◌, ◌++◌, length}
 use Rattle.std.proofs.Common.{length-append, map, refl, sym, inl, inr, ap, subst, arith}
 use Rattle.tx_memory.specs.Image.{In}
@@ -13,32 +12,31 @@ use Rattle.vac_manager.specs.Legal.{IsLegal, AreVersioned, capacity_of}
 use Rattle.vac_manager.specs.Called.{ClientShown, CallerShown}
 use Rattle.vac_manager.specs.Opening.{Opens}
 use Rattle.vac_manager.specs.Renewed.{ClosesSomewhere}
-use Rattle.load_draws.specs.declared.settings.Settings.{Settings}
-use Rattle.load_client.specs.declared.tally.Tally.{Tally}
-use Rattle.load_draws.specs.Tasks.{opening}
+use Rattle.load_tasks.specs.declared.settings.Settings.{Settings}
+use Rattle.load_run.specs.declared.outcomes.Outcomes.{Outcomes}
+use Rattle.load_tasks.specs.Tasks.{opening}
 use Rattle.vac_manager.specs.declared.fault.Fault.{Fault}
 use Rattle.vac_manager.specs.declared.fault.Fault.TheVariants as fault
-use Rattle.load_client.specs.Opening.{Stopped}
+use Rattle.load_run.specs.Opening.{Stopped}
 use Rattle.rand_pcg.specs.Lcg.{Lcg}
-use Rattle.load_run.specs.declared.seats.Keepers.{Keepers}
-use Rattle.load_run.specs.declared.seats.Seat.{Seat}
+use Rattle.load_run.specs.declared.slots.Recorders.{Recorders}
+use Rattle.load_run.specs.declared.slots.Slot.{Slot}
 use Rattle.load_run.specs.declared.rounds.Round.{Round}
 use Rattle.load_run.specs.declared.load.LoadFault.{LoadFault}
 use Rattle.load_run.specs.declared.load.LoadFault.TheVariants as load
-use Rattle.load_draws.specs.Streams.{stream_of, streams_of, gives}
-use Rattle.load_run.specs.Streams.{KeptBySeed}
-use Rattle.load_client.specs.Lists.{Paired, none, both}
+use Rattle.load_tasks.specs.Streams.{stream_of, streams_of, gives}
+use Rattle.load_run.specs.declared.load.Load.{Load}
+use Rattle.load_run.specs.Streams.{KeptBySeed, IsBySeed}
+use Rattle.load_run.specs.Lists.{Paired, none, both}
 use Rattle.load_run.specs.Alone.{IsReadyForRound}
-use Rattle.load_client.specs.Keeping.{KeptNotes, AreKept}
+use Rattle.load_run.specs.Keeping.{KeptNotes, AreKept}
 use Rattle.load_run.specs.Several.{AllKept, none_kept, one_kept, sum_of, added_up}
-use Rattle.load_run.specs.Seats.{SeatShown, shown, kept_at}
+use Rattle.load_run.specs.Slots.{SlotShown, shown, kept_at}
 use Rattle.load_run.specs.Load.{InterleavedAll, Share, drawn_share, HasShare, HasKeptShare, HasOpened, RoundHasRun}
-use Rattle.load_run.specs.Load.{is_load, LoadedKept, WasOpened, WasStopped, IsTooShort, IsStopOfLoad, IsLoadFault}
-use Rattle.load_client.proofs.Order.{added_known}
+use Rattle.load_run.specs.Load.{is_load, LoadedKept, WasOpened, WasStopped, IsTooShort, IsStopOfLoad, StopsLoad}
+use Rattle.load_run.proofs.Order.{added_known}
 use Rattle.load_run.proofs.Joining.{ran_total}
-use Rattle.load_client.proofs.Ranges.{first_true}
-use Rattle.load_draws.specs.Setting.{is_settings}
-use Rattle.load_client.proofs.Beginning.{long_opening}
+use Rattle.load_run.proofs.Beginning.{long_opening}
 
 -- after the opening the first round can begin: what the opening added is known to its client, and it
 -- took the clock on by at most one for each of its commands
@@ -60,28 +58,28 @@ opened_ready leads s state left y h =
 
 -- shares without what was kept
 module _ {D : Type 0} where
-  once_drawn : (xs : List (Share (SeatShown D))) (l : List Record) →
-      InterleavedAll (λ (x : Share (SeatShown D)). x.records) xs l →
+  once_drawn : (xs : List (Share (SlotShown D))) (l : List Record) →
+      InterleavedAll (λ (x : Share (SlotShown D)). x.records) xs l →
       InterleavedAll (λ (x : Share D). x.records) (map drawn_share xs) l
   once_drawn [] l h = h
   once_drawn (x ∷ xs) l h = (h.0, h.1, once_drawn xs h.0 h.2)
 
-  sum_drawn : (f : Share D → ℕ) (xs : List (Share (SeatShown D))) →
+  sum_drawn : (f : Share D → ℕ) (xs : List (Share (SlotShown D))) →
       sum_of f (map drawn_share xs) ≡ sum_of (λ x. f (drawn_share x)) xs
   sum_drawn f [] = refl
   sum_drawn f (x ∷ xs) = ap (λ n. f (drawn_share x) + n) (sum_drawn f xs)
 
-  tallies_drawn : (xs : List (Share (SeatShown D))) → added_up (λ (x : Share D). x.tally)
-      (map drawn_share xs) ≡ added_up (λ (x : Share (SeatShown D)). x.tally) xs
+  tallies_drawn : (xs : List (Share (SlotShown D))) → added_up (λ (x : Share D). x.outcomes)
+      (map drawn_share xs) ≡ added_up (λ (x : Share (SlotShown D)). x.outcomes) xs
   tallies_drawn xs = λ i. record {
-    answered = sum_drawn (λ x. x.tally.answered) xs i;
-    busy = sum_drawn (λ x. x.tally.busy) xs i;
-    memory = sum_drawn (λ x. x.tally.memory) xs i;
-    spent = sum_drawn (λ x. x.tally.spent) xs i;
+    answered = sum_drawn (λ x. x.outcomes.answered) xs i;
+    busy = sum_drawn (λ x. x.outcomes.busy) xs i;
+    memory = sum_drawn (λ x. x.outcomes.memory) xs i;
+    spent = sum_drawn (λ x. x.outcomes.spent) xs i;
   }
 
-module _ {D P : Type 0} (leads : D → ℕ → D → Type 0) (s : Settings) (shown_of : P → SeatShown D) (n : ℕ) where
-  each_drawn : (ps : List P) (xs : List (Share (SeatShown D))) →
+module _ {D P : Type 0} (leads : D → ℕ → D → Type 0) (s : Settings) (shown_of : P → SlotShown D) (n : ℕ) where
+  each_drawn : (ps : List P) (xs : List (Share (SlotShown D))) →
       Paired (λ p x. HasKeptShare leads s n (shown_of p) x) ps xs →
       Paired (λ p x. HasShare leads s n (shown_of p).draws x) ps (map drawn_share xs)
   each_drawn [] [] none = none
@@ -89,13 +87,13 @@ module _ {D P : Type 0} (leads : D → ℕ → D → Type 0) (s : Settings) (sho
   each_drawn [] (x ∷ xs) hs = elim hs [ ]
   each_drawn (p ∷ ps) [] hs = elim hs [ ]
 
-  kept_drawn : (ps : List P) (xs : List (Share (SeatShown D))) (qs : List P) →
+  kept_drawn : (ps : List P) (xs : List (Share (SlotShown D))) (qs : List P) →
       Paired (λ p x. HasKeptShare leads s n (shown_of p) x) ps xs → Paired (λ x p. shown_of p ≡ x.left) xs qs →
       AllKept (λ (x : Share D). x.records) (map drawn_share xs) (map (λ p. (shown_of p).kept) ps)
       (map (λ p. (shown_of p).kept) qs)
   kept_drawn [] [] [] none none = none_kept
   kept_drawn (p ∷ ps) (x ∷ xs) (q ∷ qs) (both h hs) (both k ks) =
-      one_kept (subst (λ (y : SeatShown D). AreKept x.records (shown_of p).kept y.kept) (sym k) h.kept)
+      one_kept (subst (λ (y : SlotShown D). AreKept x.records (shown_of p).kept y.kept) (sym k) h.kept)
       (kept_drawn ps xs qs hs ks)
   kept_drawn [] (x ∷ xs) qs hs ks = elim hs [ ]
   kept_drawn (p ∷ ps) [] qs hs ks = elim hs [ ]
@@ -103,24 +101,24 @@ module _ {D P : Type 0} (leads : D → ℕ → D → Type 0) (s : Settings) (sho
   kept_drawn (p ∷ ps) (x ∷ xs) [] hs ks = elim ks [ ]
 
 pub loaded_kept : {D G K : Type 0} (leads : D → ℕ → D → Type 0) (notes : K → KeptNotes) (s : Settings) (state last : D)
-    (seats : List (Seat D G K)) (y : CallerShown) (end : Round (Seat D G K)) (before kept : KeptNotes) (words : List ℕ)
+    (slots : List (Slot D G K)) (y : CallerShown) (end : Round (Slot D G K)) (before kept : KeptNotes) (words : List ℕ)
     (r : Report) →
-    length seats ≡ s.clients →
+    length slots ≡ s.clients →
     HasOpened leads s state last y →
     AreKept y.user.value.records before kept →
-    RoundHasRun leads (shown notes) s (s.rounds * s.tasks) y seats end →
+    RoundHasRun leads (shown notes) s (s.rounds * s.tasks) y slots end →
     AreVersioned end.client.value.records →
     end.manager.size ≡ y.shared.size →
     ClosesSomewhere end.manager end.client.value words →
     ((x : State) → Shows words x → report x ≡ r) →
-    LoadedKept leads s (λ seat. seat.draws) state seats end.tally.tally r before kept (kept_at notes seats)
-    (kept_at notes end.seats.items)
-loaded_kept leads notes s state last seats y end before kept words r n opened keeps all versioned size closed shows =
+    LoadedKept leads s (λ slot. slot.draws) state slots end.outcomes.outcomes r before kept (kept_at notes slots)
+    (kept_at notes end.slots.items)
+loaded_kept leads notes s state last slots y end before kept words r n opened keeps all versioned size closed shows =
     let ran = opened.ran in
     let closes = closed.1 in
     let added = ran.answered.added in
     let after = end.client.value in
-    let left = end.seats.items in
+    let left = end.slots.items in
     let n_of = s.rounds * s.tasks in
     let records : y.user.value.records ≡ added = ran.answered.records ∙
     ap (λ (c : ClientShown). c.value.records ++ added) opened.opens.client_is in
@@ -143,16 +141,17 @@ loaded_kept leads notes s state last seats y end before kept words r n opened ke
         opening_is = ran.drawn;
         opened_are = ran.answered.are_of;
         shares = map drawn_share all.shares;
-        each = each_drawn leads s (shown notes) n_of seats all.shares all.each;
+        each = each_drawn leads s (shown notes) n_of slots all.shares all.each;
         each_once = once_drawn all.shares all.rest all.each_once;
         tallies = all.tallies ∙ sym (tallies_drawn all.shares);
-        all = ran_total leads s (shown notes) n_of y.user.value.records after.records seats left end.tally.tally all ∙
+        all = ran_total leads s (shown notes) n_of y.user.value.records after.records slots left end.outcomes.outcomes
+            all ∙
             (ap (λ (k : ℕ). k * (s.rounds * s.tasks)) n ∙ count);
         alone = λ one. all.alone (n ∙ one);
         in_time = λ one time. all.in_time (n ∙ one) time;
       };
       opening_kept = subst (λ (l : List Record). AreKept l before kept) records keeps;
-      clients_kept = kept_drawn leads s (shown notes) n_of seats all.shares left all.each all.left_are;
+      clients_kept = kept_drawn leads s (shown notes) n_of slots all.shares left all.each all.left_are;
     }
 
 -- what holds between images and elements holds between the list of images and the elements
@@ -171,8 +170,8 @@ paired_unmap f related [] (x ∷ xs) hs = elim hs [ ]
 paired_unmap f related (a ∷ ks) [] hs = elim hs [ ]
 
 -- a load is one of whatever its clients' draws begin with
-pub kept_on : {D P Q : Type 0} (leads : D → ℕ → D → Type 0) (s : Settings) (draws_of : P → D) (drawing : Q →
-    D) (state : D) (ps : List P) (qs : List Q) (t : Tally) (r : Report) (before after : KeptNotes)
+kept_on : {D P Q : Type 0} (leads : D → ℕ → D → Type 0) (s : Settings) (draws_of : P → D) (drawing : Q →
+    D) (state : D) (ps : List P) (qs : List Q) (t : Outcomes) (r : Report) (before after : KeptNotes)
     (befores afters : List KeptNotes) →
     map draws_of ps ≡ map drawing qs → LoadedKept leads s draws_of state ps t r before after befores afters →
     LoadedKept leads s drawing state qs t r before after befores afters
@@ -213,10 +212,6 @@ map_both : {A B C : Type 0} (f : A → B) (g : B → C) (xs : List A) → map (�
 map_both f g [] = refl
 map_both f g (x ∷ xs) = ap (λ (l : List _). g (f x) ∷ l) (map_both f g xs)
 
--- a load that can be run has settings in their ranges
-pub load_settings : (s : Settings) (n : ℕ) → true ≡ is_load s n → is_settings s ≡ true
-load_settings s n e = first_true (is_settings s) (nat_eq n s.clients) (sym e)
-
 -- a load that can be run is not refused for its arguments
 pub can_be_run : {R : Type 0} (s : Settings) (n m : ℕ) (r : Result R LoadFault) → n ≡ m → true ≡ is_load s n →
     (IsErrOf r load.Arguments → ⊥) → IsErrOf r load.Arguments ↔ (is_load s m ≡ false)
@@ -226,41 +221,35 @@ can_be_run s n m r e b never =
 pub was_done : {R : Type 0} (r : Result R LoadFault) (x : R) → r ≡ Ok x → IsErrOf r load.Arguments → ⊥
 was_done r x done e = cc
 
-pub had_no_memory : {R : Type 0} (r : Result R LoadFault) → r ≡ Err load.Memory → IsErrOf r load.Arguments → ⊥
-had_no_memory r refused e = cc
+-- what is kept at the seats is what their keepers kept
+pub kept_returned : {P K : Type 0} (keep_of : P → K) (notes : K → KeptNotes) (left : List P) (keeps : List K) →
+    keeps ≡ map keep_of left → (says : List KeptNotes → Type 0) → says (map (λ p. notes (keep_of p)) left) →
+    says (map notes keeps)
+kept_returned keep_of notes left keeps are says h =
+    subst says (map_both keep_of notes left ∙ sym (ap (λ (l : List _). map notes l) are)) h
 
--- a load that can be run has as many clients as its settings say
-pub load_count : (s : Settings) (n m : ℕ) (b : Bool) → m ≡ n → b ≡ is_load s m → b ≡ true → n ≡ s.clients
-load_count s n m b same is holds =
-    let can : is_load s m ≡ true = sym is ∙ holds in
-    let here : m ≡ s.clients = grind (arith, nat_tests, can) in
-    sym same ∙ here
-
--- the same by the streams of a seed, with the keepers of the seats
-pub kept_by_seed : {P K : Type 0} (draws_of : P → Lcg) (keep_of : P → K) (notes : K →
-    KeptNotes) (s : Settings) (t : Tally) (r : Report) (state : Lcg) (n : ℕ) (seats left : List P)
-    (before after : Keepers K)
-    →
-    state ≡ stream_of s.seed 0 → map draws_of seats ≡ streams_of s.seed n → n ≡ s.clients →
-    map keep_of seats ≡ before.clients.items → after.clients.items ≡ map keep_of left →
-    LoadedKept gives s draws_of state seats t r (notes before.opening) (notes after.opening)
-    (map (λ p. notes (keep_of p)) seats) (map (λ p. notes (keep_of p)) left) →
+-- a load by a seed, with its keepers
+pub kept_by_seed : {G K : Type 0} (notes : K → KeptNotes) (s : Settings) (before after : Recorders K)
+    (l : Load Lcg G K) (t : Outcomes) (r : Report) → IsBySeed s before l →
+    LoadedKept gives l.plan.settings (λ slot. slot.draws) l.draws l.slots.items t r (notes l.keep)
+    (notes after.opening) (kept_at notes l.slots.items) (map notes after.clients.items) →
     KeptBySeed notes s t r before after
-kept_by_seed draws_of keep_of notes s t r state n seats left before after begins are number come go h =
+kept_by_seed notes s before after l t r is h =
     let streams = streams_of s.seed s.clients in
-    let first : map (λ p. notes (keep_of p)) seats ≡ map notes before.clients.items =
-    map_both keep_of notes seats ∙ ap (λ (l : List _). map notes l) come in
-    let last : map (λ p. notes (keep_of p)) left ≡ map notes after.clients.items =
-    map_both keep_of notes left ∙ sym (ap (λ (l : List _). map notes l) go) in
-    kept_on gives s draws_of (λ d. d) (stream_of s.seed 0) seats streams t r _ _ _ _
-    (are ∙ (ap (λ (k : ℕ). streams_of s.seed k) number ∙ sym (map_same streams)))
-    (subst (λ (d : Lcg). LoadedKept gives s draws_of d seats t r (notes before.opening) (notes after.opening)
-    (map notes before.clients.items) (map notes after.clients.items)) begins
-    (subst (λ (l : List KeptNotes). LoadedKept gives s draws_of state seats t r (notes before.opening)
-    (notes after.opening) l (map notes after.clients.items)) first
-    (subst (λ (l : List KeptNotes). LoadedKept gives s draws_of state seats t r (notes before.opening)
-    (notes after.opening)
-    (map (λ p. notes (keep_of p)) seats) l) last h)))
+    let opened = notes after.opening in
+    let all = map notes after.clients.items in
+    let first : kept_at notes l.slots.items ≡ map notes before.clients.items =
+    map_both (λ slot. slot.keep) notes l.slots.items ∙ ap (λ (l : List _). map notes l) is.keeps_are in
+    kept_on gives s (λ slot. slot.draws) (λ d. d) (stream_of s.seed 0) l.slots.items streams t r _ _ _ _
+    (is.streams_are ∙ sym (map_same streams))
+    (subst (λ (ks : List KeptNotes). LoadedKept gives s (λ slot. slot.draws) (stream_of s.seed 0) l.slots.items t r
+    (notes before.opening) opened ks all) first
+    (subst (λ (k : _). LoadedKept gives s (λ slot. slot.draws) (stream_of s.seed 0) l.slots.items t r
+    (notes k) opened (kept_at notes l.slots.items) all) is.keep_is
+    (subst (λ (d : Lcg). LoadedKept gives s (λ slot. slot.draws) d l.slots.items t r
+    (notes l.keep) opened (kept_at notes l.slots.items) all) is.draws_are
+    (subst (λ (x : Settings). LoadedKept gives x (λ slot. slot.draws) l.draws l.slots.items t r
+    (notes l.keep) opened (kept_at notes l.slots.items) all) is.settings_are h))))
 
 too_short : {D : Type 0} (leads : D → ℕ → D → Type 0) (s : Settings) (renewal : ℕ) (e : Fault) (v v' : Client)
     (state left : D) → v.floor ≡ 0 → Stopped leads renewal s.last (opening s) e v v' state left → IsTooShort s e
@@ -295,10 +284,12 @@ was_stopped leads s e state left stripes region opener after opens stopped =
           (ap (λ (c : ClientShown). c.value.floor) opens.client_is) at;
     }
 
--- a load by a seed that stopped is one that was not run to its end
-pub stop_by_seed : (s : Settings) (state left : Lcg) (e : LoadFault) → state ≡ stream_of s.seed 0 →
-    IsStopOfLoad gives s state left e → IsLoadFault gives s (stream_of s.seed 0) e
-stop_by_seed s state left e begins h = inr (left, subst (λ (d : Lcg). IsStopOfLoad gives s d left e) begins h)
+-- a load by a seed that stopped
+pub stop_by_seed : {G K : Type 0} (s : Settings) (recorders : Recorders K) (l : Load Lcg G K) (e : LoadFault) →
+    IsBySeed s recorders l → StopsLoad gives l.plan.settings l.draws e →
+    StopsLoad gives s (stream_of s.seed 0) e
+stop_by_seed s recorders l e is h = subst (λ (d : Lcg). StopsLoad gives s d e) is.draws_are
+    (subst (λ (x : Settings). StopsLoad gives x l.draws e) is.settings_are h)
 
 -- where memory or a thread is wanting once the opening was answered
 pub stop_behind : {D : Type 0} (leads : D → ℕ → D → Type 0) (s : Settings) (state left : D) (e : LoadFault) →

@@ -8,32 +8,32 @@ use Rattle.stm_core.proofs.Orders.{in_merged}
 use Rattle.stm_core.proofs.Whole.{merged_sorted}
 use Rattle.stm_region.specs.Shown.{RegionShown}
 use Rattle.vac_manager.specs.Called.{ClientShown, Splits, CallerShown}
-use Rattle.load_draws.specs.declared.settings.Settings.{Settings}
-use Rattle.load_client.specs.declared.tally.Tally.{Tally}
+use Rattle.load_tasks.specs.declared.settings.Settings.{Settings}
+use Rattle.load_run.specs.declared.outcomes.Outcomes.{Outcomes}
 use Rattle.load_run.specs.declared.workers.Worker.{Worker}
 use Rattle.load_run.specs.declared.workers.Crew.{Crew}
-use Rattle.load_draws.specs.Draws.{Drawn, times_over}
-use Rattle.load_draws.specs.Tasks.{task_of}
-use Rattle.load_client.specs.Keeping.{AreKept}
-use Rattle.load_run.specs.Seats.{SeatShown}
-use Rattle.load_client.specs.Looping.{AreKnown, plus}
+use Rattle.load_tasks.specs.Draws.{Drawn, times_over}
+use Rattle.load_tasks.specs.Tasks.{task_of}
+use Rattle.load_run.specs.Keeping.{AreKept}
+use Rattle.load_run.specs.Slots.{SlotShown}
+use Rattle.load_run.specs.Looping.{AreKnown, plus}
 use Rattle.load_run.specs.Several.{sum_of, added_up, Interleaved}
-use Rattle.load_client.specs.Lists.{Paired, none, both}
+use Rattle.load_run.specs.Lists.{Paired, none, both}
 use Rattle.load_run.specs.Load.{InterleavedAll, all_merged, Gathered, DidWork, DidAllWork, IsWorker, IsCrew}
 use Rattle.load_run.specs.Load.{IsMember, CanGather, Share, HasKeptShare, RanAll}
 use Rattle.load_run.specs.Alone.{IsInRenewal, IsReadyForRound}
-use Rattle.load_client.proofs.Clocking.{clocked_in_time}
+use Rattle.load_run.proofs.Clocking.{clocked_in_time}
 use Rattle.load_run.proofs.Eras.{more_in}
-use Rattle.load_client.proofs.Order.{IsLater, added_later, known_first}
+use Rattle.load_run.proofs.Order.{IsLater, added_later, known_first}
 use Rattle.load_run.proofs.Merging.{merged_behind, interleaved_alone, regrouped, merged_interleaved}
-use Rattle.load_client.proofs.Notes.{kept_added}
+use Rattle.load_run.proofs.Notes.{kept_added}
 use Rattle.load_run.proofs.Pairs.{paired_through, paired_length, all_cons}
 
 -- a worker whose caller was split off
 pub split_worker : {W : Type 0} (y before after : CallerShown) (w : Worker W) →
     Splits before.user after.user w.caller.user → w.caller.shared ≡ before.shared →
     before.shared ≡ y.shared → before.user.value.floor ≡ y.user.value.floor →
-    IsWorker y.shared [] y.user.value.floor w.seat w
+    IsWorker y.shared [] y.user.value.floor w.slot w
 split_worker y before after w s m t f = record {
   manager_is = m ∙ t;
   records_are = ap (λ (x : ClientShown). x.value.records) s.theirs;
@@ -75,23 +75,23 @@ paired_both related P Q f (x ∷ xs) [] h p = elim p [ ]
 
 -- the records that a client added, and that they stand behind those that it had
 pub record Did {D : Type 0} (leads : D → ℕ → D → Type 0) (s : Settings) (renewal floor : ℕ) (before : List Record)
-    (state left : SeatShown D) (after : ClientShown) (t : Tally) : Type 0 where
+    (state left : SlotShown D) (after : ClientShown) (t : Outcomes) : Type 0 where
   pub added : List Record
   pub records_are : after.value.records ≡ before ++ added
   pub sorted : Sorted added
   pub later : (r : Record) → In r added → IsLater renewal floor r
-  pub has : HasKeptShare leads s s.tasks state (record { records = added; tally = t; left = left })
+  pub has : HasKeptShare leads s s.tasks state (record { records = added; outcomes = t; left = left })
 
 pub did : {W D : Type 0} (leads : D → ℕ → D → Type 0) (shown_of : W →
-    SeatShown D) (s : Settings) (manager : RegionShown)
-    (floor : ℕ) (before : List Record) (seat : W) (w : Worker W) (r : Worker W) →
-    IsWorker manager before floor seat w → DidWork leads shown_of s w r →
-    Did leads s manager.renewal floor before (shown_of seat) (shown_of r.seat) r.caller.user
-    r.tally.tally
-did leads shown_of s manager floor before seat w r h k =
+    SlotShown D) (s : Settings) (manager : RegionShown)
+    (floor : ℕ) (before : List Record) (slot : W) (w : Worker W) (r : Worker W) →
+    IsWorker manager before floor slot w → DidWork leads shown_of s w r →
+    Did leads s manager.renewal floor before (shown_of slot) (shown_of r.slot) r.caller.user
+    r.outcomes.outcomes
+did leads shown_of s manager floor before slot w r h k =
     let y = w.caller in
     let y' = r.caller in
-    let left = shown_of r.seat in
+    let left = shown_of r.slot in
     let same = ap (λ (x : _). shown_of x) h.seat_is in
     let l = k.looped in
     let a = l.answered in
@@ -105,7 +105,7 @@ did leads shown_of s manager floor before seat w r h k =
       has = record {
         has = record {
           tasks = l.tasks;
-          drawn = subst (λ (x : SeatShown _). Drawn leads (times_over s.tasks (task_of s)) x.draws l.tasks left.draws)
+          drawn = subst (λ (x : SlotShown _). Drawn leads (times_over s.tasks (task_of s)) x.draws l.tasks left.draws)
               same l.drawn;
           answered = l.done;
           among = l.among;
@@ -113,8 +113,8 @@ did leads shown_of s manager floor before seat w r h k =
           are_of = a.are_of;
           all = l.all;
         };
-        kept = subst (λ (x : SeatShown _). AreKept a.added x.kept left.kept) same
-            (kept_added y.user.value y'.user.value a.added (shown_of w.seat).kept left.kept a.records k.kept);
+        kept = subst (λ (x : SlotShown _). AreKept a.added x.kept left.kept) same
+            (kept_added y.user.value y'.user.value a.added (shown_of w.slot).kept left.kept a.records k.kept);
       };
     }
 
@@ -161,11 +161,11 @@ no_sum : {X : Type 0} (f : X → ℕ) (xs : List X) → length xs ≡ 0 → sum_
 no_sum f [] e = refl
 no_sum f (x ∷ xs) e = absurd (omega (arith, e))
 
-module _ {W D : Type 0} (leads : D → ℕ → D → Type 0) (shown_of : W → SeatShown D)
+module _ {W D : Type 0} (leads : D → ℕ → D → Type 0) (shown_of : W → SlotShown D)
     (s : Settings) (opener : CallerShown) where
   -- how the tasks ended
-  abbrev tally_of : Worker W → Tally
-  tally_of r = r.tally.tally
+  abbrev tally_of : Worker W → Outcomes
+  tally_of r = r.outcomes.outcomes
 
   -- the records of the client
   abbrev records_of : Worker W → List Record
@@ -173,13 +173,13 @@ module _ {W D : Type 0} (leads : D → ℕ → D → Type 0) (shown_of : W → S
 
   -- the shares of the clients that began without records
   record Shared (floor : ℕ) (ps : List W) (rs : List (Worker W)) : Type 0 where
-    shares : List (Share (SeatShown D))
+    shares : List (Share (SlotShown D))
     each : Paired (λ p x. HasKeptShare leads s s.tasks (shown_of p) x) ps shares
-    left_are : Paired (λ x r. shown_of r.seat ≡ x.left) shares rs
+    left_are : Paired (λ x r. shown_of r.slot ≡ x.left) shares rs
     later : AreLater opener.shared.renewal floor shares
     merges : (l : List Record) → all_merged records_of l rs ≡ all_merged
-        (λ (x : Share (SeatShown D)). x.records) l shares
-    tallies : added_up tally_of rs ≡ added_up (λ (x : Share (SeatShown D)). x.tally) shares
+        (λ (x : Share (SlotShown D)). x.records) l shares
+    tallies : added_up tally_of rs ≡ added_up (λ (x : Share (SlotShown D)). x.outcomes) shares
 
   shared : (floor : ℕ) (ps : List W) (ws : List (Worker W)) (rs : List (Worker W)) →
       Paired (IsWorker opener.shared [] floor) ps ws → Paired (DidWork leads shown_of s) ws rs → Shared floor ps rs
@@ -195,13 +195,13 @@ module _ {W D : Type 0} (leads : D → ℕ → D → Type 0) (shown_of : W → S
       let d = did leads shown_of s opener.shared floor [] p w r h k in
       let more = shared floor ps ws rs hs ks in
       record {
-        shares = record { records = d.added; tally = tally_of r; left = shown_of r.seat } ∷ more.shares;
+        shares = record { records = d.added; outcomes = tally_of r; left = shown_of r.slot } ∷ more.shares;
         each = both d.has more.each;
         left_are = both refl more.left_are;
         later = ((d.sorted, d.later), more.later);
         merges = λ l. ap (λ (m : List Record). all_merged records_of (merged l m) rs) d.records_are
             ∙ more.merges (merged l d.added);
-        tallies = ap (λ (t : Tally). plus (tally_of r) t) more.tallies;
+        tallies = ap (λ (t : Outcomes). plus (tally_of r) t) more.tallies;
       }
   shared floor [] [] (r ∷ rs) hs ks = elim ks [ ]
   shared floor [] (w ∷ ws) rs hs ks = elim hs [ ]
@@ -209,28 +209,28 @@ module _ {W D : Type 0} (leads : D → ℕ → D → Type 0) (shown_of : W → S
   shared floor (p ∷ ps) (w ∷ ws) [] hs ks = elim ks [ ]
 
   -- what a seat that was handed back shows
-  handed : (x : Share (SeatShown D)) (r : Worker W) (p : W) → shown_of r.seat ≡ x.left → p ≡ r.seat →
+  handed : (x : Share (SlotShown D)) (r : Worker W) (p : W) → shown_of r.slot ≡ x.left → p ≡ r.slot →
       shown_of p ≡ x.left
   handed x r p e f = ap (λ (y : W). shown_of y) f ∙ e
 
   -- what the first one added, and the others behind it
-  record Round (seats : List W) (crew : Crew W) (done : Crew W) (all : List Record)
-      (h : IsCrew opener s.tries seats crew) : Type 0 where
+  record Round (slots : List W) (crew : Crew W) (done : Crew W) (all : List Record)
+      (h : IsCrew opener s.tries slots crew) : Type 0 where
     mine : Did leads s opener.shared.renewal opener.user.value.floor opener.user.value.records
-        (shown_of h.seat) (shown_of done.first.seat) done.first.caller.user
-        done.first.tally.tally
+        (shown_of h.slot) (shown_of done.first.slot) done.first.caller.user
+        done.first.outcomes.outcomes
     more : Shared opener.user.value.floor h.rest done.others.items
     behind : all ≡ opener.user.value.records
-        ++ all_merged (λ (x : Share (SeatShown D)). x.records) mine.added more.shares
+        ++ all_merged (λ (x : Share (SlotShown D)). x.records) mine.added more.shares
 
-  round : (seats : List W) (crew : Crew W) (done : Crew W) (all : List Record)
-      (t : Tally) → IsReadyForRound s opener → (h : IsCrew opener s.tries seats crew) →
+  round : (slots : List W) (crew : Crew W) (done : Crew W) (all : List Record)
+      (t : Outcomes) → IsReadyForRound s opener → (h : IsCrew opener s.tries slots crew) →
       DidAllWork leads shown_of s crew done →
-      Gathered records_of tally_of done.first done.others.items all t → Round seats crew done all h
-  round seats crew done all t ready h k g =
+      Gathered records_of tally_of done.first done.others.items all t → Round slots crew done all h
+  round slots crew done all t ready h k g =
       let floor = opener.user.value.floor in
       let before = opener.user.value.records in
-      let d = did leads shown_of s opener.shared floor before h.seat crew.first done.first h.opening k.first in
+      let d = did leads shown_of s opener.shared floor before h.slot crew.first done.first h.opening k.first in
       let more = shared floor h.rest crew.others.items done.others.items h.others_are k.others in
       record {
         mine = d;
@@ -240,47 +240,47 @@ module _ {W D : Type 0} (leads : D → ℕ → D → Type 0) (shown_of : W → S
             ∙ merged_front opener.shared.renewal floor before d.added more.shares ready.known more.later));
       }
 
-  pub ran_all : (seats left : List W) (crew : Crew W) (done : Crew W)
-      (after : Client) (t : Tally) → IsReadyForRound s opener → IsCrew opener s.tries seats crew →
+  pub ran_all : (slots left : List W) (crew : Crew W) (done : Crew W)
+      (after : Client) (t : Outcomes) → IsReadyForRound s opener → IsCrew opener s.tries slots crew →
       DidAllWork leads shown_of s crew done →
       Gathered records_of tally_of done.first done.others.items after.records t →
-      Paired (λ r p. p ≡ r.seat) (done.first ∷ done.others.items) left →
-      RanAll leads s shown_of s.tasks opener.user.value.records seats after.records left t
-  ran_all seats left crew done after t ready h k g lefts =
-      let r = round seats crew done after.records t ready h k g in
+      Paired (λ r p. p ≡ r.slot) (done.first ∷ done.others.items) left →
+      RanAll leads s shown_of s.tasks opener.user.value.records slots after.records left t
+  ran_all slots left crew done after t ready h k g lefts =
+      let r = round slots crew done after.records t ready h k g in
       let d = r.mine in
       let more = r.more in
-      let mine : Share (SeatShown D) = record {
+      let mine : Share (SlotShown D) = record {
         records = d.added;
-        tally = tally_of done.first;
-        left = shown_of done.first.seat;
+        outcomes = tally_of done.first;
+        left = shown_of done.first.slot;
       } in
       -- with one client there are no others
-      let none : length seats ≡ 1 → length crew.others.items ≡ 0 = λ one. (
-      let long : length seats ≡ suc (length h.rest) = ap (λ (l : List W). length l) h.seats_are in
+      let none : length slots ≡ 1 → length crew.others.items ≡ 0 = λ one. (
+      let long : length slots ≡ suc (length h.rest) = ap (λ (l : List W). length l) h.seats_are in
       let same = paired_length _ h.rest crew.others.items h.others_are in
       omega (arith, one, long, same)) in
-      let quiet : (f : Worker W → ℕ) → length seats ≡ 1 → sum_of f done.others.items ≡ 0 = λ f one. (
+      let quiet : (f : Worker W → ℕ) → length slots ≡ 1 → sum_of f done.others.items ≡ 0 = λ f one. (
       let same = paired_length _ crew.others.items done.others.items k.others in
       no_sum f done.others.items (omega (arith, none one, same))) in
-      let grants : length seats ≡ 1 → crew.first.caller.user.value.grants ≡ 63 = λ one. (
+      let grants : length slots ≡ 1 → crew.first.caller.user.value.grants ≡ 63 = λ one. (
       let held : crew.first.caller.user.value.grants + crew.others.len ≡ 63 = h.grants in
       omega (arith, none one, held, crew.others.ok.0)) in
       record {
         shares = mine ∷ more.shares;
         each = subst (λ (l : List W). Paired (λ p x. HasKeptShare leads s s.tasks (shown_of p) x) l
             (mine ∷ more.shares)) (sym h.seats_are) (both d.has more.each);
-        left_are = paired_through (λ x r. shown_of r.seat ≡ x.left) (λ r p. p ≡ r.seat)
+        left_are = paired_through (λ x r. shown_of r.slot ≡ x.left) (λ r p. p ≡ r.slot)
             (λ x p. shown_of p ≡ x.left) handed (mine ∷ more.shares) (done.first ∷ done.others.items) left
             (both refl more.left_are) lefts;
-        rest = all_merged (λ (x : Share (SeatShown D)). x.records) d.added more.shares;
+        rest = all_merged (λ (x : Share (SlotShown D)). x.records) d.added more.shares;
         behind = r.behind;
         each_once = within opener.shared.renewal opener.user.value.floor d.added more.shares d.sorted more.later;
-        tallies = g.tallies ∙ ap (λ (u : Tally). plus (tally_of done.first) u) more.tallies;
+        tallies = g.tallies ∙ ap (λ (u : Outcomes). plus (tally_of done.first) u) more.tallies;
         alone = λ one. (
             let first = k.first.looped.alone (grants one) in
             let busy : t.busy ≡ (tally_of done.first).busy + sum_of (λ r. (tally_of r).busy) done.others.items =
-            ap (λ (u : Tally). u.busy) g.tallies in
+            ap (λ (u : Outcomes). u.busy) g.tallies in
             omega (arith, first, quiet (λ r. (tally_of r).busy) one, busy));
         in_time = λ one time. (
             let clock = k.first.clock (grants one) in
@@ -289,27 +289,27 @@ module _ {W D : Type 0} (leads : D → ℕ → D → Type 0) (shown_of : W → S
             let first = clocked_in_time _ _ _ _ s.tasks (4 * s.items) clock k.first.looped.all
             (omega (arith, h.opening.knows, ready.early)) (omega (arith, ends, time)) in
             let spent : t.spent ≡ (tally_of done.first).spent + sum_of (λ r. (tally_of r).spent) done.others.items =
-            ap (λ (u : Tally). u.spent) g.tallies in
+            ap (λ (u : Outcomes). u.spent) g.tallies in
             omega (arith, first, quiet (λ r. (tally_of r).spent) one, spent));
       }
 
   -- what they added is of this renewal
-  pub ran_in : (seats : List W) (crew : Crew W) (done : Crew W) (after : Client)
-      (t : Tally) → IsReadyForRound s opener → IsCrew opener s.tries seats crew →
+  pub ran_in : (slots : List W) (crew : Crew W) (done : Crew W) (after : Client)
+      (t : Outcomes) → IsReadyForRound s opener → IsCrew opener s.tries slots crew →
       DidAllWork leads shown_of s crew done →
       Gathered records_of tally_of done.first done.others.items after.records t →
       IsInRenewal opener.shared.renewal opener.user.value.records → IsInRenewal opener.shared.renewal after.records
-  ran_in seats crew done after t ready h k g in_it =
-      let r = round seats crew done after.records t ready h k g in
+  ran_in slots crew done after t ready h k g in_it =
+      let r = round slots crew done after.records t ready h k g in
       more_in opener.shared.renewal opener.user.value.records
-      (all_merged (λ (x : Share (SeatShown D)). x.records) r.mine.added r.more.shares) after.records in_it r.behind
+      (all_merged (λ (x : Share (SlotShown D)). x.records) r.mine.added r.more.shares) after.records in_it r.behind
       (of_this opener.shared.renewal opener.user.value.floor r.mine.added r.more.shares r.mine.later r.more.later)
 
   -- workers that ran their tasks can be gathered
-  pub can_gather : (seats : List W) (crew : Crew W) (done : Crew W) →
-      s.clients ≤ 64 → s.tasks ≤ 1000000 → length seats ≡ s.clients → IsCrew opener s.tries seats crew →
+  pub can_gather : (slots : List W) (crew : Crew W) (done : Crew W) →
+      s.clients ≤ 64 → s.tasks ≤ 1000000 → length slots ≡ s.clients → IsCrew opener s.tries slots crew →
       DidAllWork leads shown_of s crew done → CanGather done
-  can_gather seats crew done clients tasks number h k =
+  can_gather slots crew done clients tasks number h k =
       let first = ap (λ (y : CallerShown). y.shared) k.first.caller ∙ h.opening.manager_is in
       let same = paired_length _ crew.others.items done.others.items k.others in
       let there = done.others.ok.0 in
@@ -321,7 +321,7 @@ module _ {W D : Type 0} (leads : D → ℕ → D → Type 0) (shown_of : W → S
             let all : crew.first.caller.user.value.grants + crew.others.len ≡ 63 = h.grants in
             omega (arith, held, same, crew.others.ok.0, there, all));
         few = (
-            let long : length seats ≡ suc (length h.rest) = ap (λ (l : List W). length l) h.seats_are in
+            let long : length slots ≡ suc (length h.rest) = ap (λ (l : List W). length l) h.seats_are in
             let pairs = paired_length _ h.rest crew.others.items h.others_are in
             omega (arith, long, pairs, same, there, number, clients));
         tasks = (let all = k.first.looped.all in omega (arith, all, tasks));

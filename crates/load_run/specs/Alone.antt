@@ -6,8 +6,8 @@ use Rattle.stm_region.specs.Shown.{RegionShown}
 use Rattle.vac_manager.specs.Called.{ClientShown, HasAllGrants, CallerShown}
 use Rattle.stm_object.specs.Callers.{IsOwn}
 use Rattle.vac_manager.specs.Legal.{AreVersioned}
-use Rattle.load_draws.specs.declared.settings.Settings.{Settings}
-use Rattle.load_client.specs.Looping.{AreKnown}
+use Rattle.load_tasks.specs.declared.settings.Settings.{Settings}
+use Rattle.load_run.specs.Looping.{AreKnown}
 
 -- the records of earlier renewals, which have one writer a version and readers that wrote nothing,
 -- come before the records of this renewal

@@ -1,5 +1,11 @@
+pub mod Asking
+pub mod Attempted
+pub mod Lists
+pub mod Looping
+pub mod Opening
+pub mod Keeping
 pub mod Alone
-pub mod Seats
+pub mod Slots
 pub mod Several
 pub mod Load
 pub mod Streams

@@ -12,30 +12,30 @@ use Rattle.vac_manager.specs.Opening.{Opens}
 use Rattle.stm_object.specs.Callers.{GoesOn}
 use Rattle.vac_manager.specs.declared.fault.Fault.{Fault}
 use Rattle.vac_manager.specs.declared.fault.Fault.TheVariants as fault
-use Rattle.load_draws.specs.declared.settings.Settings.{Settings}
-use Rattle.load_draws.specs.declared.settings.TheConstants.{MOST_CLIENTS, MOST_TASKS}
-use Rattle.load_client.specs.declared.tally.Tally.{Tally}
+use Rattle.load_tasks.specs.declared.settings.Settings.{Settings}
+use Rattle.load_tasks.specs.declared.settings.TheConstants.{MOST_CLIENTS, MOST_TASKS}
+use Rattle.load_run.specs.declared.outcomes.Outcomes.{Outcomes}
 use Rattle.load_run.specs.declared.workers.Worker.{Worker}
 use Rattle.load_run.specs.declared.workers.WorkOf.{WorkOf}
 use Rattle.load_run.specs.declared.workers.Crew.{Crew}
 use Rattle.load_run.specs.declared.rounds.Round.{Round}
 use Rattle.load_run.specs.Alone.{IsAloneInRenewal, caller_of}
-use Rattle.load_client.specs.Attempted.{TaskCountsShown, uncounted}
-use Rattle.load_client.specs.Looping.{Looped, Clocked, AreOfTasks, total}
-use Rattle.load_client.specs.Lists.{Paired}
+use Rattle.load_run.specs.Attempted.{TaskCountsShown, uncounted}
+use Rattle.load_run.specs.Looping.{Looped, Clocked, AreOfTasks, total}
+use Rattle.load_run.specs.Lists.{Paired}
 use Rattle.load_run.specs.Several.{Interleaved, AllKept, added_up}
-use Rattle.load_client.specs.Keeping.{KeptNotes, AreKept, HasKeptAdded}
-use Rattle.load_run.specs.Seats.{SeatShown}
-use Rattle.load_client.specs.Opening.{as_tasks, RanDrawn, Stopped, IsAnswered}
-use Rattle.load_draws.specs.Setting.{is_settings}
+use Rattle.load_run.specs.Keeping.{KeptNotes, AreKept, HasKeptAdded}
+use Rattle.load_run.specs.Slots.{SlotShown}
+use Rattle.load_run.specs.Opening.{as_tasks, RanDrawn, Stopped, IsAnswered}
+use Rattle.load_tasks.specs.Setting.{is_settings}
 use Rattle.load_run.specs.declared.load.LoadFault.{LoadFault}
 use Rattle.load_run.specs.declared.load.LoadFault.TheVariants as load
 use Rattle.vac_model.specs.declared.commands.Command.{Command}
 use Rattle.vac_model.specs.declared.replies.Report.{Report}
 use Rattle.vac_model.specs.State.{State, empty_state, report}
 use Rattle.vac_manager.specs.Legal.{IsLegal, AreVersioned}
-use Rattle.load_draws.specs.Draws.{Drawn, times_over}
-use Rattle.load_draws.specs.Tasks.{task_of, opening}
+use Rattle.load_tasks.specs.Draws.{Drawn, times_over}
+use Rattle.load_tasks.specs.Tasks.{task_of, opening}
 
 -- the clock has a version for each command of the setup phase and, after these, for each task of
 -- one client in a round
@@ -47,25 +47,25 @@ HasTime s = 4 * s.items + s.tasks ≤ s.last
 -- counts are those of the tasks: the caller went on, the loop had its effect on the client's
 -- value, the clock of a solo client advanced accordingly, and the recorder kept the completed
 -- calls
-pub record RanTasks {W D : Type 0} (leads : D → ℕ → D → Type 0) (shown_of : W → SeatShown D)
-    (s : Settings) (y : CallerShown) (seat : W) (z : CallerShown) (left : W) (c : TaskCountsShown)
+pub record RanTasks {W D : Type 0} (leads : D → ℕ → D → Type 0) (shown_of : W → SlotShown D)
+    (s : Settings) (y : CallerShown) (slot : W) (z : CallerShown) (left : W) (c : TaskCountsShown)
     : Type 0 where
   pub caller : GoesOn y z
   pub looped : Looped leads s y.shared.renewal s.tasks y.user.value z.user.value
-      (shown_of seat).draws (shown_of left).draws c.tally
+      (shown_of slot).draws (shown_of left).draws c.outcomes
   pub clock : HasAllGrants y.user.value → Clocked y.shared.last y.user.value z.user.value
-      c.tally
+      c.outcomes
   pub tries : c.tries ≡ s.tries
-  pub kept : HasKeptAdded y.user.value z.user.value (shown_of seat).kept (shown_of left).kept
+  pub kept : HasKeptAdded y.user.value z.user.value (shown_of slot).kept (shown_of left).kept
 
 -- a worker ran its tasks of a round, and this is the worker afterwards
-abbrev pub DidWork : {W D : Type 0} → (D → ℕ → D → Type 0) → (W → SeatShown D) → Settings
+abbrev pub DidWork : {W D : Type 0} → (D → ℕ → D → Type 0) → (W → SlotShown D) → Settings
     → Worker W → Worker W → Type 0
 DidWork leads shown_of s w d =
-    RanTasks leads shown_of s w.caller w.seat d.caller d.seat d.tally
+    RanTasks leads shown_of s w.caller w.slot d.caller d.slot d.outcomes
 
 -- each worker of a crew ran its tasks of a round; the workers stay in their order
-pub record DidAllWork {W D : Type 0} (leads : D → ℕ → D → Type 0) (shown_of : W → SeatShown D)
+pub record DidAllWork {W D : Type 0} (leads : D → ℕ → D → Type 0) (shown_of : W → SlotShown D)
     (s : Settings) (crew done : Crew W) : Type 0 where
   pub first : DidWork leads shown_of s crew.first done.first
   pub others : Paired (DidWork leads shown_of s) crew.others.items done.others.items
@@ -89,58 +89,58 @@ all_merged records_of first [] = first
 all_merged records_of first (x ∷ xs) = all_merged records_of (merged first (records_of x)) xs
 
 -- the clients were gathered: their records were merged, and their counts added up
-pub record Gathered {X : Type 0} (records_of : X → List Record) (tally_of : X → Tally)
-    (first : X) (others : List X) (all : List Record) (t : Tally) : Type 0 where
+pub record Gathered {X : Type 0} (records_of : X → List Record) (tally_of : X → Outcomes)
+    (first : X) (others : List X) (all : List Record) (t : Outcomes) : Type 0 where
   pub records_are : all ≡ all_merged records_of (records_of first) others
   pub tallies : t ≡ added_up tally_of (first ∷ others)
 
 -- the worker calls this manager, its client starts with these records and this floor,
 -- and the worker has this client slot
 pub record IsWorker {W : Type 0} (manager : RegionShown) (records : List Record) (floor : ℕ)
-    (seat : W) (w : Worker W) : Type 0 where
+    (slot : W) (w : Worker W) : Type 0 where
   pub manager_is : w.caller.shared ≡ manager
   pub records_are : w.caller.user.value.records ≡ records
   pub knows : w.caller.user.value.floor ≡ floor
-  pub seat_is : w.seat ≡ seat
+  pub seat_is : w.slot ≡ slot
 
 -- each client slot got a caller of the manager of the setup phase: the first slot got the caller
 -- of the setup phase, the others callers whose clients have no records. The first caller holds all
 -- grants that are left. No worker has counted a task, and each task may make at most `tries`
 -- attempts
-pub record IsCrew {W : Type 0} (opener : CallerShown) (tries : ℕ) (seats : List W)
+pub record IsCrew {W : Type 0} (opener : CallerShown) (tries : ℕ) (slots : List W)
     (crew : Crew W) : Type 0 where
-  pub seat : W
+  pub slot : W
   pub rest : List W
-  pub seats_are : seats ≡ seat ∷ rest
+  pub seats_are : slots ≡ slot ∷ rest
   pub opening : IsWorker opener.shared opener.user.value.records opener.user.value.floor
-      seat crew.first
+      slot crew.first
   pub others_are : Paired (IsWorker opener.shared [] opener.user.value.floor)
       rest crew.others.items
   pub grants : crew.first.caller.user.value.grants + vec_len crew.others ≡ MOST_GRANTS
   pub others_grants : All (λ w. w.caller.user.value.grants ≡ 0) crew.others.items
-  pub tally : crew.first.tally ≡ uncounted tries
-  pub others_tallies : All (λ w. w.tally ≡ uncounted tries) crew.others.items
+  pub outcomes : crew.first.outcomes ≡ uncounted tries
+  pub others_tallies : All (λ w. w.outcomes ≡ uncounted tries) crew.others.items
 
 -- the first worker can gather this one: it calls the same manager, it has no grants,
 -- and its counts can be added
 pub record IsMember {W : Type 0} (first w : Worker W) : Type 0 where
   pub one : w.caller.shared ≡ first.caller.shared
   pub grants : w.caller.user.value.grants ≡ 0
-  pub tasks : total w.tally.tally ≤ MOST_TASKS
-  pub tries : w.tally.tries ≡ first.tally.tries
+  pub tasks : total w.outcomes.outcomes ≤ MOST_TASKS
+  pub tries : w.outcomes.tries ≡ first.outcomes.tries
 
 -- the workers of a crew can be gathered: the first one holds all grants that are left
 pub record CanGather {W : Type 0} (crew : Crew W) : Type 0 where
   pub grants : crew.first.caller.user.value.grants + vec_len crew.others ≡ MOST_GRANTS
   pub few : vec_len crew.others < MOST_CLIENTS
-  pub tasks : total crew.first.tally.tally ≤ MOST_TASKS
+  pub tasks : total crew.first.outcomes.outcomes ≤ MOST_TASKS
   pub others : All (IsMember crew.first) crew.others.items
 
 -- the results of one client in one round or several: the records of its completed tasks, the
 -- counts of its tasks, and the state after its draws
 pub record Share (D : Type 0) : Type 0 where
   pub records : List Record
-  pub tally : Tally
+  pub outcomes : Outcomes
   pub left : D
 
 -- a client drew n tasks, one after the other, from this state on; the completed tasks are a
@@ -151,18 +151,18 @@ pub record HasShare {D : Type 0} (leads : D → ℕ → D → Type 0) (s : Setti
   pub drawn : Drawn leads (times_over n (task_of s)) state tasks x.left
   pub answered : List Task
   pub among : Sub answered tasks
-  pub number : length answered ≡ x.tally.answered
+  pub number : length answered ≡ x.outcomes.answered
   pub are_of : AreOfTasks answered x.records
-  pub all : total x.tally ≡ n
+  pub all : total x.outcomes ≡ n
 
 -- the share without the recorded calls
-abbrev pub drawn_share : {D : Type 0} → Share (SeatShown D) → Share D
-drawn_share x = record { records = x.records; tally = x.tally; left = x.left.draws }
+abbrev pub drawn_share : {D : Type 0} → Share (SlotShown D) → Share D
+drawn_share x = record { records = x.records; outcomes = x.outcomes; left = x.left.draws }
 
 -- a client drew n tasks, one after the other, starting from this slot, and its recorder kept the
 -- calls of the completed ones
 pub record HasKeptShare {D : Type 0} (leads : D → ℕ → D → Type 0) (s : Settings) (n : ℕ)
-    (state : SeatShown D) (x : Share (SeatShown D)) : Type 0 where
+    (state : SlotShown D) (x : Share (SlotShown D)) : Type 0 where
   pub has : HasShare leads s n state.draws (drawn_share x)
   pub kept : AreKept x.records state.kept x.left.kept
 
@@ -171,30 +171,30 @@ pub record HasKeptShare {D : Type 0} (leads : D → ℕ → D → Type 0) (s : S
 -- slot of each client is as its tasks left it. A single client meets no conflict, and if the clock
 -- has time, none of its tasks finds the clock spent
 pub record RanAll {D P : Type 0} (leads : D → ℕ → D → Type 0) (s : Settings)
-    (shown_of : P → SeatShown D) (n : ℕ) (before : List Record) (seats : List P)
-    (after : List Record) (left : List P) (t : Tally) : Type 0 where
-  pub shares : List (Share (SeatShown D))
-  pub each : Paired (λ p x. HasKeptShare leads s n (shown_of p) x) seats shares
+    (shown_of : P → SlotShown D) (n : ℕ) (before : List Record) (slots : List P)
+    (after : List Record) (left : List P) (t : Outcomes) : Type 0 where
+  pub shares : List (Share (SlotShown D))
+  pub each : Paired (λ p x. HasKeptShare leads s n (shown_of p) x) slots shares
   pub left_are : Paired (λ x p. shown_of p ≡ x.left) shares left
   pub rest : List Record
   pub behind : after ≡ before ++ rest
   pub each_once : InterleavedAll (λ x. x.records) shares rest
-  pub tallies : t ≡ added_up (λ x. x.tally) shares
-  pub alone : length seats ≡ 1 → t.busy ≡ 0
-  pub in_time : length seats ≡ 1 → HasTime s → t.spent ≡ 0
+  pub tallies : t ≡ added_up (λ x. x.outcomes) shares
+  pub alone : length slots ≡ 1 → t.busy ≡ 0
+  pub in_time : length slots ≡ 1 → HasTime s → t.spent ≡ 0
 
 -- all clients ran n tasks each, in one round or several, starting from the records of this
 -- caller's client and from these slots; the round has the results
-abbrev pub RoundHasRun : {W D : Type 0} → (D → ℕ → D → Type 0) → (W → SeatShown D) → Settings → ℕ
+abbrev pub RoundHasRun : {W D : Type 0} → (D → ℕ → D → Type 0) → (W → SlotShown D) → Settings → ℕ
     → CallerShown → List W → Round W → Type 0
-RoundHasRun leads shown_of s n y seats r = RanAll leads s shown_of n y.user.value.records seats
-    r.client.value.records r.seats.items r.tally.tally
+RoundHasRun leads shown_of s n y slots r = RanAll leads s shown_of n y.user.value.records slots
+    r.client.value.records r.slots.items r.outcomes.outcomes
 
 -- a round of a load with these settings has a slot for each client, the limit on attempts of the
 -- settings, and a solo client
 pub record IsRound {W : Type 0} (s : Settings) (r : Round W) : Type 0 where
-  pub number : vec_len r.seats ≡ s.clients
-  pub tries : r.tally.tries ≡ s.tries
+  pub number : vec_len r.slots ≡ s.clients
+  pub tries : r.outcomes.tries ≡ s.tries
   pub alone : IsAloneInRenewal (caller_of r.manager r.client)
 
 -- a load can be run with these settings and this number of clients
@@ -206,7 +206,7 @@ abbrev pub IsLoadRefusal : LoadFault → Type 0
 IsLoadRefusal e = (e ≡ load.Memory) ⊎ (e ≡ load.Spawn)
 
 -- each worker of a crew ran its tasks of a round, or running them was refused
-abbrev pub RunsCrew : {W D : Type 0} → (D → ℕ → D → Type 0) → (W → SeatShown D) → Settings
+abbrev pub RunsCrew : {W D : Type 0} → (D → ℕ → D → Type 0) → (W → SlotShown D) → Settings
     → Crew W → Result (Crew W) LoadFault → Type 0
 RunsCrew leads shown_of s crew result =
     IfOk result (DidAllWork leads shown_of s crew) × IfErr result IsLoadRefusal
@@ -262,12 +262,15 @@ IsStopOfLoad leads s state left load.Memory = (left ≡ state) ⊎ WasOpened lea
 IsStopOfLoad leads s state left load.Spawn = WasOpened leads s state left
 IsStopOfLoad leads s state left (load.Opening e) = WasStopped leads s e state left
 
--- the reason why a load did not run to its end: its arguments, or a stop with the draws of the
--- setup phase in some state
+-- the reason why a load that could be run did not run to its end, with the draws of the setup phase
+-- in some state
 -- Not said: when memory was refused, because such a load returns no draws.
+abbrev pub StopsLoad : {D : Type 0} → (D → ℕ → D → Type 0) → Settings → D → LoadFault → Type 0
+StopsLoad {D} leads s state e = (left : D) × IsStopOfLoad leads s state left e
+
+-- the reason why a load did not run to its end: its arguments, or a stop
 abbrev pub IsLoadFault : {D : Type 0} → (D → ℕ → D → Type 0) → Settings → D → LoadFault → Type 0
-IsLoadFault {D} leads s state e =
-    (e ≡ load.Arguments) ⊎ ((left : D) × IsStopOfLoad leads s state left e)
+IsLoadFault leads s state e = (e ≡ load.Arguments) ⊎ StopsLoad leads s state e
 
 -- the result of a load: there is a history, legal from the empty state, whose final state has the
 -- report. The commands of the setup phase come first, followed by exactly the completed tasks, in
@@ -283,7 +286,7 @@ IsLoadFault {D} leads s state e =
 -- Not said: that the history is that of a manager's clients. It is any legal history with these
 -- tasks; `tests/history.py` has the histories of loads judged.
 pub record HasLoaded {D P : Type 0} (leads : D → ℕ → D → Type 0) (s : Settings) (draws_of : P → D)
-    (state : D) (pairs : List P) (t : Tally) (r : Report) : Type 0 where
+    (state : D) (pairs : List P) (t : Outcomes) (r : Report) : Type 0 where
   pub history : List Record
   pub last : State
   pub legal : IsLegal (empty_state s.blocks) history last
@@ -300,7 +303,7 @@ pub record HasLoaded {D P : Type 0} (leads : D → ℕ → D → Type 0) (s : Se
   pub shares : List (Share D)
   pub each : Paired (λ p x. HasShare leads s (s.rounds * s.tasks) (draws_of p) x) pairs shares
   pub each_once : InterleavedAll (λ x. x.records) shares rest
-  pub tallies : t ≡ added_up (λ x. x.tally) shares
+  pub tallies : t ≡ added_up (λ x. x.outcomes) shares
   pub all : total t ≡ s.rounds * s.clients * s.tasks
   pub alone : s.clients ≡ 1 → t.busy ≡ 0
   pub in_time : s.clients ≡ 1 → HasTime s → t.spent ≡ 0
@@ -313,7 +316,7 @@ pub record HasLoaded {D P : Type 0} (leads : D → ℕ → D → Type 0) (s : Se
 -- Not said: that a recorder is asked for room before its call begins, and receives the call before
 -- the call is reported to the gate.
 pub record LoadedKept {D P : Type 0} (leads : D → ℕ → D → Type 0) (s : Settings)
-    (draws_of : P → D) (state : D) (pairs : List P) (t : Tally) (r : Report)
+    (draws_of : P → D) (state : D) (pairs : List P) (t : Outcomes) (r : Report)
     (before after : KeptNotes) (befores afters : List KeptNotes) : Type 0 where
   pub loaded : HasLoaded leads s draws_of state pairs t r
   pub opening_kept : AreKept loaded.opened before after

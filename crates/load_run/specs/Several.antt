@@ -1,8 +1,8 @@
 -- The combined results of several clients: records, recorded calls and counts.
 use Rattle.std.specs.Prelude.{ℕ, ◌+◌, List, [], ◌∷◌}
 use Rattle.stm_core.specs.Client.{Record}
-use Rattle.load_client.specs.declared.tally.Tally.{Tally}
-use Rattle.load_client.specs.Keeping.{KeptNotes, AreKept}
+use Rattle.load_run.specs.declared.outcomes.Outcomes.{Outcomes}
+use Rattle.load_run.specs.Keeping.{KeptNotes, AreKept}
 
 -- the third list has exactly the elements of the first two, each once, and those of each list in
 -- their order
@@ -27,7 +27,7 @@ sum_of f [] = 0
 sum_of f (x ∷ xs) = f x + sum_of f xs
 
 -- the counts of all elements added up
-abbrev pub added_up : {X : Type 0} → (X → Tally) → List X → Tally
+abbrev pub added_up : {X : Type 0} → (X → Outcomes) → List X → Outcomes
 added_up f xs = record {
   answered = sum_of (λ x. (f x).answered) xs;
   busy = sum_of (λ x. (f x).busy) xs;

@@ -3,12 +3,12 @@
 ghost use Rattle.std.specs.Prelude.{◌≡◌, ◌<◌, true, IfOk, IfErr};
 ghost use Rattle.vac_manager.specs.Legal.{AreVersioned};
 ghost use Rattle.vac_manager.specs.Renewed.{ClosesSomewhere};
-ghost use Rattle.load_draws.specs.Setting.{is_settings};
-ghost use Rattle.load_draws.specs.declared.settings.TheConstants.{MOST_ROUNDS};
+ghost use Rattle.load_tasks.specs.Setting.{is_settings};
+ghost use Rattle.load_tasks.specs.declared.settings.TheConstants.{MOST_ROUNDS};
 ghost use Rattle.load_run.specs.Alone.{IsAloneInRenewal, IsRenewed, caller_of};
 
 use crate::load::LoadFault;
-use load_draws::Settings;
+use load_tasks::Settings;
 use stm_region::RegionFault;
 use vac_manager::{Client, Manager, RenewFault};
 

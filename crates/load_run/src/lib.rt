@@ -1,21 +1,33 @@
-//! The load generator: clients that call one manager with tasks drawn at random.
+//! The load generator: clients that call one manager with tasks drawn at random. Each client runs
+//! the tasks that it draws, and counts their results.
 //!
 //! The tasks are like those of the client of the program Vacation of the STAMP benchmarks (Cao
 //! Minh, Chung, Kozyrakis, Olukotun, IISWC 2008).
 #![tactic(auto)]
 
 mod alone;
+mod asking;
+mod counts;
 mod gathering;
 mod load;
+mod looping;
+mod opening;
+mod outcomes;
 mod plan;
 mod rounds;
-mod seats;
+mod slots;
+mod statistics;
+mod sums;
 mod workers;
 
-pub use load::{LoadFault, LoadReport, run_load, run_load_kept, run_load_with};
-pub use load_client::{Efforts, Tally, count_loop, open_kept};
-pub use load_draws::{
+pub use counts::TaskCounts;
+pub use load::{Load, LoadFault, LoadReport};
+pub use load_tasks::{
     Draws, FixedDraws, MOST_CLIENTS, MOST_ITEMS, MOST_ROUNDS, MOST_TASKS, PERCENT, PcgDraws,
     Settings, Tasks, tasks_of, turns_make_tasks,
 };
-pub use seats::{Keepers, no_keepers};
+pub use looping::count_loop;
+pub use opening::open_kept;
+pub use outcomes::Outcomes;
+pub use slots::{Recorders, Slot, no_recorders};
+pub use statistics::AttemptStatistics;

@@ -1,33 +1,33 @@
 //! Running a load.
 
-ghost use Rattle.std.specs.Prelude.{◌≡◌, ◌↔◌, true, false, vec_len, IfOk, IfErr, IsErrOf};
-ghost use Rattle.load_draws.specs.Setting.{is_settings};
-ghost use Rattle.load_client.specs.Keeping.{AreKept};
+ghost use Rattle.std.specs.Prelude.{◌≡◌, ◌↔◌, ◌⊎◌, true, false, map, vec_len};
+ghost use Rattle.std.specs.Prelude.{IfOk, IfErr, IsErrOf};
+ghost use Rattle.load_tasks.specs.Setting.{is_settings};
+ghost use Rattle.load_run.specs.Keeping.{AreKept};
+ghost use Rattle.load_run.specs.Attempted.{IsEffort};
 ghost use Rattle.load_run.specs.Alone.{IsAloneInRenewal, caller_of};
-ghost use Rattle.load_run.specs.Seats.{kept_at};
-ghost use Rattle.load_run.specs.Load.{HasOpened, HasLoaded, LoadedKept, is_load, IsLoadFault, IsStopOfLoad};
-ghost use Rattle.load_draws.specs.Streams.{gives, stream_of};
-ghost use Rattle.load_run.specs.Streams.{LoadedBySeed, KeptBySeed};
-ghost use Rattle.load_client.specs.Attempted.{IsEffort};
+ghost use Rattle.load_run.specs.Slots.{kept_at};
+ghost use Rattle.load_run.specs.Load.{HasOpened, LoadedKept, is_load, IsStopOfLoad};
+ghost use Rattle.load_run.specs.Load.{StopsLoad};
 
 use crate::alone::{close, renewed};
 use crate::plan::Plan;
 use crate::rounds::Round;
-use crate::seats::{Keepers, Seat, Sent, keepers_of, no_keepers, seats_by_seed, seats_unkept};
-use load_client::{Efforts, Tally, open_kept};
-use load_draws::{Draws, PcgDraws, Settings};
+use crate::slots::{Recorders, Slot, recorders_of, slots_by_seed};
+use crate::{AttemptStatistics, Outcomes, open_kept};
+use load_tasks::{Draws, PcgDraws, Settings};
 use std::alloc::Global;
 use std::sync::Wait;
 use std::thread::Threads;
-use stm_attempt::{Gate, NoGate};
+use stm_attempt::Gate;
 use thiserror::Error;
-use vac_manager::{Client, Fault, Keep, Manager, Report, Unkept, report_of};
+use vac_manager::{Client, Fault, Manager, Recorder, Report, report_of};
 
 /// The result of a load: the counts of its tasks over all rounds, and the report of the words
 /// after all clients were gathered for the last time.
 #[derive(Clone, Copy, Debug, PartialEq, Eq)]
 pub struct LoadReport {
-    pub tally: Tally,
+    pub outcomes: Outcomes,
     pub report: Report,
 }
 
@@ -50,7 +50,7 @@ pub enum LoadFault {
 }
 
 /// Makes the manager of a load and runs the setup phase, with this recorder of its calls.
-fn open_load<D: Draws, K: Keep>(
+fn open_load<D: Draws, K: Recorder>(
     alloc: Global,
     settings: &Settings,
     opening: &mut D,
@@ -76,62 +76,6 @@ fn open_load<D: Draws, K: Keep>(
     Ok((manager, client))
 }
 
-/// Runs a load whose arguments are in their ranges, with this recorder of the setup phase, and
-/// returns the slots, which go on from round to round. Between two rounds the manager is renewed.
-fn run_in_range<R: Threads + Wait, D: Draws + Sent, G: Gate + Sent, K: Keep + Sent>(
-    rt: &R,
-    alloc: Global,
-    settings: &Settings,
-    opening: &mut D,
-    keep: &mut K,
-    seats: Vec<Seat<D, G, K>>,
-) -> Result<(LoadReport, Efforts, Vec<Seat<D, G, K>>), LoadFault>
-where
-    K::Tracing: Send,
-    requires settings { is_settings settings.now ≡ true }
-    requires number { vec_len seats ≡ settings.now.clients }
-    ensures kept { IfOk result (λ r. LoadedKept D.leads settings.now (λ seat. seat.draws)
-        opening.old seats.items r.0.tally r.0.report (K.notes keep.old) (K.notes keep.new)
-        (kept_at K.notes seats.items) (kept_at K.notes r.2.items)) }
-    ensures number { IfOk result (λ r. vec_len r.2 ≡ vec_len seats) }
-    ensures efforts { IfOk result (λ r. IsEffort settings.now.tries r.0.tally r.1) }
-    ensures stopped { IfErr result (λ fault.
-        IsStopOfLoad D.leads settings.now opening.old opening.new fault) }
-{
-    let (manager, client) = open_load(alloc, settings, opening, keep)?;
-    let plan = Plan {
-        alloc,
-        settings: *settings,
-    };
-    let mut round = plan.run_round(rt, manager, client, seats)?;
-    'rounds: for done in 1..settings.rounds {
-        let Round {
-            manager,
-            client,
-            seats,
-            tally,
-        } = round;
-        let (manager, client) = renewed(manager, client, settings)?;
-        let more = plan.run_round(rt, manager, client, seats)?;
-        round = Round {
-            manager: more.manager,
-            client: more.client,
-            seats: more.seats,
-            tally: tally.plus(more.tally),
-        };
-    }
-    let Round {
-        manager,
-        client,
-        seats,
-        tally,
-    } = round;
-    let words = close(manager, client)?;
-    let report = report_of(words);
-    let (tally, efforts) = tally.apart();
-    Ok((LoadReport { tally, report }, efforts, seats))
-}
-
 /// Returns whether a load can be run with these settings and this number of clients.
 fn can_run(settings: &Settings, clients: usize) -> bool
     ensures { result ≡ is_load settings.now clients }
@@ -139,113 +83,149 @@ fn can_run(settings: &Settings, clients: usize) -> bool
     settings.is_in_range() && clients == settings.clients as usize
 }
 
-/// Runs a load. The first client runs the setup phase, with the words that are drawn for it. In
-/// each round all clients run at once, each in a thread of its own, with its draws and its gate,
-/// which go on from round to round. After each round the clients are gathered into the first.
-/// Between two rounds the manager is renewed, and after the last one it is closed.
-pub fn run_load_with<
-    R: Threads + Wait + AllocGlobal,
-    D: Draws + Send + Drop,
-    G: Gate + Send + Drop,
->(
-    rt: &R,
-    settings: &Settings,
-    mut opening: D,
-    clients: Vec<(D, G)>,
-) -> Result<LoadReport, LoadFault>
-    ensures arguments { IsErrOf result LoadFault.Arguments
-        ↔ (is_load settings.now (vec_len clients) ≡ false) }
-    ensures loaded { IfOk result (λ r. HasLoaded D.leads settings.now (λ p. p.0)
-        opening clients.items r.tally r.report) }
-    ensures refused { IfErr result (λ fault. IsLoadFault D.leads settings.now opening fault) }
-{
-    if !can_run(settings, clients.len()) {
-        return Err(LoadFault::Arguments);
-    }
-    let Ok(seats) = seats_unkept(rt.alloc(), clients) else {
-        return Err(LoadFault::Memory);
-    };
-    match run_in_range(rt, rt.alloc(), settings, &mut opening, &mut Unkept, seats) {
-        Ok((report, _efforts, _seats)) => Ok(report),
-        Err(fault) => Err(fault),
-    }
+/// A load that can be run: its settings are in their ranges, and each client has a slot. The setup
+/// phase has draws and a recorder of its own.
+#[derive(Drop)]
+pub struct Load<D, G, K> {
+    plan: Plan,
+    draws: D,
+    keep: K,
+    slots: Vec<Slot<D, G, K>>,
+    ghost number: { vec_len slots ≡ plan.settings.clients },
 }
 
-/// Runs a load with the words of a generator: the setup phase draws from stream 0, and client k
-/// from stream k.
-pub fn run_load<R: Threads + Wait + AllocGlobal>(
-    rt: &R,
-    settings: &Settings,
-) -> Result<LoadReport, LoadFault>
-    ensures arguments { IsErrOf result LoadFault.Arguments
-        ↔ (is_settings settings.now ≡ false) }
-    ensures loaded { IfOk result (λ r. LoadedBySeed settings.now r.tally r.report) }
-    ensures refused { IfErr result (λ fault.
-        IsLoadFault gives settings.now (stream_of settings.now.seed 0) fault) }
-{
-    if !settings.is_in_range() {
-        return Err(LoadFault::Arguments);
-    }
-    let Ok(keepers) = no_keepers(rt.alloc(), settings.clients) else {
-        return Err(LoadFault::Memory);
-    };
-    match run_load_kept(rt, settings, NoGate, keepers) {
-        Ok((report, _efforts, _kept)) => Ok(report),
-        Err(fault) => Err(fault),
-    }
-}
-
-/// Runs a load as `run_load` does, with a copy of the gate for each client and with recorders of
-/// the completed calls: one for the setup phase, and one for each client, which goes on from round
-/// to round. Besides the report, returns the attempt statistics of the calls of all clients in all
-/// rounds. In each round each client reports to its gate when it is ready and when it is done.
-/// Each recorder is asked for room before a call, and receives the call once it has completed. If
-/// a recorder has no room, the call is not issued: the task counts under memory, or the setup
-/// phase stops with the fault of refused memory. The recorders are returned in their order. (The
-/// tracer that a recorder lends stays in its client's thread; the proof requires that the tracer
-/// is `Send`.)
-pub fn run_load_kept<
-    R: Threads + Wait + AllocGlobal,
-    G: Gate + Copy + Send + Drop,
-    K: Keep + Send + Drop,
->(
-    rt: &R,
-    settings: &Settings,
-    gate: G,
-    keepers: Keepers<K>,
-) -> Result<(LoadReport, Efforts, Keepers<K>), LoadFault>
-where
-    K::Tracing: Send,
-    ensures arguments { IsErrOf result LoadFault.Arguments
-        ↔ (is_load settings.now (vec_len keepers.clients) ≡ false) }
-    ensures loaded { IfOk result (λ r. LoadedBySeed settings.now r.0.tally r.0.report) }
-    ensures kept { IfOk result (λ r.
-        KeptBySeed K.notes settings.now r.0.tally r.0.report keepers r.2) }
-    ensures efforts { IfOk result (λ r. IsEffort settings.now.tries r.0.tally r.1) }
-    ensures refused { IfErr result (λ fault.
-        IsLoadFault gives settings.now (stream_of settings.now.seed 0) fault) }
-{
-    let Keepers {
-        opening: mut keep,
-        clients,
-    } = keepers;
-    if !can_run(settings, clients.len()) {
-        return Err(LoadFault::Arguments);
-    }
-    let alloc = rt.alloc();
-    let Ok(left) = Vec::with_capacity(alloc, clients.len()) else {
-        return Err(LoadFault::Memory);
-    };
-    let Ok(seats) = seats_by_seed(alloc, settings.seed, gate, clients) else {
-        return Err(LoadFault::Memory);
-    };
-    let mut opening = PcgDraws::new(settings.seed, 0);
-    match run_in_range(rt, alloc, settings, &mut opening, &mut keep, seats) {
-        Ok((report, efforts, seats)) => {
-            let clients = keepers_of(seats, left);
-            let opening = keep;
-            Ok((report, efforts, Keepers { opening, clients }))
+impl<D: Drop, G: Drop, K: Drop> Load<D, G, K> {
+    /// Returns the load of these settings, with these draws and this recorder for the setup phase,
+    /// and with a slot for each client. No word is drawn.
+    pub fn new(
+        alloc: Global,
+        settings: &Settings,
+        draws: D,
+        keep: K,
+        slots: Vec<Slot<D, G, K>>,
+    ) -> Result<Load<D, G, K>, LoadFault>
+        ensures arguments { IsErrOf result LoadFault.Arguments
+            ↔ (is_load settings.now (vec_len slots) ≡ false) }
+        ensures refused { IfErr result (λ fault. fault ≡ LoadFault.Arguments) }
+        ensures settings { IfOk result (λ load. load.plan.settings ≡ settings.now) }
+        ensures draws { IfOk result (λ load. load.draws ≡ draws) }
+        ensures keep { IfOk result (λ load. load.keep ≡ keep) }
+        ensures slots { IfOk result (λ load. load.slots ≡ slots) }
+    {
+        if !can_run(settings, slots.len()) {
+            return Err(LoadFault::Arguments);
         }
-        Err(fault) => Err(fault),
+        let settings = *settings;
+        let plan = Plan { alloc, settings };
+        Ok(Load {
+            plan,
+            draws,
+            keep,
+            slots,
+        })
+    }
+}
+
+impl<G: Copy + Drop, K: Drop> Load<PcgDraws, G, K> {
+    ghost use Rattle.load_run.specs.Streams.{IsBySeed};
+
+    /// Returns the load of these settings that draws its words from the generators of its seed:
+    /// the setup phase draws from stream 0, and client k from stream k. Each client has a copy of
+    /// the gate, and a recorder, in the order of the recorders.
+    pub fn by_seed(
+        alloc: Global,
+        settings: &Settings,
+        gate: G,
+        recorders: Recorders<K>,
+    ) -> Result<Load<PcgDraws, G, K>, LoadFault>
+        ensures arguments { IsErrOf result LoadFault.Arguments
+            ↔ (is_load settings.now (vec_len recorders.clients) ≡ false) }
+        ensures refused { IfErr result (λ fault.
+            (fault ≡ LoadFault.Arguments) ⊎ (fault ≡ LoadFault.Memory)) }
+        ensures seeded { IfOk result (λ load. IsBySeed settings.now recorders load) }
+    {
+        let Recorders { opening, clients } = recorders;
+        if !can_run(settings, clients.len()) {
+            return Err(LoadFault::Arguments);
+        }
+        let Ok(slots) = slots_by_seed(alloc, settings.seed, gate, clients) else {
+            return Err(LoadFault::Memory);
+        };
+        let draws = PcgDraws::new(settings.seed, 0);
+        Load::new(alloc, settings, draws, opening, slots)
+    }
+}
+
+impl<D: Draws + Send + Drop, G: Gate + Send + Drop, K: Recorder + Send + Drop> Load<D, G, K> {
+    /// Runs the load. The setup phase runs first, with one client. In each round all clients run
+    /// at once, each in a thread of its own, with its draws, its gate and its recorder, which go
+    /// on from round to round. In each round each client reports to its gate when it is ready and
+    /// when it is done. After each round the clients are gathered into the first. Between two
+    /// rounds the manager is renewed, and after the last one it is closed.
+    ///
+    /// Returns, besides the report, the attempt statistics of the calls of all clients in all
+    /// rounds, and the recorders in their order. Each recorder is asked for room before a call,
+    /// and receives the call once it has completed. If a recorder has no room, the call is not
+    /// issued: the task counts under memory, or the setup phase stops with the fault of refused
+    /// memory. (The tracer that a recorder lends stays in its client's thread; the proof requires
+    /// that the tracer is `Send`.)
+    pub fn run<R: Threads + Wait>(
+        self,
+        rt: &R,
+    ) -> Result<(LoadReport, AttemptStatistics, Recorders<K>), LoadFault>
+    where
+        K::Tracing: Send,
+        ensures kept { IfOk result (λ r. LoadedKept D.leads self.plan.settings (λ slot. slot.draws)
+            self.draws self.slots.items r.0.outcomes r.0.report (K.notes self.keep)
+            (K.notes r.2.opening) (kept_at K.notes self.slots.items)
+            (map K.notes r.2.clients.items)) }
+        ensures statistics { IfOk result (λ r. IsEffort self.plan.settings.tries r.0.outcomes r.1) }
+        ensures refused { IfErr result (λ fault.
+            StopsLoad D.leads self.plan.settings self.draws fault) }
+    {
+        let Load {
+            plan,
+            mut draws,
+            mut keep,
+            slots,
+        } = self;
+        // Reserved before the load, so that returning the recorders after the load cannot fail.
+        let Ok(left) = Vec::with_capacity(plan.alloc, slots.len()) else {
+            return Err(LoadFault::Memory);
+        };
+        let (manager, client) = open_load(plan.alloc, &plan.settings, &mut draws, &mut keep)?;
+        let mut round = plan.run_round(rt, manager, client, slots)?;
+        'rounds: for done in 1..plan.settings.rounds {
+            let Round {
+                manager,
+                client,
+                slots,
+                outcomes,
+            } = round;
+            let (manager, client) = renewed(manager, client, &plan.settings)?;
+            let more = plan.run_round(rt, manager, client, slots)?;
+            round = Round {
+                manager: more.manager,
+                client: more.client,
+                slots: more.slots,
+                outcomes: outcomes.plus(more.outcomes),
+            };
+        }
+        let Round {
+            manager,
+            client,
+            slots,
+            outcomes,
+        } = round;
+        let words = close(manager, client)?;
+        let report = report_of(words);
+        let (outcomes, statistics) = outcomes.apart();
+        let clients = recorders_of(slots, left);
+        let opening = keep;
+        Ok((
+            LoadReport { outcomes, report },
+            statistics,
+            Recorders { opening, clients },
+        ))
     }
 }

@@ -1,9 +1,9 @@
 //! The plan that each thread of a load gets.
 
 ghost use Rattle.std.specs.Prelude.{◌≡◌, true};
-ghost use Rattle.load_draws.specs.Setting.{is_settings};
+ghost use Rattle.load_tasks.specs.Setting.{is_settings};
 
-use load_draws::Settings;
+use load_tasks::Settings;
 use std::alloc::{AllocError, Global};
 
 /// The plan of a load, copied to each thread: the settings, which are in their ranges, and the

@@ -2,21 +2,21 @@
 
 ghost use Rattle.std.specs.Prelude.{◌≡◌, vec_len, IfOk, IfErr};
 ghost use Rattle.load_run.specs.Alone.{IsAloneInRenewal, IsReadyForRound, caller_of};
-ghost use Rattle.load_run.specs.Seats.{shown};
+ghost use Rattle.load_run.specs.Slots.{shown};
 ghost use Rattle.load_run.specs.Load.{RoundHasRun, IsLoadRefusal, IsRound, RunsCrew};
 
+use crate::TaskCounts;
 use crate::gathering::{gather_all, split_crew};
 use crate::load::LoadFault;
 use crate::plan::Plan;
-use crate::seats::{Seat, Sent};
+use crate::slots::{Sent, Slot};
 use crate::workers::{Crew, join_all};
-use load_client::TaskCounts;
-use load_draws::Draws;
+use load_tasks::Draws;
 use std::sync::Wait;
 use std::thread;
 use std::thread::Threads;
 use stm_attempt::Gate;
-use vac_manager::{Client, Keep, Manager};
+use vac_manager::{Client, Manager, Recorder};
 
 /// The result of one round or of several: the manager with the client that gathered all others,
 /// the slots of the clients in their order, and the counts of the tasks.
@@ -24,8 +24,8 @@ use vac_manager::{Client, Keep, Manager};
 pub(crate) struct Round<W> {
     pub(crate) manager: Manager,
     pub(crate) client: Client,
-    pub(crate) seats: Vec<W>,
-    pub(crate) tally: TaskCounts,
+    pub(crate) slots: Vec<W>,
+    pub(crate) outcomes: TaskCounts,
 }
 
 impl Plan {
@@ -33,33 +33,33 @@ impl Plan {
     /// each in a thread of its own, and gathers their clients into the first. Memory for the
     /// threads is allocated before the first thread starts. If a thread cannot be started, those
     /// that were started are joined first.
-    pub(crate) fn run_round<R: Threads + Wait, D: Draws + Sent, G: Gate + Sent, K: Keep + Sent>(
+    pub(crate) fn run_round<R: Threads + Wait, D: Draws + Sent, G: Gate + Sent, K: Recorder + Sent>(
         self,
         rt: &R,
         manager: Manager,
         client: Client,
-        seats: Vec<Seat<D, G, K>>,
-    ) -> Result<Round<Seat<D, G, K>>, LoadFault>
+        slots: Vec<Slot<D, G, K>>,
+    ) -> Result<Round<Slot<D, G, K>>, LoadFault>
     where
         K::Tracing: Send,
-        requires number { vec_len seats ≡ self.settings.clients }
+        requires number { vec_len slots ≡ self.settings.clients }
         requires alone { IsAloneInRenewal (caller_of manager client) }
         requires ready { IsReadyForRound self.settings (caller_of manager client) }
         ensures manager { IfOk result (λ r. r.manager ≡ manager) }
         ensures round { IfOk result (λ r. IsRound self.settings r) }
         ensures ran { IfOk result (λ r. RoundHasRun D.leads (shown K.notes) self.settings
-            self.settings.tasks (caller_of manager client) seats.items r) }
+            self.settings.tasks (caller_of manager client) slots.items r) }
         ensures refused { IfErr result (λ fault. IsLoadRefusal fault) }
     {
-        let Ok(left) = Vec::with_capacity(self.alloc, seats.len()) else {
+        let Ok(left) = Vec::with_capacity(self.alloc, slots.len()) else {
             return Err(LoadFault::Memory);
         };
         let caller = manager.caller(client);
-        let crew = split_crew(self.alloc, caller, seats, self.settings.tries)?;
+        let crew = split_crew(self.alloc, caller, slots, self.settings.tries)?;
         let crew = thread::scope(
             thread::scope_env(),
             rt,
-            move |scope| -> Result<Crew<'_, Seat<D, G, K>>, LoadFault>
+            move |scope| -> Result<Crew<'_, Slot<D, G, K>>, LoadFault>
                 ensures { RunsCrew D.leads (shown K.notes) self.settings crew.entry result }
             {
                 // Moved whole, so that the closure does not capture single fields.
@@ -79,12 +79,12 @@ impl Plan {
                 Ok(Crew { first, others })
             },
         )?;
-        let (client, seats, tally) = gather_all(crew, left);
+        let (client, slots, outcomes) = gather_all(crew, left);
         Ok(Round {
             manager,
             client,
-            seats,
-            tally,
+            slots,
+            outcomes,
         })
     }
 }

@@ -1,27 +1,27 @@
 //! Clients in threads of their own.
 
 ghost use Rattle.std.specs.Prelude.{◌≡◌, ◌≤◌, [], IfOk, IfErr, vec_len, vec_capacity};
-ghost use Rattle.load_client.specs.Lists.{Paired};
-ghost use Rattle.load_run.specs.Seats.{shown};
+ghost use Rattle.load_run.specs.Lists.{Paired};
+ghost use Rattle.load_run.specs.Slots.{shown};
 ghost use Rattle.load_run.specs.Load.{DidWork, IsPromise};
 
 use crate::load::LoadFault;
 use crate::plan::Plan;
-use crate::seats::{Seat, Sent};
-use load_client::{TaskCounts, count_loop};
-use load_draws::{Draws, Settings};
+use crate::slots::{Sent, Slot};
+use crate::{TaskCounts, count_loop};
+use load_tasks::{Draws, Settings};
 use std::snapshot::Snapshot;
 use std::thread::{Promise, PromisedHandle, Scope, Threads};
 use stm_attempt::Gate;
-use vac_manager::{Caller, Keep};
+use vac_manager::{Caller, Recorder};
 
 /// A worker: a client together with its manager, its slot, and the counts of the tasks that it ran
 /// in this round.
 #[derive(Drop)]
 pub(crate) struct Worker<'m, W> {
     pub(crate) caller: Caller<'m>,
-    pub(crate) seat: W,
-    pub(crate) tally: TaskCounts,
+    pub(crate) slot: W,
+    pub(crate) outcomes: TaskCounts,
 }
 
 /// The promise of a worker's thread: the worker ran its tasks.
@@ -31,14 +31,15 @@ pub(crate) struct WorkOf<'m, W> {
     worker: Snapshot<Worker<'m, W>>,
 }
 
-impl<'m, D: Draws, G, K: Keep> Promise<Worker<'m, Seat<D, G, K>>> for WorkOf<'m, Seat<D, G, K>> {
+impl<'m, D: Draws, G, K: Recorder> Promise<Worker<'m, Slot<D, G, K>>>
+    for WorkOf<'m, Slot<D, G, K>> {
     ghost kept_by = { λ p r. DidWork D.leads (shown K.notes) p.settings p.worker.value r };
 }
 
 /// The thread of a worker.
 pub(crate) type Handle<'m, D, G, K> = PromisedHandle<
-    Worker<'m, Seat<D, G, K>>,
-    WorkOf<'m, Seat<D, G, K>>,
+    Worker<'m, Slot<D, G, K>>,
+    WorkOf<'m, Slot<D, G, K>>,
 >;
 
 /// The workers of a round, before or after their tasks; the first worker stands apart.
@@ -50,11 +51,11 @@ pub(crate) struct Crew<'m, W> {
 
 /// Joins the threads in their order. `done` is an empty vector with reserved room, so that joining
 /// cannot fail.
-pub(crate) fn join_all<'m, R: Threads, D: Draws + Drop, G: Drop, K: Keep + Drop>(
+pub(crate) fn join_all<'m, R: Threads, D: Draws + Drop, G: Drop, K: Recorder + Drop>(
     rt: &R,
     handles: Vec<Handle<'m, D, G, K>>,
-    mut done: Vec<Worker<'m, Seat<D, G, K>>>,
-) -> Vec<Worker<'m, Seat<D, G, K>>>
+    mut done: Vec<Worker<'m, Slot<D, G, K>>>,
+) -> Vec<Worker<'m, Slot<D, G, K>>>
     requires room { vec_len handles ≤ vec_capacity done }
     requires empty { done.items ≡ [] }
     ensures { Paired
@@ -77,11 +78,11 @@ impl Plan {
         E,
         D: Draws + Sent + 's,
         G: Gate + Sent + 's,
-        K: Keep + Sent + 's,
+        K: Recorder + Sent + 's,
     >(
         self,
         scope: &Scope<'s, E>,
-        worker: Worker<'m, Seat<D, G, K>>,
+        worker: Worker<'m, Slot<D, G, K>>,
     ) -> Result<Handle<'m, D, G, K>, LoadFault>
     where
         K::Tracing: Send,
@@ -93,30 +94,30 @@ impl Plan {
             settings: self.settings,
             worker: Snapshot::of(&worker),
         };
-        let run = move || -> Worker<'_, Seat<D, G, K>>
+        let run = move || -> Worker<'_, Slot<D, G, K>>
             ensures { DidWork D.leads (shown K.notes) self.settings worker.entry result }
         {
             // Moved whole, so that the closure does not capture single fields of both.
             let (plan, worker) = (self, worker);
             let Worker {
                 mut caller,
-                mut seat,
+                mut slot,
                 ..
             } = worker;
-            seat.gate.ready();
-            let tally = count_loop(
+            slot.gate.ready();
+            let outcomes = count_loop(
                 plan.alloc,
                 &mut caller,
-                &mut seat.draws,
+                &mut slot.draws,
                 &plan.settings,
-                &mut seat.gate,
-                &mut seat.keep,
+                &mut slot.gate,
+                &mut slot.keep,
             );
-            seat.gate.done();
+            slot.gate.done();
             Worker {
                 caller,
-                seat,
-                tally,
+                slot,
+                outcomes,
             }
         };
         match scope.spawn_with(promise, run) {
@@ -133,11 +134,11 @@ impl Plan {
         E,
         D: Draws + Sent + 's,
         G: Gate + Sent + 's,
-        K: Keep + Sent + 's,
+        K: Recorder + Sent + 's,
     >(
         self,
         scope: &Scope<'s, E>,
-        workers: Vec<Worker<'m, Seat<D, G, K>>>,
+        workers: Vec<Worker<'m, Slot<D, G, K>>>,
         handles: &mut Vec<Handle<'m, D, G, K>>,
     ) -> Result<(), LoadFault>
     where

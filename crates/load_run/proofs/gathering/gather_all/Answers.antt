@@ -1,10 +1,10 @@
 use Rattle.std.proofs.Common.{rules, ◌≡◌, ◌∙◌, sym, ◌≤◌, ◌<◌, ◌+◌, ◌*◌, ◌^◌, ℕ, [], ◌∷◌, List, ap, subst, refl, arith}
 use Rattle.std.specs.Vec.Iter.{into_iter_items, into_iter_len}
 use Rattle.stm_region.specs.Shown.{RegionShown}
-use Rattle.load_client.specs.declared.tally.Tally.{Tally}
-use Rattle.load_client.specs.Attempted.{TaskCountsShown}
-use Rattle.load_client.specs.Looping.{total, plus}
-use Rattle.load_client.specs.Lists.{Paired}
+use Rattle.load_run.specs.declared.outcomes.Outcomes.{Outcomes}
+use Rattle.load_run.specs.Attempted.{TaskCountsShown}
+use Rattle.load_run.specs.Looping.{total, plus}
+use Rattle.load_run.specs.Lists.{Paired}
 use Rattle.load_run.specs.Load.{Gathered, IsMember}
 use Rattle.load_run.proofs.Pairs.{all_met, paired_none, paired_step, one_on, all_same, all_but_first, all_first}
 use Rattle.load_run.proofs.Pairs.{room_left, room_taken, held_back, nothing_left}
@@ -18,9 +18,10 @@ few_left n k t e few one = omega arith
 few_both : (t u k : ℕ) → u ≤ 1000000 → t + k * 1000000 ≤ 65000000 → t + u < 2 ^ 43
 few_both t u k one few = omega arith
 
-few_more : (t u v : Tally) (k k' : ℕ) → v ≡ plus t u → k' + 1 ≡ k → total u ≤ 1000000 →
+few_more : (t u v : Outcomes) (k k' : ℕ) → v ≡ plus t u → k' + 1 ≡ k → total u ≤ 1000000 →
     total t + k * 1000000 ≤ 65000000 → total v + k' * 1000000 ≤ 65000000
-few_more t u v k k' e less one few = let q : total v ≡ total (plus t u) = ap (λ (x : Tally). total x) e in omega arith
+few_more t u v k k' e less one few = let q : total v ≡ total (plus t u) = ap (λ (x : Outcomes). total x) e in
+    omega arith
 
 pub loop-worker-init : goal.loop-worker-init
 loop-worker-init g c =
@@ -33,16 +34,16 @@ loop-worker-init g c =
       others = all_same (IsMember c.args.crew.first) c.args.crew.others.items
           (into_iter_items c.into_iter-worker-iterator.result) made.0 c.requires.can.others;
       tries = refl;
-      gathered = gathered_one (λ w. w.caller.user.value.records) (λ w. w.tally.tally) c.args.crew.first;
-      handed = paired_step (λ w seat. seat ≡ w.seat) []
-          c.args.seats.items c.push_reserved.new.self.items c.args.crew.first c.args.crew.first.seat pushed.items
-          (paired_none (λ w seat. seat ≡ w.seat) c.args.seats.items
+      gathered = gathered_one (λ w. w.caller.user.value.records) (λ w. w.outcomes.outcomes) c.args.crew.first;
+      handed = paired_step (λ w slot. slot ≡ w.slot) []
+          c.args.slots.items c.push_reserved.new.self.items c.args.crew.first c.args.crew.first.slot pushed.items
+          (paired_none (λ w slot. slot ≡ w.slot) c.args.slots.items
           c.requires.empty) refl;
-      room = room_left c.args.crew.others.len (into_iter_len c.into_iter-worker-iterator.result) c.args.seats.len
-          c.push_reserved.new.self.len c.args.seats.cap c.push_reserved.new.self.cap made.1 pushed.len pushed.capacity
+      room = room_left c.args.crew.others.len (into_iter_len c.into_iter-worker-iterator.result) c.args.slots.len
+          c.push_reserved.new.self.len c.args.slots.cap c.push_reserved.new.self.cap made.1 pushed.len pushed.capacity
           (search rules) c.requires.room;
       bound = few_left c.args.crew.others.len (into_iter_len c.into_iter-worker-iterator.result)
-          (total c.args.crew.first.tally.tally) made.1 c.requires.can.few c.requires.can.tasks;
+          (total c.args.crew.first.outcomes.outcomes) made.1 c.requires.can.few c.requires.can.tasks;
     }
 
 pub gather-requires : goal.gather-requires
@@ -51,12 +52,12 @@ gather-requires g c =
     (into_iter_items c.next.new.self) c.in-Some.worker c.in-Some.ensures.steps.0 c.loop-worker.invariant.others in
     record { own = ap (λ (m : RegionShown). m.table) (one.one ∙ sym c.loop-worker.invariant.manager) }
 
-pub plus-tally-requires : goal.plus-tally-requires
-plus-tally-requires g c =
+pub plus-outcomes-requires : goal.plus-outcomes-requires
+plus-outcomes-requires g c =
     let one = all_first (IsMember c.args.crew.first) (into_iter_items c.loop-worker.worker-iterator)
     (into_iter_items c.next.new.self) c.in-Some.worker c.in-Some.ensures.steps.0 c.loop-worker.invariant.others in
     record {
-      fits = few_both (total c.loop-worker.tally.tally) (total c.in-Some.worker.tally.tally) (into_iter_len
+      fits = few_both (total c.loop-worker.outcomes.outcomes) (total c.in-Some.worker.outcomes.outcomes) (into_iter_len
           c.loop-worker.worker-iterator) one.tasks c.loop-worker.invariant.bound;
       same = one.tries ∙ sym c.loop-worker.invariant.tries;
     }
@@ -80,36 +81,38 @@ loop-worker-preserved g c =
           (into_iter_len c.next.new.self) less one.grants taken.grants i.grants;
       others = all_but_first (IsMember c.args.crew.first) (into_iter_items c.loop-worker.worker-iterator)
           (into_iter_items c.next.new.self) c.in-Some.worker split i.others;
-      tries = ap (λ (x : TaskCountsShown). x.tries) c.plus-tally.ensures ∙ i.tries;
+      tries = ap (λ (x : TaskCountsShown). x.tries) c.plus-outcomes.ensures ∙ i.tries;
       gathered = gathered_more (λ w. w.caller.user.value.records)
-          (λ w. w.tally.tally) c.args.crew.first c.loop-worker.yielded c.in-Some.worker
-          c.loop-worker.caller.user.value c.gather.new.self.user.value c.loop-worker.tally.tally
-          c.plus-tally.result.tally
-          i.gathered taken.records (ap (λ (x : TaskCountsShown). x.tally) c.plus-tally.ensures);
-      handed = paired_step (λ w seat. seat ≡ w.seat)
-          (c.args.crew.first ∷ c.loop-worker.yielded) c.loop-worker.seats.items
-          c.push_reserved-in-loop-worker.new.self.items c.in-Some.worker c.in-Some.worker.seat pushed.items
+          (λ w. w.outcomes.outcomes) c.args.crew.first c.loop-worker.yielded c.in-Some.worker
+          c.loop-worker.caller.user.value c.gather.new.self.user.value c.loop-worker.outcomes.outcomes
+          c.plus-outcomes.result.outcomes
+          i.gathered taken.records (ap (λ (x : TaskCountsShown). x.outcomes) c.plus-outcomes.ensures);
+      handed = paired_step (λ w slot. slot ≡ w.slot)
+          (c.args.crew.first ∷ c.loop-worker.yielded) c.loop-worker.slots.items
+          c.push_reserved-in-loop-worker.new.self.items c.in-Some.worker c.in-Some.worker.slot pushed.items
           i.handed refl;
-      room = room_taken c.loop-worker.seats.len c.push_reserved-in-loop-worker.new.self.len
-          (into_iter_len c.loop-worker.worker-iterator) (into_iter_len c.next.new.self) c.loop-worker.seats.cap
+      room = room_taken c.loop-worker.slots.len c.push_reserved-in-loop-worker.new.self.len
+          (into_iter_len c.loop-worker.worker-iterator) (into_iter_len c.next.new.self) c.loop-worker.slots.cap
           c.push_reserved-in-loop-worker.new.self.cap less pushed.len pushed.capacity i.room;
-      bound = few_more c.loop-worker.tally.tally c.in-Some.worker.tally.tally c.plus-tally.result.tally
+      bound = few_more c.loop-worker.outcomes.outcomes c.in-Some.worker.outcomes.outcomes
+          c.plus-outcomes.result.outcomes
           (into_iter_len c.loop-worker.worker-iterator) (into_iter_len c.next.new.self)
-          (ap (λ (x : TaskCountsShown). x.tally) c.plus-tally.ensures) less one.tasks i.bound;
+          (ap (λ (x : TaskCountsShown). x.outcomes) c.plus-outcomes.ensures) less one.tasks i.bound;
     }
 
 pub returns-clause-gathered : goal.returns-clause-gathered
 returns-clause-gathered g c =
     rw c.into_user.ensures.user (subst (λ (l : List _). Gathered (λ w. w.caller.user.value.records)
-    (λ w. w.tally.tally) c.args.crew.first l c.loop-worker.caller.user.value.records c.loop-worker.tally.tally)
+    (λ w. w.outcomes.outcomes) c.args.crew.first l c.loop-worker.caller.user.value.records
+    c.loop-worker.outcomes.outcomes)
     (all_met c.args.crew.others.items c.loop-worker.yielded (into_iter_items c.loop-worker.worker-iterator)
     c.loop-worker.invariant.all (nothing_left c.loop-worker.worker-iterator c.in-None.ensures.steps.0))
     c.loop-worker.invariant.gathered)
 
-pub returns-clause-seats : goal.returns-clause-seats
-returns-clause-seats g c =
-    subst (λ (l : List _). Paired (λ w seat. seat ≡ w.seat)
-    (c.args.crew.first ∷ l) c.loop-worker.seats.items)
+pub returns-clause-slots : goal.returns-clause-slots
+returns-clause-slots g c =
+    subst (λ (l : List _). Paired (λ w slot. slot ≡ w.slot)
+    (c.args.crew.first ∷ l) c.loop-worker.slots.items)
     (all_met c.args.crew.others.items c.loop-worker.yielded (into_iter_items c.loop-worker.worker-iterator)
     c.loop-worker.invariant.all (nothing_left c.loop-worker.worker-iterator c.in-None.ensures.steps.0))
     c.loop-worker.invariant.handed

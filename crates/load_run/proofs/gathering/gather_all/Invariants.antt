@@ -1,8 +1,8 @@
 use Rattle.std.proofs.Common.{◌≡◌, ◌≤◌, ◌+◌, ◌*◌, ◌++◌, ◌∷◌, All, vec_len, vec_capacity}
 use Rattle.stm_core.specs.declared.limits.TheConstants.{MOST_GRANTS}
 use Rattle.std.specs.Vec.Iter.{into_iter_items, into_iter_len}
-use Rattle.load_client.specs.Looping.{total}
-use Rattle.load_client.specs.Lists.{Paired}
+use Rattle.load_run.specs.Looping.{total}
+use Rattle.load_run.specs.Lists.{Paired}
 use Rattle.load_run.specs.Load.{Gathered, IsMember}
 use Rattle.load_run.proofs.gathering.gather_all.Given as goal
 
@@ -12,10 +12,10 @@ invariant-loop-worker g l = record {
   manager : l.caller.shared ≡ l.fn.crew.first.caller.shared;
   grants : l.caller.user.value.grants + into_iter_len l.worker-iterator ≡ MOST_GRANTS;
   others : All (IsMember l.fn.crew.first) (into_iter_items l.worker-iterator);
-  tries : l.tally.tries ≡ l.fn.crew.first.tally.tries;
+  tries : l.outcomes.tries ≡ l.fn.crew.first.outcomes.tries;
   gathered : Gathered (λ w. w.caller.user.value.records)
-      (λ w. w.tally.tally) l.fn.crew.first l.yielded l.caller.user.value.records l.tally.tally;
-  handed : Paired (λ w seat. seat ≡ w.seat) (l.fn.crew.first ∷ l.yielded) l.seats.items;
-  room : vec_len l.seats + into_iter_len l.worker-iterator ≤ vec_capacity l.seats;
-  bound : total l.tally.tally + into_iter_len l.worker-iterator * 1000000 ≤ 65000000;
+      (λ w. w.outcomes.outcomes) l.fn.crew.first l.yielded l.caller.user.value.records l.outcomes.outcomes;
+  handed : Paired (λ w slot. slot ≡ w.slot) (l.fn.crew.first ∷ l.yielded) l.slots.items;
+  room : vec_len l.slots + into_iter_len l.worker-iterator ≤ vec_capacity l.slots;
+  bound : total l.outcomes.outcomes + into_iter_len l.worker-iterator * 1000000 ≤ 65000000;
 }

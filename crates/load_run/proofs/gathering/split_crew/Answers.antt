@@ -1,7 +1,7 @@
 use Rattle.std.proofs.Common.{rules, ◌≡◌, ◌∙◌, sym, ℕ, ◌+◌, ◌≤◌, ◌∷◌, ap, refl, arith}
 use Rattle.std.specs.Vec.Iter.{into_iter_items, into_iter_len}
 use Rattle.vac_manager.specs.Called.{ClientShown}
-use Rattle.load_client.specs.Attempted.{uncounted}
+use Rattle.load_run.specs.Attempted.{uncounted}
 use Rattle.load_run.proofs.Pairs.{paired_none, paired_step, paired_all, one_on, all_more, all_none, room_taken}
 use Rattle.load_run.proofs.Pairs.{counted_on, handed_out, nothing_left}
 use Rattle.load_run.proofs.Shares.{split_worker, split_keeps}
@@ -28,14 +28,14 @@ loop-another-init g c =
       floor = refl;
       grants = none_out c.args.caller.user.value.grants c.in-Ok.others.len c.requires.alone made.len;
       count = counted_in c.in-Ok.others.len (into_iter_len c.into_iter-another-iterator.result)
-          (into_iter_len c.next.new.self) (into_iter_len c.into_iter-seats.result) c.args.seats.len made.len
-          (ap (λ it. into_iter_len it) same) c.in-Some.ensures.cases.1 c.into_iter-seats.ensures.len;
+          (into_iter_len c.next.new.self) (into_iter_len c.into_iter-slots.result) c.args.slots.len made.len
+          (ap (λ it. into_iter_len it) same) c.in-Some.ensures.cases.1 c.into_iter-slots.ensures.len;
       room = room_for c.in-Ok.others.len (into_iter_len c.into_iter-another-iterator.result)
-          (into_iter_len c.next.new.self) (into_iter_len c.into_iter-seats.result) c.args.seats.len c.len.result
+          (into_iter_len c.next.new.self) (into_iter_len c.into_iter-slots.result) c.args.slots.len c.len.result
           c.in-Ok.others.cap made.len (ap (λ it. into_iter_len it) same) c.in-Some.ensures.cases.1
-          c.into_iter-seats.ensures.len c.len.ensures made.capacity;
+          c.into_iter-slots.ensures.len c.len.ensures made.capacity;
       others_grants = all_none (λ w. w.caller.user.value.grants ≡ 0) c.in-Ok.others.items made.items;
-      tallies = all_none (λ w. w.tally ≡ uncounted c.args.tries) c.in-Ok.others.items made.items;
+      tallies = all_none (λ w. w.outcomes ≡ uncounted c.args.tries) c.in-Ok.others.items made.items;
       crew = paired_none _ c.in-Ok.others.items made.items;
     }
 
@@ -53,12 +53,12 @@ loop-another-preserved g c =
       floor = keeps.floor ∙ i.floor;
       grants = handed_out c.loop-another.caller.user.value.grants c.split.new.self.user.value.grants
           c.loop-another.others.len c.push_reserved.new.self.len keeps.grants p.len i.grants;
-      count = counted_on c.loop-another.others.len c.push_reserved.new.self.len _ _ c.args.seats.len t.1 p.len i.count;
+      count = counted_on c.loop-another.others.len c.push_reserved.new.self.len _ _ c.args.slots.len t.1 p.len i.count;
       room = room_taken c.loop-another.others.len c.push_reserved.new.self.len _ _ c.loop-another.others.cap
           c.push_reserved.new.self.cap t.1 p.len p.capacity i.room;
       others_grants = all_more (λ w. w.caller.user.value.grants ≡ 0) c.loop-another.others.items
           c.push_reserved.new.self.items _ p.items i.others_grants (ap (λ (x : ClientShown). x.value.grants) s.theirs);
-      tallies = all_more (λ w. w.tally ≡ uncounted c.args.tries) c.loop-another.others.items
+      tallies = all_more (λ w. w.outcomes ≡ uncounted c.args.tries) c.loop-another.others.items
           c.push_reserved.new.self.items _ p.items i.tallies c.new.ensures;
       crew = paired_step _ _ c.loop-another.others.items c.push_reserved.new.self.items c.in-Some-another.another
           _ p.items i.crew (split_worker c.args.caller c.loop-another.caller c.split.new.self _ s
@@ -70,14 +70,14 @@ returns-clause-crew g c =
     let i = c.loop-another.invariant in
     let end = c.in-None.ensures in
     record {
-      seat = c.in-Some.seat;
+      slot = c.in-Some.slot;
       rest = into_iter_items c.into_iter-another-iterator.result;
-      seats_are = sym c.into_iter-seats.ensures.rest ∙ (c.in-Some.ensures.items ∙
-          ap (λ it. c.in-Some.seat ∷ into_iter_items it) (sym c.into_iter-another-iterator.ensures.into_iter_gives));
+      seats_are = sym c.into_iter-slots.ensures.rest ∙ (c.in-Some.ensures.items ∙
+          ap (λ it. c.in-Some.slot ∷ into_iter_items it) (sym c.into_iter-another-iterator.ensures.into_iter_gives));
       opening = record { manager_is = i.manager; records_are = i.records; knows = i.floor; seat_is = refl };
       others_are = paired_all _ _ _ _ _ i.all (nothing_left c.loop-another.another-iterator end.steps.0) i.crew;
       grants = i.grants;
       others_grants = i.others_grants;
-      tally = search rules;
+      outcomes = search rules;
       others_tallies = i.tallies;
     }

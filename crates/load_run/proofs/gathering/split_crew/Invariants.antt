@@ -1,8 +1,8 @@
 use Rattle.std.proofs.Common.{◌≡◌, ◌≤◌, ◌+◌, ◌++◌, [], All, vec_len, vec_capacity}
 use Rattle.stm_core.specs.declared.limits.TheConstants.{MOST_GRANTS}
 use Rattle.std.specs.Vec.Iter.{into_iter_items, into_iter_len}
-use Rattle.load_client.specs.Lists.{Paired}
-use Rattle.load_client.specs.Attempted.{uncounted}
+use Rattle.load_run.specs.Lists.{Paired}
+use Rattle.load_run.specs.Attempted.{uncounted}
 use Rattle.load_run.specs.Load.{IsWorker}
 use Rattle.load_run.proofs.gathering.split_crew.Given as goal
 
@@ -14,8 +14,8 @@ invariant-loop-another g l = record {
   floor : l.caller.user.value.floor ≡ l.fn.caller.user.value.floor;
   grants : l.caller.user.value.grants + vec_len l.others ≡ MOST_GRANTS;
   others_grants : All (λ w. w.caller.user.value.grants ≡ 0) l.others.items;
-  tallies : All (λ w. w.tally ≡ uncounted l.fn.tries) l.others.items;
-  count : vec_len l.others + into_iter_len l.another-iterator + 1 ≡ vec_len l.fn.seats;
+  tallies : All (λ w. w.outcomes ≡ uncounted l.fn.tries) l.others.items;
+  count : vec_len l.others + into_iter_len l.another-iterator + 1 ≡ vec_len l.fn.slots;
   room : vec_len l.others + into_iter_len l.another-iterator ≤ vec_capacity l.others;
   crew : Paired (IsWorker l.fn.caller.shared [] l.fn.caller.user.value.floor) l.yielded l.others.items;
 }

@@ -1,10 +1,10 @@
 use Rattle.std.proofs.Common.{◌≡◌, ◌∙◌, length, sym, ap, subst, arith}
 use Rattle.stm_region.specs.Shown.{RegionShown}
 use Rattle.vac_manager.specs.Called.{CallerShown}
-use Rattle.load_run.specs.Seats.{shown}
+use Rattle.load_run.specs.Slots.{shown}
 use Rattle.load_run.specs.Alone.{IsInRenewal, IsReadyForRound}
 use Rattle.load_run.specs.Load.{RanAll}
-use Rattle.load_client.proofs.Ranges.{few, few_tries}
+use Rattle.load_run.proofs.Ranges.{few, few_tries}
 use Rattle.load_run.proofs.Pairs.{paired_length}
 use Rattle.load_run.proofs.Shares.{ran_all, ran_in, can_gather}
 use Rattle.load_run.proofs.plan.Plan.run_round.Goals as goal
@@ -16,11 +16,11 @@ pub gather_all-client-requires : goal.gather_all-client-requires
 gather_all-client-requires g c =
     let most = few c.args.self.settings c.args.self.in_range in
     let same = paired_length _ _ _ c.in_ok-crew-2.ensures.1.0.others in
-    let count : length c.args.seats.items ≡ c.args.self.settings.clients =
-    sym c.args.seats.ok.0 ∙ c.requires.number in
+    let count : length c.args.slots.items ≡ c.args.self.settings.clients =
+    sym c.args.slots.ok.0 ∙ c.requires.number in
     record {
-      can = can_gather g.D.Draws.leads (shown g.K.Keep.notes) c.args.self.settings c.caller-caller.result
-          c.args.seats.items
+      can = can_gather g.D.Draws.leads (shown g.K.Recorder.notes) c.args.self.settings c.caller-caller.result
+          c.args.slots.items
           _ _
           most.clients most.tasks count c.in_ok-crew.ensures.crew c.in_ok-crew-2.ensures.1.0;
       room = omega (arith, c.in_ok-crew.ensures.number, same, c.in-Ok.ensures.capacity, c.len.ensures);
@@ -30,7 +30,7 @@ gather_all-client-requires g c =
 pub returns-clause-round : goal.returns-clause-round
 returns-clause-round g c =
     let same = paired_length _ _ _ c.in_ok-crew-2.ensures.1.0.others in
-    let handed = paired_length _ _ _ c.gather_all-client.ensures.seats in
+    let handed = paired_length _ _ _ c.gather_all-client.ensures.slots in
     let opened = c.caller-caller.ensures in
     let ready = subst (λ (y : CallerShown). IsReadyForRound c.args.self.settings y) (sym opened) c.requires.ready in
     let first = ap (λ (y : CallerShown). y.shared) c.in_ok-crew-2.ensures.1.0.first.caller ∙
@@ -43,7 +43,7 @@ returns-clause-round g c =
         alone = c.gather_all-client.ensures.alone;
         era = subst (λ (y : CallerShown). IsInRenewal y.shared.renewal c.gather_all-client.result.0.value.records)
             opened
-            (ran_in g.D.Draws.leads (shown g.K.Keep.notes) c.args.self.settings c.caller-caller.result _ _ _
+            (ran_in g.D.Draws.leads (shown g.K.Recorder.notes) c.args.self.settings c.caller-caller.result _ _ _
             c.gather_all-client.result.0.value _ ready c.in_ok-crew.ensures.crew c.in_ok-crew-2.ensures.1.0
             c.gather_all-client.ensures.gathered
             (subst (λ (y : CallerShown). IsInRenewal y.shared.renewal y.user.value.records) (sym opened)
@@ -56,8 +56,8 @@ returns-clause-ran g c =
     let opened = c.caller-caller.ensures in
     let ready = subst (λ (y : CallerShown). IsReadyForRound c.args.self.settings y) (sym opened) c.requires.ready in
     subst (λ (y : CallerShown). RanAll g.D.Draws.leads c.args.self.settings
-    (shown g.K.Keep.notes) c.args.self.settings.tasks y.user.value.records c.args.seats.items
-    c.gather_all-client.result.0.value.records c.gather_all-client.result.1.items c.gather_all-client.result.2.tally)
-    opened (ran_all g.D.Draws.leads (shown g.K.Keep.notes) c.args.self.settings c.caller-caller.result _ _ _ _
+    (shown g.K.Recorder.notes) c.args.self.settings.tasks y.user.value.records c.args.slots.items
+    c.gather_all-client.result.0.value.records c.gather_all-client.result.1.items c.gather_all-client.result.2.outcomes)
+    opened (ran_all g.D.Draws.leads (shown g.K.Recorder.notes) c.args.self.settings c.caller-caller.result _ _ _ _
     c.gather_all-client.result.0.value _ ready c.in_ok-crew.ensures.crew c.in_ok-crew-2.ensures.1.0
-    c.gather_all-client.ensures.gathered c.gather_all-client.ensures.seats)
+    c.gather_all-client.ensures.gathered c.gather_all-client.ensures.slots)

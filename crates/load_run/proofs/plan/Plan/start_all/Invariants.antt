@@ -1,6 +1,6 @@
 use Rattle.std.proofs.Common.{◌≡◌, ◌≤◌, ◌++◌, vec_len, vec_capacity, ◌+◌}
 use Rattle.std.specs.Vec.Iter.{into_iter_items, into_iter_len}
-use Rattle.load_client.specs.Lists.{Paired}
+use Rattle.load_run.specs.Lists.{Paired}
 use Rattle.load_run.specs.Load.{IsPromise}
 use Rattle.load_run.proofs.plan.Plan.start_all.Given as goal
 

@@ -1,5 +1,0 @@
-pub mod Pieces
-pub mod Gathered
-pub mod Texts
-pub mod Sorted
-pub mod Ended

@@ -1,7 +1,0 @@
-use Rattle.std.proofs.Common.{◌≡◌, take}
-use Rattle.load_attempts.specs.Laying.{writes_from}
-use Rattle.load_attempts.proofs.laying.lay_some.Given as goal
-
--- the words so far
-abbrev pub invariant-loop-place : goal.invariant-loop-place
-invariant-loop-place l = l.accesses.items ≡ writes_from l.first (take l.place l.words)

@@ -1,8 +1,0 @@
-use Rattle.load_attempts.proofs.Ended.{has_taken}
-use Rattle.load_attempts.proofs.ledger.LedgerKeep.keep.Goals as goal
-
-pub returns-clause-taken : goal.returns-clause-taken
-returns-clause-taken g c =
-    has_taken _ _ c.args.self.now.trail.committed _ _ _ c.take_committed-attempt.ensures.taken
-    c.take_committed-attempt.ensures.given_up
-    c.take_committed-attempt.ensures.whole

@@ -1,4 +1,0 @@
-mod Ranges
-mod Turning
-pub mod Drawing
-pub mod Streaming

@@ -1,4 +1,0 @@
-pub mod Draws
-pub mod Setting
-pub mod Tasks
-pub mod Streams

@@ -1,5 +1,0 @@
-use Rattle.load_history.proofs.Legality.{up_to_precedence}
-use Rattle.load_history.proofs.laws.legal_up_to_precedence.Goals as goal
-
-pub returns : goal.returns
-returns c = up_to_precedence

@@ -1,5 +1,0 @@
-use Rattle.load_opacity.proofs.InPlace.{in_place_legal}
-use Rattle.load_opacity.proofs.laws.attempts_in_place_are_legal.Goals as goal
-
-pub returns : goal.returns
-returns c = in_place_legal

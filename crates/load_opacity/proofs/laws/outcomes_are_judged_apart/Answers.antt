@@ -1,5 +1,0 @@
-use Rattle.load_opacity.proofs.Serial.{judged_apart}
-use Rattle.load_opacity.proofs.laws.outcomes_are_judged_apart.Goals as goal
-
-pub returns : goal.returns
-returns c = judged_apart

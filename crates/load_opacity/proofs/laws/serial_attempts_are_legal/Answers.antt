@@ -1,5 +1,0 @@
-use Rattle.load_opacity.proofs.Serial.{serial_legal}
-use Rattle.load_opacity.proofs.laws.serial_attempts_are_legal.Goals as goal
-
-pub returns : goal.returns
-returns c = serial_legal

@@ -1,5 +1,0 @@
-use Rattle.load_opacity.proofs.Judging.{judged_by_entries}
-use Rattle.load_opacity.proofs.laws.texts_are_judged_by_their_entries.Goals as goal
-
-pub returns : goal.returns
-returns c = judged_by_entries

@@ -1,5 +1,0 @@
-use Rattle.load_opacity.proofs.Judging.{up_to_precedence}
-use Rattle.load_opacity.proofs.laws.texts_are_opaque_up_to_precedence.Goals as goal
-
-pub returns : goal.returns
-returns c = up_to_precedence

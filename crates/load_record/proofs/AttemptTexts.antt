@@ -1,0 +1,116 @@
+-- Lines of attempts that are sent one after the other.
+use Rattle.std.proofs.Common.{◌≡◌, ◌∙◌, ◌+◌, ◌<◌, inl, inr, sym, ap, subst, ℕ, true, List, []}
+use Rattle.std.proofs.Common.{◌∷◌, ◌++◌, Option, length, take, drop, get_or, map, append-nil, take-append-drop}
+use Rattle.std.proofs.lemmas.Grind.{flat_map-append}
+use Rattle.std.proofs.lemmas.List.{map-append, take_more}
+use Rattle.std.proofs.lemmas.List.Sorted.{IsPermutation-map}
+use Rattle.std.specs.List.Sorted.{IsPermutation}
+use Rattle.std.specs.Io.KnownBytes.{Appends}
+use Rattle.std.proofs.KnownBytes.{Appends-nil}
+use Rattle.vac_lines.specs.Writing.{AppendsPrefix}
+use Rattle.vac_streams.specs.Sent.{Sent}
+use Rattle.vac_streams.proofs.Texts.{sent_both, part_second, prefix_longer, prefix_is, none_written, sent_end}
+use Rattle.vac_streams.proofs.Texts.{sent_end_in_part}
+use Rattle.load_record.specs.declared.lines.Line.{Line}
+use Rattle.vac_manager.specs.declared.note.AttemptNote.{AttemptNote}
+use Rattle.load_record.specs.Laying.{Lays}
+use Rattle.load_record.specs.Lines.{AttemptEntry, line_entry, line_text, lines_text}
+use Rattle.load_record.specs.AttemptOrder.{EntriesAreOrdered}
+use Rattle.load_record.specs.Pages.{Page, attempt_entries_of, attempt_entries_from, are_told}
+use Rattle.load_record.specs.Text.{AreAttempts, WroteAttempts, WroteAttemptsPrefix}
+use Rattle.load_record.proofs.First.{AreStable, laid_first}
+
+-- the text of lines
+abbrev text_of : List Line → List ℕ
+text_of lines = lines_text (map line_entry lines)
+
+text_both : (xs ys : List Line) → text_of (xs ++ ys) ≡ text_of xs ++ text_of ys
+text_both xs ys = ap lines_text (map-append line_entry xs ys) ∙ flat_map-append line_text (map line_entry xs)
+    (map line_entry ys)
+
+text_more : (lines : List Line) (place : ℕ) (line : Line) → place < length lines → line ≡ get_or lines place line
+    → text_of (take (place + 1) lines) ≡ text_of (take place lines) ++ line_text (line_entry line)
+text_more lines place line low at =
+    ap text_of (take_more lines place line low) ∙ ap (λ (l : Line). text_of (take place lines ++ l ∷ [])) (sym at)
+    ∙ text_both (take place lines) (line ∷ []) ∙ ap (λ t. text_of (take place lines) ++ t)
+    (append-nil (line_text (line_entry line)))
+
+-- nothing was sent yet
+pub none_sent : (held : Option (List ℕ)) (hand : List ℕ) → hand ≡ [] → Sent held held [] hand []
+none_sent held hand e = record { front = []; written = Appends-nil held; all = sym e }
+
+-- one line more
+pub line_sent : (lines : List Line) (place : ℕ) (line : Line) → place < length lines → line ≡ get_or lines place line →
+    (held holds grown : Option (List ℕ)) (hand hand' : List ℕ)
+    → Sent held holds [] hand (text_of (take place lines)) → Sent holds grown hand hand' (line_text (line_entry line)) →
+    Sent held grown [] hand' (text_of (take (place + 1) lines))
+line_sent lines place line low at held holds grown hand hand' p q =
+    subst (λ (t : List ℕ). Sent held grown [] hand' t) (sym (text_more lines place line low at))
+    (sent_both held holds grown [] hand hand' (text_of (take place lines)) (line_text (line_entry line)) p q)
+
+-- a line was sent in part
+pub line_in_part : (lines : List Line) (place : ℕ) (line : Line) → place < length lines →
+    line ≡ get_or lines place line → (held holds grown : Option (List ℕ)) (hand : List ℕ)
+    → Sent held holds [] hand (text_of (take place lines)) →
+    AppendsPrefix holds grown (hand ++ line_text (line_entry line)) → AppendsPrefix held grown (text_of lines)
+line_in_part lines place line low at held holds grown hand p q =
+    let front = text_of (take place lines) ++ line_text (line_entry line) in
+    let part = part_second held holds grown [] hand (text_of (take place lines)) (line_text (line_entry line)) p q in
+    prefix_is held grown (front ++ text_of (drop (place + 1) lines)) (text_of lines)
+    (ap (λ t. t ++ text_of (drop (place + 1) lines)) (sym (text_more lines place line low at)) ∙
+    sym (text_both (take (place + 1) lines) (drop (place + 1) lines))
+    ∙ ap text_of (take-append-drop (place + 1) lines))
+    (prefix_longer held grown front (text_of (drop (place + 1) lines)) part)
+
+-- ---- all attempts
+
+module _ (blocks : ℕ) (pages : List Page) where
+  -- the attempts that were laid, and then those of the clients, and all of them put in order
+  pub attempts : (laid laid_now : List AttemptNote) (first all sorted now : List Line) → Lays blocks laid →
+      laid_now ≡ laid → map line_entry first ≡ attempt_entries_of 0 laid_now
+      → map line_entry all ≡ map line_entry first ++ attempt_entries_from 0 pages → are_told pages ≡ true →
+      IsPermutation all sorted → AreStable all sorted → EntriesAreOrdered (map line_entry sorted) → now ≡ sorted →
+      AreAttempts blocks pages (map line_entry now)
+  attempts laid laid_now first all sorted now lays same own more told moved stable order is =
+      let parts : map line_entry all ≡ attempt_entries_of 0 laid ++ attempt_entries_from 0 pages =
+      more ∙ ap (λ t. t ++ attempt_entries_from 0 pages) (own ∙ ap (attempt_entries_of 0) same) in
+      let begins = laid_first laid (attempt_entries_from 0 pages) all sorted lays.before_all parts stable order in
+      record {
+        laid = laid;
+        lays = lays;
+        told = told;
+        rest = begins.0;
+        first = ap (map line_entry) is ∙ begins.1;
+        each_once = subst (λ (l : List Line). IsPermutation (attempt_entries_of 0 laid ++ attempt_entries_from 0 pages)
+            (map line_entry l))
+            (sym is)
+            (subst (λ (l : List AttemptEntry). IsPermutation l (map line_entry sorted))
+            parts
+            (IsPermutation-map line_entry all sorted moved));
+        ordered = subst (λ (l : List Line). EntriesAreOrdered (map line_entry l)) (sym is) order;
+      }
+
+  module _ (lines : List Line) (are : AreAttempts blocks pages (map line_entry lines))
+      (held holds : Option (List ℕ)) where
+    pub wrote_all : (grown : Option (List ℕ)) (hand : List ℕ) → Sent held holds [] hand (text_of lines) →
+        Appends holds grown hand → WroteAttempts blocks pages held grown
+    wrote_all grown hand p w = record {
+      all = map line_entry lines;
+      attempts = are;
+      written = sent_end held holds grown hand (text_of lines) p w;
+    }
+
+    pub wrote_part : AppendsPrefix held holds (text_of lines) → WroteAttemptsPrefix blocks pages held holds
+    wrote_part w = inr (record { all = map line_entry lines; attempts = are; written = w })
+
+    pub wrote_rest : (grown : Option (List ℕ)) (hand : List ℕ) → Sent held holds [] hand (text_of lines) →
+        AppendsPrefix holds grown hand → WroteAttemptsPrefix blocks pages held grown
+    wrote_rest grown hand p w = inr (record {
+      all = map line_entry lines;
+      attempts = are;
+      written = sent_end_in_part held holds grown hand (text_of lines) p w;
+    })
+
+  -- nothing was written
+  pub wrote_nothing : (held : Option (List ℕ)) → WroteAttemptsPrefix blocks pages held held
+  wrote_nothing held = inl (none_written held [])

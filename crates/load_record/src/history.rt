@@ -1,0 +1,171 @@
+//! One history of the calls of all clients.
+
+ghost use Rattle.std.specs.Prelude.{◌≡◌, ◌⊎◌, ◌<◌, false, ◌^◌, ◌++◌, [], length, OnOk, OnErr, IfOk, IfErr, IsErrOf};
+ghost use Rattle.std.specs.List.{list_all};
+ghost use Rattle.vac_lines.specs.Script.{as_line};
+ghost use Rattle.judge_calls.specs.CallText.{call_text};
+ghost use Rattle.vac_lines.specs.Writing.{AppendsPrefix};
+ghost use Rattle.vac_streams.specs.declared.fault.StreamFault.TheVariants.{Memory, Write};
+ghost use Rattle.vac_streams.specs.Sent.{Sent};
+ghost use Rattle.load_record.specs.Order.{entries_from};
+ghost use Rattle.load_record.specs.Rests.{left_of, picked_entry};
+ghost use Rattle.load_record.specs.History.{call_of_entry, kept_by, are_whole};
+ghost use Rattle.load_record.specs.History.{WroteHistory, WroteHistoryPrefix};
+ghost use Rattle.load_record.specs.Sending.{number_and_space, stamps_text, task_and_reply_text};
+ghost use Rattle.load_record.specs.Sending.{SentMerged, MergedPrefix};
+
+use crate::journal::Journal;
+use crate::merging::{Picked, Rest, take_least};
+use crate::watch::Watch;
+use load_tasks::OPENING;
+use std::alloc::{AllocError, Global};
+use std::io::Write;
+use vac_lines::{print_reply, print_task};
+use vac_manager::Note;
+use vac_model::Reply;
+use vac_streams::{StreamFault, send_chunk, send_rest};
+
+/// Appends a number and a space.
+fn append_number(hand: &mut Vec<u8>, number: u64) -> Result<(), AllocError>
+    ensures { OnOk result
+        (hand.new.items ≡ hand.old.items ++ number_and_space number) }
+{
+    print_reply(&Reply::Number(Some(number)), hand)?;
+    hand.extend_from_slice(b" ")
+}
+
+/// Appends a call's client and times, with a space after each.
+fn append_stamps(hand: &mut Vec<u8>, picked: Picked<'_>) -> Result<(), AllocError>
+    ensures { OnOk result
+        (hand.new.items ≡ hand.old.items ++ stamps_text (picked_entry picked.entry)) }
+{
+    append_number(hand, u64::from(picked.client))?;
+    append_number(hand, picked.note.begin)?;
+    append_number(hand, picked.note.end)
+}
+
+/// Appends a call's task and reply.
+fn append_answer(hand: &mut Vec<u8>, note: &Note) -> Result<(), AllocError>
+    ensures { OnOk result (hand.new.items ≡ hand.old.items ++ task_and_reply_text note.now) }
+{
+    print_task(&note.task, hand)?;
+    hand.extend_from_slice(b" -> ")?;
+    print_reply(&note.reply, hand)
+}
+
+/// Appends the line of a call.
+fn append_line(hand: &mut Vec<u8>, picked: Picked<'_>) -> Result<(), AllocError>
+    ensures { OnOk result (hand.new.items
+        ≡ hand.old.items ++ as_line (call_text (call_of_entry (picked_entry picked.entry)))) }
+{
+    append_stamps(hand, picked)?;
+    append_answer(hand, picked.note)?;
+    hand.extend_from_slice(b"\n")
+}
+
+/// Sends the line of a call.
+fn send_line<W: Write>(
+    output: &mut W,
+    hand: &mut Vec<u8>,
+    picked: Picked<'_>,
+) -> Result<(), StreamFault>
+    ensures ok { OnOk result (Sent (W.contents output.old) (W.contents output.new)
+        hand.old.items hand.new.items
+        (as_line (call_text (call_of_entry (picked_entry picked.entry))))) }
+    ensures err { OnErr result (AppendsPrefix (W.contents output.old) (W.contents output.new)
+        (hand.old.items ++ as_line (call_text (call_of_entry (picked_entry picked.entry))))) }
+    ensures fault { IfErr result (λ fault. (fault ≡ Memory) ⊎ (fault ≡ Write)) }
+{
+    append_line(hand, picked)?;
+    send_chunk(output, hand)
+}
+
+/// Sends the lines of all remaining calls, in their order.
+fn send_all<W: Write>(
+    output: &mut W,
+    hand: &mut Vec<u8>,
+    rests: &mut [Rest<'_>],
+) -> Result<(), StreamFault>
+    requires empty { hand.old.items ≡ [] }
+    ensures ok { OnOk result (SentMerged (left_of rests.old)
+        (W.contents output.old) (W.contents output.new) hand.new.items) }
+    ensures err { OnErr result (MergedPrefix (left_of rests.old)
+        (W.contents output.old) (W.contents output.new)) }
+    ensures fault { IfErr result (λ fault. (fault ≡ Memory) ⊎ (fault ≡ Write)) }
+{
+    'lines: while let Some(picked) = take_least(rests) {
+        send_line(output, hand, picked)?;
+    }
+    Ok(())
+}
+
+/// Returns whether each journal had room for each call.
+fn all_whole<J: Watch>(clients: &[Journal<J>]) -> bool
+    ensures { result ≡ list_all (λ j. j.is_whole) clients.now }
+{
+    clients.iter().all(|journal| journal.is_whole())
+}
+
+/// Returns whether the journals of the setup phase and of the clients had room for each call.
+pub fn are_whole<J: Watch>(opening: &Journal<J>, clients: &[Journal<J>]) -> bool
+    ensures { result ≡ are_whole opening.now clients.now }
+{
+    opening.is_whole() && all_whole(clients)
+}
+
+/// Returns the calls of each client, none of which is written yet.
+fn rests_of<'j, J: Watch>(
+    alloc: Global,
+    opening: &'j Journal<J>,
+    clients: &'j [Journal<J>],
+) -> Result<Vec<Rest<'j>>, AllocError>
+    requires few { length clients.now < 2 ^ 32 }
+    ensures { IfOk result (λ rests.
+        left_of rests.items ≡ entries_from 0 (kept_by opening.now clients.now)) }
+{
+    let mut rests = Vec::new(alloc);
+    rests.push(Rest {
+        client: OPENING,
+        notes: opening.notes(),
+    })?;
+    'clients: for place in 0..clients.len() {
+        rests.push(Rest {
+            client: place as u32 + 1,
+            notes: clients[place].notes(),
+        })?;
+    }
+    Ok(rests)
+}
+
+/// Writes the history of a system from its start, one line for each recorded call. The lines are
+/// in the form that `vacation judge` reads. The calls of the setup phase are those of client 0,
+/// and the clients are numbered from 1. The calls are ordered as their records are: by renewal,
+/// then by version with the writer of a version before its readers, and the readers of one version
+/// by the begin of their calls.
+///
+/// Allocates memory for one chunk of text, and a few words for each client. After a fault, the
+/// output has nothing or a prefix of such a text. If a journal had no room for a call, the call is
+/// missing. In this case nothing is written, and the fault is that memory was refused.
+pub fn write_history<J: Watch, W: Write>(
+    alloc: Global,
+    opening: &Journal<J>,
+    clients: &[Journal<J>],
+    output: &mut W,
+) -> Result<(), StreamFault>
+    requires few { length clients.now < 2 ^ 32 }
+    ensures ok { OnOk result (WroteHistory (kept_by opening.now clients.now)
+        (W.contents output.old) (W.contents output.new)) }
+    ensures err { OnErr result (WroteHistoryPrefix (kept_by opening.now clients.now)
+        (W.contents output.old) (W.contents output.new)) }
+    ensures partial { are_whole opening.now clients.now ≡ false →
+        IsErrOf result Memory × (W.contents output.new ≡ W.contents output.old) }
+    ensures fault { IfErr result (λ fault. (fault ≡ Memory) ⊎ (fault ≡ Write)) }
+{
+    if !are_whole(opening, clients) {
+        return Err(StreamFault::Memory);
+    }
+    let mut rests = rests_of(alloc, opening, clients)?;
+    let mut hand = Vec::new(alloc);
+    send_all(output, &mut hand, rests.as_mut_slice())?;
+    send_rest(output, hand.as_slice())
+}

@@ -1,0 +1,91 @@
+//! The recorder of a client's completed calls with their attempts.
+
+ghost use Rattle.std.specs.Prelude.{◌≡◌, true};
+ghost use Rattle.load_record.specs.Noted.{all_noted};
+
+use crate::trail::Trail;
+use crate::{Journal, Watch};
+use std::alloc::{AllocError, Global};
+use vac_manager::{Placed, Recorder};
+use vac_model::Task;
+
+/// A recorder of a client's completed calls, each with the attempt that committed, and of the
+/// aborted attempts.
+#[derive(Drop)]
+pub struct Ledger<W> {
+    journal: Journal<W>,
+    trail: Trail<W>,
+    /// True if each recorded call has its attempt.
+    is_whole: bool,
+    ghost noted: { is_whole ≡ true → all_noted journal.notes.items ≡ true },
+}
+
+impl<W: Watch + Copy + Drop> Ledger<W> {
+    ghost use Rattle.std.specs.Prelude.{[]};
+    ghost use Rattle.load_record.specs.Known.{is_whole_ledger};
+
+    /// Returns an empty ledger, whose times are read from this clock.
+    pub fn new(alloc: Global, watch: W) -> Ledger<W>
+        ensures no_calls { result.journal.notes.items ≡ [] }
+        ensures none_given_up { result.trail.given_up.items ≡ [] }
+        ensures whole { is_whole_ledger result ≡ true }
+    {
+        Ledger {
+            journal: Journal::new(alloc, watch),
+            trail: Trail::new(alloc, watch),
+            is_whole: true,
+        }
+    }
+
+    /// Returns whether there was room for each call and each attempt.
+    pub(crate) fn is_whole(&self) -> bool
+        ensures { result ≡ is_whole_ledger self.now }
+    {
+        self.is_whole && self.journal.is_whole() && self.trail.is_whole()
+    }
+
+    /// Returns the journal of the recorded calls.
+    pub(crate) fn journal(&self) -> &Journal<W>
+        ensures { result.now ≡ self.now.journal }
+    {
+        &self.journal
+    }
+
+    /// Returns the trail of the traced attempts.
+    pub(crate) fn trail(&self) -> &Trail<W>
+        ensures { result.now ≡ self.now.trail }
+    {
+        &self.trail
+    }
+}
+
+impl<W: Watch + Copy + Drop> Recorder for Ledger<W> {
+    ghost use Rattle.std.specs.Prelude.{◌<◌, Some, vec_len, vec_capacity};
+    ghost use Rattle.load_record.specs.Known.{ended_by};
+
+    type Tracing = Trail<W>;
+
+    ghost notes = { λ ledger. Some ledger.journal.notes.items };
+
+    ghost traced = { λ ledger. ended_by ledger.trail };
+
+    ghost ready = { λ ledger. vec_len ledger.journal.notes < vec_capacity ledger.journal.notes };
+
+    fn begin(&mut self) -> Result<(), AllocError> {
+        self.journal.begin()
+    }
+
+    fn lend(&mut self) -> Trail<W> {
+        self.trail.take()
+    }
+
+    fn take_back(&mut self, tracer: Trail<W>) {
+        self.trail = tracer;
+    }
+
+    fn keep(&mut self, task: Task, placed: Placed) {
+        let attempt = self.trail.take_committed();
+        self.is_whole = self.is_whole && attempt.is_some();
+        self.journal.keep_with(task, placed, attempt);
+    }
+}

@@ -1,0 +1,33 @@
+//! The completed calls of a load's clients, recorded and written as one history; their attempts,
+//! traced and written as one text; and laws on that text as the judge of opacity reads it.
+#![tactic(auto)]
+
+mod accesses;
+mod gathering;
+mod history;
+mod journal;
+mod laws;
+mod laying;
+mod ledger;
+mod lines;
+mod merging;
+mod opacity_laws;
+mod places;
+mod trail;
+mod watch;
+mod writing;
+
+pub use history::{are_whole, write_history};
+pub use journal::{Journal, stamp};
+pub use laws::{legal_up_to_precedence, ordered_calls_are_legal, texts_are_legal_up_to_precedence};
+pub use ledger::Ledger;
+pub use merging::rank;
+pub use opacity_laws::{
+    attempt_texts_are_read, attempts_in_place_are_legal, attempts_of_a_load_begin_with_its_heap,
+    few_accesses_fit, histories_are_opaque_up_to_precedence, ordered_attempts_are_made_serially,
+    outcomes_are_judged_apart, serial_attempts_are_legal, texts_are_judged_by_their_entries,
+    texts_are_opaque_up_to_precedence, worked_attempts_meet_the_conditions,
+};
+pub use trail::Trail;
+pub use watch::{Since, Watch};
+pub use writing::{are_whole_attempts, write_attempts};

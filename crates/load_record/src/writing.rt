@@ -1,0 +1,134 @@
+//! The text of all attempts.
+
+ghost use Rattle.std.specs.Prelude.{◌≡◌, ◌⊎◌, ◌<◌, ◌^◌, ◌++◌, [], true, false, length, map, OnOk, OnErr, IfErr, IsErrOf};
+ghost use Rattle.std.specs.List.{list_all};
+ghost use Rattle.vac_lines.specs.Writing.{AppendsPrefix};
+ghost use Rattle.vac_model.specs.Ranges.{is_block_count};
+ghost use Rattle.vac_streams.specs.declared.fault.StreamFault.TheVariants.{Memory, Write};
+ghost use Rattle.vac_streams.specs.Sent.{Sent};
+ghost use Rattle.load_record.specs.Order.{rank_of};
+ghost use Rattle.load_record.specs.Known.{is_whole_ledger, are_whole_ledgers};
+ghost use Rattle.load_record.specs.Lines.{line_entry, line_text, lines_text};
+ghost use Rattle.load_record.specs.Pages.{pages_of};
+ghost use Rattle.load_record.specs.Text.{WroteAttempts, WroteAttemptsPrefix};
+
+use crate::gathering::{add_all, add_attempts};
+use crate::laying::lay;
+use crate::ledger::Ledger;
+use crate::lines::{Line, append_line};
+use crate::{Watch, rank};
+use load_tasks::OPENING;
+use std::alloc::Global;
+use std::io::Write;
+use vac_manager::AttemptNote;
+use vac_streams::{StreamFault, send_chunk, send_rest};
+
+/// Returns the sort key of an attempt: its renewal, its version with the writer of a version
+/// before its readers, its begin, and its end.
+fn key_of(attempt: &AttemptNote) -> (u32, u64, u64, u64)
+    ensures { result ≡ (
+      attempt.now.place.renewal,
+      rank_of attempt.now.place,
+      attempt.now.begin,
+      attempt.now.end,
+    ) }
+{
+    (
+        attempt.place.renewal,
+        rank(attempt.place),
+        attempt.begin,
+        attempt.end,
+    )
+}
+
+/// Sends the line of an attempt.
+fn send_line<O: Write>(
+    output: &mut O,
+    hand: &mut Vec<u8>,
+    line: Line<'_>,
+) -> Result<(), StreamFault>
+    ensures ok { OnOk result (Sent (O.contents output.old) (O.contents output.new)
+        hand.old.items hand.new.items (line_text (line_entry line.entry))) }
+    ensures err { OnErr result (AppendsPrefix (O.contents output.old) (O.contents output.new)
+        (hand.old.items ++ line_text (line_entry line.entry))) }
+    ensures fault { IfErr result (λ fault. (fault ≡ Memory) ⊎ (fault ≡ Write)) }
+{
+    append_line(hand, line)?;
+    send_chunk(output, hand)
+}
+
+/// Sends lines, one after the other.
+fn send_lines<O: Write>(
+    output: &mut O,
+    hand: &mut Vec<u8>,
+    lines: &[Line<'_>],
+) -> Result<(), StreamFault>
+    requires empty { hand.old.items ≡ [] }
+    ensures ok { OnOk result (Sent (O.contents output.old) (O.contents output.new)
+        [] hand.new.items (lines_text (map line_entry lines.now))) }
+    ensures err { OnErr result (AppendsPrefix (O.contents output.old) (O.contents output.new)
+        (lines_text (map line_entry lines.now))) }
+    ensures fault { IfErr result (λ fault. (fault ≡ Memory) ⊎ (fault ≡ Write)) }
+{
+    for line in lines {
+        send_line(output, hand, *line)?;
+    }
+    Ok(())
+}
+
+/// Returns whether each ledger had room for each call and each attempt.
+fn all_whole<W: Watch + Copy + Drop>(clients: &[Ledger<W>]) -> bool
+    ensures { result ≡ list_all is_whole_ledger clients.now }
+{
+    clients.iter().all(|ledger| ledger.is_whole())
+}
+
+/// Returns whether the ledgers of the setup phase and of the clients had room for each call and
+/// each attempt.
+pub fn are_whole_attempts<W: Watch + Copy + Drop>(
+    opening: &Ledger<W>,
+    clients: &[Ledger<W>],
+) -> bool
+    ensures { result ≡ are_whole_ledgers opening.now clients.now }
+{
+    opening.is_whole() && all_whole(clients)
+}
+
+/// Writes the attempts of a load on a system with this number of blocks, one line each as
+/// `vacation opaque` reads them. The initial words come first, as attempts of client 0. They are
+/// followed by the attempts of the setup phase, as those of client 0, and of the clients, numbered
+/// from 1. The attempts are sorted by renewal, by version with the writer of a version before its
+/// readers, by begin, and by end.
+///
+/// Allocates a few words for each attempt, and memory for one chunk of text. After a fault, the
+/// output has nothing or a prefix of such a text. If a ledger had no room for a call or for an
+/// attempt, nothing is written, and the fault is that memory was refused.
+pub fn write_attempts<W: Watch + Copy + Drop, O: Write>(
+    alloc: Global,
+    blocks: u32,
+    opening: &Ledger<W>,
+    clients: &[Ledger<W>],
+    output: &mut O,
+) -> Result<(), StreamFault>
+    requires blocks { is_block_count blocks ≡ true }
+    requires few { length clients.now < 2 ^ 32 }
+    ensures ok { OnOk result (WroteAttempts blocks (pages_of opening.now clients.now)
+        (O.contents output.old) (O.contents output.new)) }
+    ensures err { OnErr result (WroteAttemptsPrefix blocks (pages_of opening.now clients.now)
+        (O.contents output.old) (O.contents output.new)) }
+    ensures partial { are_whole_ledgers opening.now clients.now ≡ false →
+        IsErrOf result Memory × (O.contents output.new ≡ O.contents output.old) }
+    ensures fault { IfErr result (λ fault. (fault ≡ Memory) ⊎ (fault ≡ Write)) }
+{
+    if !are_whole_attempts(opening, clients) {
+        return Err(StreamFault::Memory);
+    }
+    let laid = lay(alloc, blocks)?;
+    let mut lines = Vec::new(alloc);
+    add_attempts(&mut lines, OPENING, laid.as_slice())?;
+    add_all(&mut lines, opening, clients)?;
+    lines.sort_by_key(|line| key_of(line.attempt))?;
+    let mut hand = Vec::new(alloc);
+    send_lines(output, &mut hand, lines.as_slice())?;
+    send_rest(output, hand.as_slice())
+}

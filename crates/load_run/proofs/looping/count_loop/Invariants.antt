@@ -1,0 +1,18 @@
+use Rattle.std.proofs.Common.{◌≡◌}
+use Rattle.stm_object.specs.Callers.{GoesOn}
+use Rattle.load_run.specs.Keeping.{HasKeptAdded}
+use Rattle.load_run.specs.Looping.{Looped, Clocked}
+use Rattle.vac_manager.specs.Called.{HasAllGrants}
+use Rattle.load_run.proofs.looping.count_loop.Given as goal
+
+abbrev pub invariant-tasks : goal.invariant-tasks
+invariant-tasks g l = record {
+  caller : GoesOn l.fn.caller l.caller;
+  looped : Looped g.D.Draws.leads l.fn.settings l.fn.caller.shared.renewal l.counter l.fn.caller.user.value
+      l.caller.user.value l.fn.draws l.draws l.outcomes.outcomes;
+  clock : HasAllGrants l.fn.caller.user.value → Clocked l.fn.caller.shared.last l.fn.caller.user.value
+      l.caller.user.value l.outcomes.outcomes;
+  tries : l.outcomes.tries ≡ l.fn.settings.tries;
+  kept : HasKeptAdded l.fn.caller.user.value l.caller.user.value (g.K.Recorder.notes l.fn.keep)
+      (g.K.Recorder.notes l.keep);
+}

@@ -1,0 +1,83 @@
+//! Counts of tasks by their result, with the attempt statistics of their calls.
+
+ghost use Rattle.std.specs.Prelude.{◌≡◌, ◌≢◌, ◌<◌, ◌≤◌, ◌^◌, ◌+◌, IfErr};
+ghost use Rattle.vac_model.specs.declared.limits.TheConstants.{MOST_TRIES};
+ghost use Rattle.load_run.specs.Attempted.{IsEffort, no_effort, uncounted, with_call};
+ghost use Rattle.load_run.specs.Looping.{nothing, counted, total, plus};
+
+use crate::outcomes::Outcomes;
+use crate::statistics::AttemptStatistics;
+use std::marker::Model;
+use vac_manager::{Effort, Fault};
+
+/// Counts of tasks by their result, each with at most `tries` attempts, and the attempt statistics
+/// of their calls. Contracts see the counts and the limit on attempts.
+#[derive(Drop)]
+pub struct TaskCounts {
+    outcomes: Outcomes,
+    statistics: AttemptStatistics,
+    tries: u32,
+}
+
+impl Model for TaskCounts {
+    ghost use Rattle.std.specs.Prelude.{◌≤◌};
+    ghost use Rattle.vac_model.specs.declared.limits.TheConstants.{MOST_TRIES};
+    ghost use Rattle.load_run.specs.Attempted.{TaskCountsShown, IsEffort};
+
+    ghost Value = { TaskCountsShown };
+
+    ghost view = { λ c. record { outcomes = c.outcomes; tries = c.tries } };
+
+    ghost invariant = { λ c. IsEffort c.tries c.outcomes c.statistics × (c.tries ≤ MOST_TRIES) };
+}
+
+impl TaskCounts {
+    /// Returns the counts of no task, with at most `tries` attempts for each.
+    pub fn new(tries: u32) -> TaskCounts
+        requires few { tries ≤ MOST_TRIES }
+        ensures { result ≡ uncounted tries }
+    {
+        TaskCounts {
+            outcomes: Outcomes::new(),
+            statistics: AttemptStatistics::new(),
+            tries,
+        }
+    }
+
+    /// Counts a task by its result, and adds the attempt statistics of its call. The result is
+    /// never that a number is out of its range, because no such task is issued.
+    pub(crate) fn count(&mut self, end: &Result<(), Fault>, effort: Effort)
+        requires few { total self.old.outcomes < 2 ^ 32 }
+        requires in_range { IfErr end.now (λ fault. fault ≢ Fault.Arguments) }
+        requires took { IsEffort self.old.tries (counted end.now nothing)
+            (with_call effort no_effort) }
+        ensures { self.new ≡ record self.old { outcomes = counted end.now self.old.outcomes } }
+    {
+        self.outcomes.count(end);
+        self.statistics.add(effort);
+    }
+
+    /// Adds up the counts of both.
+    ///
+    /// Not said: that the attempt statistics are added up. The clause of `apart` says which sums
+    /// fit.
+    pub fn plus(self, other: TaskCounts) -> TaskCounts
+        requires fits { total self.outcomes + total other.outcomes < 2 ^ 43 }
+        requires same { other.tries ≡ self.tries }
+        ensures { result ≡ record self { outcomes = plus self.outcomes other.outcomes } }
+    {
+        TaskCounts {
+            outcomes: self.outcomes.plus(other.outcomes),
+            statistics: self.statistics.plus(other.statistics),
+            tries: self.tries,
+        }
+    }
+
+    /// Returns the counts of the tasks and the attempt statistics of their calls.
+    pub fn apart(self) -> (Outcomes, AttemptStatistics)
+        ensures outcomes { result.0 ≡ self.outcomes }
+        ensures statistics { IsEffort self.tries result.0 result.1 }
+    {
+        (self.outcomes, self.statistics)
+    }
+}

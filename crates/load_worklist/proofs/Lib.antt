@@ -1,4 +1,0 @@
-pub mod Totals
-pub mod Sending
-pub mod OneText
-pub mod ReadBack

@@ -1,5 +1,0 @@
-use Rattle.load_worklist.proofs.ReadBack.{all_read}
-use Rattle.load_worklist.proofs.laws.drawn_lines_are_read.Goals as goal
-
-pub returns : goal.returns
-returns c = all_read c.task_texts_are_read.ensures c.task_texts_fit.ensures

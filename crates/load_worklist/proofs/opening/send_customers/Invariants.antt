@@ -1,7 +1,0 @@
-use Rattle.vac_streams.specs.Sent.{Sent}
-use Rattle.load_worklist.proofs.Sending.{made}
-use Rattle.load_worklist.proofs.opening.send_customers.Given as goal
-
-abbrev pub invariant-customers : goal.invariant-customers
-invariant-customers g l = Sent (g.W.Write.contents l.fn.output)
-    (g.W.Write.contents l.output) l.fn.hand.items l.hand.items (made l.place)

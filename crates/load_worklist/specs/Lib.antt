@@ -1,3 +1,0 @@
-pub mod Worklist
-pub mod Sending
-pub mod Laws
