@@ -145,7 +145,7 @@ def holds_parts(program):
         lines = damaged(draw, lines) if seed % 3 == 0 else lines
         calls = [read_call(number, line) for number, line in enumerate(lines, 1)]
         verdict = program.judge(lines)
-        want(verdict.startswith(("legal", "illegal order")), f"{verdict}: {lines}")
+        want(verdict.startswith(("legal", "illegal order", "illegal part")), f"{verdict}: {lines}")
         is_legal = verdict.startswith("legal")
         bad = first_wrong(calls, blocks=MOST_BLOCKS)
         want((bad is None) == is_legal, f"seed {seed}: the program says {verdict}, the search {bad}: {lines}")
@@ -289,7 +289,7 @@ def holds_pages(program, folder):
     shown = ROOT / "docs/anomaly"
     lines = explain(program, shown / "postgresql.log", "--blocks", MOST_BLOCKS, "--svg", folder / "picture", "--small",
                     folder / "small", "--work", folder / "work")
-    want(lines[0] == "illegal order 73: lines 66 and 817 contradict each other", f"PostgreSQL's log: {lines}")
+    want(lines[0] == "illegal part 545: lines 66 and 817 contradict each other", f"PostgreSQL's log: {lines}")
     for made, kept in (("picture", "../anomaly.svg"), ("small", "smallest.log"), ("work", "smallest.tasks")):
         want((folder / made).read_bytes() == (shown / kept).read_bytes(), f"docs/anomaly/{kept} is made otherwise now")
 

@@ -16,15 +16,15 @@ sys.path.insert(0, str(Path(__file__).resolve().parent.parent / "tools"))
 from explaining import model
 from explaining.tasks import read_task
 
-BLOCKS, HISTORIES, NEVER = 7, 260, 1 << 64
+BLOCKS, MANY_BLOCKS, HISTORIES, NEVER = 7, 1 << 18, 260, 1 << 64
 FAULTS = {"": "bad-call", "1 2 3 audit": "bad-call", "x 2 3 newcust 1 -> true": "bad-number",
           "1 2 3 fly -> true": "bad-command", "1 2 - newcust 1 -> true": "bad-call",
           "1 2 3 newcust 1 -> ?": "bad-call", "x" * 4097: "long-line", "\t": "bad-byte"}
 
 
-def answer(state, task):
+def answer(state, task, blocks=BLOCKS):
     """The text of the reply to a task, and the state after it, by the model that all scripts share."""
-    return model.run(state, read_task(task), BLOCKS)
+    return model.run(state, read_task(task), blocks)
 
 
 def drawn_task(draw):
@@ -129,8 +129,8 @@ def first_wrong(lines):
 class Search:
     """All orders of calls, or all but those that come where the search was before."""
 
-    def __init__(self, lines):
-        self.calls, self.queues = [read(line) for line in lines], {}
+    def __init__(self, lines, blocks=BLOCKS):
+        self.calls, self.queues, self.blocks = [read(line) for line in lines], {}, blocks
         for place, call in enumerate(self.calls):
             self.queues.setdefault(call[0], []).append(place)
         self.names, self.remembers = sorted(self.queues), len(lines) > 8
@@ -150,10 +150,63 @@ class Search:
             if done[number] == len(self.queues[name]):
                 continue
             _, begin, _, task, reply = self.calls[self.queues[name][done[number]]]
-            said, after = answer(state, task)
+            said, after = answer(state, task, self.blocks)
             if all(begin <= self.calls[place][2] for place in heads) and reply in (None, said):
                 more = tuple(at + (other == number) for other, at in enumerate(done))
                 self.go(more, after, placed + (reply is not None))
+
+
+class Part:
+    """What the calls of a history say of some customers and some cars, as calls of the same language."""
+
+    def __init__(self, lines, names):
+        self.calls = [read(line) for line in lines]
+        pairs = list(zip(names[::2], names[1::2]))
+        self.customers = {id for kind, id in pairs if kind == "customer"}
+        self.cars = {id for kind, id in pairs if kind == "car"}
+        booked = {(words[1], words[3]) for *_, task, reply in self.calls
+                  if (words := task.split(" "))[0] == "reserve" and reply in (None, "true")}
+        self.closed = {car for car in self.cars if all(who in self.customers for who, item in booked if item == car)}
+        self.whole = {who for who in self.customers if all(item in self.cars for one, item in booked if one == who)}
+
+    def reserve(self, task, reply):
+        _, who, _, car = task.split(" ")
+        if who in self.customers and car in self.cars:
+            if reply == "false sold-out" and car not in self.closed:
+                return f"newcust {who}", "false exists"
+            return None if reply == "false full" else (task, reply)
+        if reply is None or who not in self.customers and (car not in self.cars or reply == "false no-customer"):
+            return None
+        if who in self.customers:
+            return (f"bill {who}", "-1") if reply == "false no-customer" else (f"newcust {who}", "false exists")
+        return f"add car {car} 0 -", "false needs-count-and-price" if reply == "false no-item" else "true"
+
+    def call(self, task, reply):
+        """The part of a call, a task and its reply, or nothing."""
+        name, *words = task.split(" ")
+        if name == "reserve":
+            return self.reserve(task, reply)
+        if name == "leave" and words[0] in self.customers:
+            as_is = reply in (None, "-1") or words[0] in self.whole
+            return (task, reply) if as_is else (f"dropcust {words[0]}", "true")
+        is_kept = {"add": words[1:2] and words[1] in self.cars, "newcust": words[0] in self.customers,
+                   "free": words[1:2] and words[1] in self.closed, "bill": words[0] in self.whole}.get(name)
+        is_read = reply is None and name in ("free", "bill")
+        return (task, reply) if is_kept and not is_read and reply != "false full" else None
+
+    def lines(self):
+        parts = [(head, self.call(*head[3:])) for head in self.calls]
+        return [f"{client} {begin} {'-' if end == NEVER else end} {part[0]} -> {part[1] or '?'}"
+                for (client, begin, end, *_), part in parts if part]
+
+
+def check_part(lines, told, stuck, said):
+    """The named part has no order, by the search that stands here, and its first blocked call is named."""
+    _, _, number, *names = told.split(" ")
+    search = Search(Part(lines, names).lines(), MANY_BLOCKS)
+    search.go((0,) * len(search.names), {}, 0)
+    if search.is_found or stuck.split(" ")[1] != number:
+        sys.exit(f"{said}; the part has an order, or another call is blocked first")
 
 
 def check_order(lines, written):
@@ -194,13 +247,15 @@ def compare(program, lines, ending):
             sys.exit(f"{said}; there is an order, and this is none")
         return "legal"
     told, *stuck = out.splitlines()
-    if status != 1 or told != f"illegal order {search.most}" or not stuck:
+    if status == 1 and told.startswith("illegal part ") and stuck:
+        check_part(lines, told, stuck[0], said)
+    elif status != 1 or told != f"illegal order {search.most}" or not stuck:
         sys.exit(f"{said}; no order is legal, and the longest has {search.most} calls")
     for line in stuck:
         word, number, expected = line.split(" ", 2)
         if word != "stuck" or read(lines[int(number) - 1])[4] in (None, expected):
             sys.exit(f"{said}; {line!r} is stuck on no other reply")
-    return "illegal order"
+    return " ".join(told.split(" ")[:2])
 
 
 def hostile(program):
@@ -209,12 +264,13 @@ def hostile(program):
     overlap = "".join(f"{i} 0 {many + i} add car {i % 5 + 1} 1 5 -> true\n" for i in range(many))
     span = f"9 0 {10 * many} newcust 1 -> true\n" + "".join(
         f"{i % 4} {10 * i} {10 * i + 5} free car 1 -> -1\n" for i in range(many))
-    late = f"{many} 0 {many} free car 9 -> 3\n"
+    late = f"{many} 0 {many} audit -> 3\n"
+    part = f"{many} 0 {many} free car 9 -> 3\n"
     wrong = span.replace(f" {10 * many - 15} free car 1 -> -1", f" {10 * many - 15} free car 1 -> 4")
-    stuck = f"{many} 0 {many + many // 2} free car 9 -> 3\n"
+    stuck = f"{many} 0 {many + many // 2} audit -> 3\n"
     long_line = "1 2 3 " + "x" * 4080
     for text, wanted, steps in [(overlap, 0, 10_000), (span, 0, 10_000), (overlap + late, 3, 200),
-                                (overlap + stuck, 3, 2 * many), (wrong, 1, 100_000),
+                                (overlap + stuck, 3, 2 * many), (overlap + part, 1, 200), (wrong, 1, 100_000),
                                 ("\n" * 10, 1, 5), (long_line, 1, 5), ("1 0 1 newcust 1 -> true\n" * 9, 1, 5)]:
         status, out = run(program, text, steps, 64, 600)
         if status != wanted:

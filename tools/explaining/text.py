@@ -75,7 +75,8 @@ def explanation(explained: list[Finding], history: History, verdict: str, others
                 written: list[str]) -> str:
     """The text about the first finding, and how many others there are."""
     finding = explained[0]
-    lines = [_cut(f"{verdict}: {headline(finding)}"),
+    told = " ".join(verdict.split(" ")[:3])
+    lines = [_cut(f"{told}: {headline(finding)}"),
              *_wrapped(f"{finding.kind.title()}: {finding.kind.why}", 3)]
     if not is_verdict(verdict):
         lines.append("  The program did not decide about the whole log; an illegal part shows that it is illegal.")

@@ -42,7 +42,7 @@ tail_same a b xs ys e = (cc, cc)
 ok_same : {X E : Type 0} (a b : X) → ◌≡◌ {A = Result X E} (Ok a) (Ok b) → a ≡ b
 ok_same a b e = cc
 
-oks_same : {X E : Type 0} (xs ys : List X) → ◌≡◌ {A = List (Result X E)} (map Ok xs) (map Ok ys) → xs ≡ ys
+pub oks_same : {X E : Type 0} (xs ys : List X) → ◌≡◌ {A = List (Result X E)} (map Ok xs) (map Ok ys) → xs ≡ ys
 oks_same [] [] e = refl
 oks_same [] (y ∷ ys) e = cc
 oks_same (x ∷ xs) [] e = cc
@@ -52,7 +52,7 @@ oks_same (x ∷ xs) (y ∷ ys) e =
 
 -- ---- the calls of a client in an order
 
-self_is : (k : ℕ) → (k == k) ≡ true
+pub self_is : (k : ℕ) → (k == k) ≡ true
 self_is k = grind (arith, nat_tests)
 
 asked_of_client : (k : ℕ) (calls : List Call) → asked_by k calls ≡ map (λ (c : Call). c.op) (of_client k calls)
@@ -81,7 +81,7 @@ client_parts : (calls order : List Call) (o : IsOrderOf calls order) (k : ℕ) �
 client_parts calls order o k = sym (o.merges k) ∙ client_both k order o.left
 
 -- where all calls ask for the first tasks of a client, those of the order do
-asked_in_order : (work : List Asked) (calls order : List Call) → IsOrderOf calls order → (k : ℕ) →
+pub asked_in_order : (work : List Asked) (calls order : List Call) → IsOrderOf calls order → (k : ℕ) →
     AskForFirst k work calls → AskForFirst k work order
 asked_in_order work calls order o k a =
     let op_of = λ (c : Call). c.op in
@@ -124,7 +124,7 @@ whole_told lines (Missing client number) h = absurd (false_true h)
 
 -- ---- an order that covers the workload
 
-covered_whole : LegalIsWhole → (n : ℕ) (tasks bytes text : List ℕ) (calls order : List Call) →
+pub covered_whole : LegalIsWhole → (n : ℕ) (tasks bytes text : List ℕ) (calls order : List Call) →
     IsReordered bytes text calls order → is_covered (order_verdict n tasks bytes text) ≡ true →
     IsWholeOrder n tasks calls order
 covered_whole whole n tasks bytes text calls order r h = go (work_of (map line_asked (lines_of tasks))) refl h
@@ -154,7 +154,7 @@ covered_whole whole n tasks bytes text calls order r h = go (work_of (map line_a
           );
         }
 
-whole_covered : LegalIsWhole → (n : ℕ) (tasks bytes text : List ℕ) (calls order : List Call) →
+pub whole_covered : LegalIsWhole → (n : ℕ) (tasks bytes text : List ℕ) (calls order : List Call) →
     IsReordered bytes text calls order → IsWholeOrder n tasks calls order →
     is_covered (order_verdict n tasks bytes text) ≡ true
 whole_covered whole n tasks bytes text calls order r h =
@@ -187,7 +187,7 @@ covered_is_whole whole =
 
 -- ---- a foreign task
 
-held_same : (a b : HeldVerdict) → Held a ≡ Held b → a ≡ b
+pub held_same : (a b : HeldVerdict) → Held a ≡ Held b → a ≡ b
 held_same a b e = cc
 
 foreign_same : (k line : ℕ) → Foreign k ≡ Foreign line → k ≡ line
@@ -196,7 +196,7 @@ foreign_same k line e = cc
 some_none : (line : ℕ) → ◌≡◌ {A = Option ℕ} (Some line) None → ⊥
 some_none line e = cc
 
-left_not : (line : ℕ) (verdict : HeldVerdict) → LeftOut line ≡ Held verdict → ⊥
+pub left_not : (line : ℕ) (verdict : HeldVerdict) → LeftOut line ≡ Held verdict → ⊥
 left_not line verdict e = cc
 
 missing_not : (client number line : ℕ) → Missing client number ≡ Foreign line → ⊥
@@ -216,7 +216,7 @@ told_foreign lines (Foreign at) line e = held_same (Foreign at) (Foreign line) e
 told_foreign lines (Missing client number) line e =
     absurd (left_foreign (line_of_call client (number - 1) 1 lines) client number line e)
 
-foreign_first : (n : ℕ) (tasks bytes text : List ℕ) (calls order : List Call) → IsReordered bytes text calls order →
+pub foreign_first : (n : ℕ) (tasks bytes text : List ℕ) (calls order : List Call) → IsReordered bytes text calls order →
     (line : ℕ) → order_verdict n tasks bytes text ≡ Held (Foreign line) → IsFirstOther tasks bytes line
 foreign_first n tasks bytes text calls order r line h = go (work_of (map line_asked (lines_of tasks))) refl h
   where
@@ -264,7 +264,7 @@ foreign_first n tasks bytes text calls order r line h = go (work_of (map line_as
         decide None found g = absurd (none work found (told_foreign (map line_call (lines_of bytes))
             (held_against_work n work text) line g))
 
-first_foreign_is : (n : ℕ) (tasks bytes text : List ℕ) (line : ℕ) → IsFirstOther tasks bytes line →
+pub first_foreign_is : (n : ℕ) (tasks bytes text : List ℕ) (line : ℕ) → IsFirstOther tasks bytes line →
     order_verdict n tasks bytes text ≡ Held (Foreign line)
 first_foreign_is n tasks bytes text line h =
     let lines = map line_call (lines_of bytes) in
@@ -305,11 +305,11 @@ some_same k line e = cc
 is_same : (a b : ℕ) → (a == b) ≡ true → a ≡ b
 is_same a b e = grind (arith, nat_tests)
 
-more_asked : (client : ℕ) (c : Call) (front : List Call) → (c.client == client) ≡ true →
+pub more_asked : (client : ℕ) (c : Call) (front : List Call) → (c.client == client) ≡ true →
     length (asked_by client (c ∷ front)) ≡ suc (length (asked_by client front))
 more_asked client c front e = ap (λ b. length (cond b (c.op ∷ asked_by client front) (asked_by client front))) e
 
-same_asked : (client : ℕ) (c : Call) (front : List Call) → (c.client == client) ≡ false →
+pub same_asked : (client : ℕ) (c : Call) (front : List Call) → (c.client == client) ≡ false →
     length (asked_by client (c ∷ front)) ≡ length (asked_by client front)
 same_asked client c front e = ap (λ b. length (cond b (c.op ∷ asked_by client front) (asked_by client front))) e
 
@@ -452,11 +452,11 @@ missed n tasks bytes text verdict i h = go (work_of (map line_asked (lines_of ta
               told = m.2;
             }
 
-missing_positive : (n : ℕ) (tasks text : List ℕ) (client number : ℕ) → IsFirstMissing n tasks text client number →
+pub missing_positive : (n : ℕ) (tasks text : List ℕ) (client number : ℕ) → IsFirstMissing n tasks text client number →
     1 ≤ number
 missing_positive n tasks text client number m = let is = m.number_is in omega (arith, is)
 
-missing_never : MissingIsFirst → (n : ℕ) (tasks bytes text : List ℕ) (calls order : List Call) →
+pub missing_never : MissingIsFirst → (n : ℕ) (tasks bytes text : List ℕ) (calls order : List Call) →
     IsReordered bytes text calls order → (client number : ℕ) →
     order_verdict n tasks bytes text ≡ Held (Missing client number) →
     IsNeverSubmitted n tasks text calls client number
@@ -515,7 +515,7 @@ client_size k (c ∷ calls) = go (c.client == k) (client_size k calls)
     go true e = ap suc e
     go false e = e
 
-left_pending : MissingIsFirst → (n : ℕ) (tasks bytes text : List ℕ) (calls order : List Call) →
+pub left_pending : MissingIsFirst → (n : ℕ) (tasks bytes text : List ℕ) (calls order : List Call) →
     IsReordered bytes text calls order → (line : ℕ) → order_verdict n tasks bytes text ≡ LeftOut line →
     IsLeftOutOfOrder n tasks text calls order line
 left_pending first n tasks bytes text calls order r line h =

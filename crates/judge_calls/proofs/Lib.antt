@@ -14,3 +14,4 @@ pub mod Foreign
 pub mod Missing
 pub mod Histories
 pub mod AnyOrder
+pub mod OneVerdict

@@ -14,3 +14,4 @@ pub mod HeldReading
 pub mod Whole
 pub mod NotWhole
 pub mod AnyOrder
+pub mod OneVerdict

@@ -6,6 +6,7 @@ ghost use Rattle.judge_calls.specs.Whole.{LegalIsWhole};
 ghost use Rattle.judge_calls.specs.NotWhole.{BadTasksIsFirst, ForeignIsFirst, MissingIsFirst};
 ghost use Rattle.judge_calls.specs.AnyOrder.{CoveredIsWhole, ForeignIsOfHistory};
 ghost use Rattle.judge_calls.specs.AnyOrder.{MissingIsNeverSubmitted, LeftOutIsPending};
+ghost use Rattle.judge_calls.specs.OneVerdict.{VerdictHasItsCondition};
 ghost use Rattle.std.specs.Prelude.{◌≡◌, ◌≤◌, length, true};
 ghost use Rattle.vac_model.specs.Ranges.{is_task};
 ghost use Rattle.vac_lines.specs.TaskText.{task_text};
@@ -113,6 +114,21 @@ pub fn a_missing_task_of_an_order_was_never_submitted()
 pub fn a_call_that_an_order_leaves_out_is_pending()
     ensures { LeftOutIsPending }
 {
+    a_missing_verdict_names_the_first_task_that_is_left_out();
+}
+
+/// States that a verdict on an order is given if and only if its condition holds, for an order that
+/// is a linearization. So exactly one verdict has its condition. A line of the workload is named if
+/// it is the first that gives no task. A line of the history is named as foreign if it is the first
+/// whose call does not submit the next task of its client. A task is named as missing if all calls
+/// submit the next tasks of their clients, and the first task that the order does not submit is
+/// submitted by no call. A call is named as left out if all calls submit the next tasks of their
+/// clients, and the first task that the order does not submit has the place of this pending call.
+/// The verdict on the order alone is given if the order, with all its calls, is the whole workload.
+pub fn a_verdict_on_an_order_is_given_if_its_condition_holds()
+    ensures { VerdictHasItsCondition }
+{
+    a_verdict_finds_the_linearizations();
     a_missing_verdict_names_the_first_task_that_is_left_out();
 }
 

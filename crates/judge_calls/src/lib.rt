@@ -33,9 +33,9 @@ pub use laws::{
     a_foreign_verdict_names_the_first_line_of_another_task, a_legal_history_has_this_summary,
     a_missing_task_of_an_order_was_never_submitted,
     a_missing_verdict_names_the_first_task_that_is_left_out, a_verdict_finds_the_linearizations,
-    a_whole_history_is_of_all_the_work, an_answered_call_is_read,
-    an_illegal_verdict_names_the_first_wrong_line, bad_tasks_name_the_first_line_without_a_task,
-    call_texts_are_read, histories_are_read,
+    a_verdict_on_an_order_is_given_if_its_condition_holds, a_whole_history_is_of_all_the_work,
+    an_answered_call_is_read, an_illegal_verdict_names_the_first_wrong_line,
+    bad_tasks_name_the_first_line_without_a_task, call_texts_are_read, histories_are_read,
 };
 pub use reading::judge_history;
 pub use verdict::{Summary, Verdict, Wrong, print_verdict};

@@ -1,6 +1,7 @@
 //! The layout of the calls of a history, precomputed for a quick search. Nothing is promised of
 //! the layout.
 
+use crate::configuration::Chain;
 use judge_object::Line;
 use judge_reservations::Asked;
 use std::alloc::{AllocError, Global};
@@ -23,6 +24,8 @@ pub(crate) struct Spot {
     pub(crate) is_full: bool,
     /// True if the call may free blocks.
     pub(crate) is_freeing: bool,
+    /// True if the call may read or change items that it does not name.
+    is_broad: bool,
 }
 
 /// The layout of all calls.
@@ -125,6 +128,15 @@ fn is_freeing(task: &Task) -> bool {
     match task {
         Task::Trip { .. } => false,
         _ => true,
+    }
+}
+
+/// Returns whether a task may read or change items that it does not name.
+fn is_broad(task: &Task) -> bool {
+    match task {
+        Task::Leave { .. } => true,
+        Task::One(Command::DropCustomer { .. }) | Task::One(Command::Audit) => true,
+        _ => false,
     }
 }
 
@@ -236,6 +248,7 @@ impl Layout {
             mask: mask_of(self.keys.as_slice(), from),
             is_full: says_full(&line.reply),
             is_freeing: is_freeing(line.op.task()),
+            is_broad: is_broad(line.op.task()),
         })?;
         Ok(())
     }
@@ -260,6 +273,7 @@ impl Layout {
             mask: 0,
             is_full: false,
             is_freeing: false,
+            is_broad: false,
         }
     }
 
@@ -276,6 +290,35 @@ impl Layout {
             }
         }
         false
+    }
+
+    /// Returns whether two calls may conflict, but for the capacity.
+    pub(crate) fn may_meet(&self, place: usize, other: usize) -> bool {
+        self.spot(place).is_broad || self.spot(other).is_broad || self.meets(place, other)
+    }
+
+    /// Returns the number of calls.
+    pub(crate) fn len(&self) -> usize {
+        self.spots.len()
+    }
+
+    /// Returns whether a call is pending.
+    pub(crate) fn has_pending(&self) -> bool {
+        self.answered < self.len() as u64
+    }
+
+    /// Returns the chain of one call.
+    pub(crate) fn one(&self, place: usize) -> Chain {
+        self.two(self.len(), place)
+    }
+
+    /// Returns the chain of two calls.
+    pub(crate) fn two(&self, first: usize, place: usize) -> Chain {
+        Chain {
+            first,
+            second: self.len(),
+            place,
+        }
     }
 
     /// Returns the position of each client's first call.

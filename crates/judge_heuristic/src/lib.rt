@@ -2,9 +2,12 @@
 //! its caller checks the order that it proposes.
 #![tactic(auto)]
 
+mod beam;
 mod choices;
+mod configuration;
 mod doubts;
 mod layout;
+mod offers;
 mod quick;
 mod retreat;
 mod search;

@@ -16,6 +16,7 @@
 //! same. If there is no choice point, the search backtracks, and from then on deviates from these
 //! rules at random.
 
+use crate::beam::find_by_beam;
 use crate::layout::Layout;
 use crate::search::{Quick, QuickSearch};
 use judge_object::{Line, Object, Watcher};
@@ -38,9 +39,9 @@ impl<M: Object<Op = Asked, Reply = Reply> + Drop> QuickSearch<M> {
     }
 }
 
-/// Searches, in at most `steps` steps, for an order of the calls, which are given in the order of
-/// their ends. Returns the positions of the calls in the order that is found. If no call is
-/// completed, nothing is searched.
+/// Searches for an order of the calls, which are given in the order of their ends. Returns the
+/// positions of the calls in the order that is found. If a call is pending, a beam search comes
+/// first. Each search makes at most `steps` steps. If no call is completed, nothing is searched.
 ///
 /// Not said: anything of the order that is found, or that an order is found.
 pub fn find_quickly<M: Object<Op = Asked, Reply = Reply> + Drop, P: Watcher>(
@@ -53,6 +54,11 @@ pub fn find_quickly<M: Object<Op = Asked, Reply = Reply> + Drop, P: Watcher>(
     let layout = Layout::new(alloc, lines)?;
     if layout.answered == 0 {
         return Ok(None);
+    }
+    if layout.has_pending()
+        && let Some(places) = find_by_beam(alloc, lines, &layout, &machine, steps, watcher)?
+    {
+        return Ok(Some(places));
     }
     let mut search = QuickSearch::new(alloc, machine, &layout)?;
     'steps: for made in 0..steps {

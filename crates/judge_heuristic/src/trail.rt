@@ -47,7 +47,7 @@ pub(crate) struct Trail {
 }
 
 /// Returns whether the call at a position is completed.
-fn is_answered(lines: &[Line<Asked>], place: usize) -> bool {
+pub(crate) fn is_answered(lines: &[Line<Asked>], place: usize) -> bool {
     place < lines.len() && lines[place].reply.is_some()
 }
 

@@ -29,7 +29,16 @@ use Rattle.judge_search.specs.Stuck.{AreStuck}
 use Rattle.judge_search.specs.Judging.{calls_at, IsLinearizedBy, HasNoOrder}
 use Rattle.judge_linear.specs.Reading.{first_wrong, texts_of, numbers_of, call_at, IsLineAt, AreKeptLines, ReadWhole}
 use Rattle.judge_linear.specs.Reading.{ReadWrong}
-use Rattle.judge_linear.specs.Found.{Wrong, NoOrder, Order, Undecided, calls_numbered}
+use Rattle.judge_linear.specs.Found.{Wrong, NoOrder, Order, IllegalPart, Undecided, calls_numbered}
+use Rattle.judge_linear.specs.Found.{part_text}
+use Rattle.judge_linear.specs.Judged.{HasNoOrderOf}
+use Rattle.judge_linear.specs.declared.part.IllegalPart as declared
+use Rattle.judge_linear.proofs.PartCalls.{parts_at}
+use Rattle.judge_part.specs.Histories.{part_of_history}
+use Rattle.judge_part.specs.Lines.{has_part}
+use Rattle.judge_object.specs.Orders.{IsLinearizable}
+use Rattle.vac_model.specs.declared.limits.TheConstants.{MOST_BLOCKS}
+use Rattle.std.specs.List.{list_all}
 use Rattle.judge_linear.specs.Found.{AreKeptInOrder, RunsWithin, TextRunsWithin}
 use Rattle.judge_linear.specs.Found.{told_by, line_at, order_text, placed_text, none_text, open_text}
 use Rattle.judge_linear.specs.Ordering.{FindsText, HasText}
@@ -303,6 +312,48 @@ module _ (lines kept : List (Line Task)) (k : AreKeptLines lines kept) (bytes : 
           told = refl;
         };
         takes = takes n steps r;
+        answered = refl;
+        text_is = e;
+      }
+
+  pub finds_part : (n steps : ℕ) (part : declared.IllegalPart) (text : List ℕ) → n ≤ MOST_BLOCKS →
+      HasNoOrderOf kept part → text ≡ part_text part.scope.customers.items part.scope.items.items
+      (told_by (numbers_of part.calls.lines.items) part.stuck.items) → FindsText n steps bytes outcome.Illegal text
+  finds_part n steps part text few h e =
+      let same = kept_calls lines kept k.each in
+      let scope = part.scope in
+      let sorted = part.calls.lines.items in
+      let tell : Stuck Reply → ℕ × Reply = λ one. (get_or (numbers_of sorted) one.place 0, one.expected) in
+      record {
+        found = IllegalPart scope.customers.items scope.items.items (told_by (numbers_of sorted) part.stuck.items);
+        is = record {
+          blocks = few;
+          calls = calls_of lines;
+          numbers = numbers_of kept;
+          kept = kept_are;
+          scope = scope;
+          is_scope = record {
+            customers_are = refl;
+            items_are = refl;
+            parts = subst (λ cs. list_all (has_part scope) cs ≡ true) same h.fits;
+          };
+          none = subst (λ cs. IsLinearizable reserving (empty_state MOST_BLOCKS) (part_of_history scope cs) → ⊥) same
+              h.none;
+          parts = calls_of sorted;
+          part_numbers = numbers_of sorted;
+          merges = subst (λ cs. IsMerge (part_of_history scope cs) (calls_of sorted)) same h.merges;
+          are_parts = parts_at scope lines kept h.from sorted k.each h.numbers h.sorted;
+          most = h.most;
+          made = h.made;
+          state = h.state;
+          deepest = h.deepest;
+          bound = h.bound;
+          found = part.stuck.items;
+          are = h.are;
+          told = refl;
+          some = subst (λ m. 1 ≤ m) (sym (length-map part.stuck.items tell)) h.some;
+        };
+        takes = takes n steps (record { made = 0; within = omega arith; run = tt });
         answered = refl;
         text_is = e;
       }

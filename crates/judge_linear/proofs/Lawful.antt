@@ -3,7 +3,11 @@ use Rattle.std.proofs.Common.{◌≡◌, Ok, Result, List, [], ◌∷◌, map, r
 use Rattle.judge_calls.specs.declared.fault.CallFault.{CallFault}
 use Rattle.judge_calls.specs.Call.{Call}
 use Rattle.judge_object.specs.Orders.{IsLinearizable}
-use Rattle.judge_linear.specs.Laws.{OrderIsLinearization, NoOrderMeansNone}
+use Rattle.judge_linear.specs.Laws.{OrderIsLinearization, NoOrderMeansNone, IllegalPartMeansNone}
+use Rattle.judge_linear.specs.Found.{calls_numbered}
+use Rattle.judge_part.specs.declared.scope.Scope.{Scope}
+use Rattle.judge_part.specs.Laws.{IllegalPartsShow}
+use Rattle.judge_search.proofs.Judged.{none_given}
 use Rattle.judge_reservations.specs.Reserving.{reserving}
 use Rattle.vac_model.specs.State.{empty_state}
 
@@ -31,3 +35,11 @@ order_is_linearization n steps bytes numbers h calls l =
 pub no_order_means_none : NoOrderMeansNone
 no_order_means_none n steps bytes most stuck h calls l some =
     h.none (subst (IsLinearizable reserving (empty_state n)) (calls_same calls h.calls (sym l ∙ h.kept.listed)) some)
+
+pub illegal_part_means_none : ((scope : Scope) → IllegalPartsShow scope) → IllegalPartMeansNone
+illegal_part_means_none show n steps bytes customers items stuck h calls l some =
+    let kept = calls_numbered h.calls h.numbers in
+    let own = subst (IsLinearizable reserving (empty_state n))
+    (calls_same calls h.calls (sym l ∙ h.kept.listed)) some in
+    none_given reserving (empty_state n) h.calls kept h.kept.merges
+    (show h.scope n kept h.blocks h.is_scope.parts h.none) own

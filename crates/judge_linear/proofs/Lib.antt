@@ -1,6 +1,7 @@
 pub mod Turns
 pub mod Telling
 pub mod Kept
+pub mod PartCalls
 pub mod Founds
 pub mod Printing
 pub mod Lawful

@@ -1,6 +1,6 @@
 -- The texts of lines and of calls that are stuck, one after the other.
 use Rattle.std.proofs.Common.{◌≡◌, ℕ, ◌+◌, ◌<◌, suc, zero, List, [], ◌∷◌, ◌++◌, length, map, flat_map, get_or}
-use Rattle.std.proofs.Common.{take, sym, ap, ◌∙◌, arith, append-nil}
+use Rattle.std.proofs.Common.{take, sym, ap, ◌∙◌, arith, append-nil, append_assoc, codes, decimal}
 use Rattle.std.specs.Prelude.{All}
 use Rattle.std.proofs.lemmas.List.Elements.{All-head, All-tail}
 use Rattle.std.proofs.lemmas.List.{take_more, map-append}
@@ -10,8 +10,9 @@ use Rattle.vac_lines.specs.Script.{as_line}
 use Rattle.judge_object.specs.declared.line.Line.{Line}
 use Rattle.judge_search.specs.declared.stuck.Stuck.{Stuck}
 use Rattle.judge_linear.specs.Reading.{texts_of, numbers_of}
-use Rattle.judge_linear.specs.Found.{placed_text, stuck_text, told_by}
+use Rattle.judge_linear.specs.Found.{placed_text, stuck_text, told_by, first_number, scope_text, part_text}
 use Rattle.vac_model.specs.declared.tasks.Task.{Task}
+use Rattle.vac_model.specs.State.{Place}
 
 text_at : (lines : List (Line Task)) (p : ℕ) (line : Line Task) → p < length lines → line ≡ get_or lines p line →
     get_or (texts_of lines) p [] ≡ line.text.items
@@ -59,3 +60,29 @@ pub all_get : {X : Type 0} (P : X → Type 0) (xs : List X) (i : ℕ) (d : X) �
 all_get P [] i d l h = absurd (omega arith)
 all_get P (x ∷ xs) zero d l h = All-head P x xs h
 all_get P (x ∷ xs) (suc i) d l h = all_get P xs i d (omega arith) (All-tail P x xs h)
+
+-- a value more
+pub each_next : {X : Type 0} (put : X → List ℕ) (xs : List X) (i : ℕ) (d : X) → i < length xs →
+    flat_map put (take (i + 1) xs) ≡ flat_map put (take i xs) ++ put (get_or xs i d)
+each_next put xs i d l =
+    ap (flat_map put) (take_more xs i d l)
+    ∙ flat_map-append put (take i xs) (get_or xs i d ∷ [])
+    ∙ ap (λ t. flat_map put (take i xs) ++ t)
+    (flat_map-cons put (get_or xs i d) [] ∙ append-nil (put (get_or xs i d)))
+
+abbrev pub AreIn : List (Line Task) → List (Stuck Reply) → Type 0
+AreIn lines found = All (λ one. one.place < length lines) found
+
+-- a part is printed, of which the calls that are stuck are in the lines
+pub part_printed : (old mid new : List ℕ) (number : ℕ) (lines : List (Line Task)) (found : List (Stuck Reply))
+    (customers : List ℕ) (items : List Place) →
+    (AreIn lines found → number ≡ first_number (told_by (numbers_of lines) found)) →
+    mid ≡ old ++ as_line (codes "illegal part " ++ decimal number ++ scope_text customers items) →
+    (AreIn lines found → new ≡ mid ++ flat_map stuck_text (told_by (numbers_of lines) found)) →
+    AreIn lines found → new ≡ old ++ part_text customers items (told_by (numbers_of lines) found)
+part_printed old mid new number lines found customers items first e f all =
+    let told = told_by (numbers_of lines) found in
+    let line : ℕ → List ℕ = λ n. as_line (codes "illegal part " ++ decimal n ++ scope_text customers items) in
+    f all
+    ∙ ap (λ t. t ++ flat_map stuck_text told) (e ∙ ap (λ n. old ++ line n) (first all))
+    ∙ append_assoc old (line (first_number told)) (flat_map stuck_text told)

@@ -21,7 +21,9 @@ use Rattle.judge_linear.specs.declared.ordering.Outcome.{Outcome}
 use Rattle.judge_linear.specs.declared.ordering.Outcome.TheVariants as outcome
 use Rattle.judge_search.specs.Calls.{no_call}
 use Rattle.judge_linear.specs.Reading.{call_at}
-use Rattle.judge_linear.specs.Found.{FoundOfText, Wrong, Order, NoOrder, Undecided, IsFound, calls_numbered, line_at}
+use Rattle.judge_linear.specs.Found.{FoundOfText, Wrong, Order, NoOrder, IllegalPart, Undecided, IsFound}
+use Rattle.judge_linear.specs.Found.{calls_numbered}
+use Rattle.judge_linear.specs.Found.{line_at}
 use Rattle.judge_linear.specs.Found.{order_text}
 use Rattle.judge_linear.specs.Found.{found_text}
 use Rattle.judge_linear.specs.Ordering.{outcome_of, FindsText}
@@ -113,6 +115,7 @@ legal_text summary n steps bytes text f = go f.found f.is f.answered f.text_is
           record { calls = is.calls; listed = is.listed; orders = is.orders },
         )
     go (NoOrder most stuck) is a t = absurd (illegal_not a)
+    go (IllegalPart customers items stuck) is a t = absurd (illegal_not a)
     go (Undecided most) is a t = absurd (undecided_not a)
 
 -- a text that was read

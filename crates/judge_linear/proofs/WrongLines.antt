@@ -1,11 +1,10 @@
 -- The first wrong line of a text, and what a call that is not in turn says of all orders.
-use Rattle.std.proofs.Common.{◌≡◌, ◌⊎◌, ℕ, ◌+◌, ◌<◌, ◌≤◌, ◌==◌, suc, zero, Bool, true, false, cond, List, [], ◌∷◌, ◌++◌}
+use Rattle.std.proofs.Common.{◌≡◌, ◌⊎◌, ℕ, ◌+◌, ◌≤◌, Bool, true, false, cond, List, [], ◌∷◌, ◌++◌}
 use Rattle.std.proofs.Common.{length, map, take, drop, Option, Some, None, Result, Ok, Err, refl, sym, ap, ◌∙◌, subst}
 use Rattle.std.proofs.Common.{inl, inr, arith, append-nil, append_assoc, nat_lt}
 use Rattle.std.specs.List.{list_any}
 use Rattle.std.proofs.Math.Seq.{drop-append_seam}
 use Rattle.vac_lines.specs.Lines.{lines_of}
-use Rattle.vac_model.specs.declared.tasks.Task.{Task}
 use Rattle.judge_calls.specs.declared.fault.CallFault.{CallFault}
 use Rattle.judge_calls.specs.declared.verdict.Wrong.TheVariants.{Client, Time, Reply}
 use Rattle.judge_calls.specs.declared.verdict.Verdict.{Verdict}
@@ -13,26 +12,23 @@ use Rattle.judge_calls.specs.declared.verdict.Verdict.TheVariants.{Legal, Fault,
 use Rattle.judge_calls.specs.Call.{Call, line_call}
 use Rattle.judge_calls.specs.Order.{call_breaks_client}
 use Rattle.judge_calls.specs.Verdict.{verdict_text}
-use Rattle.judge_calls.specs.Laws.{Lists, IsLinearization}
 use Rattle.judge_calls.specs.Wrongs.{CallsTakeTurns}
 use Rattle.judge_time.proofs.Order.{passes}
 use Rattle.judge_time.proofs.Tests.{turn_test, time_test, both_false, false_both}
-use Rattle.judge_object.specs.Call.{EachCall, IsBehind, is_answered}
-use Rattle.judge_object.specs.Orders.{of_client, IsOrderOf, IsLinearizable}
+use Rattle.judge_object.specs.Call.{IsBehind, is_answered}
+use Rattle.judge_object.specs.Orders.{of_client}
 use Rattle.judge_search.specs.Walk.{InTurn}
 use Rattle.judge_search.proofs.Each.{Each, test, self}
 use Rattle.judge_search.proofs.Places.{times_of, turns_of, in_turn_from}
-use Rattle.judge_linear.specs.declared.ordering.Outcome.{Outcome}
 use Rattle.judge_linear.specs.declared.ordering.Outcome.TheVariants as outcome
 use Rattle.judge_linear.specs.Reading.{calls_overlap, wrong_behind, first_wrong}
-use Rattle.judge_linear.specs.Found.{FoundOfText, Wrong, Order, NoOrder, Undecided, IsFound, found_text}
-use Rattle.judge_linear.specs.Ordering.{outcome_of, FindsText}
-use Rattle.judge_linear.specs.Wrongs.{IsFirstNoCall, IsFirstOutOfTurn, IsFirstWrongLine, IsInTurn, WrongIsFirst}
+use Rattle.judge_linear.specs.Found.{FoundOfText, Wrong, Order, NoOrder, IllegalPart, Undecided, IsFound, found_text}
+use Rattle.judge_linear.specs.Ordering.{outcome_of}
+use Rattle.judge_linear.specs.Wrongs.{IsFirstWrongLine, IsInTurn, WrongIsFirst}
 use Rattle.judge_linear.specs.Wrongs.{FirstWrongIsWritten, WrongOrInTurn, LeavesOutFrom, OutOfTurnIsLeftOut}
 use Rattle.judge_linear.specs.Wrongs.{OutOfTurnMeansNone}
 use Rattle.judge_linear.proofs.Turns.{turn_more}
 use Rattle.judge_linear.proofs.Lawful.{tail_same}
-use Rattle.judge_reservations.specs.Reserving.{reserving}
 
 true_false : true ≡ false → ⊥
 true_false e = cc
@@ -241,6 +237,7 @@ first_wrong_is_written n steps bytes result text verdict finds first =
     go (Wrong other) is a t = (a, t ∙ ap verdict_text (some_same other verdict (sym is ∙ wrong)))
     go (Order numbers) is a t = absurd (none_some verdict (sym is.right ∙ wrong))
     go (NoOrder most stuck) is a t = absurd (none_some verdict (sym is.kept.right ∙ wrong))
+    go (IllegalPart customers items stuck) is a t = absurd (none_some verdict (sym is.kept.right ∙ wrong))
     go (Undecided most) is a t = absurd (none_some verdict (sym is.kept.right ∙ wrong))
 
 pub wrong_or_in_turn : WrongOrInTurn

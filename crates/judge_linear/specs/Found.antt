@@ -1,7 +1,10 @@
 -- The result for a history of which only each client's own order is known, and the text of the
 -- result.
-use Rattle.std.specs.Prelude.{◌≡◌, ◌≤◌, ◌-◌, ⊤, ℕ, Bool, Some, None, All, List, [], ◌++◌, map, flat_map, length, get_or, codes, decimal}
-use Rattle.vac_model.specs.State.{State, empty_state}
+use Rattle.std.specs.Prelude.{◌≡◌, ◌≤◌, ◌-◌, ⊤, ℕ, Bool, Some, None, All, List, [], ◌∷◌, ◌++◌, map, flat_map, length, get_or, codes, decimal}
+use Rattle.vac_model.specs.declared.items.Kind.{Kind}
+use Rattle.vac_model.specs.declared.items.Kind.TheVariants.{Car, Flight, Room}
+use Rattle.vac_model.specs.declared.limits.TheConstants.{MOST_BLOCKS}
+use Rattle.vac_model.specs.State.{State, Place, empty_state}
 use Rattle.vac_model.specs.declared.replies.Reply.{Reply}
 use Rattle.vac_lines.specs.Lines.{lines_of}
 use Rattle.vac_lines.specs.Script.{as_line}
@@ -12,6 +15,9 @@ use Rattle.judge_calls.specs.Call.{Call}
 use Rattle.judge_calls.specs.Laws.{Lists, IsLinearization}
 use Rattle.judge_object.specs.Orders.{IsMerge, IsOrderOf, IsLinearizable}
 use Rattle.judge_reservations.specs.Reserving.{reserving}
+use Rattle.judge_part.specs.declared.scope.Scope.{Scope}
+use Rattle.judge_part.specs.Histories.{part_of_call, part_of_history}
+use Rattle.judge_part.specs.Largest.{IsScopeOf}
 use Rattle.judge_search.specs.declared.stuck.Stuck.{Stuck}
 use Rattle.judge_search.specs.Configurations.{start, answered, PlacesAtMost, Deepest}
 use Rattle.judge_search.specs.Calls.{rest_of}
@@ -22,11 +28,15 @@ use Rattle.judge_linear.specs.Reading.{first_wrong, call_at}
 
 -- the result for a history: a wrong line; the numbers of the lines in an order that is a
 -- linearization; no order, with the largest number of completed calls that can be placed and the
--- lines of the calls that are then blocked, each with the expected reply; or undecided
+-- lines of the calls that are then blocked, each with the expected reply; a part without an order,
+-- on a scope of some customers and items, with the lines of the calls whose parts are then blocked;
+-- or undecided
 pub data FoundOfText : Type 0 where
   Wrong : (verdict : Verdict) → FoundOfText
   Order : (numbers : List ℕ) → FoundOfText
   NoOrder : (most : ℕ) → (stuck : List (ℕ × Reply)) → FoundOfText
+  IllegalPart : (customers : List ℕ) → (items : List Place) → (stuck : List (ℕ × Reply)) →
+      FoundOfText
   Undecided : (most : ℕ) → FoundOfText
 
 -- the calls of the lines with these numbers, in this order
@@ -81,6 +91,50 @@ pub record HasNone (n : ℕ) (bytes : List ℕ) (most : ℕ) (stuck : List (ℕ 
   pub are : AreStuck reserving state made (calls_numbered calls numbers) found
   pub told : stuck ≡ told_by numbers found
 
+-- a call is the part on a scope of the call of the line with a number
+pub record IsPartAt (scope : Scope) (calls : List Call) (number : ℕ) (part : Call) : Type 0 where
+  pub first : 1 ≤ number
+  pub last : number ≤ length calls
+  pub is : part_of_call scope (call_at calls number) ≡ Some part
+
+-- each of some calls is the part on a scope of the call of the line with its number
+abbrev pub ArePartsAt : Scope → List Call → List ℕ → List Call → Type 0
+ArePartsAt scope calls [] [] = ⊤
+ArePartsAt scope calls (number ∷ numbers) (part ∷ parts) =
+    IsPartAt scope calls number part × ArePartsAt scope calls numbers parts
+ArePartsAt scope calls _ _ = ⊥
+
+-- all calls of a history have parts on a scope of these customers and items, and no order of the
+-- parts is a linearization, for a system of the greatest number of blocks. In a state of that
+-- system after as many completed parts as can be placed, the completed parts that may come next are
+-- given, at least one, each by the number of its line with the reply of the manager
+-- Not said: in which order the blocked calls are given; which items of the scope only its customers
+-- book, and which of its customers only book its items.
+pub record HasIllegalPart (n : ℕ) (bytes customers : List ℕ) (items : List Place)
+    (stuck : List (ℕ × Reply)) : Type 0 where
+  pub blocks : n ≤ MOST_BLOCKS
+  pub calls : List Call
+  pub numbers : List ℕ
+  pub kept : AreKeptInOrder bytes calls numbers
+  pub scope : Scope
+  pub is_scope : IsScopeOf customers items (calls_numbered calls numbers) scope
+  pub none : IsLinearizable reserving (empty_state MOST_BLOCKS)
+      (part_of_history scope (calls_numbered calls numbers)) → ⊥
+  pub parts : List Call
+  pub part_numbers : List ℕ
+  pub merges : IsMerge (part_of_history scope (calls_numbered calls numbers)) parts
+  pub are_parts : ArePartsAt scope calls part_numbers parts
+  pub most : ℕ
+  pub made : ℕ → Bool
+  pub state : State
+  pub deepest : Deepest reserving (start (empty_state MOST_BLOCKS) parts) most
+      (record { rest = rest_of made 0 parts; state = state })
+  pub bound : PlacesAtMost reserving (answered parts) most (start (empty_state MOST_BLOCKS) parts)
+  pub found : List (Stuck Reply)
+  pub are : AreStuck reserving state made parts found
+  pub told : stuck ≡ told_by part_numbers found
+  pub some : 1 ≤ length stuck
+
 -- after `steps` steps neither an order is found nor the absence of one is shown. In the orders
 -- that were tried, at most `most` completed calls were placed
 pub record IsLeftOpen (n : ℕ) (bytes : List ℕ) (steps most : ℕ) : Type 0 where
@@ -117,6 +171,8 @@ abbrev pub IsFound : ℕ → ℕ → List ℕ → FoundOfText → Type 0
 IsFound n steps bytes (Wrong verdict) = first_wrong bytes ≡ Some verdict
 IsFound n steps bytes (Order numbers) = IsOrdered n bytes numbers
 IsFound n steps bytes (NoOrder most stuck) = HasNone n bytes most stuck
+IsFound n steps bytes (IllegalPart customers items stuck) =
+    HasIllegalPart n bytes customers items stuck
 IsFound n steps bytes (Undecided most) = IsLeftOpen n bytes steps most
 
 -- the text of the line with this number, the first line having number 1
@@ -137,6 +193,35 @@ abbrev pub none_text : ℕ → List (ℕ × Reply) → List ℕ
 none_text most stuck =
     as_line (codes "illegal order " ++ decimal most) ++ flat_map stuck_text stuck
 
+-- a customer of a scope
+abbrev pub customer_text : ℕ → List ℕ
+customer_text id = codes " customer " ++ decimal id
+
+-- the word for a kind, between spaces
+abbrev pub kind_text : Kind → List ℕ
+kind_text Car = codes " car "
+kind_text Flight = codes " flight "
+kind_text Room = codes " room "
+
+-- an item of a scope
+abbrev pub item_text : Place → List ℕ
+item_text item = kind_text item.0 ++ decimal item.1
+
+-- the customers and items of a scope
+abbrev pub scope_text : List ℕ → List Place → List ℕ
+scope_text customers items = flat_map customer_text customers ++ flat_map item_text items
+
+-- the number of the line of the first of these calls
+abbrev pub first_number : List (ℕ × Reply) → ℕ
+first_number [] = 0
+first_number (one ∷ others) = one.0
+
+-- the text of the result that a part has no order, with the lines of the blocked calls
+abbrev pub part_text : List ℕ → List Place → List (ℕ × Reply) → List ℕ
+part_text customers items stuck =
+    as_line (codes "illegal part " ++ decimal (first_number stuck) ++ scope_text customers items)
+    ++ flat_map stuck_text stuck
+
 -- the text of the result that the question is undecided
 abbrev pub open_text : ℕ → List ℕ
 open_text most = as_line (codes "undecided " ++ decimal most)
@@ -146,6 +231,7 @@ abbrev pub found_text : List ℕ → FoundOfText → List ℕ
 found_text bytes (Wrong verdict) = verdict_text verdict
 found_text bytes (Order numbers) = order_text bytes numbers
 found_text bytes (NoOrder most stuck) = none_text most stuck
+found_text bytes (IllegalPart customers items stuck) = part_text customers items stuck
 found_text bytes (Undecided most) = open_text most
 
 -- the lines with the texts at these positions of a list

@@ -4,7 +4,7 @@
 -- the lines.
 use Rattle.std.specs.Prelude.{◌≡◌, ℕ, true, Option, IfSome, List, reverse}
 use Rattle.std.specs.Io.KnownBytes.{Appends}
-use Rattle.vac_model.specs.State.{empty_state}
+use Rattle.vac_model.specs.State.{Place, empty_state}
 use Rattle.vac_model.specs.declared.replies.Reply.{Reply}
 use Rattle.judge_calls.specs.declared.verdict.Verdict.TheVariants.{Legal}
 use Rattle.judge_calls.specs.Call.{Call}
@@ -14,7 +14,7 @@ use Rattle.judge_calls.specs.AnyOrder.{IsReordered, IsWholeOrder, order_verdict,
 use Rattle.judge_linear.specs.declared.ordering.Outcome.TheVariants as outcome
 use Rattle.judge_object.specs.Orders.{IsOrderOf, IsLinearizable}
 use Rattle.judge_reservations.specs.Reserving.{reserving}
-use Rattle.judge_linear.specs.Found.{Order, NoOrder, IsFound}
+use Rattle.judge_linear.specs.Found.{Order, NoOrder, IllegalPart, IsFound}
 use Rattle.judge_linear.specs.Ordering.{FindsText, HasOrdered}
 
 -- if an order is found, some order of the calls of the text is a linearization
@@ -27,6 +27,12 @@ OrderIsLinearization = (n steps : ℕ) (bytes : List ℕ) (numbers : List ℕ) �
 abbrev pub NoOrderMeansNone : Type 0
 NoOrderMeansNone = (n steps : ℕ) (bytes : List ℕ) (most : ℕ) (stuck : List (ℕ × Reply)) →
     IsFound n steps bytes (NoOrder most stuck) →
+    (calls : List Call) → Lists bytes calls → IsLinearizable reserving (empty_state n) calls → ⊥
+
+-- if the result is that a part has no order, no order of the calls of the text is a linearization
+abbrev pub IllegalPartMeansNone : Type 0
+IllegalPartMeansNone = (n steps : ℕ) (bytes customers : List ℕ) (items : List Place)
+    (stuck : List (ℕ × Reply)) → IsFound n steps bytes (IllegalPart customers items stuck) →
     (calls : List Call) → Lists bytes calls → IsLinearizable reserving (empty_state n) calls → ⊥
 
 -- a text is a history of these calls, and their order is a linearization, for a system of n

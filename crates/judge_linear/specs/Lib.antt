@@ -3,3 +3,4 @@ pub mod Found
 pub mod Ordering
 pub mod Laws
 pub mod Wrongs
+pub mod Judged

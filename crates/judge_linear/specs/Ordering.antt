@@ -6,7 +6,7 @@ use Rattle.vac_streams.specs.declared.fault.StreamFault.{StreamFault}
 use Rattle.vac_streams.specs.declared.fault.StreamFault.TheVariants as fault
 use Rattle.judge_linear.specs.declared.ordering.Outcome.{Outcome}
 use Rattle.judge_linear.specs.declared.ordering.Outcome.TheVariants as outcome
-use Rattle.judge_linear.specs.Found.{FoundOfText, Wrong, Order, NoOrder, Undecided, IsFound}
+use Rattle.judge_linear.specs.Found.{FoundOfText, Wrong, Order, NoOrder, IllegalPart, Undecided, IsFound}
 use Rattle.judge_linear.specs.Found.{TakesWithin, found_text}
 
 -- the outcome that is returned for a result
@@ -14,6 +14,7 @@ abbrev pub outcome_of : FoundOfText → Outcome
 outcome_of (Wrong verdict) = outcome.Illegal
 outcome_of (Order numbers) = outcome.Ordered
 outcome_of (NoOrder most stuck) = outcome.Illegal
+outcome_of (IllegalPart customers items stuck) = outcome.Illegal
 outcome_of (Undecided most) = outcome.Undecided
 
 -- the text has some result of a search that may make `steps` steps; its output is this

@@ -1,16 +1,18 @@
 //! The texts of the results for a history.
 
-ghost use Rattle.std.specs.Prelude.{◌≡◌, ◌++◌, ◌<◌, All, OnOk, decimal, flat_map, length};
+ghost use Rattle.std.specs.Prelude.{◌≡◌, ◌++◌, ◌<◌, All, OnOk, codes, decimal, flat_map, length};
 ghost use Rattle.vac_lines.specs.Script.{as_line};
 ghost use Rattle.judge_linear.specs.Found.{placed_text, stuck_text, none_text, open_text, told_by};
+ghost use Rattle.judge_linear.specs.Found.{customer_text, kind_text, item_text, scope_text, first_number, part_text};
 ghost use Rattle.judge_linear.specs.Reading.{texts_of, numbers_of};
 
+use crate::part::IllegalPart;
 use judge_object::Line;
 use judge_reservations::Asked;
 use judge_search::Stuck;
 use std::alloc::AllocError;
 use vac_lines::{append_field, print_reply};
-use vac_model::Reply;
+use vac_model::{Kind, Reply};
 
 /// Appends a text and a number as a line.
 fn append_count(out: &mut Vec<u8>, text: &[u8], number: u64) -> Result<(), AllocError>
@@ -90,6 +92,87 @@ pub(crate) fn print_no_order(
         ++ none_text most (told_by (numbers_of lines.now) stuck.now)) }
 {
     append_count(out, b"illegal order ", most)?;
+    print_all_stuck(lines, stuck, out)
+}
+
+/// Returns the word for a kind, between spaces.
+fn kind_field(kind: Kind) -> &'static [u8]
+    ensures { result.now ≡ kind_text kind }
+{
+    match kind {
+        Kind::Car => b" car ",
+        Kind::Flight => b" flight ",
+        Kind::Room => b" room ",
+    }
+}
+
+/// Appends the customers of a scope.
+fn print_customers(customers: &[u32], out: &mut Vec<u8>) -> Result<(), AllocError>
+    ensures { OnOk result
+        (out.new.items ≡ out.old.items ++ flat_map customer_text customers.now) }
+{
+    'customers: for number in 0..customers.len() {
+        append_field(out, b" customer ", customers[number] as u64)?;
+    }
+    Ok(())
+}
+
+/// Appends the items of a scope.
+fn print_items(items: &[(Kind, u32)], out: &mut Vec<u8>) -> Result<(), AllocError>
+    ensures { OnOk result (out.new.items ≡ out.old.items ++ flat_map item_text items.now) }
+{
+    'items: for number in 0..items.len() {
+        let item = items[number];
+        append_field(out, kind_field(item.0), item.1 as u64)?;
+    }
+    Ok(())
+}
+
+/// Returns the number of the line of the first blocked call, or 0 if there is none.
+fn first_of(lines: &[Line<Asked>], stuck: &[Stuck<Reply>]) -> u64
+    ensures { All (λ one. one.place < length lines.now) stuck.now →
+        result ≡ first_number (told_by (numbers_of lines.now) stuck.now) }
+{
+    if stuck.is_empty() {
+        return 0;
+    }
+    let place = stuck[0].place;
+    if place < lines.len() {
+        lines[place].number
+    } else {
+        0
+    }
+}
+
+/// Appends the line of the result that a part on the scope of these customers and items has no
+/// order, with the number of the line of a blocked call.
+fn print_part(
+    number: u64,
+    customers: &[u32],
+    items: &[(Kind, u32)],
+    out: &mut Vec<u8>,
+) -> Result<(), AllocError>
+    ensures { OnOk result (out.new.items ≡ out.old.items ++ as_line (codes "illegal part "
+        ++ decimal number ++ scope_text customers.now items.now)) }
+{
+    append_field(out, b"illegal part ", number)?;
+    print_customers(customers, out)?;
+    print_items(items, out)?;
+    out.extend_from_slice(b"\n")
+}
+
+/// Appends the result that a part of the history has no order.
+pub(crate) fn print_illegal_part(part: &IllegalPart, out: &mut Vec<u8>) -> Result<(), AllocError>
+    ensures { OnOk result (All (λ one. one.place < length part.now.calls.lines.items)
+        part.now.stuck.items → out.new.items ≡ out.old.items
+        ++ part_text part.now.scope.customers.items part.now.scope.items.items
+        (told_by (numbers_of part.now.calls.lines.items) part.now.stuck.items)) }
+{
+    let lines = part.calls.as_slice();
+    let stuck = part.stuck.as_slice();
+    let number = first_of(lines, stuck);
+    let (customers, items) = (part.scope.customers.as_slice(), part.scope.items.as_slice());
+    print_part(number, customers, items, out)?;
     print_all_stuck(lines, stuck, out)
 }
 

@@ -1,11 +1,13 @@
 //! Laws on the results. Each law is the contract of a function that does nothing.
 
 ghost use Rattle.judge_linear.specs.Laws.{OrderIsLinearization, NoOrderMeansNone, OrderIsJudgedLegal};
+ghost use Rattle.judge_linear.specs.Laws.{IllegalPartMeansNone};
 ghost use Rattle.judge_linear.specs.Laws.{FoundIsReordered, CoveredMeansWhole};
 ghost use Rattle.judge_linear.specs.Wrongs.{WrongIsFirst, FirstWrongIsWritten, WrongOrInTurn};
 ghost use Rattle.judge_linear.specs.Wrongs.{OutOfTurnIsLeftOut, OutOfTurnMeansNone};
 
 use judge_calls::{a_covered_order_is_the_whole_workload, a_legal_history_has_this_summary};
+use judge_part::illegal_parts_show_illegal_histories;
 
 /// States that, if an order is found, some order of the calls of the history is a linearization.
 /// In such an order the calls of each client are in their order, and only pending calls are left
@@ -19,6 +21,14 @@ pub fn an_order_that_is_found_is_a_linearization()
 pub fn where_none_is_found_there_is_none()
     ensures { NoOrderMeansNone }
 {}
+
+/// States that, if the result is that a part of the history has no order, no order of the calls of
+/// the history is a linearization.
+pub fn an_illegal_part_means_no_order()
+    ensures { IllegalPartMeansNone }
+{
+    illegal_parts_show_illegal_histories();
+}
 
 /// States that the text written for a history with a found order is a history that the judge calls
 /// legal, with the number of its calls and of its clients and the report of the state that they

@@ -7,13 +7,15 @@ mod history;
 mod laws;
 mod order;
 mod ordering;
+mod part;
 mod reading;
 
 pub use laws::{
     a_call_out_of_turn_is_left_out, a_completed_call_out_of_turn_means_no_order,
     a_covered_workload_is_whole_in_some_order, a_text_is_in_turn_or_has_a_wrong_line,
-    a_wrong_line_is_the_first, an_order_that_is_found_is_a_linearization,
-    an_order_that_is_found_is_written, an_order_that_is_written_is_judged_legal,
-    the_first_wrong_line_is_written, where_none_is_found_there_is_none,
+    a_wrong_line_is_the_first, an_illegal_part_means_no_order,
+    an_order_that_is_found_is_a_linearization, an_order_that_is_found_is_written,
+    an_order_that_is_written_is_judged_legal, the_first_wrong_line_is_written,
+    where_none_is_found_there_is_none,
 };
 pub use ordering::{Outcome, STEPS, order_history};

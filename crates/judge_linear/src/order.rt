@@ -3,13 +3,13 @@
 ghost use Rattle.std.specs.Prelude.{◌≡◌, IfOk, IfSome};
 ghost use Rattle.judge_reservations.specs.Reserving.{reserving};
 ghost use Rattle.judge_search.specs.Calls.{calls_of};
-ghost use Rattle.judge_search.specs.Judging.{IsLinearizedBy, IsFoundOfCalls};
-ghost use Rattle.judge_linear.specs.Found.{RunsWithin};
-ghost use Rattle.judge_search.specs.Point.{point_at};
+ghost use Rattle.judge_search.specs.Judging.{IsLinearizedBy};
 ghost use Rattle.judge_search.specs.Walk.{IsWhole};
+ghost use Rattle.judge_linear.specs.Judged.{IsJudged};
 ghost use Rattle.judge_linear.specs.Reading.{IsHeld, AreKeptLines};
 
 use crate::history::History;
+use crate::part::{IllegalPart, find_illegal_part};
 use judge_heuristic::find_quickly;
 use judge_object::{Object, Watcher};
 use judge_reservations::{Asked, Reservations};
@@ -39,32 +39,41 @@ fn checked_order(
     Ok(None)
 }
 
+/// The finding on the calls of a history.
+#[derive(Drop)]
+pub(crate) enum Judged {
+    /// The finding of a search of all calls, and the number of steps of the exact search.
+    Whole(Found<Point<Reservations>>),
+    /// A part of the history has no order.
+    Part(IllegalPart),
+}
+
 /// Searches for a linearization of the calls from a state on. The quick search proposes an order,
-/// which is checked; if the proposal fails, the exact search follows. Each search makes at most
-/// `steps` steps.
+/// which is checked; if the proposal fails, parts of the history are searched, and then the exact
+/// search follows. Each search of all calls or of a checked part makes at most `steps` steps.
 fn judge_order<P: Watcher>(
     alloc: Global,
     calls: &Calls<Asked>,
     machine: Reservations,
     steps: u64,
     watcher: &mut P,
-) -> Result<Found<Point<Reservations>>, AllocError>
+) -> Result<Judged, AllocError>
     requires whole { IsWhole (calls_of calls.now.lines.items) }
-    ensures judged { IfOk result (λ found.
-        IsFoundOfCalls reserving (point_at reserving calls.now) machine
-        (calls_of calls.now.lines.items) steps found.finding) }
-    ensures within { IfOk result (λ _.
-        RunsWithin machine (calls_of calls.now.lines.items) steps) }
+    ensures { IfOk result (IsJudged machine calls.now steps) }
 {
     let proposed = find_quickly(alloc, calls.as_slice(), machine.copy()?, steps, watcher)?;
     let first = machine.copy()?;
     if let Some(places) = checked_order(alloc, first, calls, proposed)? {
-        return Ok(Found {
+        return Ok(Judged::Whole(Found {
             finding: Finding::Order(places),
             steps: 0,
-        });
+        }));
     }
-    find_linearization(alloc, calls, machine, steps, watcher)
+    if let Some(part) = find_illegal_part(alloc, calls, steps, watcher)? {
+        return Ok(Judged::Part(part));
+    }
+    let found = find_linearization(alloc, calls, machine, steps, watcher)?;
+    Ok(Judged::Whole(found))
 }
 
 /// The calls of a history as the search keeps them, and the finding of the search, which names
@@ -73,8 +82,8 @@ fn judge_order<P: Watcher>(
 pub(crate) struct Ordered {
     /// The calls in the order in which they ended.
     pub calls: Calls<Asked>,
-    /// The finding of the search, and the number of steps of the exact search.
-    pub found: Found<Point<Reservations>>,
+    /// The finding of the searches.
+    pub judged: Judged,
 }
 
 /// Searches for a linearization of the calls of a history from a state on, in at most `steps`
@@ -90,12 +99,9 @@ pub(crate) fn judge_lines<P: Watcher>(
     ensures kept { IfOk result (λ ordered.
         AreKeptLines history.lines.items ordered.calls.lines.items) }
     ensures judged { IfOk result (λ ordered.
-        IsFoundOfCalls reserving (point_at reserving ordered.calls) machine
-        (calls_of ordered.calls.lines.items) steps ordered.found.finding) }
-    ensures within { IfOk result (λ ordered.
-        RunsWithin machine (calls_of ordered.calls.lines.items) steps) }
+        IsJudged machine ordered.calls steps ordered.judged) }
 {
     let calls = Calls::new(alloc, history.lines)?;
-    let found = judge_order(alloc, &calls, machine, steps, watcher)?;
-    Ok(Ordered { calls, found })
+    let judged = judge_order(alloc, &calls, machine, steps, watcher)?;
+    Ok(Ordered { calls, judged })
 }

@@ -9,20 +9,21 @@ ghost use Rattle.judge_calls.specs.Laws.{Lists};
 ghost use Rattle.vac_streams.specs.declared.fault.StreamFault.TheVariants.{Write};
 ghost use Rattle.vac_model.specs.declared.tasks.Task.{Task};
 ghost use Rattle.judge_search.specs.Calls.{calls_of};
-ghost use Rattle.judge_search.specs.Judging.{IsFoundOfCalls};
+ghost use Rattle.judge_search.specs.Judging.{IsFoundIn};
 ghost use Rattle.judge_search.specs.Point.{point_at};
 ghost use Rattle.judge_linear.specs.Reading.{IsHeld, AreKeptLines, texts_of, first_wrong};
-ghost use Rattle.judge_linear.specs.Found.{RunsWithin};
+ghost use Rattle.judge_linear.specs.Judged.{IsJudged};
 ghost use Rattle.judge_linear.specs.Ordering.{FindsText, HasText, HasOrdered, HasStoppedOrdering};
 
-use crate::found::{print_no_order, print_order, print_undecided};
+use crate::found::{print_illegal_part, print_no_order, print_order, print_undecided};
 use crate::history::History;
-use crate::order::{Ordered, judge_lines};
+use crate::order::{Judged, Ordered, judge_lines};
+use crate::part::open;
 use crate::reading::{Reading, read_history};
 use judge_calls::print_verdict;
 use judge_object::Watcher;
-use judge_reservations::Reservations;
-use judge_search::{Finding, stuck_calls};
+use judge_reservations::{Asked, Reservations};
+use judge_search::{Calls, Finding, Found, Point, stuck_calls};
 use std::alloc::{AllocError, Global};
 use std::io::{Read, Write};
 use vac_lines::write_and_flush;
@@ -44,16 +45,36 @@ pub enum Outcome {
     Undecided,
 }
 
-/// Returns the state of a system without entries. The number of blocks is in range, so the one
-/// refusal left is that of memory.
-fn open(alloc: Global, blocks: u32) -> Result<Reservations, AllocError>
-    requires some { 1 ≤ blocks }
-    requires most { blocks ≤ MOST_BLOCKS }
-    ensures { IfOk result (λ machine. machine ≡ empty_state blocks) }
+/// Writes the text of the finding of a search of all calls into `text`, which is empty before.
+fn print_whole(
+    alloc: Global,
+    calls: &Calls<Asked>,
+    found: &Found<Point<Reservations>>,
+    text: &mut Vec<u8>,
+) -> Result<Outcome, AllocError>
+    ensures { IfOk result (λ outcome. (lines : List (Line Task)) (n steps : ℕ) (bytes : List ℕ) →
+        AreKeptLines lines calls.now.lines.items →
+        IsFoundIn reserving (point_at reserving calls.now) (empty_state n)
+        (calls_of calls.now.lines.items) steps found.now →
+        texts_of lines ≡ lines_of bytes →
+        Lists bytes (calls_of lines) → first_wrong bytes ≡ None → text.old.items ≡ [] →
+        FindsText n steps bytes outcome text.new.items) }
 {
-    match Reservations::new(alloc, blocks) {
-        Ok(machine) => Ok(machine),
-        Err(_) => Err(AllocError),
+    let lines = calls.as_slice();
+    match &found.finding {
+        Finding::Order(places) => {
+            print_order(lines, places.as_slice(), text)?;
+            Ok(Outcome::Ordered)
+        }
+        Finding::NoOrder(most, point) => {
+            let stuck = stuck_calls(alloc, calls, point)?;
+            print_no_order(*most, lines, stuck.as_slice(), text)?;
+            Ok(Outcome::Illegal)
+        }
+        Finding::Unknown(most) => {
+            print_undecided(*most, text)?;
+            Ok(Outcome::Undecided)
+        }
     }
 }
 
@@ -64,29 +85,17 @@ fn print_finding(
     text: &mut Vec<u8>,
 ) -> Result<Outcome, AllocError>
     ensures { IfOk result (λ outcome. (lines : List (Line Task)) (n steps : ℕ) (bytes : List ℕ) →
-        AreKeptLines lines ordered.now.calls.lines.items →
-        IsFoundOfCalls reserving (point_at reserving ordered.now.calls) (empty_state n)
-        (calls_of ordered.now.calls.lines.items)
-        steps ordered.now.found.finding →
-        RunsWithin (empty_state n) (calls_of ordered.now.calls.lines.items) steps →
+        n ≤ MOST_BLOCKS → AreKeptLines lines ordered.now.calls.lines.items →
+        IsJudged (empty_state n) ordered.now.calls steps ordered.now.judged →
         texts_of lines ≡ lines_of bytes →
         Lists bytes (calls_of lines) → first_wrong bytes ≡ None → text.old.items ≡ [] →
         FindsText n steps bytes outcome text.new.items) }
 {
-    let lines = ordered.calls.as_slice();
-    match &ordered.found.finding {
-        Finding::Order(places) => {
-            print_order(lines, places.as_slice(), text)?;
-            Ok(Outcome::Ordered)
-        }
-        Finding::NoOrder(most, point) => {
-            let stuck = stuck_calls(alloc, &ordered.calls, point)?;
-            print_no_order(*most, lines, stuck.as_slice(), text)?;
+    match &ordered.judged {
+        Judged::Whole(found) => print_whole(alloc, &ordered.calls, found, text),
+        Judged::Part(part) => {
+            print_illegal_part(part, text)?;
             Ok(Outcome::Illegal)
-        }
-        Finding::Unknown(most) => {
-            print_undecided(*most, text)?;
-            Ok(Outcome::Undecided)
         }
     }
 }

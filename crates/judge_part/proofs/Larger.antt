@@ -38,7 +38,7 @@ pub record Under (one other : Scope) : Type 0 where
   pub closed : (q : Place) → is_closed one q ≡ true → is_closed other q ≡ true
   pub whole : (c : ℕ) → is_whole one c ≡ true → is_whole other c ≡ true
 
-no : {X : Type 0} → false ≡ true → X
+pub no : {X : Type 0} → false ≡ true → X
 no e = absurd (let never : false ≡ true = e in cc)
 
 fewer_not : (h a b : Bool) → (a ≡ true → b ≡ true) → (h || not b) ≡ true → (h || not a) ≡ true
@@ -188,21 +188,21 @@ module _ (one other : Scope) (u : Under one other) where
   parts_more calls e = all_more (has_part other) (has_part one) part_more calls e
 
 -- one item, or one customer
-same_place : (p q : Place) → (kind_number p.0 == kind_number q.0 && p.1 == q.1) ≡ true → p ≡ q
+pub same_place : (p q : Place) → (kind_number p.0 == kind_number q.0 && p.1 == q.1) ≡ true → p ≡ q
 same_place p q e =
     let both = both_true (kind_number p.0 == kind_number q.0) (p.1 == q.1) e in
     let kind = same_kind p.0 q.0 both.0 in
     let id = eq_true p.1 q.1 both.1 in
     λ k. (kind k, id k)
 
-or_false : (a b : Bool) → (a || b) ≡ true → b ≡ false → a ≡ true
+pub or_false : (a b : Bool) → (a || b) ≡ true → b ≡ false → a ≡ true
 or_false true b e f = refl
 or_false false b e f = no (sym f ∙ e)
 
-and_right : (a b : Bool) → (a && b) ≡ true → b ≡ true
+pub and_right : (a b : Bool) → (a && b) ≡ true → b ≡ true
 and_right a b e = (both_true a b e).1
 
-and_left : (a b : Bool) → (a && b) ≡ true → a ≡ true
+pub and_left : (a b : Bool) → (a && b) ≡ true → a ≡ true
 and_left a b e = (both_true a b e).0
 
 module _ (customers : List ℕ) (items : List Place) (calls : List (Call Task)) (one : Scope)
@@ -251,11 +251,11 @@ either_of : (a b : Bool) → (a || b) ≡ true → a ≡ false → b ≡ true
 either_of true b e f = no (sym f ∙ e)
 either_of false b e f = e
 
-place_join : (q : Place) (xs ys : List Place) →
+pub place_join : (q : Place) (xs ys : List Place) →
     is_place_among (xs ++ ys) q ≡ (is_place_among xs q || is_place_among ys q)
 place_join q xs ys = list_any-append (λ (x : Place). kind_number x.0 == kind_number q.0 && x.1 == q.1) xs ys
 
-customer_join : (c : ℕ) (xs ys : List ℕ) → is_among (xs ++ ys) c ≡ (is_among xs c || is_among ys c)
+pub customer_join : (c : ℕ) (xs ys : List ℕ) → is_among (xs ++ ys) c ≡ (is_among xs c || is_among ys c)
 customer_join c xs ys = list_any-append (λ (x : ℕ). x == c) xs ys
 
 module _ (customers : List ℕ) (items : List Place) (calls : List (Call Task)) where

@@ -18,3 +18,4 @@ pub mod TaskRanges
 pub mod Whole
 pub mod Numbered
 pub mod Larger
+pub mod Joined

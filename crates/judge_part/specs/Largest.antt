@@ -27,3 +27,33 @@ HasAllClosed customers items calls closed =
 abbrev pub HasAllWhole : List ℕ → List Place → List (Call Task) → List ℕ → Type 0
 HasAllWhole customers items calls whole = (other : Scope) → IsScopeOf customers items calls other →
     (c : ℕ) → is_whole other c ≡ true → is_among whole c ≡ true
+
+-- this item is closed on some scope of these customers and items, on which all calls have parts
+pub record MayClose (customers : List ℕ) (items : List Place) (calls : List (Call Task))
+    (place : Place) : Type 0 where
+  pub scope : Scope
+  pub is_scope : IsScopeOf customers items calls scope
+  pub closed : is_place_among scope.closed.items place ≡ true
+
+-- each of these items is closed on some scope of these customers and items, on which all calls have
+-- parts
+abbrev pub MayCloseEach : List ℕ → List Place → List (Call Task) → List Place → Type 0
+MayCloseEach customers items calls closed = (place : Place) →
+    is_place_among closed place ≡ true → MayClose customers items calls place
+
+-- this customer is whole on some scope of these customers and items, on which all calls have parts
+pub record MayBeWhole (customers : List ℕ) (items : List Place) (calls : List (Call Task)) (c : ℕ)
+    : Type 0 where
+  pub scope : Scope
+  pub is_scope : IsScopeOf customers items calls scope
+  pub whole : is_among scope.whole.items c ≡ true
+
+-- each of these customers is whole on some scope of these customers and items, on which all calls
+-- have parts
+abbrev pub MayBeWholeEach : List ℕ → List Place → List (Call Task) → List ℕ → Type 0
+MayBeWholeEach customers items calls whole = (c : ℕ) →
+    is_among whole c ≡ true → MayBeWhole customers items calls c
+
+-- no scope of these customers and items has parts of all calls
+abbrev pub HasNoScope : List ℕ → List Place → List (Call Task) → Type 0
+HasNoScope customers items calls = (scope : Scope) → IsScopeOf customers items calls scope → ⊥

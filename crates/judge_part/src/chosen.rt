@@ -1,6 +1,6 @@
 //! Scopes with the closed items and whole customers that a history has.
 
-ghost use Rattle.std.specs.Prelude.{◌≡◌, ◌++◌, ◌∷◌, [], true, IfOk, IfSome, OnOk, if◌then◌else◌};
+ghost use Rattle.std.specs.Prelude.{◌≡◌, ◌++◌, ◌∷◌, [], true, IfOk, IfSome, None, OnOk, if◌then◌else◌};
 ghost use Rattle.std.specs.List.{list_all};
 ghost use Rattle.judge_part.specs.declared.scope.Scope.{Scope};
 ghost use Rattle.judge_part.specs.Scopes.{is_closed, is_whole};
@@ -18,10 +18,8 @@ use vac_model::Kind;
 /// Returns the scope of some customers and items, on which all calls of a history have parts: the
 /// items that only customers of the scope book are closed, and the customers that only book items
 /// of the scope are whole. No scope of these customers and items, on which all calls have parts,
-/// has more closed items or whole customers. Returns `None` if a pending call has no part on the
-/// scope.
-///
-/// Not said: that `None` is returned only then.
+/// has more closed items or whole customers. Returns `None` if and only if no scope of these
+/// customers and items has parts of all calls.
 pub fn scope_of(
     alloc: Global,
     customers: &[u32],
@@ -36,6 +34,8 @@ pub fn scope_of(
     ensures whole { IfOk result (λ found. IfSome found (λ scope.
         largest.HasAllWhole customers.now items.now (spec.calls_of lines.now)
         scope.whole.items)) }
+    ensures none { IfOk result (λ found. found ≡ None →
+        largest.HasNoScope customers.now items.now (spec.calls_of lines.now)) }
 {
     let closed = closed_items(alloc, customers, items, lines)?;
     let whole = whole_customers(alloc, customers, items, lines)?;
@@ -59,8 +59,10 @@ fn closed_items(
     items: &[(Kind, u32)],
     lines: &[Line<Asked>],
 ) -> Result<Vec<(Kind, u32)>, AllocError>
-    ensures { IfOk result (λ closed.
+    ensures all { IfOk result (λ closed.
         largest.HasAllClosed customers.now items.now (spec.calls_of lines.now) closed.items) }
+    ensures each { IfOk result (λ closed.
+        largest.MayCloseEach customers.now items.now (spec.calls_of lines.now) closed.items) }
 {
     let mut closed = Vec::new(alloc);
     'items: for at in 0..items.len() {
@@ -78,8 +80,10 @@ fn whole_customers(
     items: &[(Kind, u32)],
     lines: &[Line<Asked>],
 ) -> Result<Vec<u32>, AllocError>
-    ensures { IfOk result (λ whole.
+    ensures all { IfOk result (λ whole.
         largest.HasAllWhole customers.now items.now (spec.calls_of lines.now) whole.items) }
+    ensures each { IfOk result (λ whole.
+        largest.MayBeWholeEach customers.now items.now (spec.calls_of lines.now) whole.items) }
 {
     let mut whole = Vec::new(alloc);
     'customers: for at in 0..customers.len() {
@@ -109,9 +113,11 @@ fn is_shut(
     item: (Kind, u32),
     lines: &[Line<Asked>],
 ) -> Result<bool, AllocError>
-    ensures { IfOk result (λ shut. (other : Scope) →
+    ensures all { IfOk result (λ shut. (other : Scope) →
         largest.IsScopeOf customers.now items.now (spec.calls_of lines.now) other →
         is_closed other item ≡ true → shut ≡ true) }
+    ensures each { IfOk result (λ shut. shut ≡ true →
+        largest.MayClose customers.now items.now (spec.calls_of lines.now) item) }
 {
     let scope = Scope {
         customers: Vec::from_slice(alloc, customers)?,
@@ -130,9 +136,11 @@ fn is_own(
     customer: u32,
     lines: &[Line<Asked>],
 ) -> Result<bool, AllocError>
-    ensures { IfOk result (λ own. (other : Scope) →
+    ensures all { IfOk result (λ own. (other : Scope) →
         largest.IsScopeOf customers.now items.now (spec.calls_of lines.now) other →
         is_whole other customer ≡ true → own ≡ true) }
+    ensures each { IfOk result (λ own. own ≡ true →
+        largest.MayBeWhole customers.now items.now (spec.calls_of lines.now) customer) }
 {
     let scope = Scope {
         customers: Vec::from_slice(alloc, customers)?,

@@ -40,6 +40,18 @@ const PENDING_TRIP: &[Row] = &[
     (1, 3, 0, "trip 7 car 1", "?"),
 ];
 
+/// A history in which customer 7 alone books cars 1 and 2, and customer 8 books car 3.
+const TWO_CARS: &[Row] = &[
+    (1, 1, 2, "newcust 7", "true"),
+    (1, 3, 4, "add car 1 1 50", "true"),
+    (1, 5, 6, "add car 2 5 9", "true"),
+    (2, 5, 6, "newcust 8", "true"),
+    (2, 7, 8, "add car 3 5 9", "true"),
+    (1, 7, 8, "reserve 7 car 1", "true"),
+    (1, 9, 10, "reserve 7 car 2", "true"),
+    (2, 9, 10, "reserve 8 car 3", "true"),
+];
+
 /// Makes the line of a row.
 fn line_of(rt: &impl Abort, alloc: Global, number: u64, row: &Row) -> Line<Asked> {
     let op = Asked::new(read_line(alloc, row.3.as_bytes()).expect(rt, "the line is a task"));
@@ -125,4 +137,22 @@ fn a_history_without_a_part(rt: HostRuntime) {
         "there is memory",
     );
     assert!(rt; found.is_none());
+    let other = scope_of(alloc, &[7], &[(Kind::Car, 2)], lines.as_slice())
+        .expect(&rt, "there is memory")
+        .expect(&rt, "the trip asks for no item of this scope");
+    assert!(rt; !other.is_whole(7));
+}
+
+#[test]
+fn items_that_are_closed_together(rt: HostRuntime) {
+    let alloc = rt.alloc();
+    let lines = lines_of(&rt, alloc, TWO_CARS);
+    let cars = [(Kind::Car, 1), (Kind::Car, 2), (Kind::Car, 3)];
+    let scope = scope_of(alloc, &[7], &cars, lines.as_slice())
+        .expect(&rt, "there is memory")
+        .expect(&rt, "all calls have parts");
+    assert!(rt; scope.is_closed(Kind::Car, 1));
+    assert!(rt; scope.is_closed(Kind::Car, 2));
+    assert!(rt; !scope.is_closed(Kind::Car, 3));
+    assert!(rt; scope.is_whole(7));
 }

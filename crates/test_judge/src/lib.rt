@@ -7,3 +7,5 @@ mod commands;
 mod fitting;
 #[cfg(test)]
 mod history;
+#[cfg(test)]
+mod parts_first;

@@ -1,69 +1,35 @@
-use Rattle.std.proofs.Common.{◌<◌, ◌++◌, List, length, sym, ap, ◌∙◌, subst}
-use Rattle.std.specs.Prelude.{All}
+use Rattle.std.proofs.Common.{◌<◌, ◌++◌, Result, Ok, Err, length, ap, ◌∙◌, subst}
+use Rattle.std.specs.Prelude.{All, IfOk}
 use Rattle.std.proofs.lemmas.List.{length-map}
-use Rattle.judge_object.specs.declared.line.Line.{Line}
 use Rattle.judge_search.specs.declared.stuck.Stuck.{Stuck}
-use Rattle.judge_search.specs.Calls.{call_of, calls_of}
-use Rattle.judge_search.specs.Point.{made_of, point_at}
-use Rattle.judge_search.specs.Judging.{IsFoundOfCalls}
-use Rattle.judge_linear.specs.Reading.{texts_of, numbers_of}
-use Rattle.judge_linear.specs.Found.{placed_text, told_by, none_text, open_text}
-use Rattle.judge_reservations.specs.Reserving.{reserving}
+use Rattle.judge_search.specs.Calls.{call_of}
+use Rattle.judge_linear.specs.Judged.{IsJudged}
+use Rattle.judge_linear.specs.Reading.{numbers_of}
+use Rattle.judge_linear.specs.Found.{part_text, told_by}
 use Rattle.vac_model.specs.State.{empty_state}
-use Rattle.judge_linear.proofs.Founds.{finds_order, finds_none, finds_nothing}
-use Rattle.judge_linear.proofs.ordering.print_finding.Goals as goal
-use Rattle.vac_model.specs.declared.tasks.Task.{Task}
 use Rattle.vac_model.specs.declared.replies.Reply.{Reply}
+use Rattle.judge_linear.proofs.Founds.{finds_part}
+use Rattle.judge_linear.proofs.ordering.print_finding.Goals as goal
 
-pub returns-in_ok-print_order-in-Order : goal.returns-in_ok-print_order-in-Order
-returns-in_ok-print_order-in-Order c = λ lines n steps bytes k j runs texts listed right none.
-    let calls = c.args.ordered.now.calls in
-    let kept = calls.lines.items in
-    let places = c.in-Order.places.items in
-    let found = subst (IsFoundOfCalls reserving (point_at reserving calls) (empty_state n) (calls_of kept) steps)
-    c.in-Order.is j in
-    let within : All (λ p. p < length c.as_slice-lines.result.now) c.as_slice.result.now =
-    subst (λ (s : List (Line Task)). All (λ p. p < length s) c.as_slice.result.now) (sym c.as_slice-lines.ensures)
-    (subst (λ l. All (λ p. p < length kept) l) (sym c.as_slice.ensures.value)
-    (subst (λ m. All (λ p. p < m) places) (length-map kept call_of) found.within)) in
-    finds_order lines kept k bytes texts listed right n steps places c.print_order.new.out.items runs found
-    (c.in_ok-print_order-in-Order.ensures within
-    ∙ ap (λ t. t ++ placed_text (texts_of c.as_slice-lines.result.now) c.as_slice.result.now) none
-    ∙ ap (λ (s : List (Line Task)). placed_text (texts_of s) c.as_slice.result.now) c.as_slice-lines.ensures
-    ∙ ap (placed_text (texts_of kept)) c.as_slice.ensures.value)
+if_ok : {A E : Type 0} {P Q : A → Type 0} → ((x : A) → P x → Q x) → (r : Result A E) → IfOk r P → IfOk r Q
+if_ok f (Ok x) h = f x h
+if_ok f (Err e) h = tt
 
-pub returns-in_ok-print_no_order-in-NoOrder : goal.returns-in_ok-print_no_order-in-NoOrder
-returns-in_ok-print_no_order-in-NoOrder c = λ lines n steps bytes k j runs texts listed right none.
-    let calls = c.args.ordered.now.calls in
-    let kept = calls.lines.items in
-    let most = c.in-NoOrder.most in
-    let point = c.in-NoOrder.point in
-    let stuck = c.in_ok-stuck-in-NoOrder.stuck.items in
-    let are = c.in_ok-stuck-in-NoOrder.ensures in
-    let found = subst (IsFoundOfCalls reserving (point_at reserving calls) (empty_state n) (calls_of kept) steps)
-    c.in-NoOrder.is j in
-    let within : All (λ (one : Stuck Reply). one.place < length c.as_slice-lines.result.now)
-    c.as_slice-in-NoOrder.result.now
-    =
-    subst (λ (s : List (Line Task)). All (λ (one : Stuck Reply). one.place < length s) c.as_slice-in-NoOrder.result.now)
-    (sym c.as_slice-lines.ensures)
-    (subst (λ l. All (λ (one : Stuck Reply). one.place < length kept) l) (sym c.as_slice-in-NoOrder.ensures.value)
-    (subst (λ m. All (λ (one : Stuck Reply). one.place < m) stuck) (length-map kept call_of) are.within)) in
-    finds_none lines kept k bytes texts listed right n steps most (made_of point)
-    point.machine stuck c.print_no_order.new.out.items runs found are
-    (c.in_ok-print_no_order-in-NoOrder.ensures within
-    ∙ ap (λ t. t ++ none_text most (told_by (numbers_of c.as_slice-lines.result.now) c.as_slice-in-NoOrder.result.now))
-    none
-    ∙ ap (λ (s : List (Line Task)). none_text most (told_by (numbers_of s) c.as_slice-in-NoOrder.result.now))
-    c.as_slice-lines.ensures
-    ∙ ap (λ l. none_text most (told_by (numbers_of kept) l)) c.as_slice-in-NoOrder.ensures.value)
+pub returns-in-Whole : goal.returns-in-Whole
+returns-in-Whole c = if_ok (λ outcome h lines n steps bytes few k j texts listed right none.
+    h lines n steps bytes k
+    (subst (IsJudged (empty_state n) c.args.ordered.now.calls steps) c.in-Whole.is j) texts listed right none)
+    c.print_whole.result c.print_whole.ensures
 
-pub returns-in_ok-print_undecided-in-Unknown : goal.returns-in_ok-print_undecided-in-Unknown
-returns-in_ok-print_undecided-in-Unknown c = λ lines n steps bytes k j runs texts listed right none.
-    let calls = c.args.ordered.now.calls in
-    let kept = calls.lines.items in
-    let found = subst (IsFoundOfCalls reserving (point_at reserving calls) (empty_state n) (calls_of kept) steps)
-    c.in-Unknown.is j in
-    finds_nothing lines kept k bytes texts listed right n steps c.in-Unknown.most c.print_undecided.new.out.items runs
-    found
-    (c.in_ok-print_undecided-in-Unknown.ensures ∙ ap (λ t. t ++ open_text c.in-Unknown.most) none)
+pub returns-in_ok-print_illegal_part-in-Part : goal.returns-in_ok-print_illegal_part-in-Part
+returns-in_ok-print_illegal_part-in-Part c = λ lines n steps bytes few k j texts listed right none.
+    let part = c.in-Part.part in
+    let sorted = part.calls.lines.items in
+    let h = subst (IsJudged (empty_state n) c.args.ordered.now.calls steps) c.in-Part.is j in
+    let within : All (λ (one : Stuck Reply). one.place < length sorted) part.stuck.items =
+    subst (λ m. All (λ (one : Stuck Reply). one.place < m) part.stuck.items) (length-map sorted call_of) h.are.within in
+    finds_part lines c.args.ordered.now.calls.lines.items k bytes texts listed right n steps part
+    c.print_illegal_part.new.out.items few h
+    (c.in_ok-print_illegal_part-in-Part.ensures within
+    ∙ ap (λ t. t ++ part_text part.scope.customers.items part.scope.items.items
+    (told_by (numbers_of sorted) part.stuck.items)) none)

@@ -1,0 +1,209 @@
+-- The part of a history: its calls take their clients' turns, and are parts of the lines with their numbers.
+use Rattle.std.proofs.Common.{◌≡◌, ℕ, ◌≤◌, List, [], ◌∷◌, length, map, refl, sym, ap, ◌∙◌, subst, arith}
+use Rattle.std.proofs.Common.{Option, Some, None, is_some}
+use Rattle.std.specs.Prelude.{All}
+use Rattle.std.specs.List.{filter_map, cons_option}
+use Rattle.std.specs.Option.{option_map}
+use Rattle.std.proofs.lemmas.List.{length-map}
+use Rattle.std.proofs.lemmas.List.Elements.{All-cons, All-head, All-tail, All-nil}
+use Rattle.std.proofs.lemmas.List.Sorted.{All-permutation}
+use Rattle.vac_model.specs.declared.tasks.Task.{Task}
+use Rattle.judge_object.specs.declared.line.Line.{Line}
+use Rattle.judge_object.specs.Call.{Call, IsBehind, EachCall, is_answered}
+use Rattle.judge_part.specs.declared.scope.Scope.{Scope}
+use Rattle.judge_part.specs.Tasks.{Answered}
+use Rattle.judge_part.specs.Completed.{task_part}
+use Rattle.judge_part.specs.Pending.{pending_part}
+use Rattle.judge_part.specs.Histories.{with_answered, with_pending, replied_part, part_of_call, part_of_history}
+use Rattle.judge_part.specs.Lines.{numbered, line_part}
+use Rattle.judge_search.specs.Calls.{call_of, calls_of, soonest_of}
+use Rattle.judge_search.specs.Sorting.{AreSortOf}
+use Rattle.judge_search.specs.Walk.{InTurn, IsTimed, IsWhole}
+use Rattle.judge_linear.specs.Reading.{numbers_of, IsLineAt}
+use Rattle.judge_linear.specs.Found.{IsPartAt, ArePartsAt}
+use Rattle.judge_linear.specs.Judged.{HasNoOrderOf}
+use Rattle.judge_linear.specs.declared.part.IllegalPart.{IllegalPart}
+use Rattle.std.specs.Prelude.{true}
+use Rattle.std.specs.List.{list_all}
+use Rattle.vac_model.specs.declared.limits.TheConstants.{MOST_BLOCKS}
+use Rattle.vac_model.specs.State.{empty_state}
+use Rattle.judge_object.specs.Orders.{IsMerge, IsLinearizable}
+use Rattle.judge_part.specs.Lines.{has_part}
+use Rattle.judge_reservations.specs.Reserving.{reserving}
+use Rattle.judge_search.specs.declared.point.Point.{Point}
+use Rattle.judge_search.specs.Judging.{HasNoOrder}
+use Rattle.judge_search.specs.Point.{made_of, point_at}
+use Rattle.judge_search.specs.Stuck.{AreStuck}
+use Rattle.judge_search.proofs.Judged.{whole_kept, none_given}
+use Rattle.vac_model.specs.State.{State}
+
+none_some : {X : Type 0} (x : X) → None ≡ Some x → ⊥
+none_some x e = cc
+
+some_same : {X : Type 0} (x y : X) → Some x ≡ Some y → x ≡ y
+some_same x y e = cc
+
+-- a call in the place of another
+record Stands (c d : Call Task) : Type 0 where
+  pub client : d.client ≡ c.client
+  pub begin : d.begin ≡ c.begin
+  pub end : d.end ≡ c.end
+  pub answered : is_answered d ≡ is_answered c
+
+completed : (c d : Call Task) (text : List ℕ) (o : Option Answered) → c.reply ≡ Some text →
+    option_map (with_answered c) o ≡ Some d → Stands c d
+completed c d text None r e = absurd (none_some d e)
+completed c d text (Some a) r e =
+    subst (Stands c) (some_same (with_answered c a) d e)
+    (record { client = refl; begin = refl; end = refl; answered = sym (ap (λ (x : Option (List ℕ)). is_some x) r) })
+
+pending : (c d : Call Task) (o : Option Task) → c.reply ≡ None → option_map (with_pending c) o ≡ Some d → Stands c d
+pending c d None r e = absurd (none_some d e)
+pending c d (Some t) r e =
+    subst (Stands c) (some_same (with_pending c t) d e)
+    (record { client = refl; begin = refl; end = refl; answered = sym (ap (λ (x : Option (List ℕ)). is_some x) r) })
+
+stands : (scope : Scope) (c d : Call Task) → part_of_call scope c ≡ Some d → Stands c d
+stands scope c d e = go c.reply refl e
+  where
+    go : (given : Option (List ℕ)) → c.reply ≡ given → replied_part scope c given ≡ Some d → Stands c d
+    go None r e = pending c d (pending_part scope c.op) r e
+    go (Some text) r e = completed c d text (task_part scope c.op text) r e
+
+-- what holds of each call holds of each part
+each_part : (scope : Scope) (P Q : Call Task → Type 0) → ((c d : Call Task) → Stands c d → P c → Q d) →
+    (cs : List (Call Task)) → EachCall P cs → EachCall Q (part_of_history scope cs)
+each_part scope P Q f [] h = tt
+each_part scope P Q f (c ∷ cs) h = go (part_of_call scope c) refl (each_part scope P Q f cs h.1)
+  where
+    go : (o : Option (Call Task)) → part_of_call scope c ≡ o → EachCall Q (part_of_history scope cs) →
+        EachCall Q (cons_option o (part_of_history scope cs))
+    go None e rest = rest
+    go (Some d) e rest = (f c d (stands scope c d e) h.0, rest)
+
+behind : (c d : Call Task) → Stands c d → (x y : Call Task) → Stands x y → IsBehind x c → IsBehind y d
+behind c d s x y t h = λ client.
+    let was : c.end ≤ x.begin = h (sym s.client ∙ client ∙ t.client) in
+    omega (arith, was, s.end, t.begin)
+
+turn_part : (scope : Scope) (cs : List (Call Task)) → InTurn cs → InTurn (part_of_history scope cs)
+turn_part scope [] h = tt
+turn_part scope (c ∷ cs) h = go (part_of_call scope c) refl (turn_part scope cs h.2)
+  where
+    go : (o : Option (Call Task)) → part_of_call scope c ≡ o → InTurn (part_of_history scope cs) →
+        InTurn (cons_option o (part_of_history scope cs))
+    go None e rest = rest
+    go (Some d) e rest =
+        let s = stands scope c d e in
+        let time : d.begin ≤ d.end = omega (arith, h.0, s.begin, s.end) in
+        (time, each_part scope (λ x. IsBehind x c) (λ y. IsBehind y d) (behind c d s) cs h.1, rest)
+
+timed : (last : ℕ) (c d : Call Task) → Stands c d → IsTimed last c → IsTimed last d
+timed last c d s t = record {
+  begins = (let was = t.begins in omega (arith, was, s.begin));
+  ends = λ e. let was = t.ends (sym s.answered ∙ e) in omega (arith, was, s.end);
+}
+
+-- the parts of calls are whole if the calls are
+pub whole_part : (scope : Scope) (calls : List (Call Task)) → IsWhole calls → IsWhole (part_of_history scope calls)
+whole_part scope calls w = record {
+  turn = turn_part scope calls w.turn;
+  last = w.last;
+  timed = each_part scope (IsTimed w.last) (IsTimed w.last) (timed w.last) calls w.timed;
+}
+
+module _ (scope : Scope) (lines : List (Line Task)) where
+  abbrev PairAt : ℕ × Call Task → Type 0
+  PairAt x = IsPartAt scope (calls_of lines) x.0 x.1
+
+  abbrev PartLine : Line Task → Type 0
+  PartLine line = IsPartAt scope (calls_of lines) line.number (call_of line)
+
+  pairs_at : (kept : List (Line Task)) → All (IsLineAt lines) kept → All PairAt (filter_map (line_part scope) kept)
+  pairs_at [] h = All-nil PairAt
+  pairs_at (k ∷ ks) h = go (part_of_call scope (call_of k)) refl
+      (pairs_at ks (All-tail (IsLineAt lines) k ks h))
+    where
+      go : (o : Option (Call Task)) → part_of_call scope (call_of k) ≡ o →
+          All PairAt (filter_map (line_part scope) ks) →
+          All PairAt (cons_option (option_map (λ (call : Call Task). (k.number, call)) o)
+          (filter_map (line_part scope) ks))
+      go None e rest = rest
+      go (Some d) e rest =
+          let own = All-head (IsLineAt lines) k ks h in
+          All-cons PairAt (k.number, d) (filter_map (line_part scope) ks) (record {
+            first = own.first;
+            last = subst (λ m. k.number ≤ m) (sym (length-map lines call_of)) own.last;
+            is = ap (part_of_call scope) own.call ∙ e;
+          }) rest
+
+  lines_at : (from : List (Line Task)) → All PairAt (map numbered from) → All PartLine from
+  lines_at [] h = All-nil PartLine
+  lines_at (l ∷ ls) h =
+      All-cons PartLine l ls (All-head PairAt (numbered l) (map numbered ls) h)
+      (lines_at ls (All-tail PairAt (numbered l) (map numbered ls) h))
+
+  soonest_at : (sorted : List (Line Task)) → All PartLine sorted → All PartLine (soonest_of sorted)
+  soonest_at [] h = h
+  soonest_at (l ∷ ls) h =
+      let own = All-head PartLine l ls h in
+      All-cons PartLine _ (soonest_of ls) (record { first = own.first; last = own.last; is = own.is })
+      (soonest_at ls (All-tail PartLine l ls h))
+
+  are_at : (sorted : List (Line Task)) → All PartLine sorted →
+      ArePartsAt scope (calls_of lines) (numbers_of sorted) (calls_of sorted)
+  are_at [] h = tt
+  are_at (l ∷ ls) h = (All-head PartLine l ls h, are_at ls (All-tail PartLine l ls h))
+
+  -- the calls of the part, in the order in which they ended, are parts of the lines with their numbers
+  pub parts_at : (kept from sorted : List (Line Task)) → All (IsLineAt lines) kept →
+      map numbered from ≡ filter_map (line_part scope) kept → AreSortOf from sorted →
+      ArePartsAt scope (calls_of lines) (numbers_of sorted) (calls_of sorted)
+  parts_at kept from sorted each e s =
+      let own : All PartLine from = lines_at from (subst (All PairAt) (sym e) (pairs_at kept each)) in
+      are_at sorted (subst (All PartLine) (sym s.2)
+      (soonest_at s.0 (All-permutation PartLine from s.0 s.1 own)))
+
+-- the calls of the part are whole
+own_whole : (scope : Scope) (kept from : List (Line Task)) → IsWhole (calls_of kept) →
+    calls_of from ≡ part_of_history scope (calls_of kept) → IsWhole (calls_of from)
+own_whole scope kept from w e = subst IsWhole (sym e) (whole_part scope (calls_of kept) w)
+
+pub sorted_whole : (scope : Scope) (kept from sorted : List (Line Task)) → IsWhole (calls_of kept) →
+    calls_of from ≡ part_of_history scope (calls_of kept) →
+    (InTurn (calls_of from) → IsMerge (calls_of from) (calls_of sorted)) → IsWhole (calls_of sorted)
+sorted_whole scope kept from sorted w e merges =
+    let own = own_whole scope kept from w e in
+    whole_kept reserving (calls_of from) (calls_of sorted) (merges own.turn) own
+
+-- a search of the part that finds no order shows that the part has none
+pub part_none : (kept from : List (Line Task)) (part : IllegalPart) (most : ℕ) (point : Point State) →
+    list_all (has_part part.scope) (calls_of kept) ≡ true → IsWhole (calls_of kept) →
+    map numbered from ≡ filter_map (line_part part.scope) kept →
+    calls_of from ≡ part_of_history part.scope (calls_of kept) →
+    (InTurn (calls_of from) → IsMerge (calls_of from) (calls_of part.calls.lines.items)) →
+    AreSortOf from part.calls.lines.items →
+    HasNoOrder reserving (empty_state MOST_BLOCKS) (calls_of part.calls.lines.items) most
+    (point_at reserving part.calls point) →
+    AreStuck reserving point.machine (made_of point) (calls_of part.calls.lines.items) part.stuck.items →
+    1 ≤ length part.stuck.items → HasNoOrderOf kept part
+part_none kept from part most point fits whole numbers calls merges sorted h are some =
+    let own = own_whole part.scope kept from whole calls in
+    let merged = merges own.turn in
+    let none = none_given reserving (empty_state MOST_BLOCKS) (calls_of from) (calls_of part.calls.lines.items) merged
+    h.none in
+    record {
+      fits = fits;
+      from = from;
+      numbers = numbers;
+      sorted = sorted;
+      merges = subst (λ cs. IsMerge cs (calls_of part.calls.lines.items)) calls merged;
+      none = subst (λ cs. IsLinearizable reserving (empty_state MOST_BLOCKS) cs → ⊥) calls none;
+      most = most;
+      made = made_of point;
+      state = point.machine;
+      deepest = h.deepest;
+      bound = h.bound;
+      are = are;
+      some = some;
+    }

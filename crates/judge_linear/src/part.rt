@@ -1,0 +1,124 @@
+//! Searches for a part of a history that has no order.
+
+ghost use Rattle.std.specs.Prelude.{◌≡◌, ◌≤◌, true, IfOk, IfSome};
+ghost use Rattle.std.specs.List.{list_all};
+ghost use Rattle.vac_model.specs.State.{empty_state};
+ghost use Rattle.judge_part.specs.Lines.{has_part};
+ghost use Rattle.judge_search.specs.Calls.{calls_of};
+ghost use Rattle.judge_search.specs.Walk.{IsWhole};
+ghost use Rattle.judge_linear.specs.Judged.{HasNoOrderOf};
+
+use judge_object::Watcher;
+use judge_part::{Scope, part_of_history, scope_of};
+use judge_reservations::{Asked, Reservations};
+use judge_scopes::{Names, Proposals};
+use judge_search::{Calls, Finding, Stuck, find_linearization, stuck_calls};
+use std::alloc::{AllocError, Global};
+use vac_model::Reply;
+use vac_model::limits::MOST_BLOCKS;
+
+/// Largest number of proposed scopes whose parts are checked, and of steps of each check.
+const MOST_CHECKS: u64 = 4;
+
+const MOST_STEPS: u64 = 1_000_000;
+
+/// A part of a history that has no order.
+#[derive(Drop)]
+pub(crate) struct IllegalPart {
+    /// The scope of the part.
+    pub scope: Scope,
+    /// The calls of the part in the order in which they ended.
+    pub calls: Calls<Asked>,
+    /// The calls that are blocked after as many calls as can be placed.
+    pub stuck: Vec<Stuck<Reply>>,
+}
+
+/// Returns the state of a system without entries. The number of blocks is in range, so the one
+/// refusal left is that of memory.
+pub(crate) fn open(alloc: Global, blocks: u32) -> Result<Reservations, AllocError>
+    requires some { 1 ≤ blocks }
+    requires most { blocks ≤ MOST_BLOCKS }
+    ensures { IfOk result (λ machine. machine ≡ empty_state blocks) }
+{
+    match Reservations::new(alloc, blocks) {
+        Ok(machine) => Ok(machine),
+        Err(_) => Err(AllocError),
+    }
+}
+
+/// Searches, in at most `steps` steps, for a linearization of the part of a history on a scope.
+/// Returns the part if there is none.
+fn part_without_order<P: Watcher>(
+    alloc: Global,
+    calls: &Calls<Asked>,
+    scope: Scope,
+    steps: u64,
+    watcher: &mut P,
+) -> Result<Option<IllegalPart>, AllocError>
+    requires whole { IsWhole (calls_of calls.now.lines.items) }
+    requires fits { list_all (has_part scope) (calls_of calls.now.lines.items) ≡ true }
+    ensures { IfOk result (λ found. IfSome found (HasNoOrderOf calls.now.lines.items)) }
+{
+    let lines = part_of_history(alloc, &scope, calls.as_slice())?;
+    let part = Calls::new(alloc, lines)?;
+    let machine = open(alloc, MOST_BLOCKS)?;
+    let found = find_linearization(alloc, &part, machine, steps, watcher)?;
+    let Finding::NoOrder(_, point) = &found.finding else {
+        return Ok(None);
+    };
+    let stuck = stuck_calls(alloc, &part, point)?;
+    if stuck.is_empty() {
+        return Ok(None);
+    }
+    Ok(Some(IllegalPart {
+        scope,
+        calls: part,
+        stuck,
+    }))
+}
+
+/// Returns the part of a history on the scope of these names, if an exact search of the part in at
+/// most `steps` steps shows that the part has no order.
+fn checked_part<P: Watcher>(
+    alloc: Global,
+    calls: &Calls<Asked>,
+    names: &Names,
+    steps: u64,
+    watcher: &mut P,
+) -> Result<Option<IllegalPart>, AllocError>
+    requires whole { IsWhole (calls_of calls.now.lines.items) }
+    ensures { IfOk result (λ found. IfSome found (HasNoOrderOf calls.now.lines.items)) }
+{
+    let (customers, items) = (names.customers.as_slice(), names.items.as_slice());
+    match scope_of(alloc, customers, items, calls.as_slice())? {
+        Some(scope) => part_without_order(alloc, calls, scope, steps, watcher),
+        None => Ok(None),
+    }
+}
+
+/// Searches for a part of a history that has no order, among the parts on a few proposed scopes.
+/// The search of a part that is checked makes at most `steps` steps, and at most [`MOST_STEPS`].
+///
+/// Not said: that a part is found if there is one.
+pub(crate) fn find_illegal_part<P: Watcher>(
+    alloc: Global,
+    calls: &Calls<Asked>,
+    steps: u64,
+    watcher: &mut P,
+) -> Result<Option<IllegalPart>, AllocError>
+    requires whole { IsWhole (calls_of calls.now.lines.items) }
+    ensures { IfOk result (λ found. IfSome found (HasNoOrderOf calls.now.lines.items)) }
+{
+    let few = steps.min(MOST_STEPS);
+    let empty = open(alloc, MOST_BLOCKS)?;
+    let mut proposals = Proposals::new(alloc, calls.as_slice())?;
+    'checks: for _ in 0..MOST_CHECKS {
+        let Some(names) = proposals.next_names(alloc, calls.as_slice(), &empty)? else {
+            return Ok(None);
+        };
+        if let Some(part) = checked_part(alloc, calls, &names, few, watcher)? {
+            return Ok(Some(part));
+        }
+    }
+    Ok(None)
+}
