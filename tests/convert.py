@@ -315,6 +315,74 @@ class Sets:
         return [(process, begin, end, (name, key, [value]), b"?" if end == STORE.NEVER else b"ok")]
 
 
+class Transactions:
+    """A drawn history of a whole store: single calls, and transactions over several keys with their reads."""
+
+    def __init__(self, draw):
+        self.draw, self.pairs, self.calls, self.text = draw, frozenset(), [], ""
+        free, now = {client: 0 for client in range(draw.randint(1, 4))}, 0
+        for _ in range(draw.randint(0, 9)):
+            if not free:
+                break
+            client, now = draw.choice(sorted(free)), now + draw.randint(0, 2)
+            begin = max(free[client] + 1, now - draw.randint(0, 3))
+            end = max(begin, now) + draw.randint(0, 3)
+            free[client] = end
+            self.add(client, begin, end, draw.random() < 0.1)
+            if self.calls[-1][2] == STORE.NEVER:
+                del free[client]
+
+    def add(self, client, begin, end, is_pending):
+        draw, keys = self.draw, [*KEYS, b"9"]
+        fields = {"client": client, "begin": begin} | ({} if is_pending else {"end": end})
+        if draw.random() < 0.3:
+            name = draw.choice(["get", "put", "cas"])
+            values = [draw.choice(VALUES) for _ in range({"get": 0, "cas": 2}.get(name, 1))]
+            asked = (name.encode(), draw.choice(keys), values)
+            fields |= json_operation((name, *asked[1:]), draw)
+        else:
+            asked = (b"txn", None, STORE.drawn_clauses(draw, keys, VALUES, dict(self.pairs)))
+            fields["op"] = "txn"
+            if not any(role != b"get" for role, _, _ in asked[2]):
+                asked = (b"txn", None, [*asked[2], (b"then", keys[0], None)])
+            if is_pending:
+                asked = (b"txn", None, [clause for clause in asked[2] if clause[0] != b"get"])
+            for role, name in zip(STORE.ROLES, ("if", "reads", "then", "else")):
+                if found := [clause[1:] for clause in asked[2] if clause[0] == role]:
+                    fields[name] = [{"key": json_value(key, draw), "value": None if value is None else
+                                     json_value(value, draw)} for key, value in found]
+        self.pairs, reply = STORE.whole_step(self.pairs, asked)
+        # The reply of a transaction with a read of another value has no text in JSON.
+        reply = reply if asked[1] is not None or reply != b"-" else b"true"
+        if asked[1] is None and draw.random() < 0.1:
+            reply = draw.choice([b"true", b"false"])
+        fields |= {} if is_pending else {"reply": json_reply(reply)}
+        self.calls.append((client, begin, STORE.NEVER if is_pending else end, asked, b"?" if is_pending else reply))
+        self.text += json.dumps(fields) + "\n"
+
+    def has_order(self):
+        calls = [call for call in self.calls if not (call[3][0] == b"get" and call[4] == b"?")]
+        return STORE.has_order(sorted(calls, key=lambda call: call[1]), frozenset(), STORE.whole_step)
+
+
+def transactions_alike():
+    """The first drawn text with transactions over several keys that is converted to something else, and how many of
+    the histories had no order."""
+    draw, bad = random.Random("transactions"), 0
+    for _ in range(HISTORIES // 2):
+        drawn = Transactions(draw)
+        calls = converted("json", drawn.text)
+        if isinstance(calls, Fault):
+            return drawn.text, bad
+        lines = "".join(line_of(call) + "\n" for call in calls).encode().split(b"\n")[:-1]
+        read = [STORE.call_of(line, True) for line in lines]
+        bad += not drawn.has_order()
+        if any(isinstance(call, str) for call in read) or \
+                STORE.has_order(read, frozenset(), STORE.whole_step) != drawn.has_order():
+            return drawn.text, bad
+    return None, bad
+
+
 def converted(format_, text):
     """The calls of a text, or the fault."""
     try:
@@ -475,6 +543,20 @@ def judged(program):
             if not (right and (bad or first[0] == "legal") and "not proved" in done.stderr):
                 print(f"convert: {name}: {done.stdout}{done.stderr} of:\n{text}, wrong: {bad}")
                 return False
+        return transactions_judged(program, path)
+
+
+def transactions_judged(program, path):
+    """Whether the command with --judge gives the verdicts on whole stores."""
+    draw = random.Random(8)
+    for _ in range(JUDGED):
+        drawn = Transactions(draw)
+        path.write_text(drawn.text)
+        done = subprocess.run([ROOT / "convert", "json", path, "--judge", "--program", program], text=True,
+                              capture_output=True, timeout=60, check=False)
+        if done.returncode != (not drawn.has_order()):
+            print(f"convert: {done.stdout}{done.stderr} of:\n{drawn.text}")
+            return False
     return True
 
 
@@ -499,6 +581,11 @@ def main():
             print(f"convert: a history in the format of {name} is converted to another one:\n{text}")
             return 1
         told.append(f"{name} {bad}")
+    text, bad = transactions_alike()
+    if text is not None:
+        print(f"convert: a history with transactions over several keys is converted to another one:\n{text}")
+        return 1
+    told.append(f"transactions {bad}")
     if not (mistakes_found() and lines_named() and damage_named() and judged(program)):
         return 1
     print(f"convert: {HISTORIES // 2} histories of each format are converted right, of which wrong ones: {', '.join(told)};"

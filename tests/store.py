@@ -1,7 +1,8 @@
 #!/usr/bin/env python3
 """Draws 2,000 small histories of a key-value store, some with damaged lines, pending calls and equal times,
 and compares the verdicts of the program kv_judge with those of a search that tries every order. Draws 2,000 more in
-which keys have drawn first values, some with a damaged start file. Then gives it hostile input: a history and a start
+which keys have drawn first values, some with a damaged start file, and 2,000 with transactions over two or three keys,
+half of them with first values, for the whole store. Then gives it hostile input: a history and a start
 file cut at each byte, keys of all bytes, values of 1 MiB, a million keys and words, bytes that are no text, command
 lines that it must refuse, too little memory, an input that cannot be read, an output that cannot be written, more steps
 than there are. Its argument is the program vacation, beside whose crate that of kv_judge stands; with none it is the
@@ -22,6 +23,7 @@ PLAIN = re.compile(rb'[!-~]')
 QUOTED = re.compile(rb'"((?:[!#$&-~]|%[0-9a-f]{2})*)"')
 ONE_VALUE = {b"put", b"append", b"put-if-absent", b"get-and-set", b"increment"}
 TRANSACTIONS = {b"txn", b"txn-get"}
+ROLES = (b"if", b"get", b"then", b"else")
 BYTES = [b"", b"a", b"b", b"a>b", b"->", b"-", b" ", b'"', b"%", b"\n\x00\xff", b"1", b"007", b"18446744073709551615"]
 # What a transaction leaves as it is.
 KEEP = object()
@@ -80,6 +82,31 @@ def step(held, name, values):
     return (values[1], b"true") if held == values[0] else (held, b"false")
 
 
+def transact(held, clauses):
+    """The keys with their values after a transaction, and the reply."""
+    def hold(role):
+        return all(held.get(key) == value for one, key, value in clauses if one == role)
+
+    branch, after = b"then" if hold(b"if") else b"else", dict(held)
+    for role, key, value in clauses:
+        if role == branch:
+            after[key] = value
+    reply = b"-" if not hold(b"get") else b"true" if branch == b"then" else b"false"
+    return {key: value for key, value in after.items() if value is not None}, reply
+
+
+def whole_step(pairs, asked):
+    """The keys with their values after an operation on a whole store, and the reply."""
+    name, key, values = asked
+    held = dict(pairs)
+    if key is None:
+        after, reply = transact(held, values)
+    else:
+        one, reply = step(held.pop(key, None), name, values)
+        after = held if one is None else held | {key: one}
+    return frozenset(after.items()), reply
+
+
 def number(word, digits, most):
     """The number that a word of so many digits writes, or None."""
     if not re.fullmatch(rb"[0-9]{1,%d}" % digits, word) or int(word) > most:
@@ -87,10 +114,26 @@ def number(word, digits, most):
     return int(word)
 
 
-def operation(words):
-    """The name, key and values that words write, or None."""
+def clauses_of(words):
+    """A transaction of clauses, which words write behind its name, or None."""
+    clauses = []
+    for place in range(0, len(words), 3):
+        if len(words) < place + 3 or words[place] not in ROLES or unquoted(words[place + 1]) is None:
+            return None
+        role, key, word = words[place:place + 3]
+        if word != b"-" and unquoted(word) is None:
+            return None
+        clauses.append((role, unquoted(key), None if word == b"-" else unquoted(word)))
+    return b"txn", None, clauses
+
+
+def operation(words, whole=False):
+    """The name, key and values that words write, or None. A transaction of clauses, which only a whole store has, has
+    None for a key."""
     if len(words) < 2:
         return None
+    if whole and words[0] == b"txn" and words[1] in ROLES:
+        return clauses_of(words[1:])
     if words[0] in TRANSACTIONS:
         return transaction(words)
     values = [unquoted(word) for word in words[1:]]
@@ -115,7 +158,7 @@ def transaction(words):
     return words[0], unquoted(words[1]), values
 
 
-def call_of(line):
+def call_of(line, whole=False):
     """The call of a line, or the name of its fault."""
     words = line.split(b" ")
     if len(words) < 6 or words[-2] != b"->":
@@ -124,7 +167,7 @@ def call_of(line):
     end = NEVER if words[2] == b"-" else number(words[2], 20, NEVER - 1)
     if None in (client, begin, end):
         return "bad-number"
-    asked = operation(words[3:-2])
+    asked = operation(words[3:-2], whole)
     if asked is None:
         return "bad-operation"
     reply = words[-1]
@@ -137,8 +180,14 @@ def call_of(line):
     return client, begin, end, asked, reply
 
 
-def has_order(calls, first=None):
-    """Whether some order of the calls of one key, which has this value at first, or none, is a linearization."""
+def key_step(held, asked):
+    """What a key has after an operation on it, and the reply."""
+    return step(held, asked[0], asked[2])
+
+
+def has_order(calls, first=None, run=key_step):
+    """Whether some order of the calls of one object is a linearization: of a key, which has this value at first, or
+    none, or of a whole store."""
     seen = set()
 
     def search(left, held):
@@ -148,10 +197,10 @@ def has_order(calls, first=None):
             return False
         seen.add((left, held))
         for i in left:
-            client, begin, _, (name, _, values), reply = calls[i]
+            client, begin, _, asked, reply = calls[i]
             if any(calls[j][2] < begin or (calls[j][0] == client and j < i) for j in left):
                 continue
-            after, expected = step(held, name, values)
+            after, expected = run(held, asked)
             if reply in (b"?", expected) and search(left - {i}, after):
                 return True
         return False
@@ -178,7 +227,7 @@ def first_values_of(text):
     return firsts
 
 
-def expected_of(text, firsts):
+def expected_of(text, firsts, whole=False):
     """The verdict on a text where keys have these values at first: its first line, and the calls if all lines are
     calls."""
     lines = text.split(b"\n")
@@ -186,7 +235,7 @@ def expected_of(text, firsts):
         lines.pop()
     calls = []
     for place, line in enumerate(lines):
-        call = call_of(line)
+        call = call_of(line, whole)
         if isinstance(call, str):
             return b"fault %s %d" % (call.encode(), place + 1), None
         calls.append(call)
@@ -196,8 +245,10 @@ def expected_of(text, firsts):
         if end < begin or any(begin < other for other in ends):
             return b"illegal client %d" % (place + 1), None
         touches = touches or begin in ends
-    keys = sorted({call[3][1] for call in calls})
-    for key in keys:
+    keys = sorted({b"" if whole else call[3][1] for call in calls})
+    if whole and not has_order(calls, frozenset(firsts.items()), whole_step):
+        return b'illegal part ""', calls
+    for key in [] if whole else keys:
         if not has_order([call for call in calls if call[3][1] == key], firsts.get(key)):
             return b"illegal part " + quoted(key), calls
     if touches and len(keys) > 1:
@@ -206,9 +257,9 @@ def expected_of(text, firsts):
     return b"legal calls=%d clients=%d objects=%d" % (len(calls), clients, len(keys)), None
 
 
-def names_blocked(lines, calls):
-    """Whether the lines of a verdict name blocked calls of the key: completed, each with a reply other than
-    the one it has, in the order of their ends, the first one first."""
+def names_blocked(lines, calls, whole=False):
+    """Whether the lines of a verdict name blocked calls of the key, or of the store: completed, each with a reply
+    other than the one it has, in the order of their ends, the first one first."""
     first = re.fullmatch(rb"illegal part ([0-9]+) (.*)", lines[0])
     blocked = [re.fullmatch(rb"stuck ([0-9]+) ([^ ]+)", line) for line in lines[1:]]
     if not first or not blocked or None in blocked or blocked[0][1] != first[1]:
@@ -216,7 +267,8 @@ def names_blocked(lines, calls):
     found = [calls[int(one[1]) - 1] for one in blocked]
     ends = [call[2] for call in found]
     return ends == sorted(ends) and all(
-        call[4] not in (b"?", one[2]) and quoted(call[3][1]) == first[2] for call, one in zip(found, blocked)
+        call[4] not in (b"?", one[2]) and quoted(b"" if whole else call[3][1]) == first[2]
+        for call, one in zip(found, blocked)
     )
 
 
@@ -260,6 +312,49 @@ def drawn_history(random, begins=False):
     return b"".join(line + b"\n" for line in lines), firsts
 
 
+def drawn_clauses(random, keys, values, held):
+    """The clauses of a transaction: comparisons and reads mostly of what the keys have, and writes."""
+    clauses = []
+    for role in random.choices(ROLES, [4, 2, 4, 3], k=random.randint(1, 5)):
+        key = random.choice(keys)
+        value = random.choice([None, *values])
+        if role in (b"if", b"get") and random.random() < 0.8:
+            value = held.get(key)
+        clauses.append((role, key, value))
+    return clauses
+
+
+def drawn_whole(random, begins):
+    """The text of a small history with transactions over several keys, most of whose replies are right in the order of
+    its lines, and the values that keys have at first."""
+    clients, gone = [random.randrange(3) for _ in range(random.randint(1, 4))], set()
+    keys = random.sample(BYTES, random.randint(2, 3))
+    values = random.sample(BYTES, random.randint(1, 3))
+    firsts = {key: random.choice(values) for key in keys if random.random() < 0.7} if begins else {}
+    pairs, lines = frozenset(firsts.items()), []
+    for _ in range(random.randint(0, 7)):
+        client = random.randrange(len(clients))
+        if client in gone:
+            continue
+        begin = clients[client] + random.choice([0, 1, 1, 2, 3])
+        end = begin + random.randint(0, 6)
+        clients[client] = end
+        asked = drawn_operation(random, keys, values)
+        words = [asked[0], quoted(asked[1]), *map(word_of, asked[2])]
+        if random.random() < 0.7:
+            asked = (b"txn", None, drawn_clauses(random, keys, values, dict(pairs)))
+            words = [b"txn", *(word for role, key, value in asked[2] for word in (role, quoted(key), word_of(value)))]
+        pairs, reply = whole_step(pairs, asked)
+        if random.random() < 0.15:
+            reply = random.choice([b"-", b"ok", b"true", b"false", quoted(random.choice(values))])
+        ended = b"%d" % end
+        if random.random() < 0.08:
+            gone.add(client)
+            ended, reply = b"-", b"?"
+        lines.append(b" ".join([b"%d" % client, b"%d" % begin, ended, *words, b"->", reply]))
+    return b"".join(line + b"\n" for line in lines), firsts
+
+
 def start_text(random, firsts):
     """The text of a start file with these values of keys, sometimes with a line that it must not have."""
     lines = [quoted(key) + b" " + quoted(value) for key, value in firsts.items()]
@@ -289,15 +384,15 @@ def status_of(verdict):
     return STATUSES[verdict.split(b"\n")[0].split(b" ")[0]]
 
 
-def is_right(program, text, start=None):
+def is_right(program, text, start=None, whole=False):
     """Whether the program's verdict on a text is the expected one, where the text of a start file has the values that
     keys have at first. Returns that and the verdict."""
     firsts = {} if start is None else first_values_of(start)
-    want, calls = (firsts, None) if isinstance(firsts, bytes) else expected_of(text, firsts)
+    want, calls = (firsts, None) if isinstance(firsts, bytes) else expected_of(text, firsts, whole)
     with tempfile.NamedTemporaryFile() as file:
         file.write(start or b"")
         file.flush()
-        words = [program] if start is None else [program, "--start", file.name]
+        words = [program, *(["--whole"] if whole else []), *([] if start is None else ["--start", file.name])]
         done = subprocess.run(words, input=text, capture_output=True, timeout=60, check=False)
     lines = done.stdout.split(b"\n")[:-1]
     if not lines or done.returncode != status_of(want):
@@ -305,7 +400,7 @@ def is_right(program, text, start=None):
     if calls is None:
         return lines == [want], want, done.stdout
     got = re.sub(rb"(illegal part) [0-9]+", rb"\1", lines[0])
-    return got == want and names_blocked(lines, calls), want, done.stdout
+    return got == want and names_blocked(lines, calls, whole), want, done.stdout
 
 
 def told_of(program, text):
@@ -362,6 +457,7 @@ def bears_usage(program):
     """Whether command lines that the program does not know are refused, and nothing is judged then."""
     refused = (["--begin"], ["--start"], ["--start", "/"], ["--start", f"{HERE}/none"], ["--start", __file__, "more"],
                ["--help", "more"], ["history"], [""])
+    refused += (["--whole", "more"], ["--whole", "--start"], ["--whole", "--whole"], ["--start", __file__, "--whole"])
     for words in refused:
         done = subprocess.run([program, *words], input=b"0 0 1 get", capture_output=True, timeout=60, check=False)
         # A folder is opened, and then cannot be read.
@@ -440,27 +536,28 @@ def bears_long_searches(program):
     return True
 
 
-def draws_are_right(program, begins, wanted):
+def draws_are_right(program, begins, wanted, whole=False):
     """Whether the verdicts on drawn histories are right, which begin with first values or not, and each kind came up
     that is wanted."""
-    draw = random.Random(23 if begins else 17)
+    draw = random.Random((29 if begins else 31) if whole else 23 if begins else 17)
     kinds = {}
-    for _ in range(HISTORIES):
-        text, firsts = drawn_history(draw, begins)
+    for _ in range(HISTORIES // 2 if whole else HISTORIES):
+        text, firsts = drawn_whole(draw, begins) if whole else drawn_history(draw, begins)
         start = start_text(draw, firsts) if begins else None
         if draw.random() < 0.3:
             if begins and draw.random() < 0.7:
                 start = damaged(draw, start)
             else:
                 text = damaged(draw, text)
-        right, want, got = is_right(program, text, start)
+        right, want, got = is_right(program, text, start, whole)
         kind = b" ".join(want.split(b" ")[:2 if want[:1] in b"fi" else 1])
         kinds[kind] = kinds.get(kind, 0) + 1
         if not right:
             print(f"store: expected {want!r}, got {got!r} for:\n{text!r}\nand the start file {start!r}")
             return False
     told = ", ".join(f"{kind.decode()} {count}" for kind, count in sorted(kinds.items()))
-    print(f"store: {HISTORIES} verdicts{' with first values' if begins else ''} are right: {told}")
+    what = f"{' on whole stores' if whole else ''}{' with first values' if begins else ''}"
+    print(f"store: {sum(kinds.values())} verdicts{what} are right: {told}")
     if wanted - set(kinds):
         print(f"store: never drawn: {wanted - set(kinds)}")
     return not wanted - set(kinds)
@@ -478,6 +575,9 @@ def main():
               b"fault bad-operation", b"fault bad-reply", b"fault half-call"}
     begun = {b"legal", b"illegal part", b"fault bad-start", b"fault missing-value", b"fault key-twice"}
     if not (draws_are_right(program, False, wanted) and draws_are_right(program, True, begun)):
+        return 1
+    both = {b"legal", b"illegal client", b"illegal part", b"fault bad-operation", b"fault bad-reply"}
+    if not (draws_are_right(program, False, both, True) and draws_are_right(program, True, begun, True)):
         return 1
     bears = (bears_cuts, bears_cut_starts, bears_usage, bears_size, bears_refusals, bears_streams, bears_long_searches)
     if not all(one(program) for one in bears):

@@ -27,10 +27,22 @@ class Change(Enum):
 @dataclass(frozen=True, slots=True)
 class Operation:
     """An operation of a key-value store: its name, its key, and the values behind the key. In a transaction None
-    stands for a missing value."""
+    stands for a missing value. A transaction over several keys has clauses instead: a role, a key and a value."""
     name: str
     key: bytes
     values: tuple[bytes | Change | None, ...] = ()
+    clauses: tuple[tuple[str, bytes, bytes | None], ...] | None = None
+
+    @property
+    def keys(self) -> list[bytes]:
+        return [self.key] if self.clauses is None else [key for _, key, _ in self.clauses]
+
+    def words(self) -> list[str]:
+        """The words of the operation."""
+        if self.clauses is not None:
+            return [self.name, *(word for role, key, value in self.clauses
+                                 for word in (role, quoted(key), value_word(value)))]
+        return [self.name, quoted(self.key), *map(value_word, self.values)]
 
 
 @dataclass(frozen=True, slots=True)
@@ -95,9 +107,13 @@ def truth(is_done: bool) -> str:
 
 def line_of(call: Call) -> str:
     """The line of a call, without its end."""
-    words = [str(call.client), str(call.begin), "-" if call.end is None else str(call.end), call.operation.name]
-    words += [quoted(call.operation.key), *map(value_word, call.operation.values)]
+    words = [str(call.client), str(call.begin), "-" if call.end is None else str(call.end), *call.operation.words()]
     return " ".join([*words, "->", "?" if call.reply is None else call.reply])
+
+
+def is_whole(calls: Iterable[Call]) -> bool:
+    """Whether calls are to be judged as those of a whole store: a transaction may have several keys."""
+    return any(call.operation.clauses is not None for call in calls)
 
 
 def in_order(calls: Iterable[Call]) -> list[Call]:

@@ -10,7 +10,7 @@ import subprocess
 import sys
 from pathlib import Path
 
-from .calls import Call, Fault, Options, Report, fits, in_order, line_of, with_first_values
+from .calls import Call, Fault, Options, Report, fits, in_order, is_whole, line_of, with_first_values
 from .jepsen import jepsen_calls
 from .jsonlines import json_calls, porcupine_calls
 
@@ -75,7 +75,8 @@ def first_values(options: argparse.Namespace, calls: list[Call]) -> dict[bytes, 
             values[fields.some("key")] = fields.some("value")
     if options.first is not None:
         for call in calls:
-            values.setdefault(call.operation.key, os.fsencode(options.first))
+            for key in call.operation.keys:
+                values.setdefault(key, os.fsencode(options.first))
     return values
 
 
@@ -112,7 +113,8 @@ def translated(verdict: str, calls: list[Call]) -> tuple[str, list[str]]:
 def judge(options: argparse.Namespace, calls: list[Call]) -> int:
     """Has the program judge calls, and writes its verdict. Returns its status."""
     text = "".join(line_of(call) + "\n" for call in calls)
-    done = subprocess.run([find_program(options.program)], input=text.encode("ascii"), stdout=subprocess.PIPE,
+    whole = ["--whole"] if is_whole(calls) else []
+    done = subprocess.run([find_program(options.program), *whole], input=text.encode("ascii"), stdout=subprocess.PIPE,
                           check=False)
     if done.returncode not in (LEGAL, NOT_LEGAL, UNDECIDED):
         told = done.stdout.decode("ascii").strip() or f"status {done.returncode}"
@@ -136,6 +138,8 @@ def _run(options: argparse.Namespace) -> int:
     report.write(len(calls), sum(call.end is None for call in calls), sys.stderr)
     if options.judge:
         return judge(options, calls)
+    if is_whole(calls):
+        print("convert: transactions over several keys: judge with kv_judge --whole", file=sys.stderr)
     for call in calls:
         sys.stdout.write(line_of(call) + "\n")
     sys.stdout.flush()

@@ -7,12 +7,23 @@ from typing import Any
 
 from .calls import Call, Fault, Operation, Options, Report
 from .events import Events
-from .stores import ASKS_TRUTH, ASKS_VALUE, read_operation, read_reply
+from .stores import ASKS_TRUTH, ASKS_VALUE, read_operation, read_reply, with_reads
 from .texts import Fields, read_objects
 
 READS = ("get",)
 EVENT_KINDS = {"call": "call", "callevent": "call", "invoke": "call", "return": "return", "returnevent": "return",
                "ok": "return", "fail": "fail", "info": "info", "unknown": "info"}
+
+
+def is_left_out(operation: Operation, is_pending: bool, report: Report) -> bool:
+    """Whether a call has no effect and says nothing: a pending read, or a transaction of nothing."""
+    if is_pending and operation.name in READS:
+        report.skip("pending reads, which have no effect")
+        return True
+    if operation.clauses == ():
+        report.skip("transactions without a comparison, a write and a known read")
+        return True
+    return False
 
 
 class Calls:
@@ -25,8 +36,7 @@ class Calls:
     def add(self, fields: Fields, who: Hashable, operation: Operation, times: tuple[int, int | None],
             reply: str | None) -> None:
         begin, end = times
-        if end is None and operation.name in READS:
-            self.report.skip("pending reads, which have no effect")
+        if is_left_out(operation, end is None, self.report):
             return
         call = Call(0, begin, end, operation, reply, (fields.line, fields.line))
         self.found.append((who, len(self.found), call))
@@ -71,12 +81,12 @@ def json_calls(text: str, options: Options, report: Report) -> list[Call]:
         end = None if fields.get("end") is None else fields.number("end")
         if _is_failed(fields, report):
             continue
-        if end is None and fields.get("reply") is not None:
+        if end is None and (fields.get("reply") is not None or fields.get("reads") is not None):
             raise Fault("half-call", fields.line, "a reply without an end")
         if end is None:
             report.assume("a call without an end is pending")
         reply = None if end is None else read_reply(operation, fields.get("reply"), options, fields.line)
-        calls.add(fields, who, operation, (begin, end), reply)
+        calls.add(fields, who, with_reads(operation, fields), (begin, end), reply)
     return calls.numbered()
 
 
@@ -98,7 +108,7 @@ def _operations(objects: list[Fields], options: Options, report: Report) -> list
             report.assume("an operation without a return is pending")
         output = fields.inner("output")
         reply = None if end is None else read_reply(operation, _output(output, operation.name), options, fields.line)
-        calls.add(fields, who, operation, (begin, end), reply)
+        calls.add(fields, who, with_reads(operation, output), (begin, end), reply)
     return calls.numbered()
 
 
@@ -119,9 +129,7 @@ def _events(objects: list[Fields], options: Options, report: Report) -> list[Cal
     events, callers, calls = Events(), {}, []
 
     def leave(operation: Operation, begun: Any) -> None:
-        if operation.name in READS:
-            report.skip("pending reads, which have no effect")
-        else:
+        if not is_left_out(operation, True, report):
             calls.append(begun.pending(operation))
 
     for fields in objects:
@@ -148,7 +156,9 @@ def _events(objects: list[Fields], options: Options, report: Report) -> list[Cal
             report.skip("calls that failed")
             continue
         reply = read_reply(begun.asked, _output(value, begun.asked.name), options, fields.line)
-        calls.append(begun.returned(begun.asked, reply, events.time, fields.line))
+        operation = with_reads(begun.asked, value)
+        if not is_left_out(operation, False, report):
+            calls.append(begun.returned(operation, reply, events.time, fields.line))
     for begun in events.left():
         report.assume("a call that never returned is pending")
         leave(begun.asked, begun)

@@ -2,6 +2,7 @@
 
 from __future__ import annotations
 
+from dataclasses import replace
 from typing import Any
 
 from .calls import MOST_TIMES, Change, Fault, Operation, Options, truth, value_word
@@ -22,12 +23,40 @@ def _held(fields: Fields, name: str) -> bytes | None:
     return value_bytes(fields.get(name), fields.line)
 
 
+def _clauses(fields: Fields, role: str, name: str) -> list[tuple[str, bytes, bytes | None]]:
+    """The clauses of a role: a field with a list of objects {"key": KEY, "value": VALUE}."""
+    found = fields.get(name)
+    if found is None:
+        return []
+    if not isinstance(found, list) or not all(isinstance(one, dict) for one in found):
+        raise Fault("bad-value", fields.line, f"{name} is no list of objects with a key and a value")
+    objects = [Fields(one, fields.line) for one in found]
+    return [(role, one.some("key"), _held(one, "value")) for one in objects]
+
+
+def _transaction(fields: Fields) -> Operation:
+    """A transaction over several keys."""
+    if not fields.has("if", "then", "else", "reads"):
+        raise Fault("bad-value", fields.line, "a transaction without a key and without if, then, else and reads")
+    clauses = [clause for role in ("if", "then", "else") for clause in _clauses(fields, role, role)]
+    return Operation("txn", b"", (), tuple(clauses))
+
+
+def with_reads(operation: Operation, output: Fields) -> Operation:
+    """A transaction over several keys with what its reads returned, as the reply says; any other operation as it is."""
+    if operation.clauses is None:
+        return operation
+    return replace(operation, clauses=operation.clauses + tuple(_clauses(output, "get", "reads")))
+
+
 def read_operation(fields: Fields, options: Options) -> Operation:
     """The operation of an object."""
     asked = fields.get("op", "f", "operation")
     name = BY_NAME.get(asked.lower()) if isinstance(asked, str) else None
     if name is None:
         raise Fault("unknown-operation", fields.line, repr(asked))
+    if name == "txn" and not fields.has("key"):
+        return _transaction(fields)
     key = fields.some("key")
     if name in ("get", "delete"):
         return Operation(name, key)

@@ -4,7 +4,6 @@ use Rattle.std.specs.Prelude.{◌≡◌, ℕ, ◌+◌, Option, Some, None, Resul
 use Rattle.std.specs.Str.{bytes_eq}
 use Rattle.vac_lines.specs.Lines.{lines_of, words_of}
 use Rattle.std.specs.Global.{Vec}
-use Rattle.judge_many.specs.Starts.{start_of}
 use Rattle.judge_text.specs.Quoting.{unquoted}
 use Rattle.judge_kv.specs.declared.starting.FirstValues.{FirstValues}
 use Rattle.judge_kv.specs.declared.starting.FirstValues.TheVariants.{Given, Fault}
@@ -98,7 +97,8 @@ abbrev pub IsFirstRead : Result First StartFault → Result (Vec ℕ × Vec ℕ)
 IsFirstRead expected (Ok first) = expected ≡ Ok (first.0.items, first.1.items)
 IsFirstRead expected (Err fault) = expected ≡ Err fault
 
--- a text was read as the states in which keys begin, or its first fault was found
-abbrev pub AreFirstValues : List ℕ → FirstValues → Type 0
-AreFirstValues text (Given starts) = IsStartOf text (start_of starts)
-AreFirstValues text (Fault number fault) = text_firsts text ≡ Err (number, fault)
+-- a text was read as the values that keys have at first, or its first fault was found; `held` is
+-- what each key has
+abbrev pub AreFirstValues : {F : Type 0} → (F → List ℕ → Held) → List ℕ → FirstValues F → Type 0
+AreFirstValues held text (Given firsts) = IsStartOf text (held firsts)
+AreFirstValues held text (Fault number fault) = text_firsts text ≡ Err (number, fault)

@@ -44,7 +44,7 @@ impl Answer {
     }
 
     /// The reply whether it was done.
-    pub(crate) fn truth(is: bool) -> Answer
+    pub fn truth(is: bool) -> Answer
         ensures { result ≡ Truth is }
     {
         Answer {
@@ -53,7 +53,7 @@ impl Answer {
     }
 
     /// The reply with what a key has.
-    pub(crate) fn has(value: Option<Rc<Value>>) -> Answer
+    pub fn has(value: Option<Rc<Value>>) -> Answer
         ensures { result ≡ value_answer (value_in value) }
     {
         match value {

@@ -55,6 +55,20 @@ impl Cell {
         Cell { alloc, value: None }
     }
 
+    /// A key that has this value, or none.
+    pub fn of(alloc: Global, value: Option<Rc<Value>>) -> Cell
+        ensures { result ≡ value_in value }
+    {
+        Cell { alloc, value }
+    }
+
+    /// What the key has, taken out of its state.
+    pub fn into_held(self) -> Option<Rc<Value>>
+        ensures { value_in result ≡ self }
+    {
+        self.value
+    }
+
     /// A key that has this value.
     pub(crate) fn with(alloc: Global, bytes: Vec<u8>) -> Result<Cell, AllocError>
         ensures { IfOk result (λ cell. cell ≡ Some bytes.items) }
@@ -64,7 +78,7 @@ impl Cell {
     }
 
     /// Returns whether it has a value.
-    pub(crate) fn has_value(&self) -> bool
+    pub fn has_value(&self) -> bool
         ensures { result ≡ is_some self.now }
     {
         self.value.is_some()
@@ -125,7 +139,7 @@ impl Cell {
     }
 
     /// Returns whether it has just this value, or none.
-    fn is_held(&self, old: &Option<Rc<Value>>) -> bool
+    pub fn is_held(&self, old: &Option<Rc<Value>>) -> bool
         ensures { result ≡ spec.is_held self.now (value_in old.now) }
     {
         match old {

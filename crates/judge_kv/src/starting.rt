@@ -1,9 +1,11 @@
 //! Reading the values that keys have at first.
 
-ghost use Rattle.std.specs.Prelude.{◌≡◌, ◌∷◌, ◌<◌, List, IfOk, length};
+ghost use Rattle.std.specs.Prelude.{◌≡◌, ◌∷◌, ◌<◌, ℕ, List, Some, None, IfOk, OnOk, is_some, length};
 ghost use Rattle.vac_lines.specs.Lines.{lines_of, texts};
+ghost use Rattle.judge_many.specs.Many.{changed};
 ghost use Rattle.judge_many.specs.Starts.{start_of};
 ghost use Rattle.judge_text.specs.Quoting.{unquoted};
+ghost use Rattle.judge_kv.specs.Rules.{Held};
 ghost use Rattle.judge_kv.specs.Starting as spec;
 ghost use Rattle.judge_kv.specs.Starting.{First, BeginWith, IsFirstRead, AreFirstValues};
 
@@ -38,11 +40,39 @@ impl StartFault {
     }
 }
 
+/// A place for the values that keys have at first.
+pub trait Beginnings: Drop {
+    /// What each key has: a value, or none.
+    ghost held: { Self → List ℕ → Held };
+
+    /// Returns whether a key has a value.
+    fn has_value(&self, key: &[u8]) -> Result<bool, AllocError>
+        ensures { IfOk result (λ has. has ≡ is_some (held self.now key.now)) };
+
+    /// Sets the value of a key.
+    fn set_value(&mut self, alloc: Global, key: Vec<u8>, value: Vec<u8>) -> Result<(), AllocError>
+        ensures { OnOk result ((other : List ℕ) → held self.new other
+            ≡ changed (held self.old) key.items (Some value.items) other) };
+}
+
+/// The keys by themselves, each of which begins in a state of its own.
+impl Beginnings for Starts<Cell> {
+    ghost held = { λ starts. start_of starts };
+
+    fn has_value(&self, key: &[u8]) -> Result<bool, AllocError> {
+        Ok(self.get(key)?.has_value())
+    }
+
+    fn set_value(&mut self, alloc: Global, key: Vec<u8>, value: Vec<u8>) -> Result<(), AllocError> {
+        self.set(key, Cell::with(alloc, value)?)
+    }
+}
+
 /// The first values of keys, or the fault as which a text is read.
 #[derive(Drop)]
-pub enum FirstValues {
-    /// The states in which keys begin.
-    Given(Starts<Cell>),
+pub enum FirstValues<F> {
+    /// The keys have their values.
+    Given(F),
     /// The number of the first line that has a fault, from 1 on, and its fault.
     Fault(u64, StartFault),
 }
@@ -85,19 +115,19 @@ fn read_words(
     }
 }
 
-/// Reads the key and the value of a line, where keys begin in these states by the lines before.
-fn read_line(
+/// Reads the key and the value of a line, where keys have these values by the lines before.
+fn read_line<F: Beginnings>(
     alloc: Global,
-    starts: &Starts<Cell>,
+    firsts: &F,
     line: &[u8],
 ) -> Result<Result<(Vec<u8>, Vec<u8>), StartFault>, AllocError>
-    ensures { IfOk result (λ read. (before : List First) → BeginWith before (start_of starts.now) →
+    ensures { IfOk result (λ read. (before : List First) → BeginWith before (F.held firsts.now) →
         IsFirstRead (spec.line_first before line.now) read) }
 {
     let words = split_words(alloc, line)?;
     match read_words(alloc, words.as_slice())? {
         Ok((key, value)) => {
-            if starts.get(key.as_slice())?.has_value() {
+            if firsts.has_value(key.as_slice())? {
                 return Ok(Err(StartFault::KeyTwice));
             }
             Ok(Ok((key, value)))
@@ -118,21 +148,27 @@ fn first_line(text: &[u8]) -> (&[u8], &[u8])
     }
 }
 
-/// Reads a text as the first values of keys: a line `KEY VALUE` for each key that has one.
-pub fn read_first_values(alloc: Global, text: &[u8]) -> Result<FirstValues, AllocError>
-    ensures { IfOk result (λ read. AreFirstValues text.now read) }
+/// Reads a text as the first values of keys: a line `KEY VALUE` for each key that has one. They go
+/// into a place in which no key has a value.
+pub fn read_first_values<F: Beginnings>(
+    alloc: Global,
+    empty: F,
+    text: &[u8],
+) -> Result<FirstValues<F>, AllocError>
+    requires none { (key : List ℕ) → F.held empty key ≡ None }
+    ensures { IfOk result (λ read. AreFirstValues F.held text.now read) }
 {
-    let mut starts = Starts::new(alloc, Cell::new(alloc));
+    let mut firsts = empty;
     let mut number = 0u64;
     let mut rest = text;
     'lines: while !rest.is_empty() {
         let (line, behind) = first_line(rest);
         number += 1;
-        match read_line(alloc, &starts, line)? {
-            Ok((key, value)) => starts.set(key, Cell::with(alloc, value)?)?,
+        match read_line(alloc, &firsts, line)? {
+            Ok((key, value)) => firsts.set_value(alloc, key, value)?,
             Err(fault) => return Ok(FirstValues::Fault(number, fault)),
         }
         rest = behind;
     }
-    Ok(FirstValues::Given(starts))
+    Ok(FirstValues::Given(firsts))
 }

@@ -39,7 +39,7 @@ fn hashed(hash: u64, bytes: &[u8]) -> u64 {
 
 impl Value {
     /// Returns the value of these bytes.
-    pub(crate) fn from_bytes(bytes: Vec<u8>) -> Value
+    pub fn from_bytes(bytes: Vec<u8>) -> Value
         ensures { result ≡ bytes.items }
     {
         let hash = hashed(EMPTY_HASH, bytes.as_slice());
@@ -86,7 +86,7 @@ impl Value {
     }
 
     /// Returns whether two values are known to be equal.
-    pub(crate) fn is_same(&self, other: &Value) -> bool
+    pub fn is_same(&self, other: &Value) -> bool
         ensures { result ≡ true → self.now ≡ other.now }
     {
         self.hash == other.hash && self.bytes.as_slice() == other.bytes.as_slice()
@@ -95,7 +95,7 @@ impl Value {
     /// A number that is the same for the same bytes.
     ///
     /// Not said: anything of it.
-    pub(crate) fn hash(&self) -> u64 {
+    pub fn hash(&self) -> u64 {
         self.hash
     }
 }

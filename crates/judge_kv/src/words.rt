@@ -101,7 +101,7 @@ fn read_value(alloc: Global, word: &[u8]) -> Result<Option<Rc<Value>>, AllocErro
 }
 
 /// Returns what a key has, as a word writes it: a value, or none.
-fn read_held(alloc: Global, word: &[u8]) -> Result<Option<Option<Rc<Value>>>, AllocError>
+pub fn read_held(alloc: Global, word: &[u8]) -> Result<Option<Option<Rc<Value>>>, AllocError>
     ensures { IfOk result (λ read. spec.held_word word.now ≡ spec.held_in read) }
 {
     if is_name(word, b"-") {

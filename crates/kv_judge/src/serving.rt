@@ -6,12 +6,15 @@ ghost use Rattle.judge_kv.specs.Starting.{AreFirstValues};
 ghost use Rattle.judge_text.specs.Program.{HasRead};
 ghost use Rattle.kv_judge.specs.Options.{request_in, request_of};
 ghost use Rattle.kv_judge.specs.Serving as spec;
-ghost use Rattle.kv_judge.specs.Serving.{Judges, ReadsFile, Serves, EndsWith, IsRefused};
+ghost use Rattle.kv_judge.specs.Serving.{Judges, JudgesStore, ReadsFile, Serves, EndsWith};
+ghost use Rattle.kv_judge.specs.Serving.{EndsAtFault, IsRefused};
+ghost use Rattle.kv_judge.specs.declared.options.Scope.TheVariants.{EachKey, Whole};
 
 use crate::files::Open;
-use crate::options::{Asked, read_asked};
-use judge_kv::{Cell, FirstValues, StartFault, read_first_values};
+use crate::options::{Asked, Scope, read_asked};
+use judge_kv::{Beginnings, Cell, FirstValues, StartFault, read_first_values};
 use judge_many::Starts;
+use judge_store::Store;
 use judge_text::{end_by_fault, judge_input, read_all};
 use std::alloc::{AllocError, Global};
 use std::io::{Read, Write};
@@ -19,11 +22,13 @@ use vac_lines::{append_field, write_and_flush};
 use vac_streams::StreamFault;
 
 /// The help.
-const HELP: &[u8] = b"usage: kv_judge [--start FILE] < HISTORY\n\
+const HELP: &[u8] = b"usage: kv_judge [--whole] [--start FILE] < HISTORY\n\
 \n\
 Judges whether a history of a key-value store is linearizable. Each line is a call,\n\
 CLIENT BEGIN END OPERATION -> REPLY.\n\
 \n\
+  --whole       judge all keys at once: a transaction may then have several keys;\n\
+                without this option each key is judged by itself\n\
   --start FILE  the values that keys have at first, a line KEY VALUE for each;\n\
                 other keys, and all keys without this option, have no value at first\n\
   --help        this text\n\
@@ -40,13 +45,19 @@ const FAULT: u8 = 1;
 /// Status of a program that was stopped or whose command line was refused.
 const REFUSED: u8 = 2;
 
-/// Reads a start file to its end.
-fn read_start<S: Read>(alloc: Global, file: &mut S) -> Result<FirstValues, StreamFault>
+/// Reads a start file to its end. The values go into a place in which no key has one.
+fn read_start<F: Beginnings, S: Read>(
+    alloc: Global,
+    empty: F,
+    file: &mut S,
+) -> Result<FirstValues<F>, StreamFault>
+    requires none { (key : List ℕ) → F.held empty key ≡ None }
     ensures { IfOk result (λ read. (text : List ℕ)
-        × HasRead (S.remaining file.old) (S.remaining file.new) text × AreFirstValues text read) }
+        × HasRead (S.remaining file.old) (S.remaining file.new) text
+        × AreFirstValues F.held text read) }
 {
     let text = read_all(alloc, file)?;
-    let read = read_first_values(alloc, text.as_slice())?;
+    let read = read_first_values(alloc, empty, text.as_slice())?;
     Ok(read)
 }
 
@@ -72,34 +83,70 @@ fn end_with<W: Write>(done: u8, text: &[u8], output: &mut W) -> u8
     }
 }
 
-/// Reads a start file, and judges the input where keys have its values at first.
-#[tactic(auto, using(crate::proofs::Serves::file_fault, crate::proofs::Serves::file_stopped))]
+/// Names the fault of a line of a start file, and returns the status of the program.
+fn name_fault<W: Write>(alloc: Global, number: u64, fault: StartFault, output: &mut W) -> u8
+    ensures { EndsAtFault number fault result (W.contents output.old) (W.contents output.new) }
+{
+    match fault_text(alloc, number, fault) {
+        Ok(text) => end_with(FAULT, text.as_slice(), output),
+        Err(_) => end_by_fault(StreamFault::Memory, output),
+    }
+}
+
+/// Reads a start file, and judges the keys of the input by themselves, each of which has its value
+/// in the file at first.
 fn judge_file<S: Read, R: Read, W: Write>(
     alloc: Global,
     file: &mut S,
     input: &mut R,
     output: &mut W,
 ) -> u8
-    ensures { ReadsFile result (S.remaining file.old)
+    ensures { ReadsFile EachKey result (S.remaining file.old)
         (R.remaining input.old) (R.remaining input.new)
         (W.contents output.old) (W.contents output.new) }
 {
-    match read_start(alloc, file) {
+    let empty = Starts::new(alloc, Cell::new(alloc));
+    match read_start(alloc, empty, file) {
         Ok(FirstValues::Given(starts)) => judge_input(alloc, &starts, input, output),
-        Ok(FirstValues::Fault(number, fault)) => match fault_text(alloc, number, fault) {
-            Ok(text) => end_with(FAULT, text.as_slice(), output),
-            Err(_) => end_by_fault(StreamFault::Memory, output),
-        },
+        Ok(FirstValues::Fault(number, fault)) => name_fault(alloc, number, fault, output),
         Err(fault) => end_by_fault(fault, output),
     }
 }
 
-/// Judges the input where no key has a value at first.
+/// Reads a start file, and judges the whole store of the input, in which each key has its value in
+/// the file at first.
+fn judge_whole_file<S: Read, R: Read, W: Write>(
+    alloc: Global,
+    file: &mut S,
+    input: &mut R,
+    output: &mut W,
+) -> u8
+    ensures { ReadsFile Whole result (S.remaining file.old)
+        (R.remaining input.old) (R.remaining input.new)
+        (W.contents output.old) (W.contents output.new) }
+{
+    match read_start(alloc, Store::new(alloc), file) {
+        Ok(FirstValues::Given(store)) => judge_store(alloc, store, input, output),
+        Ok(FirstValues::Fault(number, fault)) => name_fault(alloc, number, fault, output),
+        Err(fault) => end_by_fault(fault, output),
+    }
+}
+
+/// Judges the keys of the input by themselves, none of which has a value at first.
 fn judge_alone<R: Read, W: Write>(alloc: Global, input: &mut R, output: &mut W) -> u8
     ensures { Judges (λ key. None) result (R.remaining input.old) (R.remaining input.new)
         (W.contents output.old) (W.contents output.new) }
 {
     let starts = Starts::new(alloc, Cell::new(alloc));
+    judge_input(alloc, &starts, input, output)
+}
+
+/// Judges the whole store of the input, which begins in this state.
+fn judge_store<R: Read, W: Write>(alloc: Global, store: Store, input: &mut R, output: &mut W) -> u8
+    ensures { JudgesStore store result (R.remaining input.old) (R.remaining input.new)
+        (W.contents output.old) (W.contents output.new) }
+{
+    let starts = Starts::new(alloc, store);
     judge_input(alloc, &starts, input, output)
 }
 
@@ -117,11 +164,15 @@ fn serve_asked<F: Open, R: Read, W: Write, E: Write>(
         (W.contents output.old) (W.contents output.new) }
 {
     match asked {
-        Asked::Judge => judge_alone(alloc, input, output),
-        Asked::JudgeFrom(name) => match files.open(name) {
+        Asked::Judge(Scope::EachKey) => judge_alone(alloc, input, output),
+        Asked::Judge(Scope::Whole) => judge_store(alloc, Store::new(alloc), input, output),
+        Asked::JudgeFrom(scope, name) => match files.open(name) {
             Ok(file) => {
                 let mut file = file;
-                judge_file(alloc, &mut file, input, output)
+                match scope {
+                    Scope::EachKey => judge_file(alloc, &mut file, input, output),
+                    Scope::Whole => judge_whole_file(alloc, &mut file, input, output),
+                }
             }
             Err(_) => {
                 let _ = write!(errors, "error: the file '{name}' cannot be opened\n");

@@ -1,14 +1,21 @@
 use Rattle.std.proofs.Common.{refl}
-use Rattle.vac_streams.specs.declared.fault.StreamFault.TheVariants.{Memory}
-use Rattle.kv_judge.proofs.Serves.{file_given, file_stopped}
+use Rattle.judge_many.specs.Starts.{start_of}
+use Rattle.kv_judge.specs.declared.options.Scope.TheVariants.{EachKey}
+use Rattle.kv_judge.proofs.Serves.{keys_given, file_fault, file_stopped}
 use Rattle.kv_judge.proofs.serving.judge_file.Goals as goal
 
 pub returns-in-Ok-Given : goal.returns-in-Ok-Given
 returns-in-Ok-Given g c =
-    file_given c.in-Ok-Given.field-0 c.in-Ok-Given.starts (g.S.Read.remaining c.args.file.now)
+    keys_given c.in-Ok-Given.field-0 c.in-Ok-Given.starts (g.S.Read.remaining c.args.file.now)
     (g.S.Read.remaining c.read_start.new.file) c.in-Ok-Given.field-0-is c.in-Ok-Given.ensures c.judge_input.ensures
 
-pub returns-in-Err-fault_text : goal.returns-in-Err-fault_text
-returns-in-Err-fault_text g c =
-    file_stopped (g.S.Read.remaining c.args.file.now) Memory refl c.end_by_fault.ensures.status
+pub returns-in-Ok-Fault : goal.returns-in-Ok-Fault
+returns-in-Ok-Fault g c =
+    file_fault EachKey (λ s. start_of s) c.in-Ok-Fault.field-0 c.in-Ok-Fault.number c.in-Ok-Fault.fault
+    (g.S.Read.remaining c.args.file.now) (g.S.Read.remaining c.read_start.new.file) c.in-Ok-Fault.field-0-is
+    c.in-Ok-Fault.ensures refl c.name_fault.ensures
+
+pub returns-in-Err : goal.returns-in-Err
+returns-in-Err g c =
+    file_stopped EachKey (g.S.Read.remaining c.args.file.now) c.in-Err.fault refl c.end_by_fault.ensures.status
     c.end_by_fault.ensures.line

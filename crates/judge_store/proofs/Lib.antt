@@ -1,0 +1,4 @@
+pub mod Places
+pub mod Clauses
+pub mod Lookups
+pub mod Clausewise

@@ -1,0 +1,5 @@
+pub mod Stores
+pub mod Requests
+pub mod Wishes
+pub mod Rules
+pub mod Words

@@ -1,0 +1,13 @@
+//! A whole key-value store as one object: its keys and their values, operations on one key, and
+//! transactions that compare and write several keys.
+#![tactic(auto)]
+
+mod clause;
+mod entries;
+mod request;
+mod store;
+mod words;
+
+pub use clause::{Clause, Role};
+pub use request::Request;
+pub use store::Store;
