@@ -18,12 +18,14 @@ use Rattle.judge_linear.specs.declared.ordering.Outcome.TheVariants as outcome
 use Rattle.judge_linear.specs.Ordering.{FindsText, HasText, HasOrdered}
 use Rattle.judge_linear.specs.Ordering as order
 use Rattle.judge_opacity.specs.Reading as opaque
+use Rattle.judge_opacity.specs.Placed as place
 use Rattle.cli_main.specs.Judging.{Judges, JudgesHeld, JudgesWith, JudgeStopped, WorkStopped, NotOpened, NamedAlone}
 use Rattle.cli_main.specs.Ordering.{OrderStopped, FindsNone, HasRefusedInPart, OrderWorkStopped, HoldsOrder}
 use Rattle.cli_main.specs.Ordering.{HoldsText, HoldsInAnyOrder}
 use Rattle.cli_main.specs.Ordering.{JudgesAnyOrder, JudgesAnyHeld, JudgesAnyWith, status_of}
 use Rattle.cli_options.specs.declared.asked.Judging.{Judging}
-use Rattle.cli_main.specs.Asking.{AttemptsStopped, JudgesAs, JudgesUnless, JudgesAsked, has_stray_settings}
+use Rattle.cli_main.specs.Asking.{AttemptsStopped, PlacingStopped, JudgesAs, JudgesUnless, JudgesAsked}
+use Rattle.cli_main.specs.Asking.{has_stray_settings}
 use Rattle.cli_main.proofs.Ending.{nothing_then}
 
 -- where nothing was written behind it
@@ -106,6 +108,25 @@ attempts_stopped words stream.Write unread left held middle holds part line =
 attempts_stopped words stream.Memory unread left held middle holds none line =
     inr (named_stream stream.Memory (λ e. absurd cc) held middle holds none line)
 attempts_stopped words stream.Bound unread left held middle holds none line =
+    inr (named_stream stream.Bound (λ e. absurd cc) held middle holds none line)
+
+-- the same of attempts whose places are searched for
+pub placing_stopped : (words : ℕ) (fault : StreamFault) (unread left held middle holds : Option (List ℕ)) →
+    place.HasStoppedPlacing words fault unread left held middle
+    → AppendsPrefix middle holds (fault_line fault) → PlacingStopped words unread left held holds
+placing_stopped words stream.Read unread left held middle holds none line =
+    inr (named_stream stream.Read (λ e. absurd cc) held middle holds none line)
+placing_stopped words stream.Write unread left held middle holds part line =
+    inl (record {
+      bytes = part.bytes;
+      read = part.read;
+      verdict = part.verdict;
+      is = part.is;
+      written = then_nothing held middle holds _ part.written line;
+    })
+placing_stopped words stream.Memory unread left held middle holds none line =
+    inr (named_stream stream.Memory (λ e. absurd cc) held middle holds none line)
+placing_stopped words stream.Bound unread left held middle holds none line =
     inr (named_stream stream.Bound (λ e. absurd cc) held middle holds none line)
 
 -- whether an order was found

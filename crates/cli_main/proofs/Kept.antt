@@ -4,12 +4,12 @@ use Rattle.std.specs.List.{All}
 use Rattle.std.proofs.lemmas.List.{length-map}
 use Rattle.std.proofs.lemmas.List.Elements.{All-head, All-tail}
 use Rattle.stm_core.specs.Client.{Record}
-use Rattle.load_draws.specs.declared.settings.Settings.{Settings}
+use Rattle.load_tasks.specs.declared.settings.Settings.{Settings}
 use Rattle.vac_manager.specs.Keeping.{notes_behind, IsNoted}
-use Rattle.load_run.specs.declared.seats.Keepers.{Keepers}
+use Rattle.load_run.specs.declared.slots.Recorders.{Recorders}
 use Rattle.load_run.specs.declared.load.LoadReport.{LoadReport}
-use Rattle.load_client.specs.Lists.{Paired, none, both}
-use Rattle.load_client.specs.Keeping.{KeptNotes, AreKept}
+use Rattle.load_run.specs.Lists.{Paired, none, both}
+use Rattle.load_run.specs.Keeping.{KeptNotes, AreKept}
 use Rattle.load_run.specs.Several.{AllKept, one_kept}
 use Rattle.load_run.specs.Streams.{KeptBySeed}
 use Rattle.cli_main.specs.Load.{calls_kept, AreNoted}
@@ -37,9 +37,9 @@ module _ {X : Type 0} (notes : X → KeptNotes) where
       both (are_noted (records_of y) b a (All-head (λ x. notes x ≡ Some []) b befores empty) k)
       (all_noted records_of ys befores afters (All-tail (λ x. notes x ≡ Some []) b befores empty) ks)
 
-  pub noted : (s : Settings) (load : LoadReport) (before after : Keepers X) → notes before.opening ≡ Some [] →
+  pub noted : (s : Settings) (load : LoadReport) (before after : Recorders X) → notes before.opening ≡ Some [] →
       All (λ x. notes x ≡ Some []) before.clients.items
-      → KeptBySeed notes s load.tally load.report before after → AreNoted notes s after
+      → KeptBySeed notes s load.outcomes load.report before after → AreNoted notes s after
   noted s load before after opening clients k = record {
     load = load;
     loaded = k.loaded;
@@ -60,8 +60,8 @@ same_number records_of (x ∷ xs) [] (k' ∷ ks') k = elim k [ ]
 same_number records_of (x ∷ xs) (b ∷ ks) [] k = elim k [ ]
 same_number records_of (x ∷ xs) (b ∷ ks) (k' ∷ ks') (one_kept k more) = ap suc (same_number records_of xs ks ks' more)
 
-pub same_clients : {X : Type 0} (notes : X → KeptNotes) (s : Settings) (load : LoadReport) (before after : Keepers X)
-    → KeptBySeed notes s load.tally load.report before after
+pub same_clients : {X : Type 0} (notes : X → KeptNotes) (s : Settings) (load : LoadReport) (before after : Recorders X)
+    → KeptBySeed notes s load.outcomes load.report before after
     → length after.clients.items ≡ length before.clients.items
 same_clients notes s load before after k =
     sym (length-map after.clients.items notes)

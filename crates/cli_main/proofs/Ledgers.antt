@@ -4,12 +4,12 @@ use Rattle.std.proofs.Common.{Err, nat_eq, List, [], ◌∷◌, Option, map}
 use Rattle.std.specs.Prelude.{IsErrOf}
 use Rattle.std.proofs.lemmas.Bool.Decides.{nat_tests}
 use Rattle.load_run.specs.Load.{is_load}
-use Rattle.load_draws.specs.declared.settings.Settings.{Settings}
-use Rattle.load_draws.specs.Setting.{is_settings}
+use Rattle.load_tasks.specs.declared.settings.Settings.{Settings}
+use Rattle.load_tasks.specs.Setting.{is_settings}
 use Rattle.vac_manager.specs.declared.note.Note.{Note}
-use Rattle.load_attempts.specs.declared.ledger.Ledger.{Ledger}
-use Rattle.load_attempts.specs.Pages.{page_of, pages_of}
-use Rattle.load_attempts.specs.Text.{WroteAttempts, WroteAttemptsPrefix}
+use Rattle.load_record.specs.declared.ledger.Ledger.{Ledger}
+use Rattle.load_record.specs.Pages.{page_of, pages_of}
+use Rattle.load_record.specs.Text.{WroteAttempts, WroteAttemptsPrefix}
 use Rattle.load_run.specs.declared.load.LoadFault.TheVariants as load
 use Rattle.load_run.specs.declared.load.LoadFault.{LoadFault}
 use Rattle.cli_main.specs.Load.{HasNoted, WroteTried, WroteTriedInPart}

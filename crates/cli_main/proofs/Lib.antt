@@ -1,5 +1,6 @@
 mod Ending
 pub mod Kept
+mod Seeded
 pub mod Turning
 mod Recorded
 mod Lines

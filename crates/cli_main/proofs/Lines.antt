@@ -9,19 +9,19 @@ use Rattle.vac_model.specs.declared.commands.Command.{Command}
 use Rattle.vac_model.specs.declared.tasks.Task.{Task}
 use Rattle.vac_model.specs.declared.tasks.Task.TheVariants as task
 use Rattle.vac_model.proofs.Codes.{code_determines}
-use Rattle.load_draws.specs.declared.settings.Settings.{Settings}
-use Rattle.load_draws.specs.Setting.{is_settings}
-use Rattle.load_draws.specs.Streams.{gives}
+use Rattle.load_tasks.specs.declared.settings.Settings.{Settings}
+use Rattle.load_tasks.specs.Setting.{is_settings}
+use Rattle.load_tasks.specs.Streams.{gives}
 use Rattle.vac_lines.proofs.Lengths.{task_fits}
 use Rattle.vac_manager.specs.declared.note.Note.{Note}
 use Rattle.vac_manager.specs.Keeping.{IsNoted}
-use Rattle.load_worklist.specs.Laws.{IsReadBack, AreReadBack}
-use Rattle.load_worklist.proofs.ReadBack.{all_read}
-use Rattle.load_history.specs.Numbers.{HasLine, EachHasLines}
-use Rattle.load_history.proofs.Written.{tasks_read}
-use Rattle.load_client.specs.Lists.{Paired, none, both}
-use Rattle.load_client.specs.Looping.{AreOfTasks}
-use Rattle.load_client.specs.Opening.{as_tasks}
+use Rattle.load_tasks.specs.Laws.{IsReadBack, AreReadBack}
+use Rattle.load_tasks.proofs.ReadBack.{all_read}
+use Rattle.load_record.specs.Numbers.{HasLine, EachHasLines}
+use Rattle.load_record.proofs.Written.{tasks_read}
+use Rattle.load_run.specs.Lists.{Paired, none, both}
+use Rattle.load_run.specs.Looping.{AreOfTasks}
+use Rattle.load_run.specs.Opening.{as_tasks}
 use Rattle.load_run.specs.Load.{Share, HasShare}
 use Rattle.cli_main.specs.Load.{HasNoted}
 

@@ -3,16 +3,16 @@ use Rattle.std.proofs.Common.{◌≡◌, ◌≤◌, ◌↔◌, ◌&&◌, ◌⊎�
 use Rattle.std.proofs.Common.{map, arith, sym, subst}
 use Rattle.std.specs.Prelude.{Result, Ok, Err, OnOk, OnErr, IfErr}
 use Rattle.std.proofs.lemmas.Bool.Decides.{nat_tests}
-use Rattle.load_draws.specs.declared.settings.Settings.{Settings}
-use Rattle.load_draws.specs.Streams.{stream_of}
-use Rattle.load_draws.specs.Setting.{is_settings, is_work, is_system}
+use Rattle.load_tasks.specs.declared.settings.Settings.{Settings}
+use Rattle.load_tasks.specs.Streams.{stream_of}
+use Rattle.load_tasks.specs.Setting.{is_settings, is_work, is_system}
 use Rattle.vac_model.specs.Ranges.{is_block_count}
-use Rattle.load_history.specs.declared.journal.Journal.{Journal}
-use Rattle.load_history.specs.Order.{Entry, IsMerged, AreOrdered}
-use Rattle.load_history.specs.Numbers.{EachHasLines}
-use Rattle.load_history.specs.History.{notes_of, kept_by, call_of_entry, calls_text, WroteHistory, WroteHistoryPrefix}
-use Rattle.load_history.specs.Legal.{AreLegal, JudgedByPrecedence}
-use Rattle.load_history.proofs.Legality.{texts_up_to_precedence}
+use Rattle.load_record.specs.declared.journal.Journal.{Journal}
+use Rattle.load_record.specs.Order.{Entry, IsMerged, AreOrdered}
+use Rattle.load_record.specs.Numbers.{EachHasLines}
+use Rattle.load_record.specs.History.{notes_of, kept_by, call_of_entry, calls_text, WroteHistory, WroteHistoryPrefix}
+use Rattle.load_record.specs.Legal.{AreLegal, JudgedByPrecedence}
+use Rattle.load_record.proofs.Legality.{texts_up_to_precedence}
 use Rattle.judge_calls.specs.CallText.{IsTheirHistory}
 use Rattle.load_run.specs.declared.load.LoadFault.{LoadFault}
 use Rattle.load_run.specs.declared.load.LoadFault.TheVariants as load
@@ -83,7 +83,7 @@ ended_kept wrote in_part s (Err fault) status held middle holds fits ok err can 
 
 -- the load was run to its end, and its two lines were written, in whole or in part, or memory was refused for them
 pub ended_with_lines : (s : Settings) (load : LoadReport) (status : ℕ) (held holds : Option (List ℕ)) →
-    is_settings s ≡ true → LoadedBySeed s load.tally load.report → status ≤ 1 →
+    is_settings s ≡ true → LoadedBySeed s load.outcomes load.report → status ≤ 1 →
     (status ≡ 0 → Appends held holds (load_text load))
     → (status ≡ 1 → AppendsPrefix held holds (fault_line stream.Memory) ⊎ AppendsPrefix held holds (load_text load)) →
     Loads false status s held holds

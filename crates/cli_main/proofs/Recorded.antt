@@ -1,15 +1,15 @@
 -- The calls of a load are those of its records.
 use Rattle.std.proofs.Common.{◌≡◌, ℕ, zero, suc, List, [], ◌∷◌, ◌++◌, get_or, set, map, refl, sym, ap, subst}
 use Rattle.stm_core.specs.Client.{Record}
-use Rattle.load_draws.specs.declared.settings.Settings.{Settings}
+use Rattle.load_tasks.specs.declared.settings.Settings.{Settings}
 use Rattle.vac_manager.specs.declared.note.Note.{Note}
 use Rattle.vac_manager.specs.Keeping.{IsNoted}
-use Rattle.load_history.specs.Turns.{EachInTurn}
-use Rattle.load_history.specs.Order.{Entry, entries_of, entries_from, Interleaves, IsMerged, AreOrdered}
-use Rattle.load_history.specs.History.{call_of_entry}
-use Rattle.load_history.specs.Legal.{AreCallsOf, AreRecorded, AreLegal}
-use Rattle.load_history.proofs.Legality.{ordered_calls_legal}
-use Rattle.load_client.specs.Lists.{Paired, none, both}
+use Rattle.load_record.specs.Turns.{EachInTurn}
+use Rattle.load_record.specs.Order.{Entry, entries_of, entries_from, Interleaves, IsMerged, AreOrdered}
+use Rattle.load_record.specs.History.{call_of_entry}
+use Rattle.load_record.specs.Legal.{AreCallsOf, AreRecorded, AreLegal}
+use Rattle.load_record.proofs.Legality.{ordered_calls_legal}
+use Rattle.load_run.specs.Lists.{Paired, none, both}
 use Rattle.load_run.specs.Several.{Interleaved, no_more, of_first, of_second}
 use Rattle.load_run.specs.Load.{InterleavedAll}
 use Rattle.cli_main.specs.Load.{HasNoted}

@@ -7,15 +7,15 @@ use Rattle.stm_core.specs.Client.{Record, before, rank}
 use Rattle.stm_core.specs.History.{Sub, done, keep, skip}
 use Rattle.stm_core.specs.Invariant.{Sorted}
 use Rattle.stm_core.proofs.Merging.{in_sub}
-use Rattle.load_draws.specs.declared.settings.Settings.{Settings}
+use Rattle.load_tasks.specs.declared.settings.Settings.{Settings}
 use Rattle.vac_manager.specs.Placed.{Place}
 use Rattle.vac_manager.specs.declared.note.Note.{Note}
 use Rattle.vac_manager.specs.Keeping.{IsNoted}
-use Rattle.load_history.specs.declared.journal.Journal.{Journal}
-use Rattle.load_history.specs.Turns.{NotesTakeTime, AreInTurn, EachInTurn}
-use Rattle.load_history.specs.Order.{precedes, rank_of, list_at, AreOrdered, EachOrdered}
-use Rattle.load_history.specs.History.{notes_of, kept_by}
-use Rattle.load_client.specs.Lists.{Paired, none, both}
+use Rattle.load_record.specs.declared.journal.Journal.{Journal}
+use Rattle.load_record.specs.Turns.{NotesTakeTime, AreInTurn, EachInTurn}
+use Rattle.load_record.specs.Order.{precedes, rank_of, list_at, AreOrdered, EachOrdered}
+use Rattle.load_record.specs.History.{notes_of, kept_by}
+use Rattle.load_run.specs.Lists.{Paired, none, both}
 use Rattle.load_run.specs.Load.{InterleavedAll}
 use Rattle.load_run.proofs.Merging.{first_sub, second_sub}
 use Rattle.cli_main.specs.Load.{HasNoted}

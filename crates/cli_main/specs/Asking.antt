@@ -2,6 +2,7 @@
 use Rattle.std.specs.Prelude.{◌≡◌, ◌⊎◌, ◌&&◌, ℕ, Bool, true, false, not, Option, Some, None, List}
 use Rattle.std.specs.Borrow.{Bor}
 use Rattle.judge_opacity.specs.Reading.{HasJudgedAttempts, HasJudgedAttemptsInPart}
+use Rattle.judge_opacity.specs.Placed.{HasPlaced, HasPlacedInPart}
 use Rattle.cli_options.specs.declared.asked.Judging.{Judging}
 use Rattle.cli_main.specs.Ending.{EndsWithStatus}
 use Rattle.cli_main.specs.Judging.{Judges, JudgesWork, NamedAlone}
@@ -55,3 +56,30 @@ JudgesAttempts words status unread left held holds =
     EndsWithStatus status (HasJudgedAttempts words true unread left held holds)
     (HasJudgedAttempts words false unread left held holds
     ⊎ AttemptsStopped words unread left held holds)
+
+-- a fault ended a search for places of attempts: either the output failed, and a prefix of the
+-- verdict was written; or another fault was met, and only a prefix of the line that names a fault
+-- was written
+-- Not said: which fault stands for which cause.
+abbrev pub PlacingStopped : ℕ → Option (List ℕ) → Option (List ℕ) → Option (List ℕ)
+    → Option (List ℕ) → Type 0
+PlacingStopped words unread left held holds =
+    HasPlacedInPart words unread left held holds ⊎ NamedAlone held holds
+
+-- the program judges attempts on this number of words, of which only the committed writers stand in
+-- their order; the status is 0 if the other attempts have places that show opacity
+abbrev pub PlacesAttempts : ℕ → ℕ → Option (List ℕ) → Option (List ℕ) → Option (List ℕ)
+    → Option (List ℕ) → Type 0
+PlacesAttempts words status unread left held holds =
+    EndsWithStatus status (HasPlaced words true unread left held holds)
+    (HasPlaced words false unread left held holds
+    ⊎ PlacingStopped words unread left held holds)
+
+-- the program judges attempts as the command line asks: it searches for places, or keeps the order
+-- of the lines
+abbrev pub JudgesOpacity : Bool → ℕ → ℕ → Option (List ℕ) → Option (List ℕ)
+    → Option (List ℕ) → Option (List ℕ) → Type 0
+JudgesOpacity true words status unread left held holds =
+    PlacesAttempts words status unread left held holds
+JudgesOpacity false words status unread left held holds =
+    JudgesAttempts words status unread left held holds

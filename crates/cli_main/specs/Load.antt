@@ -4,59 +4,62 @@ use Rattle.std.specs.Prelude.{[], Option, Some, None, codes, vec_len, Result, If
 use Rattle.std.specs.Io.KnownBytes.{Appends}
 use Rattle.vac_lines.specs.Script.{as_line}
 use Rattle.vac_lines.specs.Text.{field_text, report_text}
-use Rattle.load_client.specs.declared.tally.Tally.{Tally}
+use Rattle.load_run.specs.declared.outcomes.Outcomes.{Outcomes}
 use Rattle.load_run.specs.declared.load.LoadReport.{LoadReport}
 use Rattle.load_run.specs.declared.load.LoadFault.{LoadFault}
 use Rattle.load_run.specs.declared.load.LoadFault.TheVariants as load
-use Rattle.load_draws.specs.declared.settings.Settings.{Settings}
-use Rattle.load_draws.specs.Setting.{is_settings}
-use Rattle.load_draws.specs.Streams.{gives, stream_of}
+use Rattle.rand_pcg.specs.Lcg.{Lcg}
+use Rattle.load_tasks.specs.declared.settings.Settings.{Settings}
+use Rattle.load_tasks.specs.Setting.{is_settings}
+use Rattle.load_tasks.specs.Streams.{gives, stream_of}
 use Rattle.vac_manager.specs.declared.note.Note.{Note}
 use Rattle.vac_manager.specs.Keeping.{IsNoted}
-use Rattle.load_history.specs.Turns.{EachInTurn}
-use Rattle.load_history.specs.Order.{AreOrdered}
-use Rattle.load_history.specs.History.{call_of_entry, calls_text, WroteHistory, WroteHistoryPrefix}
-use Rattle.load_history.specs.Legal.{AreLegal, JudgedByPrecedence}
+use Rattle.load_record.specs.Turns.{EachInTurn}
+use Rattle.load_record.specs.Order.{AreOrdered}
+use Rattle.load_record.specs.History.{call_of_entry, calls_text, WroteHistory, WroteHistoryPrefix}
+use Rattle.load_record.specs.Legal.{AreLegal, JudgedByPrecedence}
 use Rattle.judge_calls.specs.CallText.{IsTheirHistory}
-use Rattle.load_attempts.specs.Pages.{Page}
-use Rattle.load_attempts.specs.Text.{WroteAttempts, WroteAttemptsPrefix}
-use Rattle.load_client.specs.Lists.{Paired}
-use Rattle.load_client.specs.declared.efforts.Efforts.{Efforts}
-use Rattle.load_run.specs.declared.seats.Keepers.{Keepers}
-use Rattle.load_client.specs.Keeping.{KeptNotes}
-use Rattle.load_run.specs.Load.{IsLoadFault, is_load}
+use Rattle.load_record.specs.Pages.{Page}
+use Rattle.load_record.specs.Text.{WroteAttempts, WroteAttemptsPrefix}
+use Rattle.load_run.specs.Lists.{Paired}
+use Rattle.load_run.specs.declared.statistics.AttemptStatistics.{AttemptStatistics}
+use Rattle.load_run.specs.declared.slots.Recorders.{Recorders}
+use Rattle.load_run.specs.Keeping.{KeptNotes}
+use Rattle.load_run.specs.declared.load.Load.{Load}
+use Rattle.load_run.specs.Load.{IsLoadFault, LoadedKept, StopsLoad, is_load}
+use Rattle.load_run.specs.Slots.{kept_at}
 use Rattle.load_run.specs.Streams.{LoadedBySeed, KeptBySeed}
 use Rattle.vac_lines.specs.Writing.{AppendsPrefix}
 use Rattle.cli_main.specs.Ending.{EndsWithStatus, NamedAfterWriting, load_fault_line}
 
 -- the number of completed tasks, and the number of tasks that met a conflict with another client
 -- in each attempt, as text
-abbrev pub tried_text : Tally → List ℕ
+abbrev pub tried_text : Outcomes → List ℕ
 tried_text t = field_text (codes "answered ") t.answered ++ field_text (codes " busy ") t.busy
 
 -- the number of tasks that were refused memory, and the number of tasks that found the clock
 -- spent, as text
-abbrev pub wanting_text : Tally → List ℕ
+abbrev pub wanting_text : Outcomes → List ℕ
 wanting_text t = field_text (codes " memory ") t.memory ++ field_text (codes " spent ") t.spent
 
 -- the text of a load's counts
-abbrev pub tally_text : Tally → List ℕ
+abbrev pub tally_text : Outcomes → List ℕ
 tally_text t = tried_text t ++ wanting_text t
 
 -- the two lines of a load
 abbrev pub load_text : LoadReport → List ℕ
-load_text load = as_line (tally_text load.tally) ++ as_line (report_text load.report)
+load_text load = as_line (tally_text load.outcomes) ++ as_line (report_text load.report)
 
 -- the load of these settings ran to its end, and exactly its two lines were written
 pub record WroteLoad (s : Settings) (held holds : Option (List ℕ)) : Type 0 where
   pub load : LoadReport
-  pub loaded : LoadedBySeed s load.tally load.report
+  pub loaded : LoadedBySeed s load.outcomes load.report
   pub written : Appends held holds (load_text load)
 
 -- the load ran to its end, and a prefix of its two lines was written
 pub record WroteLoadInPart (s : Settings) (held holds : Option (List ℕ)) : Type 0 where
   pub load : LoadReport
-  pub loaded : LoadedBySeed s load.tally load.report
+  pub loaded : LoadedBySeed s load.outcomes load.report
   pub written : AppendsPrefix held holds (load_text load)
 
 -- the fault is the reason why the load of a seed did not run to its end; the setup phase of such a
@@ -64,14 +67,23 @@ pub record WroteLoadInPart (s : Settings) (held holds : Option (List ℕ)) : Typ
 abbrev pub IsFaultBySeed : Settings → LoadFault → Type 0
 IsFaultBySeed s fault = IsLoadFault gives s (stream_of s.seed 0) fault
 
+-- this load was run, and draws from generators: the result has the recorded calls, or the reason
+-- why the load did not run to its end
+pub record HasRun {G K : Type 0} (notes : K → KeptNotes) (l : Load Lcg G K)
+    (result : Result (LoadReport × AttemptStatistics × Recorders K) LoadFault) : Type 0 where
+  pub kept : IfOk result (λ r. LoadedKept gives l.plan.settings (λ seat. seat.draws) l.draws
+      l.slots.items r.0.outcomes r.0.report (notes l.keep) (notes r.2.opening)
+      (kept_at notes l.slots.items) (map notes r.2.clients.items))
+  pub refused : IfErr result (λ fault. StopsLoad gives l.plan.settings l.draws fault)
+
 -- a load of these settings was run with these recorders, or refused because the settings and the
 -- recorders do not fit: the result has the recorded calls, or the reason why the load did not run
 -- to its end
-pub record RunsKept {K : Type 0} (notes : K → KeptNotes) (s : Settings) (keepers : Keepers K)
-    (result : Result (LoadReport × Efforts × Keepers K) LoadFault) : Type 0 where
+pub record RunsKept {K : Type 0} (notes : K → KeptNotes) (s : Settings) (recorders : Recorders K)
+    (result : Result (LoadReport × AttemptStatistics × Recorders K) LoadFault) : Type 0 where
   pub arguments : IsErrOf result load.Arguments
-      ↔ (is_load s (vec_len keepers.clients) ≡ false)
-  pub kept : IfOk result (λ r. KeptBySeed notes s r.0.tally r.0.report keepers r.2)
+      ↔ (is_load s (vec_len recorders.clients) ≡ false)
+  pub kept : IfOk result (λ r. KeptBySeed notes s r.0.outcomes r.0.report recorders r.2)
   pub refused : IfErr result (λ fault. IsFaultBySeed s fault)
 
 -- a load of these settings was stopped by a fault other than unfitting arguments, and a prefix of
@@ -110,7 +122,7 @@ EndsKept wrote in_part status s held holds =
 pub record HasNoted (s : Settings) (opening : List Note) (clients : List (List Note))
     : Type 0 where
   pub load : LoadReport
-  pub loaded : LoadedBySeed s load.tally load.report
+  pub loaded : LoadedBySeed s load.outcomes load.report
   pub of_opening : Paired IsNoted opening loaded.opened
   pub of_clients : Paired (λ notes x. Paired IsNoted notes x.records) clients loaded.shares
 
@@ -120,7 +132,7 @@ calls_kept None = []
 calls_kept (Some calls) = calls
 
 -- the load ran to its end, and the recorders have its completed calls
-abbrev pub AreNoted : {K : Type 0} → (K → KeptNotes) → Settings → Keepers K → Type 0
+abbrev pub AreNoted : {K : Type 0} → (K → KeptNotes) → Settings → Recorders K → Type 0
 AreNoted notes s k = HasNoted s (calls_kept (notes k.opening))
     (map (λ x. calls_kept (notes x)) k.clients.items)
 

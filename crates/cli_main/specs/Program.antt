@@ -5,8 +5,8 @@ use Rattle.std.specs.Io.KnownBytes.{Appends}
 use Rattle.clap.specs.Words.{IsAmong, Text, fault_of}
 use Rattle.clap.specs.declared.error.kind.ErrorKind.{ErrorKind}
 use Rattle.clap.specs.declared.error.kind.ErrorKind.TheVariants as error
-use Rattle.load_draws.specs.declared.settings.Settings.{Settings}
-use Rattle.load_draws.specs.Setting.{is_settings}
+use Rattle.load_tasks.specs.declared.settings.Settings.{Settings}
+use Rattle.load_tasks.specs.Setting.{is_settings}
 use Rattle.load_run.specs.declared.load.LoadFault.TheVariants.{Arguments}
 use Rattle.cli_options.specs.declared.asked.Asked.{Asked}
 use Rattle.cli_options.specs.declared.asked.Asked.TheVariants.{Run, Dump, Check, Judge, Order}
@@ -17,12 +17,12 @@ use Rattle.vac_lines.specs.Writing.{AppendsPrefix}
 use Rattle.cli_script.specs.Script.{WroteAll, WrotePrefix}
 use Rattle.cli_script.specs.Dump.{Dumped, DumpStopped}
 use Rattle.cli_script.specs.Check.{Checked, CheckStopped}
-use Rattle.load_worklist.specs.Worklist.{WroteTasks, WroteTasksPrefix}
+use Rattle.load_tasks.specs.Worklist.{WroteTasks, WroteTasksPrefix}
 use Rattle.cli_main.specs.Load.{EndsLoad, WroteLoad, WroteLoadInPart}
 use Rattle.cli_main.specs.Load.{EndsKept, WroteCalls, WroteCallsInPart, WroteTried, WroteTriedInPart}
 use Rattle.cli_main.specs.Ending.{EndsWithStatus, NamedAfter, NamedAfterWriting, fault_line, load_fault_line}
 use Rattle.cli_main.specs.Ordering.{Orders}
-use Rattle.cli_main.specs.Asking.{JudgesAsked, JudgesAttempts}
+use Rattle.cli_main.specs.Asking.{JudgesAsked, JudgesOpacity}
 use Rattle.cli_options.specs.CommandLine.{vacation, AsksFor}
 
 -- the program runs a load, and writes its history or its two lines
@@ -86,8 +86,8 @@ Does files (Judge how) status unread left held holds =
     JudgesAsked files how status unread left held holds
 Does files (Order blocks search) status unread left held holds =
     Orders blocks search.steps status unread left held holds
-Does files (Opaque n) status unread left held holds =
-    JudgesAttempts n status unread left held holds
+Does files (Opaque how) status unread left held holds =
+    JudgesOpacity how.place how.words status unread left held holds
 Does files (Load settings how) status unread left held holds =
     (left ≡ unread) × LoadsAs how.history how.attempts status settings held holds
 Does files (Tasks settings) status unread left held holds =

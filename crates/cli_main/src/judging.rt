@@ -3,14 +3,15 @@
 ghost use Rattle.std.specs.Prelude.{◌≡◌, true, IfOk, IfErr, OnOk, IsSome, option_map};
 ghost use Rattle.vac_model.specs.Ranges.{is_block_count};
 ghost use Rattle.cli_main.specs.Judging.{Judges, JudgesWith, NotOpened};
-ghost use Rattle.cli_main.specs.Asking.{has_stray_settings, JudgesAs, JudgesAsked, JudgesAttempts};
+ghost use Rattle.cli_main.specs.Asking.{has_stray_settings, JudgesAs, JudgesAsked};
+ghost use Rattle.cli_main.specs.Asking.{JudgesAttempts, PlacesAttempts, JudgesOpacity};
 
 use crate::files::Open;
 use crate::searching::judge_any;
 use crate::status::{REFUSED, end_by, end_judged, end_unopened};
-use cli_options::Judging;
+use cli_options::{Judging, Opacity};
 use judge_calls::{judge_history, judge_work};
-use judge_opacity::judge_attempts;
+use judge_opacity::{judge_attempts, place_attempts};
 use std::alloc::Global;
 use std::io;
 use std::io::{ErrorKind, Read, Write};
@@ -151,15 +152,38 @@ pub(crate) fn judge<T: Clock + AllocGlobal, F: Open, R: Read, W: Write, E: Write
     judge_as(rt, files, how, input, output, errors)
 }
 
-/// Judges attempts on `words` words, and returns the status: 0 if they are opaque.
-pub(crate) fn judge_opaque<R: Read, W: Write>(
-    alloc: Global,
-    words: u32,
-    input: &mut R,
-    output: &mut W,
-) -> u8
+/// Judges attempts on `words` words in the order of their lines, and returns the status: 0 if they
+/// are opaque.
+fn judge_in_order<R: Read, W: Write>(alloc: Global, words: u32, input: &mut R, output: &mut W) -> u8
     ensures { JudgesAttempts words result (R.remaining input.old) (R.remaining input.new)
         (W.contents output.old) (W.contents output.new) }
 {
     end_judged(judge_attempts(alloc, words, input, output), output)
+}
+
+/// Searches for places of attempts on `words` words, of which only the committed writers stand in
+/// their order, and returns the status: 0 if the attempts are opaque with some places.
+fn judge_placed<R: Read, W: Write>(alloc: Global, words: u32, input: &mut R, output: &mut W) -> u8
+    ensures { PlacesAttempts words result (R.remaining input.old) (R.remaining input.new)
+        (W.contents output.old) (W.contents output.new) }
+{
+    end_judged(place_attempts(alloc, words, input, output), output)
+}
+
+/// Judges attempts as the command line asks, and returns the status: 0 if they are opaque.
+pub(crate) fn judge_opaque<R: Read, W: Write>(
+    alloc: Global,
+    how: Opacity,
+    input: &mut R,
+    output: &mut W,
+) -> u8
+    ensures { JudgesOpacity how.place how.words result
+        (R.remaining input.old) (R.remaining input.new)
+        (W.contents output.old) (W.contents output.new) }
+{
+    if how.place {
+        judge_placed(alloc, how.words, input, output)
+    } else {
+        judge_in_order(alloc, how.words, input, output)
+    }
 }

@@ -2,9 +2,9 @@
 
 ghost use Rattle.std.specs.Prelude.{◌≡◌, ◌<◌, ◌^◌, true, [], Some, ℕ, Bool, List, Option, length};
 ghost use Rattle.std.specs.Prelude.{vec_len, All, IfOk, OnOk, OnErr, IfErr};
-ghost use Rattle.load_draws.specs.declared.settings.Settings.{Settings};
-ghost use Rattle.load_draws.specs.Setting.{is_settings};
-ghost use Rattle.load_run.specs.declared.seats.Keepers.{Keepers};
+ghost use Rattle.load_tasks.specs.declared.settings.Settings.{Settings};
+ghost use Rattle.load_tasks.specs.Setting.{is_settings};
+ghost use Rattle.load_run.specs.declared.slots.Recorders.{Recorders};
 ghost use Rattle.cli_main.specs.Ending.{CanStopWriting};
 ghost use Rattle.cli_main.specs.Load.{AreNoted, EndsKept};
 ghost use Rattle.cli_main.specs.Program.{Loads, Tries};
@@ -13,15 +13,14 @@ use crate::load::{AskedLoad, tell_load};
 use crate::stats::{Span, tell_stats};
 use crate::status::{end_by_settings, end_done, end_load_by};
 use crate::telling::run_told;
-use load_attempts::{Ledger, write_attempts};
-use load_history::{Journal, Since, Watch, write_history};
-use load_run::{Keepers, LoadFault, Settings};
+use load_record::{Journal, Ledger, Since, Watch, write_attempts, write_history};
+use load_run::{LoadFault, Recorders, Settings};
 use std::alloc::{AllocError, Global};
 use std::io::Write;
 use std::sync::Wait;
 use std::thread::Threads;
 use std::time::{Clock, Instant};
-use vac_manager::Keep;
+use vac_manager::Recorder;
 use vac_streams::StreamFault;
 
 /// A load that ran to its end, and its recorders.
@@ -29,12 +28,12 @@ use vac_streams::StreamFault;
 pub(crate) struct KeptLoad<'a, K> {
     alloc: Global,
     settings: &'a Settings,
-    keepers: Keepers<K>,
+    recorders: Recorders<K>,
 }
 
 /// A recorder of a client's calls that reads times from a clock, and writes the calls of a whole
 /// load.
-pub(crate) trait Transcript<W>: Keep + Sized {
+pub(crate) trait Transcript<W>: Recorder + Sized {
     /// The calls of a load of these settings were written.
     ghost wrote: { Settings → Option (List ℕ) → Option (List ℕ) → Type 0 };
 
@@ -42,21 +41,21 @@ pub(crate) trait Transcript<W>: Keep + Sized {
     ghost wrote_in_part: { Settings → Option (List ℕ) → Option (List ℕ) → Type 0 };
 
     /// The recorders had room for all calls.
-    ghost are_whole: { Keepers Self → Bool };
+    ghost are_whole: { Recorders Self → Bool };
 
     /// Returns a recorder without calls.
     fn empty(alloc: Global, watch: W) -> Self
         ensures { Self.notes result ≡ Some [] };
 
     /// Returns whether the recorders had room for all calls.
-    fn are_whole(keepers: &Keepers<Self>) -> bool
-        ensures { result ≡ are_whole keepers.now };
+    fn are_whole(recorders: &Recorders<Self>) -> bool
+        ensures { result ≡ are_whole recorders.now };
 
     /// Writes the calls of a load.
     fn write<O: Write>(load: &KeptLoad<'_, Self>, output: &mut O) -> Result<(), StreamFault>
         requires fits { is_settings load.now.settings.now ≡ true }
-        requires noted { AreNoted Self.notes load.now.settings.now load.now.keepers }
-        requires few { length load.now.keepers.clients.items < 2 ^ 32 }
+        requires noted { AreNoted Self.notes load.now.settings.now load.now.recorders }
+        requires few { length load.now.recorders.clients.items < 2 ^ 32 }
         ensures ok { OnOk result
             (wrote load.now.settings.now (O.contents output.old) (O.contents output.new)) }
         ensures err { OnErr result
@@ -65,7 +64,7 @@ pub(crate) trait Transcript<W>: Keep + Sized {
 }
 
 impl<W: Watch> Transcript<W> for Journal<W> {
-    ghost use Rattle.load_history.specs.History as history;
+    ghost use Rattle.load_record.specs.History as history;
     ghost use Rattle.cli_main.specs.Load.{WroteCalls, WroteCallsInPart};
 
     ghost wrote = { WroteCalls };
@@ -78,18 +77,18 @@ impl<W: Watch> Transcript<W> for Journal<W> {
         Journal::new(alloc, watch)
     }
 
-    fn are_whole(keepers: &Keepers<Journal<W>>) -> bool {
-        load_history::are_whole(&keepers.opening, keepers.clients.as_slice())
+    fn are_whole(recorders: &Recorders<Journal<W>>) -> bool {
+        load_record::are_whole(&recorders.opening, recorders.clients.as_slice())
     }
 
     fn write<O: Write>(load: &KeptLoad<'_, Journal<W>>, output: &mut O) -> Result<(), StreamFault> {
-        let Keepers { opening, clients } = &load.keepers;
+        let Recorders { opening, clients } = &load.recorders;
         write_history(load.alloc, opening, clients.as_slice(), output)
     }
 }
 
 impl<W: Watch + Copy + Drop> Transcript<W> for Ledger<W> {
-    ghost use Rattle.load_attempts.specs.Known.{are_whole_ledgers};
+    ghost use Rattle.load_record.specs.Known.{are_whole_ledgers};
     ghost use Rattle.cli_main.specs.Load.{WroteTried, WroteTriedInPart};
 
     ghost wrote = { WroteTried };
@@ -102,12 +101,12 @@ impl<W: Watch + Copy + Drop> Transcript<W> for Ledger<W> {
         Ledger::new(alloc, watch)
     }
 
-    fn are_whole(keepers: &Keepers<Ledger<W>>) -> bool {
-        load_attempts::are_whole(&keepers.opening, keepers.clients.as_slice())
+    fn are_whole(recorders: &Recorders<Ledger<W>>) -> bool {
+        load_record::are_whole_attempts(&recorders.opening, recorders.clients.as_slice())
     }
 
     fn write<O: Write>(load: &KeptLoad<'_, Ledger<W>>, output: &mut O) -> Result<(), StreamFault> {
-        let (blocks, kept) = (load.settings.blocks, &load.keepers);
+        let (blocks, kept) = (load.settings.blocks, &load.recorders);
         write_attempts(
             load.alloc,
             blocks,
@@ -119,15 +118,15 @@ impl<W: Watch + Copy + Drop> Transcript<W> for Ledger<W> {
 }
 
 /// Returns the empty recorders of a load of `count` clients, with one clock and one start.
-fn empty_keepers<'a, T: Clock, K: Transcript<Since<'a, T>> + Drop>(
+fn empty_recorders<'a, T: Clock, K: Transcript<Since<'a, T>> + Drop>(
     alloc: Global,
     clock: &'a T,
     count: u32,
-) -> Result<Keepers<K>, AllocError>
-    ensures number { IfOk result (λ keepers. vec_len keepers.clients ≡ count) }
-    ensures opening { IfOk result (λ keepers. K.notes keepers.opening ≡ Some []) }
-    ensures clients { IfOk result (λ keepers.
-        All (λ x. K.notes x ≡ Some []) keepers.clients.items) }
+) -> Result<Recorders<K>, AllocError>
+    ensures number { IfOk result (λ recorders. vec_len recorders.clients ≡ count) }
+    ensures opening { IfOk result (λ recorders. K.notes recorders.opening ≡ Some []) }
+    ensures clients { IfOk result (λ recorders.
+        All (λ x. K.notes x ≡ Some []) recorders.clients.items) }
 {
     let start = Instant::now(clock).ok();
     let mut clients = Vec::with_capacity(alloc, count as usize)?;
@@ -135,7 +134,7 @@ fn empty_keepers<'a, T: Clock, K: Transcript<Since<'a, T>> + Drop>(
         clients.push(K::empty(alloc, Since::new(clock, start)))?;
     }
     let opening = K::empty(alloc, Since::new(clock, start));
-    Ok(Keepers { opening, clients })
+    Ok(Recorders { opening, clients })
 }
 
 impl<'a, T: Threads + Wait + Clock + Sync + AllocGlobal> AskedLoad<'a, T> {
@@ -147,8 +146,8 @@ impl<'a, T: Threads + Wait + Clock + Sync + AllocGlobal> AskedLoad<'a, T> {
             (W.contents output.old) (W.contents output.new) }
     {
         let (clock, count) = (self.rt, self.settings.clients);
-        let keepers = empty_keepers::<T, Journal<Since<'a, T>>>(clock.alloc(), clock, count);
-        self.keep(keepers, output, errors)
+        let recorders = empty_recorders::<T, Journal<Since<'a, T>>>(clock.alloc(), clock, count);
+        self.keep(recorders, output, errors)
     }
 
     /// Runs the load, writes the attempts of its calls, writes its two lines to `errors`, and
@@ -159,8 +158,8 @@ impl<'a, T: Threads + Wait + Clock + Sync + AllocGlobal> AskedLoad<'a, T> {
             (W.contents output.old) (W.contents output.new) }
     {
         let (clock, count) = (self.rt, self.settings.clients);
-        let keepers = empty_keepers::<T, Ledger<Since<'a, T>>>(clock.alloc(), clock, count);
-        self.keep(keepers, output, errors)
+        let recorders = empty_recorders::<T, Ledger<Since<'a, T>>>(clock.alloc(), clock, count);
+        self.keep(recorders, output, errors)
     }
 
     /// Runs the load with these recorders, writes the recorded calls, writes the load's two lines
@@ -168,15 +167,15 @@ impl<'a, T: Threads + Wait + Clock + Sync + AllocGlobal> AskedLoad<'a, T> {
     /// fault of refused memory.
     fn keep<K: Transcript<Since<'a, T>> + Send + Drop, W: Write, E: Write + Send>(
         &self,
-        keepers: Result<Keepers<K>, AllocError>,
+        recorders: Result<Recorders<K>, AllocError>,
         output: &mut W,
         errors: &mut E,
     ) -> u8
     where
         K::Tracing: Send,
-        requires number { IfOk keepers (λ k. vec_len k.clients ≡ self.now.settings.now.clients) }
-        requires opening { IfOk keepers (λ k. K.notes k.opening ≡ Some []) }
-        requires clients { IfOk keepers (λ k. All (λ x. K.notes x ≡ Some []) k.clients.items) }
+        requires number { IfOk recorders (λ k. vec_len k.clients ≡ self.now.settings.now.clients) }
+        requires opening { IfOk recorders (λ k. K.notes k.opening ≡ Some []) }
+        requires clients { IfOk recorders (λ k. All (λ x. K.notes x ≡ Some []) k.clients.items) }
         ensures { EndsKept K.wrote K.wrote_in_part result self.now.settings.now
             (W.contents output.old) (W.contents output.new) }
     {
@@ -184,11 +183,11 @@ impl<'a, T: Threads + Wait + Clock + Sync + AllocGlobal> AskedLoad<'a, T> {
             return end_by_settings(self.rt.alloc(), self.settings, output, errors);
         }
         let alloc = self.rt.alloc();
-        let Ok(empty) = keepers else {
+        let Ok(empty) = recorders else {
             return end_load_by(LoadFault::Memory, output);
         };
         let span = Span::new(self.rt, self.settings.clients);
-        let (report, efforts, keepers) = match run_told(
+        let (report, statistics, recorders) = match run_told(
             self.rt,
             self.settings,
             self.how,
@@ -199,18 +198,24 @@ impl<'a, T: Threads + Wait + Clock + Sync + AllocGlobal> AskedLoad<'a, T> {
             Ok(loaded) => loaded,
             Err(fault) => return end_load_by(fault, output),
         };
-        if !K::are_whole(&keepers) {
+        if !K::are_whole(&recorders) {
             return end_load_by(LoadFault::Memory, output);
         }
         if self.how.stats {
-            tell_stats(alloc, span.nanos(), report.tally.answered, efforts, errors);
+            tell_stats(
+                alloc,
+                span.nanos(),
+                report.outcomes.answered,
+                statistics,
+                errors,
+            );
         }
         tell_load(alloc, &report, errors);
         let settings = self.settings;
         let load = KeptLoad {
             alloc,
             settings,
-            keepers,
+            recorders,
         };
         end_done(K::write(&load, output), output)
     }

@@ -15,7 +15,7 @@ use crate::stats::{Span, tell_stats};
 use crate::status::{DONE, FAULT, REFUSED, end_by, end_by_settings, end_load_by};
 use crate::telling::run_told;
 use cli_options::How;
-use load_run::{LoadFault, LoadReport, Settings, Tally, no_keepers};
+use load_run::{LoadFault, LoadReport, Outcomes, Settings, no_recorders};
 use std::alloc::{AllocError, Global};
 use std::io::Write;
 use std::sync::Wait;
@@ -78,15 +78,15 @@ impl<T: Threads + Wait + Clock + Sync + AllocGlobal> AskedLoad<'_, T> {
         if !self.settings.is_in_range() {
             return end_by_settings(self.rt.alloc(), self.settings, output, errors);
         }
-        let Ok(keepers) = no_keepers(self.rt.alloc(), self.settings.clients) else {
+        let Ok(recorders) = no_recorders(self.rt.alloc(), self.settings.clients) else {
             return end_load_by(LoadFault::Memory, output);
         };
         let span = Span::new(self.rt, self.settings.clients);
-        match run_told(self.rt, self.settings, self.how, keepers, &span, errors) {
-            Ok((report, efforts, _kept)) => {
+        match run_told(self.rt, self.settings, self.how, recorders, &span, errors) {
+            Ok((report, statistics, _kept)) => {
                 if self.how.stats {
-                    let answered = report.tally.answered;
-                    tell_stats(self.rt.alloc(), span.nanos(), answered, efforts, errors);
+                    let answered = report.outcomes.answered;
+                    tell_stats(self.rt.alloc(), span.nanos(), answered, statistics, errors);
                 }
                 write_load(self.rt.alloc(), &report, output)
             }
@@ -125,35 +125,35 @@ fn write_load<W: Write>(alloc: Global, report: &LoadReport, output: &mut W) -> u
 
 /// Appends the number of completed tasks, and the number of tasks that met a conflict with another
 /// client in each attempt.
-fn append_tried(out: &mut Vec<u8>, tally: Tally) -> Result<(), AllocError>
-    ensures { OnOk result (out.new.items ≡ out.old.items ++ tried_text tally) }
+fn append_tried(out: &mut Vec<u8>, outcomes: Outcomes) -> Result<(), AllocError>
+    ensures { OnOk result (out.new.items ≡ out.old.items ++ tried_text outcomes) }
 {
-    append_field(out, b"answered ", tally.answered)?;
-    append_field(out, b" busy ", tally.busy)
+    append_field(out, b"answered ", outcomes.answered)?;
+    append_field(out, b" busy ", outcomes.busy)
 }
 
 /// Appends the number of tasks that were refused memory, and the number of tasks that found the
 /// clock spent.
-fn append_wanting(out: &mut Vec<u8>, tally: Tally) -> Result<(), AllocError>
-    ensures { OnOk result (out.new.items ≡ out.old.items ++ wanting_text tally) }
+fn append_wanting(out: &mut Vec<u8>, outcomes: Outcomes) -> Result<(), AllocError>
+    ensures { OnOk result (out.new.items ≡ out.old.items ++ wanting_text outcomes) }
 {
-    append_field(out, b" memory ", tally.memory)?;
-    append_field(out, b" spent ", tally.spent)
+    append_field(out, b" memory ", outcomes.memory)?;
+    append_field(out, b" spent ", outcomes.spent)
 }
 
 /// Appends the counts of the tasks, without a line end.
-fn append_tally(out: &mut Vec<u8>, tally: Tally) -> Result<(), AllocError>
-    ensures { OnOk result (out.new.items ≡ out.old.items ++ tally_text tally) }
+fn append_outcomes(out: &mut Vec<u8>, outcomes: Outcomes) -> Result<(), AllocError>
+    ensures { OnOk result (out.new.items ≡ out.old.items ++ tally_text outcomes) }
 {
-    append_tried(out, tally)?;
-    append_wanting(out, tally)
+    append_tried(out, outcomes)?;
+    append_wanting(out, outcomes)
 }
 
 /// Appends the counts of the tasks, as a line.
-fn append_tally_line(out: &mut Vec<u8>, tally: Tally) -> Result<(), AllocError>
-    ensures { OnOk result (out.new.items ≡ out.old.items ++ as_line (tally_text tally)) }
+fn append_outcomes_line(out: &mut Vec<u8>, outcomes: Outcomes) -> Result<(), AllocError>
+    ensures { OnOk result (out.new.items ≡ out.old.items ++ as_line (tally_text outcomes)) }
 {
-    append_tally(out, tally)?;
+    append_outcomes(out, outcomes)?;
     out.extend_from_slice(b"\n")
 }
 
@@ -169,6 +169,6 @@ fn append_report_line(out: &mut Vec<u8>, report: Report) -> Result<(), AllocErro
 fn append_load(out: &mut Vec<u8>, load: &LoadReport) -> Result<(), AllocError>
     ensures { OnOk result (out.new.items ≡ out.old.items ++ load_text load.now) }
 {
-    append_tally_line(out, load.tally)?;
+    append_outcomes_line(out, load.outcomes)?;
     append_report_line(out, load.report)
 }

@@ -17,7 +17,7 @@ use clap::error::ErrorKind;
 use cli_options::{Asked, VERSION, read_asked};
 use cli_script::{check_words, dump_script, run_script};
 use load_run::Settings;
-use load_worklist::{TasksFault, write_tasks};
+use load_tasks::{TasksFault, write_tasks};
 use std::alloc::Global;
 use std::io::{Read, Write};
 use std::sync::Wait;
@@ -57,7 +57,7 @@ pub fn run_words<
         Ok(Asked::Check) => check(alloc, input, output),
         Ok(Asked::Judge(how)) => judge(rt, files, how, input, output, errors),
         Ok(Asked::Order(blocks, search)) => order(rt, blocks, search, input, output, errors),
-        Ok(Asked::Opaque(words)) => judge_opaque(alloc, words, input, output),
+        Ok(Asked::Opaque(how)) => judge_opaque(alloc, how, input, output),
         Ok(Asked::Load(settings, how)) => load(rt, &settings, how, output, errors),
         Ok(Asked::Tasks(settings)) => list_tasks(alloc, &settings, output, errors),
         Err(error) => show(alloc, &error, output, errors),

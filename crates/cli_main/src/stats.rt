@@ -1,6 +1,6 @@
 //! The time that the clients of a load take, and the line of statistics at the end of a load.
 
-use load_run::Efforts;
+use load_run::AttemptStatistics;
 use std::alloc::{AllocError, Global};
 use std::io::Write;
 use std::sync::atomic::{AtomicU32, AtomicU64, Ordering};
@@ -136,12 +136,12 @@ fn stats_line(
     alloc: Global,
     nanos: u64,
     answered: u64,
-    efforts: Efforts,
+    statistics: AttemptStatistics,
 ) -> Result<String, AllocError> {
     let micros = nanos / MICROSECOND;
     let (seconds, rest) = (micros / 1_000_000, micros % 1_000_000);
     let rate = each(u128::from(answered) * SECOND, u128::from(nanos));
-    let Efforts {
+    let AttemptStatistics {
         attempts,
         held,
         newer,
@@ -153,7 +153,7 @@ fn stats_line(
         nodes,
         uses,
         stocks,
-    } = efforts;
+    } = statistics;
     let thousandths = each(u128::from(attempts) * 1_000, u128::from(answered));
     let (whole, part) = (thousandths / 1_000, thousandths % 1_000);
     format!(in alloc;
@@ -170,10 +170,10 @@ pub(crate) fn tell_stats<E: Write>(
     alloc: Global,
     nanos: u64,
     answered: u64,
-    efforts: Efforts,
+    statistics: AttemptStatistics,
     errors: &mut E,
 ) {
-    let Ok(line) = stats_line(alloc, nanos, answered, efforts) else {
+    let Ok(line) = stats_line(alloc, nanos, answered, statistics) else {
         return;
     };
     if errors.write_all(line.as_bytes()).is_ok() {

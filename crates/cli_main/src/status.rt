@@ -5,8 +5,8 @@ ghost use Rattle.vac_lines.specs.Writing.{AppendsPrefix};
 ghost use Rattle.cli_main.specs.Ending.{fault_line, unopened_line, load_fault_line};
 ghost use Rattle.cli_main.specs.Ending.{EndsDone, EndsJudged};
 
-use load_draws::BLOCKS_OF_ITEM;
 use load_run::{LoadFault, Settings};
+use load_tasks::BLOCKS_OF_ITEM;
 use std::alloc::Global;
 use std::io::Write;
 use vac_lines::write_and_flush;

@@ -1,10 +1,10 @@
 //! Loads that write progress lines while they run.
 
-ghost use Rattle.cli_main.specs.Load.{RunsKept};
+ghost use Rattle.cli_main.specs.Load.{HasRun, RunsKept};
 
 use crate::stats::Span;
 use cli_options::How;
-use load_run::{Efforts, Keepers, LoadFault, LoadReport, Settings, run_load_kept};
+use load_run::{AttemptStatistics, Load, LoadFault, LoadReport, PcgDraws, Recorders, Settings};
 use std::alloc::Global;
 use std::io::Write;
 use std::sync::Wait;
@@ -13,7 +13,7 @@ use std::thread;
 use std::thread::{Parker, Threads};
 use std::time::{Clock, Duration, Instant};
 use stm_attempt::{Gate, Point};
-use vac_manager::Keep;
+use vac_manager::Recorder;
 
 /// Least time between two lines, in milliseconds.
 const PAUSE_MILLIS: u64 = 500;
@@ -60,22 +60,16 @@ impl Progress {
     }
 
     /// Runs the load, and then ends the thread that writes progress lines.
-    fn run<T: Threads + Wait + Clock + Sync + AllocGlobal, K: Keep + Send + Drop>(
+    fn run<T: Threads + Wait, G: Gate + Send + Drop, K: Recorder + Send + Drop>(
         &self,
         rt: &T,
-        settings: &Settings,
-        keepers: Keepers<K>,
-        span: &Span<T>,
-    ) -> Result<(LoadReport, Efforts, Keepers<K>), LoadFault>
+        load: Load<PcgDraws, G, K>,
+    ) -> Result<(LoadReport, AttemptStatistics, Recorders<K>), LoadFault>
     where
         K::Tracing: Send,
-        ensures { RunsKept K.notes settings.now keepers result }
+        ensures { HasRun K.notes load result }
     {
-        let counter = Counter {
-            answered: &self.answered,
-            gate: span,
-        };
-        let loaded = run_load_kept(rt, settings, counter, keepers);
+        let loaded = load.run(rt);
         self.has_ended.store(true, Ordering::SeqCst);
         self.teller.unpark();
         loaded
@@ -132,37 +126,43 @@ fn all_tasks(settings: &Settings) -> u64 {
     of_one.saturating_mul(u64::from(settings.clients))
 }
 
-/// Runs the load of a seed as `run_load_kept` does. If the command line asks for progress, writes
-/// the number of completed tasks to `errors` while the load runs, at most twice a second.
+/// Runs the load of a seed with these recorders, and with the span as the gate of each client. If
+/// the command line asks for progress, writes the number of completed tasks to `errors` while the
+/// load runs, at most twice a second.
 ///
 /// If no thread can be started for the progress lines, the load runs and none is written: a join
 /// then runs its second closure first.
 pub(crate) fn run_told<
     T: Threads + Wait + Clock + Sync + AllocGlobal,
-    K: Keep + Send + Drop,
+    K: Recorder + Send + Drop,
     E: Write + Send,
 >(
     rt: &T,
     settings: &Settings,
     how: How,
-    keepers: Keepers<K>,
+    recorders: Recorders<K>,
     span: &Span<T>,
     errors: &mut E,
-) -> Result<(LoadReport, Efforts, Keepers<K>), LoadFault>
+) -> Result<(LoadReport, AttemptStatistics, Recorders<K>), LoadFault>
 where
     K::Tracing: Send,
-    ensures { RunsKept K.notes settings.now keepers result }
+    ensures { RunsKept K.notes settings.now recorders result }
 {
     if !how.progress {
-        return run_load_kept(rt, settings, span, keepers);
+        let load = Load::by_seed(rt.alloc(), settings, span, recorders)?;
+        return load.run(rt);
     }
     let progress = Progress::new();
-    let (shared, settings) = (&progress, *settings);
-    let all = all_tasks(&settings);
+    let counter = Counter {
+        answered: &progress.answered,
+        gate: span,
+    };
+    let load = Load::by_seed(rt.alloc(), settings, counter, recorders)?;
+    let (shared, all) = (&progress, all_tasks(settings));
     let tell = || shared.tell(rt, all, errors);
-    let run = move || -> Result<(LoadReport, Efforts, Keepers<K>), LoadFault>
-        ensures { RunsKept K.notes settings keepers result }
-    { shared.run(rt, &settings, keepers, span) };
+    let run = move || -> Result<(LoadReport, AttemptStatistics, Recorders<K>), LoadFault>
+        ensures { HasRun K.notes load.entry result }
+    { shared.run(rt, load) };
     let ((), loaded) = thread::join(rt, tell, run);
     loaded
 }

@@ -33,7 +33,7 @@ use Rattle.clap.specs.declared.builder.value_parser.ValueParser.{ValueParser}
 use Rattle.clap.specs.declared.builder.value_parser.ValueParser.TheVariants as vp
 use Rattle.std.specs.List.{slice_index_or}
 use Rattle.vac_model.specs.declared.limits.TheConstants.{MOST_BLOCKS, MOST_PARTS}
-use Rattle.load_draws.specs.declared.settings.TheConstants.{MOST_CLIENTS, MOST_TASKS, MOST_ITEMS, MOST_ROUNDS, PERCENT}
+use Rattle.load_tasks.specs.declared.settings.TheConstants.{MOST_CLIENTS, MOST_TASKS, MOST_ITEMS, MOST_ROUNDS, PERCENT}
 use Rattle.vac_model.specs.declared.limits.TheConstants.{MOST_TRIES}
 use Rattle.clap.specs.Facts.{unwrap_or_range}
 use Rattle.clap.specs.Values.{is_request}
@@ -43,7 +43,7 @@ use Rattle.cli_options.specs.declared.asked.TheConstants.{MOST_NUMBER, MOST_WORD
 use Rattle.cli_options.specs.CommandLine.{vacation, blocks_option, clients_option, tasks_option, rounds_option}
 use Rattle.cli_options.specs.CommandLine.{tries_option, items_option, asks_option, reads_option, user_option}
 use Rattle.cli_options.specs.CommandLine.{seed_option, steps_option, words_option, flag, Gives, GivesIn, Says, IsFlag}
-use Rattle.cli_options.specs.CommandLine.{HasDrawing, HasLoad, HasSearch, HasJudging, Names}
+use Rattle.cli_options.specs.CommandLine.{HasDrawing, HasLoad, HasSearch, HasJudging, HasOpacity, Names}
 use Rattle.cli_options.proofs.FoundRows.{Each, IsFit, found_each, found_passes, is_counted, no_fault, no_some}
 use Rattle.cli_options.proofs.FoundRows.{same_some}
 use Rattle.cli_options.proofs.Walks.{AllFit}
@@ -189,7 +189,7 @@ ordering_fit = (fit refl refl refl, (fit refl refl refl, (fit refl refl refl, (f
 
 opaque_fit : AllFit opaque.rules
 unfolding shape_at opaque
-opaque_fit = (fit refl refl refl, (fit refl refl refl, tt))
+opaque_fit = (fit refl refl refl, (fit refl refl refl, (fit refl refl refl, tt)))
 
 blocks_fit : (name : Text) → AllFit (with_blocks name).rules
 unfolding shape_at with_blocks
@@ -348,10 +348,14 @@ ordering_given rows e = record {
       (filled (flag (codes "progress"))) refl (omega arith));
 }
 
-opaque_given : (rows : List Row) → IsEntered opaque rows → GivesIn rows (codes "words") 1 MOST_WORDS
+opaque_given : (rows : List Row) → IsEntered opaque rows → HasOpacity rows
 unfolding shape_at opaque
-opaque_given rows e = number_given rows (filled words_option) 1 MOST_WORDS refl
-    (option_given opaque rows opaque_fit e (filled words_option) refl (omega arith))
+opaque_given rows e = record {
+  words = number_given rows (filled words_option) 1 MOST_WORDS refl
+      (option_given opaque rows opaque_fit e (filled words_option) refl (omega arith));
+  place = flag_given rows (codes "place") (option_given opaque rows opaque_fit e
+      (filled (flag (codes "place"))) refl (omega arith));
+}
 
 -- ---- the subcommand that the words name
 
@@ -559,9 +563,9 @@ pub order_search : (words : List Text) (rows : List Row) → fault_of vacation w
     Names words (codes "order") rows → HasSearch rows
 order_search words rows fault names = ordering_given rows (enters _ _ words rows order_alone fault names)
 
-pub opaque_words : (words : List Text) (rows : List Row) → fault_of vacation words ≡ [] →
-    Names words (codes "opaque") rows → GivesIn rows (codes "words") 1 MOST_WORDS
-opaque_words words rows fault names = opaque_given rows (enters _ _ words rows opaque_alone fault names)
+pub opaque_options : (words : List Text) (rows : List Row) → fault_of vacation words ≡ [] →
+    Names words (codes "opaque") rows → HasOpacity rows
+opaque_options words rows fault names = opaque_given rows (enters _ _ words rows opaque_alone fault names)
 
 pub load_options : (words : List Text) (rows : List Row) → fault_of vacation words ≡ [] →
     Names words (codes "load") rows → HasLoad rows

@@ -22,9 +22,9 @@ use Rattle.clap.specs.declared.builder.value_parser.ValueParser.TheVariants as p
 use Rattle.clap.specs.declared.parser.matches.ArgMatches.{ArgMatches}
 use Rattle.vac_model.specs.Ranges.{is_block_count}
 use Rattle.vac_model.specs.declared.limits.TheConstants.{MOST_BLOCKS, MOST_PARTS}
-use Rattle.load_draws.specs.declared.settings.TheConstants.{MOST_CLIENTS, MOST_TASKS, MOST_ITEMS}
-use Rattle.load_draws.specs.declared.settings.TheConstants.{MOST_ROUNDS, PERCENT}
-use Rattle.load_draws.specs.declared.settings.Settings.{Settings}
+use Rattle.load_tasks.specs.declared.settings.TheConstants.{MOST_CLIENTS, MOST_TASKS, MOST_ITEMS}
+use Rattle.load_tasks.specs.declared.settings.TheConstants.{MOST_ROUNDS, PERCENT}
+use Rattle.load_tasks.specs.declared.settings.Settings.{Settings}
 use Rattle.vac_model.specs.declared.limits.TheConstants.{MOST_TRIES}
 use Rattle.stm_words.specs.declared.version.TheConstants.{VERSION_LIMIT}
 use Rattle.cli_options.specs.declared.asked.TheConstants.{MOST_NUMBER, MOST_WORDS, DRAWN_TRIES}
@@ -34,6 +34,7 @@ use Rattle.cli_options.specs.declared.asked.Asked.TheVariants.{Run, Dump, Check,
 use Rattle.cli_options.specs.declared.asked.Asked.TheVariants.{Opaque, Load, Tasks}
 use Rattle.cli_options.specs.declared.asked.Search.{Search}
 use Rattle.cli_options.specs.declared.asked.Judging.{Judging}
+use Rattle.cli_options.specs.declared.asked.Opacity.{Opacity}
 
 -- ---- the options and subcommands
 
@@ -140,6 +141,10 @@ judging_options = blocks_option ∷ file_option ∷ flag (codes "any-order") ∷
 abbrev pub words_option : Rule
 words_option = number_option (codes "words") 1 MOST_WORDS (codes "65536")
 
+-- the options of a judge of attempts
+abbrev pub opaque_options : List Rule
+opaque_options = words_option ∷ flag (codes "place") ∷ []
+
 -- the flags of a load: reports of its progress and statistics, and its history or attempts as
 -- output
 abbrev pub telling_options : List Rule
@@ -178,7 +183,7 @@ abbrev pub judging_commands : List Shape
 judging_commands = with_options (codes "check") []
     ∷ with_options (codes "judge") judging_options
     ∷ with_options (codes "order") (blocks_option ∷ searching_options)
-    ∷ with_options (codes "opaque") (words_option ∷ []) ∷ []
+    ∷ with_options (codes "opaque") opaque_options ∷ []
 
 -- the subcommands that run a load or write its tasks
 abbrev pub load_commands : List Shape
@@ -297,6 +302,18 @@ pub record IsJudging (rows : List Row) (how : Judging) : Type 0 where
   pub search : IsSearchOfRows rows how.search
   pub named : how.names_search ≡ (is_given (codes "steps") rows || how.search.progress)
 
+-- the rows of clap have all that a judge of attempts needs
+pub record HasOpacity (rows : List Row) : Type 0 where
+  pub words : GivesIn rows (codes "words") 1 MOST_WORDS
+  pub place : IsFlag rows (codes "place")
+
+-- the settings of a judge of attempts are those that its options give
+pub record IsOpacity (rows : List Row) (how : Opacity) : Type 0 where
+  pub words : Gives rows (codes "words") how.words
+  pub some : 1 ≤ how.words
+  pub room : how.words ≤ MOST_WORDS
+  pub place : Says rows (codes "place") how.place
+
 -- the rows of clap say of each flag of a load whether it is set
 pub record HasFlags (rows : List Row) : Type 0 where
   pub progress : IsFlag rows (codes "progress")
@@ -370,8 +387,8 @@ AsksFor words (Judge how) =
 AsksFor words (Order blocks search) = (rows : List Row) × Names words (codes "order") rows
     × Gives rows (codes "blocks") blocks × (is_block_count blocks ≡ true)
     × IsSearchOfRows rows search
-AsksFor words (Opaque n) = (rows : List Row) × Names words (codes "opaque") rows
-    × Gives rows (codes "words") n × (1 ≤ n) × (n ≤ MOST_WORDS)
+AsksFor words (Opaque how) =
+    (rows : List Row) × Names words (codes "opaque") rows × IsOpacity rows how
 AsksFor words (Load settings how) = (rows : List Row) × Names words (codes "load") rows
     × AreGiven rows settings × IsTold rows how
 AsksFor words (Tasks settings) = (rows : List Row) × Names words (codes "tasks") rows

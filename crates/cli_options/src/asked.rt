@@ -11,11 +11,12 @@ ghost use Rattle.cli_options.specs.CommandLine.{HasLoad, AreGiven, is_given, is_
 ghost use Rattle.cli_options.specs.CommandLine.{Says, IsFlag, HasFlags, IsTold, NamesFile, AsksFor};
 ghost use Rattle.cli_options.specs.CommandLine.{IsFoundIn};
 ghost use Rattle.cli_options.specs.CommandLine.{HasSearch, IsSearchOfRows, HasJudging, IsJudging};
+ghost use Rattle.cli_options.specs.CommandLine.{HasOpacity, IsOpacity};
 
 use crate::options::command_line;
 use clap::parser::ValueSource;
 use clap::{ArgMatches, Error};
-use load_draws::Settings;
+use load_tasks::Settings;
 use std::alloc::Global;
 use stm_words::VERSION_LIMIT;
 
@@ -68,6 +69,16 @@ pub struct Judging<'a> {
     pub names_search: bool,
 }
 
+/// The settings of a judge of attempts.
+#[derive(Clone, Copy)]
+pub struct Opacity {
+    /// Number of words of the memory.
+    pub words: u32,
+    /// True if only the order of the committed writers is given, and the judge searches for places
+    /// of the other attempts.
+    pub place: bool,
+}
+
 /// The request that a command line makes.
 pub enum Asked<'a> {
     /// Runs a script on a system of this many blocks.
@@ -80,8 +91,8 @@ pub enum Asked<'a> {
     Judge(Judging<'a>),
     /// Finds a linearization of a history of a system of this many blocks.
     Order(u32, Search),
-    /// Judges attempts on a memory of this many words.
-    Opaque(u32),
+    /// Judges attempts.
+    Opaque(Opacity),
     /// Runs a load, with this output.
     Load(Settings, How),
     /// Writes the tasks of a load.
@@ -223,6 +234,17 @@ fn words_of(matches: &ArgMatches) -> u32
     number_of(matches, "words")
 }
 
+/// Returns the settings of a judge of attempts.
+fn opacity_of(matches: &ArgMatches) -> Opacity
+    requires { HasOpacity (rows_of (found_of matches.now)) }
+    ensures { IsOpacity (rows_of (found_of matches.now)) result }
+{
+    Opacity {
+        words: words_of(matches),
+        place: flag_of(matches, "place"),
+    }
+}
+
 /// Returns the settings of a load with this number of attempts of a task: the values of the other
 /// options, or their defaults.
 fn settings_of(matches: &ArgMatches, tries: u32) -> Settings
@@ -274,7 +296,7 @@ fn asked_of<'a>(matches: &ArgMatches<'a>) -> Asked<'a>
         return Asked::Order(blocks_of(order), search_of(order));
     }
     if let Some(opaque) = named(matches, "opaque") {
-        return Asked::Opaque(words_of(opaque));
+        return Asked::Opaque(opacity_of(opaque));
     }
     if let Some(tasks) = named(matches, "tasks") {
         return Asked::Tasks(settings_of(tasks, DRAWN_TRIES));

@@ -5,5 +5,5 @@
 mod asked;
 mod options;
 
-pub use asked::{Asked, How, Judging, Search, read_asked};
+pub use asked::{Asked, How, Judging, Opacity, Search, read_asked};
 pub use options::VERSION;

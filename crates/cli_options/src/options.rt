@@ -1,10 +1,10 @@
 //! The command line that the program takes, as clap reads it.
 
-ghost use Rattle.std.specs.Prelude.{◌≡◌, [], ◌∷◌, codes, IfOk, IsOkAnd};
+ghost use Rattle.std.specs.Prelude.{◌≡◌, ◌∷◌, codes, IfOk, IsOkAnd};
 ghost use Rattle.clap.specs.Words.{AddsArg, AddsSubcommand, app_of};
 ghost use Rattle.cli_options.specs.CommandLine.{valued_option, number_parser, number_option};
 ghost use Rattle.cli_options.specs.CommandLine.{any_number_option, blocks_option, flag};
-ghost use Rattle.cli_options.specs.CommandLine.{file_option, words_option, with_options};
+ghost use Rattle.cli_options.specs.CommandLine.{file_option, opaque_options, with_options};
 ghost use Rattle.cli_options.specs.CommandLine.{client_options, task_options, drawing_options};
 ghost use Rattle.cli_options.specs.CommandLine.{running_options, load_options};
 ghost use Rattle.cli_options.specs.CommandLine.{searching_options, judging_options};
@@ -15,7 +15,7 @@ ghost use Rattle.cli_options.specs.CommandLine.{GetsOptions, GetsCommands};
 use crate::asked::MOST_WORDS;
 use clap::builder::ValueParser;
 use clap::{Arg, ArgAction, Command, value_parser};
-use load_draws::{MOST_CLIENTS, MOST_ITEMS, MOST_ROUNDS, MOST_TASKS, PERCENT};
+use load_tasks::{MOST_CLIENTS, MOST_ITEMS, MOST_ROUNDS, MOST_TASKS, PERCENT};
 use std::alloc::{AllocError, Global};
 use vac_model::limits::{MOST_BLOCKS, MOST_PARTS, MOST_TRIES};
 
@@ -203,15 +203,19 @@ fn order_command<'a>(alloc: Global) -> Made<'a>
 
 /// Returns the subcommand that judges attempts.
 fn opaque_command<'a>(alloc: Global) -> Made<'a>
-    ensures { IfOk result (λ c. IsCommand c (with_options (codes "opaque") (words_option ∷ []))) }
+    ensures { IfOk result (λ c. IsCommand c (with_options (codes "opaque") opaque_options)) }
 {
     let words = number_option(alloc, "words", 1, MOST_WORDS, "65536").help(
         "Number of words of the memory, all 0 at the beginning",
     );
-    Command::new(alloc, "opaque")
+    let place = flag(alloc, "place").help(
+        "Keeps the order of the committed writers alone, and searches for places of the others",
+    );
+    let command = Command::new(alloc, "opaque")
         .about("Judges the attempts on standard input: whether their order shows opacity")
         .after_help("Example:\n  echo '1 0 5 commit r 7 0 w 7 1' | vacation opaque")
-        .arg(words)
+        .arg(words);
+    add_option(command, place)
 }
 
 /// Returns the subcommand that judges a history.

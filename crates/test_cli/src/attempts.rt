@@ -2,9 +2,8 @@
 
 use crate::same::same;
 use crate::small_load::SETTINGS;
-use load_attempts::{Ledger, write_attempts};
-use load_history::Watch;
-use load_run::{Keepers, Settings, run_load_kept};
+use load_record::{Ledger, Watch, write_attempts};
+use load_run::{Load, Recorders, Settings};
 use std::process::Abort;
 use std::sync::Wait;
 use std::thread::Threads;
@@ -47,7 +46,7 @@ const ONE_QUESTION: Settings = Settings {
 };
 
 /// The recorders of a load's attempts.
-type Kept = Keepers<Ledger<Still>>;
+type Kept = Recorders<Ledger<Still>>;
 
 /// Runs the load and returns the recorders of its attempts.
 fn attempted<R: Threads + Wait + Abort + AllocGlobal>(rt: &R) -> Kept {
@@ -57,8 +56,11 @@ fn attempted<R: Threads + Wait + Abort + AllocGlobal>(rt: &R) -> Kept {
         .push(Ledger::new(alloc, Still))
         .expect(rt, "there is memory");
     let opening = Ledger::new(alloc, Still);
-    let keepers = Keepers { opening, clients };
-    let Ok((_, _, kept)) = run_load_kept(rt, &ONE_QUESTION, NoGate, keepers) else {
+    let recorders = Recorders { opening, clients };
+    let Ok(load) = Load::by_seed(alloc, &ONE_QUESTION, NoGate, recorders) else {
+        panic!(rt; "a setting is out of its range")
+    };
+    let Ok((_, _, kept)) = load.run(rt) else {
         panic!(rt; "the load stopped")
     };
     kept

@@ -4,7 +4,7 @@ ghost use Rattle.std.specs.Prelude.{◌≡◌, ◌*◌};
 use crate::loading::opened;
 use crate::same::{holds, same};
 use crate::small_load::SETTINGS;
-use load_run::{FixedDraws, PcgDraws, Settings, Tally, count_loop};
+use load_run::{FixedDraws, Outcomes, PcgDraws, Settings, count_loop};
 use std::alloc::Global;
 use std::process::Abort;
 use std::sync::atomic::{AtomicU32, Ordering};
@@ -13,7 +13,7 @@ use std::thread;
 use std::thread::Threads;
 use stm_attempt::{Gate, Point};
 use vac_audit::{AuditFault, audit_words};
-use vac_manager::{Client, Manager, Unkept, call};
+use vac_manager::{Client, Manager, NoRecorder, call};
 use vac_model::{Command, Reply, Report, Task};
 
 /// Number of loops.
@@ -97,7 +97,7 @@ impl<'a> Gate for Paced<'a> {
 }
 
 /// A client whose loop has ended, with the counts of its tasks.
-type Looped = (Client, Tally);
+type Looped = (Client, Outcomes);
 
 /// Runs the loop of a client.
 fn run_loop(alloc: Global, manager: &Manager, client: Client, shown: &Shown, stream: u64) -> Looped
@@ -107,11 +107,11 @@ fn run_loop(alloc: Global, manager: &Manager, client: Client, shown: &Shown, str
     let mut caller = manager.caller(client);
     let mut draws = PcgDraws::new(TRIPS.seed, stream);
     let mut gate = Paced { shown, answers: 0 };
-    let keep = &mut Unkept;
+    let keep = &mut NoRecorder;
     let counts = count_loop(alloc, &mut caller, &mut draws, &TRIPS, &mut gate, keep);
-    let (tally, _efforts) = counts.apart();
+    let (outcomes, _efforts) = counts.apart();
     shown.over.fetch_add(1, Ordering::SeqCst);
-    (caller.into_user(), tally)
+    (caller.into_user(), outcomes)
 }
 
 /// Counts of the completed reports.
@@ -222,7 +222,7 @@ fn two_loops_and_reports<R: Threads + Sync>(
 #[derive(Drop)]
 struct Left {
     client: Client,
-    tallies: [Tally; 4],
+    tallies: [Outcomes; 4],
     reports: Reports,
 }
 
@@ -276,13 +276,13 @@ fn four_loops_and_reports<R: Threads + Sync + Abort>(
                 × (result.1.0.table ≡ manager.entry.now.table) }
         { two_loops_and_reports(rt, alloc, manager, (c, d), e, shown) },
     );
-    let (client, tally) = first;
+    let (client, outcomes) = first;
     let client = gather(manager, client, second.0);
     let client = gather(manager, client, third.0);
     let client = gather(manager, client, fourth.0);
     Left {
         client: gather(manager, client, e),
-        tallies: [tally, second.1, third.1, fourth.1],
+        tallies: [outcomes, second.1, third.1, fourth.1],
         reports,
     }
 }
@@ -303,12 +303,12 @@ fn audited(
 }
 
 /// Returns the number of tasks that ended.
-fn ended(tally: Tally) -> u64 {
-    tally
+fn ended(outcomes: Outcomes) -> u64 {
+    outcomes
         .answered
-        .wrapping_add(tally.busy)
-        .wrapping_add(tally.memory)
-        .wrapping_add(tally.spent)
+        .wrapping_add(outcomes.busy)
+        .wrapping_add(outcomes.memory)
+        .wrapping_add(outcomes.spent)
 }
 
 /// Fails if a report mixes numbers from before a trip with numbers from after the trip: such a
@@ -328,7 +328,7 @@ fn loops_beside_reports(rt: HostRuntime) -> Result<(), Fail> {
     } = four_loops_and_reports(&rt, alloc, &manager, client, &shown);
     let audited = audited(&rt, alloc, manager, client);
     same(&rt, &tallies.map(ended), &[u64::from(TRIPS.tasks); 4]);
-    let [a, b, c, d] = tallies.map(|tally| tally.answered);
+    let [a, b, c, d] = tallies.map(|outcomes| outcomes.answered);
     let answered = a.wrapping_add(b).wrapping_add(c).wrapping_add(d);
     same(&rt, &audited, &Ok(after(answered)));
     same(&rt, &reports.others, &0);

@@ -1,14 +1,14 @@
 //! Tasks of a load that another client's calls keep busy.
 ghost use Rattle.std.specs.Prelude.{◌≡◌, true};
-ghost use Rattle.load_draws.specs.Setting.{is_settings};
+ghost use Rattle.load_tasks.specs.Setting.{is_settings};
 
 use crate::loading::opened;
 use crate::same::same;
 use crate::small_load::SETTINGS;
-use load_run::{FixedDraws, Settings, Tally, count_loop};
+use load_run::{FixedDraws, Outcomes, Settings, count_loop};
 use std::alloc::Global;
 use stm_attempt::{Gate, Point};
-use vac_manager::{Caller, Unkept, call};
+use vac_manager::{Caller, NoRecorder, call};
 use vac_model::{Command, Kind, Task};
 
 const RIVAL: Task = Task::One(Command::Reserve {
@@ -40,14 +40,21 @@ fn loop_beside_rival(
     settings: &Settings,
     caller: &mut Caller<'_>,
     other: Caller<'_>,
-) -> (Tally, u32)
+) -> (Outcomes, u32)
     requires { is_settings settings.now ≡ true }
 {
     let mut gate = Rival { other, answered: 0 };
     let mut draws = FixedDraws(0);
-    let counts = count_loop(alloc, caller, &mut draws, settings, &mut gate, &mut Unkept);
-    let (tally, _efforts) = counts.apart();
-    (tally, gate.answered)
+    let counts = count_loop(
+        alloc,
+        caller,
+        &mut draws,
+        settings,
+        &mut gate,
+        &mut NoRecorder,
+    );
+    let (outcomes, _efforts) = counts.apart();
+    (outcomes, gate.answered)
 }
 
 /// Gives each task one attempt, and books its car between its reads and its commit.
@@ -65,9 +72,9 @@ fn each_task_is_busy(rt: HostRuntime) {
     let mut caller = manager.caller(client);
     let other = caller.split().expect(&rt, "there are grants");
     let found = loop_beside_rival(alloc, &settings, &mut caller, other);
-    let busy = Tally {
+    let busy = Outcomes {
         busy: u64::from(settings.tasks),
-        ..Tally::default()
+        ..Outcomes::default()
     };
     same(&rt, &found, &(busy, settings.tasks));
 }

@@ -2,7 +2,7 @@
 
 use crate::same::{holds, same};
 use crate::small_load::SETTINGS;
-use load_draws::{Draws, FixedDraws, PcgDraws, tasks_of};
+use load_tasks::{Draws, FixedDraws, PcgDraws, tasks_of};
 use vac_model::{Kind, Task};
 
 /// The first word that PCG's reference code gives for the seed 42 in the stream 54.

@@ -38,6 +38,6 @@ fn each_gate_stays_with_its_client(rt: HostRuntime) -> Result<(), Fail> {
         asking.load(Ordering::SeqCst),
         booking.load(Ordering::SeqCst),
     );
-    same(&rt, &(loaded.tally.answered, stored), &(12, (0, 6)));
+    same(&rt, &(loaded.outcomes.answered, stored), &(12, (0, 6)));
     Ok(())
 }

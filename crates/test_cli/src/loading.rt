@@ -1,17 +1,48 @@
 //! Loads and setup phases as the tests run them. Contracts say nothing about their results, except
 //! which manager a client belongs to.
 ghost use Rattle.std.specs.Prelude.{◌≡◌, true, IfOk};
-ghost use Rattle.load_draws.specs.Setting.{is_settings};
+ghost use Rattle.load_tasks.specs.Setting.{is_settings};
 
 use load_run::{
-    Draws, FixedDraws, LoadFault, LoadReport, Settings, open_kept, run_load, run_load_with,
+    Draws, FixedDraws, Load, LoadFault, LoadReport, Settings, Slot, no_recorders, open_kept,
 };
 use std::alloc::Global;
 use std::process::Abort;
 use std::sync::Wait;
 use std::thread::Threads;
 use stm_attempt::{Gate, NoGate};
-use vac_manager::{Client, Fault, Manager, Unkept};
+use vac_manager::{Client, Fault, Manager, NoRecorder};
+
+/// Runs a load of these clients, each with its draws and its gate, without recorders.
+pub(crate) fn load_with<
+    R: Threads + Wait + AllocGlobal,
+    D: Draws + Send + Drop,
+    G: Gate + Send + Drop,
+>(rt: &R, settings: &Settings, opening: D, clients: Vec<(D, G)>) -> Result<LoadReport, LoadFault> {
+    let mut slots = Vec::new(rt.alloc());
+    for (draws, gate) in clients {
+        let keep = NoRecorder;
+        if slots.push(Slot { draws, gate, keep }).is_err() {
+            return Err(LoadFault::Memory);
+        }
+    }
+    let load = Load::new(rt.alloc(), settings, opening, NoRecorder, slots)?;
+    let (report, _efforts, _kept) = load.run(rt)?;
+    Ok(report)
+}
+
+/// Runs the load of the seed of its settings, without recorders.
+pub(crate) fn load_of_seed<R: Threads + Wait + AllocGlobal>(
+    rt: &R,
+    settings: &Settings,
+) -> Result<LoadReport, LoadFault> {
+    let Ok(recorders) = no_recorders(rt.alloc(), settings.clients) else {
+        return Err(LoadFault::Memory);
+    };
+    let load = Load::by_seed(rt.alloc(), settings, NoGate, recorders)?;
+    let (report, _efforts, _kept) = load.run(rt)?;
+    Ok(report)
+}
 
 /// Runs a load of one client that draws only zeros.
 pub(crate) fn load_of_zeros<R: Threads + Wait + AllocGlobal>(
@@ -21,7 +52,7 @@ pub(crate) fn load_of_zeros<R: Threads + Wait + AllocGlobal>(
     let Ok(clients) = vec![in rt.alloc(); (FixedDraws(0), NoGate)] else {
         return Err(LoadFault::Memory);
     };
-    run_load_with(rt, settings, FixedDraws(0), clients)
+    load_with(rt, settings, FixedDraws(0), clients)
 }
 
 /// Runs a load whose words are drawn from the seed of its settings, and returns its report.
@@ -29,7 +60,7 @@ pub(crate) fn seeded_load<R: Threads + Wait + Abort + AllocGlobal>(
     rt: &R,
     settings: &Settings,
 ) -> LoadReport {
-    let Ok(loaded) = run_load(rt, settings) else {
+    let Ok(loaded) = load_of_seed(rt, settings) else {
         panic!(rt; "the load stopped")
     };
     loaded
@@ -41,7 +72,7 @@ pub(crate) fn gated_load<R: Threads + Wait + Abort + AllocGlobal, G: Gate + Send
     settings: &Settings,
     clients: Vec<(FixedDraws, G)>,
 ) -> LoadReport {
-    let Ok(loaded) = run_load_with(rt, settings, FixedDraws(0), clients) else {
+    let Ok(loaded) = load_with(rt, settings, FixedDraws(0), clients) else {
         panic!(rt; "the load stopped")
     };
     loaded
@@ -58,7 +89,7 @@ pub(crate) fn opened<D: Draws>(
 {
     let (manager, client) = Manager::new(alloc, settings.blocks, settings.last)?;
     let mut caller = manager.caller(client);
-    open_kept(&mut caller, draws, settings, &mut Unkept)?;
+    open_kept(&mut caller, draws, settings, &mut NoRecorder)?;
     let client = caller.into_user();
     Ok((manager, client))
 }

@@ -1,16 +1,16 @@
 //! Loads of one client, and arguments that are refused.
 
-use crate::loading::{load_of_zeros, seeded_load};
+use crate::loading::{load_of_seed, load_of_zeros, load_with, seeded_load};
 use crate::same::same;
 use crate::small_load::{SETTINGS, THREE_TRIPS, all_answered, spent_at};
-use load_run::{FixedDraws, LoadFault, LoadReport, MOST_ROUNDS, Settings, run_load, run_load_with};
+use load_run::{FixedDraws, LoadFault, LoadReport, MOST_ROUNDS, Settings};
 use stm_attempt::NoGate;
 use vac_model::Report;
 
 #[test]
 fn trips_of_one_client(rt: HostRuntime) {
     let wants = LoadReport {
-        tally: all_answered(3),
+        outcomes: all_answered(3),
         report: THREE_TRIPS,
     };
     same(&rt, &load_of_zeros(&rt, &SETTINGS), &Ok(wants));
@@ -30,7 +30,7 @@ fn three_tasks_of_a_seed(rt: HostRuntime) {
         billed: 90,
     };
     let wants = LoadReport {
-        tally: all_answered(3),
+        outcomes: all_answered(3),
         report,
     };
     same(&rt, &seeded_load(&rt, &SETTINGS), &wants);
@@ -45,8 +45,8 @@ fn one_client_asks_a_thousand_times(rt: HostRuntime) {
         user: 80,
         ..SETTINGS
     };
-    let LoadReport { tally, report } = seeded_load(&rt, &settings);
-    same(&rt, &tally, &all_answered(1_000));
+    let LoadReport { outcomes, report } = seeded_load(&rt, &settings);
+    same(&rt, &outcomes, &all_answered(1_000));
     same(&rt, &report.used, &report.bookings);
 }
 
@@ -70,7 +70,7 @@ fn an_opening_finds_its_clock_spent(rt: HostRuntime) {
 #[test]
 fn arguments_are_looked_at(rt: HostRuntime) {
     let none = Vec::<(FixedDraws, NoGate)>::new(rt.alloc());
-    let refused = run_load_with(&rt, &SETTINGS, FixedDraws(0), none);
+    let refused = load_with(&rt, &SETTINGS, FixedDraws(0), none);
     same(&rt, &refused, &Err(LoadFault::Arguments));
     for (items, rounds) in [(300, 1), (2, 0), (2, MOST_ROUNDS.saturating_add(1))] {
         let settings = Settings {
@@ -78,7 +78,7 @@ fn arguments_are_looked_at(rt: HostRuntime) {
             rounds,
             ..SETTINGS
         };
-        let refused = run_load(&rt, &settings);
+        let refused = load_of_seed(&rt, &settings);
         let wants = (items, rounds, Err(LoadFault::Arguments));
         same(&rt, &(items, rounds, refused), &wants);
     }

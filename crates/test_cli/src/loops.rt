@@ -1,15 +1,15 @@
 //! The setup phase of a load, and the loop of one client.
 
 ghost use Rattle.std.specs.Prelude.{◌≡◌, true};
-ghost use Rattle.load_draws.specs.Setting.{is_settings};
+ghost use Rattle.load_tasks.specs.Setting.{is_settings};
 
 use crate::loading::opened;
 use crate::same::same;
 use crate::small_load::{SETTINGS, THREE_TRIPS, all_answered, spent_at};
-use load_run::{Draws, FixedDraws, PcgDraws, Settings, Tally, count_loop};
+use load_run::{Draws, FixedDraws, Outcomes, PcgDraws, Settings, count_loop};
 use std::alloc::Global;
 use stm_attempt::{Gate, Point};
-use vac_manager::{Fault, Unkept, call};
+use vac_manager::{Fault, NoRecorder, call};
 use vac_model::{Command, Reply, Task};
 
 /// A gate that counts the completed calls.
@@ -31,16 +31,23 @@ fn loop_alone<D: Draws>(
     settings: &Settings,
     opening: &mut D,
     draws: &mut D,
-) -> Result<(Tally, u64, Reply), Fault>
+) -> Result<(Outcomes, u64, Reply), Fault>
     requires { is_settings settings.now ≡ true }
 {
     let mut gate = Answers(0);
     let (manager, client) = opened(alloc, settings, opening)?;
     let mut caller = manager.caller(client);
-    let counts = count_loop(alloc, &mut caller, draws, settings, &mut gate, &mut Unkept);
-    let (tally, _efforts) = counts.apart();
+    let counts = count_loop(
+        alloc,
+        &mut caller,
+        draws,
+        settings,
+        &mut gate,
+        &mut NoRecorder,
+    );
+    let (outcomes, _efforts) = counts.apart();
     let audit = call(&mut caller, &Task::One(Command::Audit), 1)?;
-    Ok((tally, gate.0, audit))
+    Ok((outcomes, gate.0, audit))
 }
 
 #[test]
@@ -73,10 +80,10 @@ fn drawn_tasks_are_answered(rt: HostRuntime) {
         &mut draws,
         &settings,
         &mut gate,
-        &mut Unkept,
+        &mut NoRecorder,
     );
-    let (tally, _efforts) = counts.apart();
-    same(&rt, &(tally, gate.0), &(all_answered(200), 200));
+    let (outcomes, _efforts) = counts.apart();
+    same(&rt, &(outcomes, gate.0), &(all_answered(200), 200));
 }
 
 #[test]

@@ -66,11 +66,14 @@ fn two_clients_meet_in_their_commits(rt: HostRuntime) -> Result<(), Fail> {
     };
     let loaded = gated_load(&rt, &settings, clients);
     let told = u64::from(answers.load(Ordering::SeqCst));
-    let ended = loaded.tally.answered.saturating_add(loaded.tally.busy);
+    let ended = loaded
+        .outcomes
+        .answered
+        .saturating_add(loaded.outcomes.busy);
     holds(
         &rt,
         a_saw.load(Ordering::SeqCst) && b_saw.load(Ordering::SeqCst),
     );
-    same(&rt, &(ended, told), &(2, loaded.tally.answered));
+    same(&rt, &(ended, told), &(2, loaded.outcomes.answered));
     Ok(())
 }

@@ -1,5 +1,7 @@
 //! Texts of a few attempts, with the judge's output.
 
+use crate::command_lines::run_line;
+use crate::same::same;
 use crate::texts::{Row, fill_up, in_pieces};
 use judge_opacity::{ATTEMPT_BYTES, judge_attempts};
 use std::alloc::{AllocError, Global};
@@ -193,4 +195,53 @@ fn the_answer_says_whether_they_are_opaque(rt: HostRuntime) -> Result<(), Fail> 
         assert_eq!(rt; opaque, wanted);
     }
     Ok(())
+}
+
+/// A reader that stands behind a writer, and read the word before it.
+const LATE_READER: &str = "1 0 3 commit w 5 1\n2 1 4 abort r 5 0\n";
+
+/// A reader that saw one of the two words of a writer, and so has no place.
+const HALF_SEEN: &str = "1 0 3 commit w 5 1 w 6 1\n2 1 4 abort r 5 0 r 6 1\n";
+
+#[test]
+fn places_are_searched_for_if_the_words_ask_for_it(rt: HostRuntime) {
+    let rows: [(&[&str], &str, u8, &str); 5] = [
+        (
+            &["vacation", "opaque"],
+            LATE_READER,
+            1,
+            "illegal read 2 5 1\n",
+        ),
+        (
+            &["vacation", "opaque", "--place"],
+            LATE_READER,
+            0,
+            "opaque attempts=2 committed=1 clients=2\n",
+        ),
+        (
+            &["vacation", "opaque", "--place"],
+            HALF_SEEN,
+            1,
+            "illegal places\n",
+        ),
+        (
+            &["vacation", "opaque", "--place", "--words", "5"],
+            LATE_READER,
+            1,
+            "fault bad-number 1\n",
+        ),
+        (
+            &["vacation", "opaque", "--place", "--words", "0"],
+            LATE_READER,
+            2,
+            "",
+        ),
+    ];
+    for (words, text, status, wanted) in rows {
+        let mut input = text.as_bytes();
+        let mut out = Vec::new(rt.alloc());
+        let ended = run_line(&rt, &rt, words, &mut input, &mut out);
+        let wants = ((status, status != 2), wanted.as_bytes());
+        same(&rt, &(ended, out.as_slice()), &wants);
+    }
 }

@@ -87,16 +87,17 @@ const NEVER_RIGHT: &str = "0 0 9 newcust 1 -> true\n1 0 9 newcust 2 -> true\n\
 #[test]
 fn histories_that_have_no_order(rt: HostRuntime) -> Result<(), Fail> {
     let rows: [Row; 7] = [
-        (NEVER_RIGHT, "illegal order 3\nstuck 4 0\n"),
+        (NEVER_RIGHT, "illegal part 4 customer 1\nstuck 4 0\n"),
         // a lost update
         (
             "0 0 1 add car 1 1 5 -> true\n1 2 5 add car 1 1 5 -> true\n\
             2 2 5 add car 1 1 5 -> true\n0 6 7 free car 1 -> 2\n",
-            "illegal order 3\nstuck 4 3\n",
+            "illegal part 4 car 1\nstuck 4 3\n",
         ),
         (
             WRITE_SKEW,
-            "illegal order 5\nstuck 6 trip cust=true car=- flight=1:true room=-\n",
+            "illegal part 6 customer 1 flight 1 car 1\n\
+            stuck 6 trip cust=true car=- flight=1:true room=-\n",
         ),
         (
             HALF_AN_UPDATE,
@@ -106,18 +107,18 @@ fn histories_that_have_no_order(rt: HostRuntime) -> Result<(), Fail> {
         // a stale read after a write that had ended
         (
             "2 4 5 free car 1 -> 1\n0 0 1 add car 1 1 5 -> true\n1 2 3 add car 1 1 5 -> true\n",
-            "illegal order 2\nstuck 1 2\n",
+            "illegal part 1 car 1\nstuck 1 2\n",
         ),
         // a customer billed twice
         (
             "0 0 1 newcust 1 -> true\n1 2 9 leave 1 -> 0\n2 2 9 leave 1 -> 0\n",
-            "illegal order 2\nstuck 3 -1\n",
+            "illegal part 3 customer 1\nstuck 3 -1\n",
         ),
         // two clients given the last unit
         (
             "0 0 1 add car 1 1 5 -> true\n0 1 2 newcust 1 -> true\n0 2 3 newcust 2 -> true\n\
             1 4 9 reserve 1 car 1 -> true\n2 4 9 reserve 2 car 1 -> true\n",
-            "illegal order 4\nstuck 5 false sold-out\n",
+            "illegal part 5 customer 1 customer 2 car 1\nstuck 5 false sold-out\n",
         ),
     ];
     for (history, wanted) in rows {

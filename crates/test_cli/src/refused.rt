@@ -6,7 +6,7 @@
 use crate::loading::load_of_zeros;
 use crate::same::same;
 use crate::small_load::{SETTINGS, SIX_TRIPS, all_answered};
-use load_run::{LoadFault, LoadReport, Settings, Tally};
+use load_run::{LoadFault, LoadReport, Outcomes, Settings};
 use std::process::Abort;
 use vac_manager::Fault;
 
@@ -22,7 +22,7 @@ fn refused(rt: &impl Abort, loaded: &Result<LoadReport, LoadFault>) -> Option<&'
     match loaded {
         Ok(
             LoadReport {
-                tally: Tally { memory: 0, .. },
+                outcomes: Outcomes { memory: 0, .. },
                 ..
             },
         ) => None,
@@ -42,7 +42,7 @@ fn a_refused_load_is_run_again(rt: HostRuntime) {
         loaded = load_of_zeros(&rt, &TWO_ROUNDS);
     }
     let wants = LoadReport {
-        tally: all_answered(6),
+        outcomes: all_answered(6),
         report: SIX_TRIPS,
     };
     same(&rt, &loaded, &Ok(wants));

@@ -1,10 +1,10 @@
 //! Loads of several rounds, each on a new clock.
 ghost use Rattle.std.specs.Prelude.{◌≡◌};
 
-use crate::loading::{load_of_zeros, seeded_load};
+use crate::loading::{load_of_zeros, load_with, seeded_load};
 use crate::same::same;
 use crate::small_load::{SETTINGS, SIX_TRIPS, all_answered};
-use load_run::{Draws, LoadFault, LoadReport, Settings, Tally, run_load_with};
+use load_run::{Draws, LoadFault, LoadReport, Outcomes, Settings};
 use std::sync::Wait;
 use std::sync::atomic::{AtomicU32, Ordering};
 use std::thread::Threads;
@@ -22,15 +22,15 @@ fn a_clock_that_ends_is_renewed(rt: HostRuntime) {
         rounds: 2,
         ..SETTINGS
     };
-    let half = Tally {
+    let half = Outcomes {
         spent: 3,
         ..all_answered(3)
     };
     let whole = LoadReport {
-        tally: all_answered(6),
+        outcomes: all_answered(6),
         report: SIX_TRIPS,
     };
-    let in_one = load_of_zeros(&rt, &spent).map(|loaded| loaded.tally);
+    let in_one = load_of_zeros(&rt, &spent).map(|loaded| loaded.outcomes);
     let in_two = load_of_zeros(&rt, &renewed);
     same(&rt, &(in_one, in_two), &(Ok(half), Ok(whole)));
 }
@@ -91,7 +91,7 @@ fn counted_load<'a, R: Threads + Wait + AllocGlobal>(
         next: 7,
         shown: &shown.opening,
     };
-    run_load_with(rt, settings, opening, clients)
+    load_with(rt, settings, opening, clients)
 }
 
 /// Returns the result of the load, the number of words that the client drew, and the number of
@@ -136,7 +136,7 @@ fn several_clients_in_several_rounds(rt: HostRuntime) {
         rounds: 3,
         ..SETTINGS
     };
-    let LoadReport { tally, report } = seeded_load(&rt, &settings);
-    let ended = tally.answered.saturating_add(tally.busy);
+    let LoadReport { outcomes, report } = seeded_load(&rt, &settings);
+    let ended = outcomes.answered.saturating_add(outcomes.busy);
     same(&rt, &(ended, report.used), &(180, report.bookings));
 }

@@ -1,6 +1,6 @@
 //! The settings of a small load, and its reports if each task is a trip to the first car.
 
-use load_run::{Settings, Tally};
+use load_run::{Outcomes, Settings};
 use vac_manager::Fault;
 use vac_model::Report;
 
@@ -45,8 +45,8 @@ pub(crate) const SIX_TRIPS: Report = Report {
 };
 
 /// Returns the counts of a load in which each task completed.
-pub(crate) fn all_answered(answered: u64) -> Tally {
-    Tally {
+pub(crate) fn all_answered(answered: u64) -> Outcomes {
+    Outcomes {
         answered,
         busy: 0,
         memory: 0,

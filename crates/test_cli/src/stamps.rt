@@ -1,14 +1,14 @@
 //! The times in a history, by a clock that counts its readings.
 
 use crate::same::same;
-use load_history::{Journal, Since, write_history};
+use load_record::{Journal, Since, write_history};
 use std::alloc::Global;
 use std::cell::Cell;
 use std::io;
 use std::process::Abort;
 use std::time::{Clock, Duration, Instant};
 use stm_words::Version;
-use vac_manager::{Keep, Place, Placed};
+use vac_manager::{Place, Placed, Recorder};
 use vac_model::{Command, Reply, Task};
 
 /// A clock that shows the number of its earlier readings.

@@ -1,5 +1,5 @@
 use Rattle.std.proofs.Common.{◌≡◌, true, rules, refl, inl, inr}
-use Rattle.load_draws.specs.Setting.{is_settings}
+use Rattle.load_tasks.specs.Setting.{is_settings}
 use Rattle.vac_streams.specs.declared.fault.StreamFault.TheVariants.{Memory, Write}
 use Rattle.cli_main.proofs.program.list_tasks.Goals as goal
 

@@ -1,8 +1,21 @@
+use Rattle.cli_main.proofs.Seeded.{ran_by_seed, not_seeded, handed_on}
 use Rattle.cli_main.proofs.telling.run_told.Goals as goal
 
 pub returns-then-not-how : goal.returns-then-not-how
-returns-then-not-how g c = record {
-  arguments = c.run_load_kept.ensures.arguments;
-  kept = c.run_load_kept.ensures.kept;
-  refused = c.run_load_kept.ensures.refused;
-}
+returns-then-not-how g c = ran_by_seed g.K.Recorder.notes c.args.settings.now c.args.recorders c.in_ok-load.load _
+    c.in_ok-load.ensures.arguments c.in_ok-load.ensures.seeded
+    (record { kept = c.run.ensures.kept; refused = c.run.ensures.refused })
+
+pub returns-in_err-load : goal.returns-in_err-load
+returns-in_err-load g c = handed_on _ _ _ _ _ c.from_residual.ensures.1
+    (not_seeded g.K.Recorder.notes c.args.settings.now c.args.recorders _ c.in_err-load.ensures.arguments
+    c.in_err-load.ensures.refused)
+
+pub returns-in_err-load-2 : goal.returns-in_err-load-2
+returns-in_err-load-2 g c = handed_on _ _ _ _ _ c.from_residual-in_err-load-2.ensures.1
+    (not_seeded g.K.Recorder.notes c.args.settings.now c.args.recorders _ c.in_err-load-2.ensures.arguments
+    c.in_err-load-2.ensures.refused)
+
+pub returns : goal.returns
+returns g c = ran_by_seed g.K.Recorder.notes c.args.settings.now c.args.recorders c.in_ok-load-2.load _
+    c.in_ok-load-2.ensures.arguments c.in_ok-load-2.ensures.seeded c.join-loaded.ensures.second

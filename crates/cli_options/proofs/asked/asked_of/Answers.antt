@@ -1,6 +1,6 @@
 use Rattle.std.proofs.Common.{◌∙◌, sym}
 use Rattle.cli_options.proofs.Naming.{run_blocks, dump_blocks, judge_options, order_blocks, order_search}
-use Rattle.cli_options.proofs.Naming.{opaque_words, tasks_options, load_options, one_is_named, none_is_named}
+use Rattle.cli_options.proofs.Naming.{opaque_options, tasks_options, load_options, one_is_named, none_is_named}
 use Rattle.cli_options.proofs.asked.asked_of.Goals as goal
 
 pub blocks_of-requires : goal.blocks_of-requires
@@ -22,8 +22,8 @@ pub search_of-requires : goal.search_of-requires
 search_of-requires c = order_search c.requires.0 _ c.requires.1.taken
     (sym c.requires.1.found ∙ c.in-Some-named-3.ensures.some)
 
-pub words_of-requires : goal.words_of-requires
-words_of-requires c = opaque_words c.requires.0 _ c.requires.1.taken
+pub opacity_of-requires : goal.opacity_of-requires
+opacity_of-requires c = opaque_options c.requires.0 _ c.requires.1.taken
     (sym c.requires.1.found ∙ c.in-Some-named-4.ensures.some)
 
 pub settings_of-requires : goal.settings_of-requires
@@ -87,9 +87,7 @@ pub returns-in-Some-named-4 : goal.returns-in-Some-named-4
 returns-in-Some-named-4 c = λ words is. (
   _,
   sym is.found ∙ c.in-Some-named-4.ensures.some,
-  c.words_of.ensures.given,
-  c.words_of.ensures.least,
-  c.words_of.ensures.most,
+  c.opacity_of.ensures,
 )
 
 pub returns-in-Some-named-5 : goal.returns-in-Some-named-5

@@ -10,11 +10,11 @@ write_attempts-requires-clause-blocks g c = right_blocks c.args.load.now.setting
 pub returns-clause-ok : goal.returns-clause-ok
 returns-clause-ok g c =
     let l = c.args.load.now in
-    on_ok _ _ c.write_attempts.result (wrote_tried l.settings.now l.keepers.opening l.keepers.clients.items
+    on_ok _ _ c.write_attempts.result (wrote_tried l.settings.now l.recorders.opening l.recorders.clients.items
     c.requires.noted _ _) (search rules)
 
 pub returns-clause-err : goal.returns-clause-err
 returns-clause-err g c =
     let l = c.args.load.now in
-    on_err _ _ c.write_attempts.result (wrote_tried_in_part l.settings.now l.keepers.opening l.keepers.clients.items
+    on_err _ _ c.write_attempts.result (wrote_tried_in_part l.settings.now l.recorders.opening l.recorders.clients.items
     c.requires.noted _ _) (search rules)

@@ -1,5 +1,5 @@
 use Rattle.std.proofs.Common.{rules, ◌≡◌, ◌≤◌, true, length, vec_len, arith}
-use Rattle.load_draws.specs.Setting.{is_settings}
+use Rattle.load_tasks.specs.Setting.{is_settings}
 use Rattle.load_run.specs.declared.load.LoadFault.TheVariants as load
 use Rattle.cli_main.specs.Load.{StoppedKept}
 use Rattle.cli_main.proofs.Kept.{noted, same_clients}
@@ -31,10 +31,10 @@ write-requires g c =
     let empty = c.in-Ok.empty in
     let number : vec_len empty.clients ≡ s.clients = rw c.in-Ok.is at c.requires.number in
     let same : length loaded.2.clients.items ≡ length empty.clients.items =
-    same_clients g.K.Keep.notes s loaded.0 empty loaded.2 kept in
+    same_clients g.K.Recorder.notes s loaded.0 empty loaded.2 kept in
     record {
       fits = fits;
-      noted = noted g.K.Keep.notes s loaded.0 empty loaded.2 (rw c.in-Ok.is at c.requires.opening)
+      noted = noted g.K.Recorder.notes s loaded.0 empty loaded.2 (rw c.in-Ok.is at c.requires.opening)
           (rw c.in-Ok.is at c.requires.clients) kept;
       few = omega (arith, few, same, number);
     }

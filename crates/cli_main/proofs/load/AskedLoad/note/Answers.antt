@@ -1,8 +1,8 @@
 use Rattle.std.proofs.Common.{rules}
 use denote.Param.Send.{sendable}
 use Rattle.std.proofs.Crossing.{crosses}
-use Rattle.load_history.proofs.journal.Journal.TheSendSync as journal
-use Rattle.load_history.proofs.watch.Since.TheSendSync as since
+use Rattle.load_record.proofs.journal.Journal.TheSendSync as journal
+use Rattle.load_record.proofs.watch.Since.TheSendSync as since
 use Rattle.stm_object.proofs.tracer.Untraced.TheSendSync as untraced
 use Rattle.cli_main.proofs.load.AskedLoad.note.Goals as goal
 

@@ -1,5 +1,5 @@
 use Rattle.std.proofs.Common.{rules, ◌≡◌, true, vec_len}
-use Rattle.load_draws.specs.Setting.{is_settings}
+use Rattle.load_tasks.specs.Setting.{is_settings}
 use Rattle.load_run.specs.declared.load.LoadFault.TheVariants as load
 use Rattle.cli_main.specs.Load.{WroteLoad, WroteLoadInPart}
 use Rattle.cli_main.proofs.LoadEnds.{ended_for_memory, ended_with_lines, ended_by_fault}
@@ -25,7 +25,7 @@ returns g c =
     let e = c.end_load_by-in-Err.ensures in
     let fits : is_settings s ≡ true = search rules in
     let is_not : c.in-Err.fault ≡ load.Arguments → ⊥ = not_refused s
-    (vec_len c.in-Ok.keepers.clients) c.in-Err.fault fits c.in-Ok.ensures c.in-Err.ensures.arguments in
+    (vec_len c.in-Ok.recorders.clients) c.in-Err.fault fits c.in-Ok.ensures c.in-Err.ensures.arguments in
     ended_by_fault WroteLoad WroteLoadInPart s fits c.in-Err.fault c.end_load_by-in-Err.result
     (g.W.Write.contents c.args.output.now) (g.W.Write.contents c.end_load_by-in-Err.new.output) is_not
     c.in-Err.ensures.refused e.low e.high e.refused e.line

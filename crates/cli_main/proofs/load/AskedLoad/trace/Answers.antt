@@ -1,9 +1,9 @@
 use Rattle.std.proofs.Common.{rules}
 use denote.Param.Send.{sendable}
 use Rattle.std.proofs.Crossing.{crosses}
-use Rattle.load_attempts.proofs.ledger.Ledger.TheSendSync as ledger
-use Rattle.load_attempts.proofs.trail.Trail.TheSendSync as trail
-use Rattle.load_history.proofs.watch.Since.TheSendSync as since
+use Rattle.load_record.proofs.ledger.Ledger.TheSendSync as ledger
+use Rattle.load_record.proofs.trail.Trail.TheSendSync as trail
+use Rattle.load_record.proofs.watch.Since.TheSendSync as since
 use Rattle.cli_main.proofs.load.AskedLoad.trace.Goals as goal
 
 pub keep-requires : goal.keep-requires

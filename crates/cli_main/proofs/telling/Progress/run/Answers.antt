@@ -2,7 +2,6 @@ use Rattle.cli_main.proofs.telling.Progress.run.Goals as goal
 
 pub returns : goal.returns
 returns g c = record {
-  arguments = c.run_load_kept-loaded.ensures.arguments;
-  kept = c.run_load_kept-loaded.ensures.kept;
-  refused = c.run_load_kept-loaded.ensures.refused;
+  kept = c.run-loaded.ensures.kept;
+  refused = c.run-loaded.ensures.refused;
 }

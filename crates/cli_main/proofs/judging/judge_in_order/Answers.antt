@@ -2,7 +2,7 @@ use Rattle.judge_opacity.specs.Reading.{HasJudgedAttempts, HasStoppedOnAttempts}
 use Rattle.cli_main.specs.Asking.{AttemptsStopped}
 use Rattle.cli_main.proofs.Ending.{judged}
 use Rattle.cli_main.proofs.Judgement.{attempts_stopped}
-use Rattle.cli_main.proofs.judging.judge_opaque.Goals as goal
+use Rattle.cli_main.proofs.judging.judge_in_order.Goals as goal
 
 pub returns : goal.returns
 returns g c =
