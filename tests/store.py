@@ -284,21 +284,33 @@ def drawn_operation(random, keys, values):
     return name, random.choice(keys), [random.choice(values) for _ in range(few)]
 
 
+def drawn_keys(random, fewest, begins):
+    """Some keys, at least so many, some values, and the values that keys have at first, if the history begins with
+    some."""
+    keys = random.sample(BYTES, random.randint(fewest, 3))
+    values = random.sample(BYTES, random.randint(1, 3))
+    firsts = {key: random.choice(values) for key in keys if random.random() < 0.7} if begins else {}
+    return keys, values, firsts
+
+
+def drawn_calls(random, gone, most):
+    """The client, the begin and the end of each of some calls, at most so many, of clients that are not gone."""
+    ends = [random.randrange(3) for _ in range(random.randint(1, 4))]
+    for _ in range(random.randint(0, most)):
+        client = random.randrange(len(ends))
+        if client in gone:
+            continue
+        begin = ends[client] + random.choice([0, 1, 1, 2, 3])
+        ends[client] = begin + random.randint(0, 6)
+        yield client, begin, ends[client]
+
+
 def drawn_history(random, begins=False):
     """The text of a small history, most of whose replies are right in the order of its lines, and the values that keys
     have at first, if it begins with some."""
-    clients, gone = [random.randrange(3) for _ in range(random.randint(1, 4))], set()
-    keys = random.sample(BYTES, random.randint(1, 3))
-    values = random.sample(BYTES, random.randint(1, 3))
-    firsts = {key: random.choice(values) for key in keys if random.random() < 0.7} if begins else {}
-    held, lines = dict(firsts), []
-    for _ in range(random.randint(0, 8)):
-        client = random.randrange(len(clients))
-        if client in gone:
-            continue
-        begin = clients[client] + random.choice([0, 1, 1, 2, 3])
-        end = begin + random.randint(0, 6)
-        clients[client] = end
+    keys, values, firsts = drawn_keys(random, 1, begins)
+    held, lines, gone = dict(firsts), [], set()
+    for client, begin, end in drawn_calls(random, gone, 8):
         name, key, given = drawn_operation(random, keys, values)
         held[key], reply = step(held.get(key), name, given)
         if random.random() < 0.2:
@@ -327,18 +339,9 @@ def drawn_clauses(random, keys, values, held):
 def drawn_whole(random, begins):
     """The text of a small history with transactions over several keys, most of whose replies are right in the order of
     its lines, and the values that keys have at first."""
-    clients, gone = [random.randrange(3) for _ in range(random.randint(1, 4))], set()
-    keys = random.sample(BYTES, random.randint(2, 3))
-    values = random.sample(BYTES, random.randint(1, 3))
-    firsts = {key: random.choice(values) for key in keys if random.random() < 0.7} if begins else {}
-    pairs, lines = frozenset(firsts.items()), []
-    for _ in range(random.randint(0, 7)):
-        client = random.randrange(len(clients))
-        if client in gone:
-            continue
-        begin = clients[client] + random.choice([0, 1, 1, 2, 3])
-        end = begin + random.randint(0, 6)
-        clients[client] = end
+    keys, values, firsts = drawn_keys(random, 2, begins)
+    pairs, lines, gone = frozenset(firsts.items()), [], set()
+    for client, begin, end in drawn_calls(random, gone, 7):
         asked = drawn_operation(random, keys, values)
         words = [asked[0], quoted(asked[1]), *map(word_of, asked[2])]
         if random.random() < 0.7:

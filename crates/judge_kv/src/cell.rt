@@ -62,7 +62,7 @@ impl Cell {
         Cell { alloc, value }
     }
 
-    /// What the key has, taken out of its state.
+    /// Returns the value of the key, or `None` for no value, and drops the rest of the state.
     pub fn into_held(self) -> Option<Rc<Value>>
         ensures { value_in result ≡ self }
     {

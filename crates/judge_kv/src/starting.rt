@@ -42,7 +42,7 @@ impl StartFault {
 
 /// A place for the values that keys have at first.
 pub trait Beginnings: Drop {
-    /// What each key has: a value, or none.
+    /// The value that each key has, or none.
     ghost held: { Self → List ℕ → Held };
 
     /// Returns whether a key has a value.

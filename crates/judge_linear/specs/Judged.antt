@@ -1,4 +1,4 @@
--- What the searches find of the calls of a history as they are kept.
+-- Findings of the searches on the calls of a history, in the order in which the calls are kept.
 use Rattle.std.specs.Prelude.{◌≡◌, ◌≤◌, ℕ, true, Bool, List, length, map}
 use Rattle.std.specs.List.{list_all, filter_map}
 use Rattle.vac_model.specs.declared.limits.TheConstants.{MOST_BLOCKS}

@@ -8,7 +8,7 @@ use judge_kv::Value;
 use std::marker::Model;
 use std::rc::Rc;
 
-/// What a clause of a transaction says of its key.
+/// The role of a clause in its transaction.
 #[derive(Clone, Copy, Debug, PartialEq, Eq)]
 pub enum Role {
     /// The comparison that the key has this value, or none.
@@ -82,7 +82,7 @@ impl Clause {
         self.key.as_slice()
     }
 
-    /// What the key has or is to have: a value, or none.
+    /// Returns the value that the clause gives for its key, or `None` for no value.
     pub(crate) fn held(&self) -> &Option<Rc<Value>>
         ensures { value_in result.now ≡ self.now.held }
     {

@@ -8,7 +8,7 @@ use crate::clause::Clause;
 use judge_kv::Operation;
 use std::marker::Model;
 
-/// What is asked of a store.
+/// An operation or a transaction that a client submits to a store.
 #[derive(Drop)]
 pub(crate) enum Wish {
     /// An operation on one key.
@@ -52,7 +52,7 @@ impl Request {
         }
     }
 
-    /// What is asked.
+    /// Returns the operation or transaction of the request.
     pub(crate) fn wish(&self) -> &Wish
         ensures { request_in result.now ≡ self.now }
     {

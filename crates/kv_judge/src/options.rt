@@ -4,7 +4,7 @@ ghost use Rattle.std.specs.Prelude.{◌≡◌, map, string_bytes};
 ghost use Rattle.kv_judge.specs.Options as spec;
 ghost use Rattle.kv_judge.specs.Options.{request_in};
 
-/// What is judged at once.
+/// The part of the store that one search judges.
 #[derive(Clone, Copy, Debug, PartialEq, Eq)]
 pub enum Scope {
     /// Each key by itself; each operation has one key.

@@ -1,5 +1,5 @@
--- What the attempts of a load have of the conditions under which their text is opaque: what the
--- text says of the initial words of the heap.
+-- Conditions for an opaque text that the attempts of a load meet: those on the initial words of
+-- the heap.
 use Rattle.std.specs.Prelude.{◌≡◌, ◌≤◌, ℕ, List, ◌++◌}
 use Rattle.tx_alloc.specs.Pool.{heap_words}
 use Rattle.tx_alloc.specs.Spread.{IsSpreadHeap}

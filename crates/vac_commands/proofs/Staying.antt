@@ -1,4 +1,4 @@
--- Where the search for a later booking may start after a command on bookings.
+-- Links from which the search for a later booking may start, after a command on bookings.
 use Rattle.std.proofs.Common.{◌≡◌, ◌≢◌, ℕ, ◌+◌, ◌<◌, ◌≤◌, List, [], ◌∷◌, length, refl, sym, ap, ◌∙◌, subst, arith}
 use Rattle.std.proofs.lemmas.Bool.Decides.{nat_tests}
 use Rattle.tx_memory.specs.View.{View, Words, Sees, memory}

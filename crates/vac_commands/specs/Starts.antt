@@ -1,4 +1,4 @@
--- Where the search of a customer's list for a booking may start.
+-- Links of a customer's list from which the search for a booking may start.
 use Rattle.std.specs.Prelude.{◌≡◌, ℕ, ◌+◌, ◌<◌, ◌≤◌, List, length, Option, Some, None}
 use Rattle.tx_memory.specs.View.{View, Sees, RestsOn}
 use Rattle.vac_model.specs.declared.commands.Why.TheVariants.{Full}
