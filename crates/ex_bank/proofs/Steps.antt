@@ -9,8 +9,8 @@ use Rattle.stm_core.specs.History.{all_records}
 use Rattle.stm_region.specs.Shown.{RegionShown}
 use Rattle.stm_object.specs.History.{WasInOrder, Closes as ClosesObject, answer_in}
 use Rattle.stm_object.specs.Keeping.{kept, found}
-use Rattle.stm_object.specs.Bodies.{HasValue, Did}
-use Rattle.stm_object.specs.declared.place.Place.{Place}
+use Rattle.stm_object.specs.Bodies.{HasValue, HasEffect}
+use Rattle.stm_object.specs.declared.place.CommitPosition.{CommitPosition}
 use Rattle.stm_object.specs.Steps.{WordStep, load_step, two_steps, so_step, has_done, known_le, shows_its_words}
 use Rattle.stm_object.specs.Steps.{fits_its_words, shows_words}
 use Rattle.ex_bank.specs.declared.entry.Entry.{Entry}
@@ -51,7 +51,7 @@ total_small s s' s'' done total v held less c l some =
     let le = sum_by-take-le (λ x. x) xs (done + 1) in omega (arith, t, le, b.small))
 
 pub all_counted : (s s' : View) (done total : ℕ) → ACCOUNTS ≤ done → Counted s s' done total
-    → Did bank s s' (Sum total)
+    → HasEffect bank s s' (Sum total)
 all_counted s s' done total all c = has_done ACCOUNTS IsBank IsEntry Finds after code bank_after (Sum total) tt
     (λ xs b. b.size) c (λ xs b t.
     let whole : take done xs ≡ xs = take_all done xs (omega (arith, b.size, all)) in (t ∙ ap sum whole, refl))
@@ -62,7 +62,7 @@ told_sum (Transfer from to amount moved) total xs same h =
     absurd (let n : 1 ≡ 0 = ap (λ (ys : List ℕ). slice_index ys 0) same in omega (arith, n))
 told_sum (Sum other) total xs same h = ap (λ (ys : List ℕ). slice_index ys 1) same ∙ h
 
-pub opening_sum : {X : Type 0} (region : RegionShown) (v v' : Client) (placed : Result (ℕ × Place) X) →
+pub opening_sum : {X : Type 0} (region : RegionShown) (v v' : Client) (placed : Result (ℕ × CommitPosition) X) →
     IfOk placed (λ total. WasInOrder bank region (Sum total.0) v v') →
     IfOk (answer_in placed) (λ total. total ≡ sum region.first)
 opening_sum region v v' (Err e) w = tt

@@ -3,7 +3,7 @@
 ghost use Rattle.std.specs.Prelude.{◌≡◌, ◌*◌, ◌<◌, ◌≤◌, IfOk, IfErr, replicate, sum, true, false};
 ghost use Rattle.stm_core.specs.Event.{opener};
 ghost use Rattle.stm_region.specs.Shown.{opened_on};
-ghost use Rattle.stm_region.specs.Refused.{ClosesNot, IsLast, OpensNot};
+ghost use Rattle.stm_region.specs.Refused.{RefusesClose, IsLast, RefusesOpening};
 ghost use Rattle.stm_object.specs.Callers.{GoesOn};
 ghost use Rattle.stm_object.specs.History.{HasCalled, IsAlone};
 ghost use Rattle.ex_bank.specs.declared.entry.Entry.TheVariants.{Transfer, Sum};
@@ -38,7 +38,7 @@ pub fn new_bank(alloc: Global, each: u32, last: u64) -> Result<(Bank, Teller), R
     ensures teller { IfOk result (λ r.
         r.1 ≡ record { table = r.0.table; value = opener; own = tt }) }
     ensures range { IfOk result (λ _. IsLast last) }
-    ensures refused { IfErr result (λ fault. OpensNot ACCOUNTS last ACCOUNTS fault) }
+    ensures refused { IfErr result (λ fault. RefusesOpening ACCOUNTS last ACCOUNTS fault) }
 {
     let image = [u64::from(each); ACCOUNTS as usize];
     Shared::new(alloc, &image, last, ACCOUNTS, ())
@@ -85,7 +85,7 @@ pub fn close_bank(
     ensures closes { IfOk result (λ r. ClosesBalanced shared teller.value r.0.items r.1) }
     ensures alone { IfOk result (λ _. IsAlone teller.value) }
     ensures kept { IfErr result
-        (λ r. (r.0 ≡ shared) × (r.1 ≡ teller) × ClosesNot teller.value.grants r.2) }
+        (λ r. (r.0 ≡ shared) × (r.1 ≡ teller) × RefusesClose teller.value.grants r.2) }
 {
     shared.close(teller)
 }

@@ -19,7 +19,7 @@ impl Object for BankObject {
 
     type Entry = Entry;
 
-    type Own = ();
+    type UserState = ();
 
     ghost is = { bank };
 

@@ -26,7 +26,7 @@ impl Object for RingObject {
 
     type Entry = Entry;
 
-    type Own = ();
+    type UserState = ();
 
     ghost is = { ring };
 

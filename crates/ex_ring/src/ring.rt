@@ -2,7 +2,7 @@
 
 ghost use Rattle.std.specs.Prelude.{◌≡◌, IfOk, IfErr, replicate};
 ghost use Rattle.stm_core.specs.Event.{opener};
-ghost use Rattle.stm_region.specs.Refused.{ClosesNot, IsLast, OpensNot};
+ghost use Rattle.stm_region.specs.Refused.{RefusesClose, IsLast, RefusesOpening};
 ghost use Rattle.stm_region.specs.Shown.{opened_on};
 ghost use Rattle.stm_object.specs.History.{IsAlone};
 ghost use Rattle.ex_ring.specs.declared.law.TheConstants.{WORDS};
@@ -33,7 +33,7 @@ pub fn new_ring(alloc: Global, last: u64) -> Result<(Ring, RingUser), RegionFaul
     ensures user { IfOk result (λ r.
         r.1 ≡ record { table = r.0.table; value = opener; own = tt }) }
     ensures range { IfOk result (λ _. IsLast last) }
-    ensures refused { IfErr result (λ fault. OpensNot WORDS last WORDS fault) }
+    ensures refused { IfErr result (λ fault. RefusesOpening WORDS last WORDS fault) }
 {
     let image = [0u64; WORDS as usize];
     Shared::new(alloc, &image, last, WORDS, ())
@@ -64,7 +64,7 @@ pub fn close_ring(
     ensures closes { IfOk result (λ r. ClosesInOrder ring user.value r.0.items r.1) }
     ensures alone { IfOk result (λ _. IsAlone user.value) }
     ensures kept { IfErr result
-        (λ r. (r.0 ≡ ring) × (r.1 ≡ user) × ClosesNot user.value.grants r.2) }
+        (λ r. (r.0 ≡ ring) × (r.1 ≡ user) × RefusesClose user.value.grants r.2) }
 {
     ring.close(user)
 }

@@ -13,7 +13,7 @@ ghost use Rattle.stm_attempt.specs.Meaning.{IsStanding};
 use crate::conflict::{Conflict, Refusal};
 use crate::logs::Logs;
 use crate::reading::read_word;
-use crate::standing::Standing;
+use crate::standing::ConsistentReads;
 use std::alloc::{Allocator, Global};
 use stm_region::{Client, Region};
 use stm_words::{Law, LockWord, Version};
@@ -31,7 +31,7 @@ pub struct Attempt<'a, L: Law, R: Allocator = Global, A: Allocator + Copy = Glob
     pub(crate) newest: u64,
     /// The conflict that a read met, if any.
     pub(crate) stopped: Option<Conflict>,
-    pub(crate) standing: Standing<L>,
+    pub(crate) standing: ConsistentReads<L>,
     ghost own: { client.now.table ≡ region.now.table },
     ghost known: { rv ≤ region.now.last },
     ghost compared: { newest ≡ free_word rv },
@@ -80,7 +80,7 @@ impl<'a, L: Law, R: Allocator, A: Allocator + Copy> Attempt<'a, L, R, A> {
         logs.clear();
         logs.in_use = true;
         let rv = region.begin(client);
-        let standing = Standing::of(region, client);
+        let standing = ConsistentReads::of(region, client);
         Attempt {
             region,
             client,
@@ -202,9 +202,9 @@ impl<'a, L: Law, R: Allocator, A: Allocator + Copy> TxRead for Attempt<'a, L, R,
             return Ok(value);
         }
         self.logs.reads.push(addr)?;
-        match read_word(self.region, self.client, self.newest, addr) {
+        match read_word(self.region, self.client, &self.newest, &self.rv, addr) {
             Ok(value) => {
-                self.standing = Standing::of(self.region, self.client);
+                self.standing = ConsistentReads::of(self.region, self.client);
                 Ok(value)
             }
             Err(conflict) => {

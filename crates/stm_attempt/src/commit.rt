@@ -200,6 +200,7 @@ impl<'a, L: Law, R: Allocator, A: Allocator + Copy> Attempt<'a, L, R, A> {
     ///
     /// Not said: that calls whose result has no case for refused memory take none, which is read
     /// in the code.
+    #[inline(always)]
     pub fn commit<T: Tag, G: Gate>(self, tag: &T, gate: &mut G) -> Result<Version, Stop>
         requires running { runs self ≡ true }
         requires lawful { self.stopped ≡ None →

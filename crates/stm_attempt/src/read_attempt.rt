@@ -13,7 +13,7 @@ ghost use Rattle.stm_attempt.specs.Meaning.{IsStanding};
 
 use crate::conflict::{Conflict, Stopped};
 use crate::reading::read_word;
-use crate::standing::Standing;
+use crate::standing::ConsistentReads;
 use std::alloc::{Allocator, Global};
 use stm_region::{Client, Region};
 use stm_words::{Law, LockWord, Tag, Version};
@@ -30,7 +30,7 @@ pub struct ReadAttempt<'a, L: Law, R: Allocator = Global> {
     pub(crate) newest: u64,
     /// The conflict that a read met, if any.
     pub(crate) stopped: Option<Conflict>,
-    pub(crate) standing: Standing<L>,
+    pub(crate) standing: ConsistentReads<L>,
     ghost own: { client.now.table ≡ region.now.table },
     ghost compared: { newest ≡ free_word rv },
     ghost small: { newest < 2 ^ 63 },
@@ -60,7 +60,7 @@ impl<'a, L: Law, R: Allocator> ReadAttempt<'a, L, R> {
             ↔ (client.old.value.grants ≡ MOST_GRANTS) }
     {
         let rv = region.begin(client);
-        let standing = Standing::of(region, client);
+        let standing = ConsistentReads::of(region, client);
         ReadAttempt {
             region,
             client,
@@ -160,7 +160,7 @@ impl<'a, L: Law, R: Allocator> TxRead for ReadAttempt<'a, L, R> {
     /// Returns a value of the region, which enters the reads. The value is read between a probe
     /// and a check of its lock with equal words. The probe shows `Held` before `Newer`; the check
     /// shows `Moved` if its word differs.
-    #[inline]
+    #[inline(always)]
     fn read(&mut self, addr: Addr) -> Result<u64, Stopped>
         requires { addr.0 < (view self.old).size }
         ensures origin { origin self.new ≡ origin self.old }
@@ -178,9 +178,9 @@ impl<'a, L: Law, R: Allocator> TxRead for ReadAttempt<'a, L, R> {
         if self.stopped.is_some() {
             return Err(Stopped);
         }
-        match read_word(self.region, self.client, self.newest, addr) {
+        match read_word(self.region, self.client, &self.newest, &self.rv, addr) {
             Ok(value) => {
-                self.standing = Standing::of(self.region, self.client);
+                self.standing = ConsistentReads::of(self.region, self.client);
                 Ok(value)
             }
             Err(conflict) => {

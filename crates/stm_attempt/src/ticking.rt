@@ -17,6 +17,7 @@ use stm_words::{Law, Tag, Version};
 
 /// Ticks the clock from the read version on; after each lost tick, from the version that the tick
 /// found. At most `MOST_TICKS` ticks are tried.
+#[inline(always)]
 pub(crate) fn tick<L: Law, R: Allocator, A: Allocator + Copy, T: Tag>(
     region: &Region<L, R>,
     client: &mut Client<L>,

@@ -4,7 +4,7 @@ ghost use Rattle.std.specs.Prelude.{◌≡◌, ◌||◌, ℕ, ◌%◌, ◌<◌, 
 use tx_memory::Addr;
 
 /// Number of marks, one for each remainder of the addresses.
-const MARKS: usize = 128;
+const MARKS: usize = 256;
 
 /// A set of addresses in which all addresses of one remainder are marked together: a Bloom filter
 /// with one hash function.

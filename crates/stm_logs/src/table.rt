@@ -148,7 +148,7 @@ impl<A: Allocator + Copy> Table<A> {
         let place = probe(&self.nodes, number);
         let word = self.nodes.slot(place);
         if word == 0 {
-            return put_new(&mut self.nodes, place, number, lock, value);
+            return put_new(&mut self.nodes, number, lock, value, place);
         }
         let node = *self.nodes.get(word);
         self.nodes.put(word, Entry { value, ..node });
@@ -206,10 +206,10 @@ fn clear_nodes<A: Allocator>(nodes: &mut Nodes<A>)
 #[inline]
 fn put_new<A: Allocator + Copy>(
     nodes: &mut Nodes<A>,
-    place: usize,
     number: u32,
     lock: u32,
     value: u64,
+    place: usize,
 ) -> Result<(), AllocError>
     requires log { IsLog nodes.old }
     requires place { Answers nodes.old.list nodes.old.count number place }
@@ -219,7 +219,7 @@ fn put_new<A: Allocator + Copy>(
     if is_full(nodes) {
         return put_grown(nodes, number, lock, value);
     }
-    put_roomy(nodes, place, number, lock, value);
+    put_roomy(nodes, number, lock, value, place);
     Ok(())
 }
 
@@ -237,12 +237,12 @@ fn put_grown<A: Allocator + Copy>(
 {
     *nodes = grown(nodes)?;
     let place = probe(nodes, number);
-    put_roomy(nodes, place, number, lock, value);
+    put_roomy(nodes, number, lock, value, place);
     Ok(())
 }
 
 /// Puts a word that is not in the table, if there is room for it.
-fn put_roomy<A: Allocator>(nodes: &mut Nodes<A>, place: usize, number: u32, lock: u32, value: u64)
+fn put_roomy<A: Allocator>(nodes: &mut Nodes<A>, number: u32, lock: u32, value: u64, place: usize)
     requires log { IsLog nodes.old }
     requires room { nodes.old.count + 1 < length nodes.old.list }
     requires place { Answers nodes.old.list nodes.old.count number place }
@@ -250,15 +250,15 @@ fn put_roomy<A: Allocator>(nodes: &mut Nodes<A>, place: usize, number: u32, lock
     ensures { HasOneMoreWord number lock value nodes.old nodes.new }
 {
     if is_long(nodes) {
-        put_long(nodes, place, number, lock, value);
+        put_long(nodes, number, lock, value, place);
     } else {
-        put_word(nodes, place, number, lock, value, false);
+        put_word(nodes, number, lock, value, place, false);
     }
 }
 
 /// Puts a word that is not in the table into a long log, if there is room for it.
 #[cold]
-fn put_long<A: Allocator>(nodes: &mut Nodes<A>, place: usize, number: u32, lock: u32, value: u64)
+fn put_long<A: Allocator>(nodes: &mut Nodes<A>, number: u32, lock: u32, value: u64, place: usize)
     requires log { IsLog nodes.old }
     requires room { nodes.old.count + 1 < length nodes.old.list }
     requires place { Answers nodes.old.list nodes.old.count number place }
@@ -267,7 +267,7 @@ fn put_long<A: Allocator>(nodes: &mut Nodes<A>, place: usize, number: u32, lock:
 {
     let is_first = nodes.count() == SHORT;
     point_all_if(nodes, is_first);
-    put_word(nodes, place, number, lock, value, true);
+    put_word(nodes, number, lock, value, place, true);
     point(nodes, lock, number, nodes.count());
 }
 
@@ -275,10 +275,10 @@ fn put_long<A: Allocator>(nodes: &mut Nodes<A>, place: usize, number: u32, lock:
 #[inline(always)]
 fn put_word<A: Allocator>(
     nodes: &mut Nodes<A>,
-    place: usize,
     number: u32,
     lock: u32,
     value: u64,
+    place: usize,
     is_long: bool,
 )
     requires log { IsLog nodes.old }

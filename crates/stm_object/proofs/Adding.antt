@@ -14,7 +14,7 @@ use Rattle.stm_attempt.specs.Begun.{still}
 use Rattle.stm_attempt.specs.Committing.{HasCommitted, HasStopped, IsCommitVersion, commit_record}
 use Rattle.stm_attempt.specs.declared.conflict.Stop.{Stop}
 use Rattle.stm_attempt.proofs.Named.{apart, same_attempt}
-use Rattle.stm_object.specs.declared.place.Place.{Place}
+use Rattle.stm_object.specs.declared.place.CommitPosition.{CommitPosition}
 use Rattle.stm_object.specs.Places.{place_of}
 use Rattle.stm_object.specs.History.{IsUnplaced, AddsRecord, AddsAt}
 
@@ -244,7 +244,7 @@ wrote_in [] = false
 wrote_in (p ∷ ps) = true
 
 -- a place by its parts
-abbrev pub place_at : ℕ → ℕ → Bool → Place
+abbrev pub place_at : ℕ → ℕ → Bool → CommitPosition
 place_at renewal version wrote = record { renewal = renewal; version = version; wrote = wrote }
 
 -- the place of a commit's record
@@ -268,7 +268,8 @@ at_place region tag w pairs version renewal found wrote h e f k =
     ap (λ (n : ℕ). place_at n found wrote) e ∙ (ap (λ (n : ℕ). place_at region.renewal n wrote) f
     ∙ (ap (λ (b : Bool). place_at region.renewal version b) k ∙ sym (record_place region tag w pairs version h)))
 
-pub adds_at : (region region' : RegionShown) (tag : List ℕ) (place : Place) (v w v' : Client) (pairs : List (ℕ × ℕ))
+pub adds_at : (region region' : RegionShown) (tag : List ℕ) (place : CommitPosition) (v w v' : Client)
+    (pairs : List (ℕ × ℕ))
     (version : ℕ) (a : AddsRecord region tag v v') → a.made ≡ commit_record region' tag w pairs version
     → place ≡ place_of (commit_record region' tag w pairs version) → AddsAt region tag place v v'
 adds_at region region' tag place v w v' pairs version a is at =

@@ -9,7 +9,7 @@ use Rattle.stm_region.specs.Shown.{RegionShown, ClientShown}
 use Rattle.stm_attempt.specs.Meaning.{memory_of, Origin, origin_of}
 use Rattle.stm_attempt.specs.Leading.{Property, IsLocal, image_as_memory, nothing_logged, records_lead, readings_lead}
 use Rattle.stm_object.specs.Object.{Specification, IsLocal as IsLocalObject, IsFitting, Does, IsLawfulEntry}
-use Rattle.stm_object.specs.Bodies.{HasValue, Did}
+use Rattle.stm_object.specs.Bodies.{HasValue, HasEffect}
 
 -- a body that left the writes as they were has nothing to write
 pub nothing_written : (fits : List ℕ → Type 0) (in_use in_use' : Bool) (region region' : RegionShown) (n n' l l' : ℕ)
@@ -55,7 +55,8 @@ module _ {E : Type 0} (o : Specification E) (local : IsLocalObject o) where
   pub does : (in_use in_use' : Bool) (region region' : RegionShown) (n n' l l' : ℕ) (c c' : ClientShown)
       (w w' : LogValue) (e : E) → in_use ≡ true → w ≡ empty_log →
       origin_of in_use' region' n' l' c' ≡ origin_of in_use region n l c →
-      Did o (memory_of in_use region (IsFitting o) c.value w) (memory_of in_use' region' (IsFitting o) c'.value w') e
+      HasEffect o (memory_of in_use region (IsFitting o) c.value w)
+      (memory_of in_use' region' (IsFitting o) c'.value w') e
       → Does o e c'.value.attempt.reads (log_pairs w')
   does in_use in_use' region region' n n' l l' c c' w w' e runs empty origin did = record {
     is_entry = did.0;
@@ -68,7 +69,7 @@ module _ {E : Type 0} (o : Specification E) (local : IsLocalObject o) where
   pub does_reading : (running running' : Bool) (region region' : RegionShown) (n n' : ℕ) (c c' : ClientShown)
       (e : E) → running ≡ true →
       origin_of running' region' n' 0 c' ≡ origin_of running region n 0 c →
-      Did o (memory_of running region (IsFitting o) c.value empty_log)
+      HasEffect o (memory_of running region (IsFitting o) c.value empty_log)
       (memory_of running' region' (IsFitting o) c'.value empty_log) e
       → Does o e c'.value.attempt.reads []
   does_reading running running' region region' n n' c c' e runs origin did = record {

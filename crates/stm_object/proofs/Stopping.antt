@@ -13,11 +13,12 @@ use Rattle.stm_attempt.specs.Committing.{HasStopped}
 use Rattle.stm_attempt.specs.declared.conflict.Conflict.{Conflict}
 use Rattle.stm_attempt.specs.declared.conflict.Stop.{Stop}
 use Rattle.stm_attempt.specs.declared.conflict.Stop.TheVariants as stop
-use Rattle.stm_object.specs.declared.place.Place.{Place}
+use Rattle.stm_object.specs.declared.place.CommitPosition.{CommitPosition}
 use Rattle.stm_object.specs.Object.{Specification, Does}
-use Rattle.stm_object.specs.History.{AddsAt, SparesWrites, RecordsEntry, WasInOrder, IsAlone, IsNoConflict, WasRead}
+use Rattle.stm_object.specs.History.{AddsAt, WritesOnlyChanges, RecordsEntry, WasInOrder, IsAlone, IsNoConflict}
+use Rattle.stm_object.specs.History.{WasRead}
 use Rattle.stm_object.specs.History.{ConflictWasShown, AttemptedOnce, LeadsOn, IsNear, IsUnplaced}
-use Rattle.stm_object.specs.History.{WouldWriteEntry, IsStopOfEntry, Misses, met_in, AreTries, HasCalledAt}
+use Rattle.stm_object.specs.History.{WouldWriteEntry, IsStopOfEntry, AbortedTimes, met_in, AreTries, HasCalledAt}
 use Rattle.stm_object.specs.Tracing.{Trace, HasTracedOne, conflict_in, tally_with, HasTallied}
 use Rattle.stm_object.proofs.Histories.{leads}
 
@@ -30,7 +31,7 @@ shown_by_read region region' conflict v v' same h e =
     (subst (λ (c : Client). WasRead region' conflict c) (sym e) h)
 
 -- attempts that showed conflicts were made one after the other
-misses_count : (Shows : Conflict → Client → Type 0) (n : ℕ) (v v' : Client) → Misses Shows n v v'
+misses_count : (Shows : Conflict → Client → Type 0) (n : ℕ) (v v' : Client) → AbortedTimes Shows n v v'
     → v'.attempt.number ≡ v.attempt.number + n
 misses_count Shows zero v v' h = let e = ap (λ (x : Client). x.attempt.number) h in omega (arith, e)
 misses_count Shows (suc n) v v' h = let a = misses_count Shows n v h.0 h.1.0 in let b =
@@ -42,7 +43,7 @@ pub record Trying {T : Type 0} (Shows : Conflict → Client → Type 0) (more : 
     (tries left : ℕ) (v v' : Client) (before now : T) : Type 0 where
   pub missed : ℕ
   pub count : missed + left ≡ tries
-  pub misses : Misses Shows missed v v'
+  pub misses : AbortedTimes Shows missed v v'
   pub tallied : now ≡ tally_with more before (met_in Shows missed v v' misses)
   pub grants : v'.grants ≡ v.grants
   pub floor : v.floor ≤ v'.floor
@@ -91,7 +92,7 @@ trying_next Shows more tries left left' v w v' t0 t t' conflict h less next reco
 -- an attempt as the loop of a call finds it, by the client and the tracer before and after
 pub record Made {E A X F T : Type 0} (o : Specification E) (region : RegionShown) (entry : A → E)
     (changes : A → Bool) (frame : X → F) (tally : X → T) (more : Option Conflict → T → T)
-    (ended : X → Option (List Trace)) (reads : Bool) (result : Result (A × Place) Stop) (c c' : ClientShown)
+    (ended : X → Option (List Trace)) (reads : Bool) (result : Result (A × CommitPosition) Stop) (c c' : ClientShown)
     (x x' : X) : Type 0 where
   pub own : c'.table ≡ c.table
   pub tried : AttemptedOnce o region entry changes reads result c.value c'.value
@@ -174,7 +175,7 @@ module _ {E : Type 0} (o : Specification E) {A : Type 0} (region : RegionShown) 
     },
   )
 
-  pub no_record : (conflict : Conflict) (v v' : Client) (result : Result (A × Place) Stop)
+  pub no_record : (conflict : Conflict) (v v' : Client) (result : Result (A × CommitPosition) Stop)
       → result ≡ Err (stop.Conflict conflict) → RecordsEntry o region entry result v v' → v'.records ≡ v.records
   no_record conflict v v' result is h = let k = (rw is at h) in k
 
@@ -196,7 +197,7 @@ module _ {E : Type 0} (o : Specification E) {A : Type 0} (region : RegionShown) 
       last conflict refl in (omega (arith, h.0, one, count), h.1)
   last_stop tries left v0 v v' (Err (stop.Spent version)) count last h = h
 
-  adds_from : (tag : List ℕ) (place : Place) (v w v' : Client) → w.records ≡ v.records → v.floor ≤ w.floor
+  adds_from : (tag : List ℕ) (place : CommitPosition) (v w v' : Client) → w.records ≡ v.records → v.floor ≤ w.floor
       → AddsAt region tag place w v' → AddsAt region tag place v v'
   adds_from tag place v w v' start low p = let a = p.adds in record {
     adds = record {
@@ -213,12 +214,12 @@ module _ {E : Type 0} (o : Specification E) {A : Type 0} (region : RegionShown) 
     place_is = p.place_is;
   }
 
-  records_from : {X : Type 0} (v w v' : Client) (result : Result (A × Place) X) → w.records ≡ v.records
+  records_from : {X : Type 0} (v w v' : Client) (result : Result (A × CommitPosition) X) → w.records ≡ v.records
       → v.floor ≤ w.floor → RecordsEntry o region entry result w v' → RecordsEntry o region entry result v v'
   records_from v w v' (Ok a) start low h = adds_from (o.code (entry a.0)) a.1 v w v' start low h
   records_from v w v' (Err e) start low h = h ∙ start
 
-  order_from : {X : Type 0} (v w v' : Client) (result : Result (A × Place) X) → w.records ≡ v.records
+  order_from : {X : Type 0} (v w v' : Client) (result : Result (A × CommitPosition) X) → w.records ≡ v.records
       → v.floor ≤ w.floor → IfOk result (λ a. WasInOrder o region (entry a.0) w v')
       → IfOk result (λ a. WasInOrder o region (entry a.0) v v')
   order_from v w v' (Ok a) start low k = record {
@@ -241,8 +242,8 @@ module _ {E : Type 0} (o : Specification E) {A : Type 0} (region : RegionShown) 
   }
   order_from v w v' (Err e) start low k = tt
 
-  spares_from : {X : Type 0} (v w v' : Client) (result : Result (A × Place) X) → w.records ≡ v.records
-      → SparesWrites reads changes result w v' → SparesWrites reads changes result v v'
+  spares_from : {X : Type 0} (v w v' : Client) (result : Result (A × CommitPosition) X) → w.records ≡ v.records
+      → WritesOnlyChanges reads changes result w v' → WritesOnlyChanges reads changes result v v'
   spares_from v w v' (Ok a) start k = λ no. let r = k no in record {
     made = r.made;
     reader = r.reader;
@@ -252,7 +253,7 @@ module _ {E : Type 0} (o : Specification E) {A : Type 0} (region : RegionShown) 
   spares_from v w v' (Err e) start k = tt
 
   -- a call of a client that is alone found the words to which its own calls had led
-  turn_of : {X : Type 0} (v v' : Client) (result : Result (A × Place) X)
+  turn_of : {X : Type 0} (v v' : Client) (result : Result (A × CommitPosition) X)
       → IfOk result (λ a. WasInOrder o region (entry a.0) v v') → v'.is_gathered ≡ false → IsAlone v'
       → IfOk result (λ a. LeadsOn o region (entry a.0) v v')
   turn_of v v' (Ok a) order out all = leads o region (entry a.0) v v' order out all
@@ -275,7 +276,7 @@ module _ {E : Type 0} (o : Specification E) {A : Type 0} (region : RegionShown) 
   }
 
   pub has_tallied : {T : Type 0} (more : Option Conflict → T → T) (tries left left' : ℕ) (v w v' : Client) (t0 t t' : T)
-      (answer result : Result (A × Place) Stop) → answer ≡ result → Trying Shown more tries left v w t0 t
+      (answer result : Result (A × CommitPosition) Stop) → answer ≡ result → Trying Shown more tries left v w t0 t
       → left ≡ left' + 1 → AttemptedOnce o region entry changes reads result w v' → t' ≡ more (conflict_in result) t
       → HasTallied Shown more tries answer v v' t0 t'
   unfolding tried
@@ -286,7 +287,7 @@ module _ {E : Type 0} (o : Specification E) {A : Type 0} (region : RegionShown) 
 
   -- a call, by its last attempt
   pub has_called : {T : Type 0} (more : Option Conflict → T → T) (tries left left' : ℕ) (v w v' : Client) (t0 t : T)
-      (answer result : Result (A × Place) Stop) → answer ≡ result → Trying Shown more tries left v w t0 t
+      (answer result : Result (A × CommitPosition) Stop) → answer ≡ result → Trying Shown more tries left v w t0 t
       → left ≡ left' + 1 → AttemptedOnce o region entry changes reads result w v'
       → ((conflict : Conflict) → result ≡ Err (stop.Conflict conflict) → left' ≡ 0)
       → HasCalledAt o region entry changes reads tries answer v v'

@@ -11,10 +11,11 @@ use Rattle.stm_logs.specs.Log.{LogValue, empty_log, log_pairs}
 use Rattle.stm_region.specs.Shown.{RegionShown, ClientShown}
 use Rattle.stm_attempt.specs.Committing.{HasCommitted, commit_record}
 use Rattle.stm_attempt.specs.Meaning.{memory_of, Origin, origin_of}
-use Rattle.stm_object.specs.Tracing.{Trace, HasNoAccess, OneMore, IsOfAdded, IsOfEnd, AreGivenUp, AreOfEnd, HasTraced}
-use Rattle.stm_object.specs.declared.place.Place.{Place}
+use Rattle.stm_object.specs.Tracing.{Trace, HasNoAccess, AppendsTrace, IsOfAdded, IsOfEnd, AreAborted, AreOfEnd}
+use Rattle.stm_object.specs.Tracing.{HasTraced}
+use Rattle.stm_object.specs.declared.place.CommitPosition.{CommitPosition}
 use Rattle.stm_object.specs.Places.{place_of}
-use Rattle.stm_object.specs.Tracing.{HasTracedCommit, HasGivenUp, HasTracedOne}
+use Rattle.stm_object.specs.Tracing.{HasTracedCommit, HasTracedAbort, HasTracedOne}
 use Rattle.stm_object.proofs.Adding.{record_reads, record_writes}
 
 -- an attempt that has just begun has neither read nor written anything
@@ -49,7 +50,7 @@ tells fits false false region region' c c' l l' v v' w accesses all u o tracked 
 -- it made the record of its commit
 pub made : (fits : List ℕ → Type 0) (in_use in_use' : Bool) (region region' : RegionShown) (c c' l l' : ℕ)
     (v v' : ClientShown) (w : LogValue) (accesses : Option (List Access)) (tag : List ℕ) (pairs : List (ℕ × ℕ))
-    (version : ℕ) (place : Place) (first last : Client) (r : Record) → in_use ≡ true →
+    (version : ℕ) (place : CommitPosition) (first last : Client) (r : Record) → in_use ≡ true →
     origin_of in_use' region' c' l' v' ≡ origin_of in_use region c l v →
     IsTracked accesses (memory_of in_use' region' fits v'.value w).reads
     (memory_of in_use' region' fits v'.value w).writes →
@@ -75,11 +76,11 @@ made fits in_use in_use' region region' c c' l l' v v' w accesses tag pairs vers
     }
 
 -- an attempt that committed, and made its record, is one more
-pub more_committed : (place : Place) (accesses : Option (List Access))
+pub more_committed : (place : CommitPosition) (accesses : Option (List Access))
     (before after : Option (List Trace)) (v v' : Client) → HasTracedCommit place accesses before after →
     ((all : List Access) → accesses ≡ Some all → IsOfAdded v v'
     (record { commits = true; place = place; accesses = all })) →
-    OneMore (λ t. IsOfAdded v v' t) before after
+    AppendsTrace (λ t. IsOfAdded v v' t) before after
 more_committed place accesses before after v v' told was = λ all is.
     let o = told all is in
     let m = was o.1.accesses o.4.2 in (
@@ -101,30 +102,30 @@ more_committed place accesses before after v v' told was = λ all is.
     )
 
 -- the same where the attempts before it, and the client afterwards, are known by other words
-pub one_committed : {A X : Type 0} (a : A) (place : Place) (accesses : Option (List Access))
+pub one_committed : {A X : Type 0} (a : A) (place : CommitPosition) (accesses : Option (List Access))
     (first before after : Option (List Trace)) (region : RegionShown) (tag : List ℕ) (pairs : List (ℕ × ℕ)) (u : Client)
     (version : ℕ) (v w v' : Client) → HasCommitted region tag pairs u w version → v' ≡ w → before ≡ first →
     HasTracedCommit place accesses before after →
     ((all : List Access) → accesses ≡ Some all → IsOfAdded v w
     (record { commits = true; place = place; accesses = all })) → HasTracedOne {A = A} {X = X} (Ok a) v v' first after
 one_committed a place accesses first before after region tag pairs u version v w v' done f e told was = record {
-  one = subst (λ (b : Option (List Trace)). OneMore (λ t. IsOfAdded v v' t) b after) e
-      (subst (λ (x : Client). OneMore (λ t. IsOfAdded v x t) before after) (sym f)
+  one = subst (λ (b : Option (List Trace)). AppendsTrace (λ t. IsOfAdded v v' t) b after) e
+      (subst (λ (x : Client). AppendsTrace (λ t. IsOfAdded v x t) before after) (sym f)
       (more_committed place accesses before after v w told was));
 }
 
 -- so is one that was given up
 pub more_given_up : (accesses : Option (List Access)) (before after : Option (List Trace)) →
-    HasGivenUp accesses before after → OneMore (λ t. t.commits ≡ false) before after
+    HasTracedAbort accesses before after → AppendsTrace (λ t. t.commits ≡ false) before after
 more_given_up accesses before after told = λ all is.
     let o = told all is in (o.0, o.1, o.2, o.3, o.4.0)
 
-given_up_more : (ts : List Trace) (t : Trace) → AreGivenUp ts → t.commits ≡ false → AreGivenUp (ts ++ (t ∷ []))
+given_up_more : (ts : List Trace) (t : Trace) → AreAborted ts → t.commits ≡ false → AreAborted (ts ++ (t ∷ []))
 given_up_more [] t g e = (e, tt)
 given_up_more (x ∷ ts) t g e = (g.0, given_up_more ts t g.1 e)
 
 of_end : {A E : Type 0} (end : Result A E) (v w w' : Client) (before : List Trace) (t : Trace) →
-    w.records ≡ v.records → AreGivenUp before → IsOfEnd end w w' t → AreOfEnd end v w' (before ++ (t ∷ []))
+    w.records ≡ v.records → AreAborted before → IsOfEnd end w w' t → AreOfEnd end v w' (before ++ (t ∷ []))
 of_end (Ok a) v w w' before t same g is = (
   before,
   t,
@@ -142,14 +143,14 @@ of_end (Err e) v w w' before t same g is = given_up_more before t g is
 abbrev pub AllGivenUp : Client → Client → Option (List Trace) → Option (List Trace) → Type 0
 AllGivenUp v w before now = (all : List Trace) → now ≡ Some all →
     (earlier : List Trace) × (more : List Trace) × (before ≡ Some earlier)
-    × (all ≡ earlier ++ more) × AreGivenUp more
+    × (all ≡ earlier ++ more) × AreAborted more
     × (v.attempt.number + length more ≡ w.attempt.number)
 
 pub none_given_up : (v : Client) (before : Option (List Trace)) → AllGivenUp v v before before
 none_given_up v before = λ all is. (all, [], is, sym (append-nil all), tt, omega arith)
 
 more_of_end : {A E : Type 0} (end : Result A E) (v w w' : Client) (a b c : Option (List Trace)) →
-    AllGivenUp v w a b → OneMore (IsOfEnd end w w') b c → w'.attempt.number ≡ w.attempt.number + 1 →
+    AllGivenUp v w a b → AppendsTrace (IsOfEnd end w w') b c → w'.attempt.number ≡ w.attempt.number + 1 →
     w.records ≡ v.records → (all : List Trace) → c ≡ Some all →
     (earlier : List Trace) × (more : List Trace) × (a ≡ Some earlier)
     × (all ≡ earlier ++ more) × AreOfEnd end v w' more
@@ -170,15 +171,16 @@ more_of_end end v w w' a b c h one next same all is =
 
 -- one attempt more, the last one, after others that were given up
 pub traced_last : {A E : Type 0} (answer end : Result A E) (v w w' : Client) (a b c : Option (List Trace)) →
-    answer ≡ end → AllGivenUp v w a b → OneMore (IsOfEnd end w w') b c → w'.attempt.number ≡ w.attempt.number + 1 →
+    answer ≡ end → AllGivenUp v w a b → AppendsTrace (IsOfEnd end w w') b c → w'.attempt.number ≡ w.attempt.number + 1 →
     w.records ≡ v.records → HasTraced answer v w' a c
 traced_last answer end v w w' a b c is h one next same =
     rw is (record { each = more_of_end end v w w' a b c h one next same })
 
 -- the next attempt was given up too
 pub traced_next : {A E : Type 0} (end : Result A E) (why : E) (v w w' : Client) (a b c : Option (List Trace)) →
-    end ≡ Err why → AllGivenUp v w a b → OneMore (IsOfEnd end w w') b c →
+    end ≡ Err why → AllGivenUp v w a b → AppendsTrace (IsOfEnd end w w') b c →
     w'.attempt.number ≡ w.attempt.number + 1 → w.records ≡ v.records → AllGivenUp v w' a c
 traced_next {A = A} end why v w w' a b c is h one next same =
-    more_of_end {A = A} (Err why) v w w' a b c h (subst (λ (r : Result A _). OneMore (IsOfEnd r w w') b c) is one) next
+    more_of_end {A = A} (Err why) v w w' a b c h (subst (λ (r : Result A _). AppendsTrace (IsOfEnd r w w') b c) is
+    one) next
     same

@@ -41,7 +41,7 @@ pub record Splits {Own : Type 0} (splits : Own → Own → Own → Type 0)
   pub own : splits before.own after.own other.own
 
 -- no user could be split off, because no grant was left
-pub record SplitsNot {Own : Type 0} (fault : RegionFault) (before after : UserShown Own)
+pub record RefusesSplit {Own : Type 0} (fault : RegionFault) (before after : UserShown Own)
     : Type 0 where
   pub fault_is : fault ≡ Clients
   pub none : before.value.grants ≡ 0

@@ -17,7 +17,7 @@ use Rattle.stm_attempt.specs.Committing.{WasDecided, HasWonLock, HasLostTick}
 use Rattle.stm_attempt.specs.declared.conflict.Conflict.{Conflict as ConflictMet}
 use Rattle.stm_attempt.specs.declared.conflict.Stop.{Stop}
 use Rattle.stm_attempt.specs.declared.conflict.Stop.TheVariants.{Memory, Conflict, Spent}
-use Rattle.stm_object.specs.declared.place.Place.{Place}
+use Rattle.stm_object.specs.declared.place.CommitPosition.{CommitPosition}
 use Rattle.stm_object.specs.Object.{Specification, Shows, IsFitting, IsBeginning, Does}
 use Rattle.stm_object.specs.Object.{IsLawfulEntry}
 use Rattle.stm_object.specs.Places.{place_of}
@@ -71,7 +71,8 @@ pub record AddsRecord (region : RegionShown) (tag : List ℕ) (v v' : Client) : 
   pub records : v'.records ≡ v.records ++ (made ∷ [])
 
 -- exactly one record was added as in `AddsRecord`, and this is its commit position
-pub record AddsAt (region : RegionShown) (tag : List ℕ) (place : Place) (v v' : Client) : Type 0
+pub record AddsAt (region : RegionShown) (tag : List ℕ) (place : CommitPosition) (v v' : Client) :
+    Type 0
   where
     pub adds : AddsRecord region tag v v'
     pub place_is : place ≡ place_of adds.made
@@ -94,15 +95,16 @@ pub record AddsWithoutWrites (v v' : Client) : Type 0 where
 
 -- if the call returns an answer, and the transaction only reads or its answer changes nothing,
 -- then the added record writes nothing
-abbrev pub SparesWrites : {A X : Type 0} → Bool → (A → Bool) → Result (A × Place) X → Client
+abbrev pub WritesOnlyChanges : {A X : Type 0} → Bool → (A → Bool) → Result (A × CommitPosition) X →
+    Client
     → Client → Type 0
-SparesWrites reads changes result v v' = IfOk result (λ a.
+WritesOnlyChanges reads changes result v v' = IfOk result (λ a.
     (reads ≡ true) ⊎ (changes a.0 ≡ false) → AddsWithoutWrites v v')
 
 -- if the call returns an answer, the record of the answer's entry was added, with the commit
 -- position that the call returns; after a refusal, no record was added
 abbrev pub RecordsEntry : {A X E : Type 0} → (o : Specification E) → RegionShown → (A → E)
-    → Result (A × Place) X → Client → Client → Type 0
+    → Result (A × CommitPosition) X → Client → Client → Type 0
 RecordsEntry o region entry (Ok a) v v' = AddsAt region (o.code (entry a.0)) a.1 v v'
 RecordsEntry o region entry (Err e) v v' = v'.records ≡ v.records
 
@@ -190,7 +192,7 @@ ConflictWasShown o region entry changes reads conflict v = WasRead region confli
     × IsCommitConflict (stripe_of region.stripes) log conflict v)
 
 -- one attempt was made, which left no record and showed a conflict
-pub record Missed (Shows : ConflictMet → Client → Type 0) (v v' : Client) : Type 0 where
+pub record AbortedOnce (Shows : ConflictMet → Client → Type 0) (v v' : Client) : Type 0 where
   pub next : v'.attempt.number ≡ v.attempt.number + 1
   pub records : v'.records ≡ v.records
   pub grants : v'.grants ≡ v.grants
@@ -198,13 +200,13 @@ pub record Missed (Shows : ConflictMet → Client → Type 0) (v v' : Client) : 
   pub shown : Shows conflict v'
 
 -- n attempts were made, one after the other, each of which showed a conflict
-abbrev pub Misses : (ConflictMet → Client → Type 0) → ℕ → Client → Client → Type 0
-Misses Shows zero v v' = v' ≡ v
-Misses Shows (suc n) v v' = (w : Client) × (Misses Shows n v w × Missed Shows w v')
+abbrev pub AbortedTimes : (ConflictMet → Client → Type 0) → ℕ → Client → Client → Type 0
+AbortedTimes Shows zero v v' = v' ≡ v
+AbortedTimes Shows (suc n) v v' = (w : Client) × (AbortedTimes Shows n v w × AbortedOnce Shows w v')
 
 -- the conflicts of these attempts, the newest first
 abbrev pub met_in : (Shows : ConflictMet → Client → Type 0) (n : ℕ) (v v' : Client) →
-    Misses Shows n v v' → List ConflictMet
+    AbortedTimes Shows n v v' → List ConflictMet
 met_in Shows zero v v' h = []
 met_in Shows (suc n) v v' h = h.1.1.conflict ∷ met_in Shows n v h.0 h.1.0
 
@@ -216,7 +218,7 @@ pub record AreTries (Shows : ConflictMet → Client → Type 0) (tries : ℕ) (v
   pub left : ℕ
   pub count : missed + 1 + left ≡ tries
   pub before : Client
-  pub misses : Misses Shows missed v before
+  pub misses : AbortedTimes Shows missed v before
   pub next : v'.attempt.number ≡ before.attempt.number + 1
   pub number : v'.attempt.number ≡ v.attempt.number + missed + 1
 
@@ -252,7 +254,7 @@ IsStopOfEntry o region entry changes reads tries (Spent version) v v' =
 -- one attempt was made: if it returned an answer, it added the record of the answer's entry, which
 -- was then in order, and otherwise it added no record; it left no lock held
 pub record AttemptedOnce {A E : Type 0} (o : Specification E) (region : RegionShown)
-    (entry : A → E) (changes : A → Bool) (reads : Bool) (result : Result (A × Place) Stop)
+    (entry : A → E) (changes : A → Bool) (reads : Bool) (result : Result (A × CommitPosition) Stop)
     (v v' : Client) : Type 0 where
   pub grants : v'.grants ≡ v.grants
   pub floor : v.floor ≤ v'.floor
@@ -261,7 +263,7 @@ pub record AttemptedOnce {A E : Type 0} (o : Specification E) (region : RegionSh
   pub attempt : v'.attempt.number ≡ v.attempt.number + 1
   pub records : RecordsEntry o region entry result v v'
   pub order : IfOk result (λ a. WasInOrder o region (entry a.0) v v')
-  pub spares : SparesWrites reads changes result v v'
+  pub spares : WritesOnlyChanges reads changes result v v'
   pub alone : IsAlone v → IfErr result (λ stop. IsNoConflict stop)
   pub near : IsAlone v → IsNear reads region.last v.floor v'.floor result
   pub stopped : IfErr result (λ stop. IsStopOfEntry o region entry changes reads 1 stop v v')
@@ -272,7 +274,7 @@ pub record AttemptedOnce {A E : Type 0} (o : Specification E) (region : RegionSh
 -- Not said: that the call returns an answer in the end, however many attempts it may make; the
 -- duration of an attempt.
 pub record HasCalledAt {A E : Type 0} (o : Specification E) (region : RegionShown) (entry : A → E)
-    (changes : A → Bool) (reads : Bool) (tries : ℕ) (result : Result (A × Place) Stop)
+    (changes : A → Bool) (reads : Bool) (tries : ℕ) (result : Result (A × CommitPosition) Stop)
     (v v' : Client) : Type 0 where
   pub grants : v'.grants ≡ v.grants
   pub floor : v.floor ≤ v'.floor
@@ -280,7 +282,7 @@ pub record HasCalledAt {A E : Type 0} (o : Specification E) (region : RegionShow
   pub unplaced : IsUnplaced v'
   pub records : RecordsEntry o region entry result v v'
   pub order : IfOk result (λ a. WasInOrder o region (entry a.0) v v')
-  pub spares : SparesWrites reads changes result v v'
+  pub spares : WritesOnlyChanges reads changes result v v'
   pub turn : IsAlone v → IfOk result (λ a. LeadsOn o region (entry a.0) v v')
   pub alone : IsAlone v → IfErr result (λ stop. IsNoConflict stop)
   pub once : IsAlone v → v'.attempt.number ≡ v.attempt.number + 1
@@ -290,7 +292,7 @@ pub record HasCalledAt {A E : Type 0} (o : Specification E) (region : RegionShow
   pub stopped : IfErr result (λ stop. IsStopOfEntry o region entry changes reads tries stop v v')
 
 -- the answer without the commit position of its record
-abbrev pub answer_in : {A X : Type 0} → Result (A × Place) X → Result A X
+abbrev pub answer_in : {A X : Type 0} → Result (A × CommitPosition) X → Result A X
 answer_in (Ok a) = Ok a.0
 answer_in (Err e) = Err e
 
@@ -298,6 +300,6 @@ answer_in (Err e) = Err e
 pub record HasCalled {A E : Type 0} (o : Specification E) (region : RegionShown) (entry : A → E)
     (changes : A → Bool) (reads : Bool) (tries : ℕ) (result : Result A Stop) (v v' : Client)
     : Type 0 where
-  pub placed : Result (A × Place) Stop
+  pub placed : Result (A × CommitPosition) Stop
   pub result_is : result ≡ answer_in placed
   pub call : HasCalledAt o region entry changes reads tries placed v v'

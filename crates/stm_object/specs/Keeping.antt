@@ -7,7 +7,7 @@ use Rattle.tx_memory.specs.Image.{In}
 use Rattle.stm_core.specs.Client.{Client, Record}
 use Rattle.stm_region.specs.Shown.{RegionShown}
 use Rattle.stm_attempt.specs.declared.conflict.Stop.{Stop}
-use Rattle.stm_object.specs.declared.place.Place.{Place}
+use Rattle.stm_object.specs.declared.place.CommitPosition.{CommitPosition}
 use Rattle.stm_object.specs.Object.{Specification}
 use Rattle.stm_object.specs.History.{IsHistory, HasCalled, HasCalledAt, answer_in}
 
@@ -79,9 +79,9 @@ module _ {E : Type 0} (o : Specification E) {M : Type 0} (P : o.Value → Type 0
 
 module _ {A E : Type 0} {o : Specification E} {region : RegionShown} {entry : A → E}
     {changes : A → Bool} {reads : Bool} {tries : ℕ} {v v' : Client} (a : A) where
-  of_placed : (placed : Result (A × Place) Stop) → Ok a ≡ answer_in placed →
+  of_placed : (placed : Result (A × CommitPosition) Stop) → Ok a ≡ answer_in placed →
       HasCalledAt o region entry changes reads tries placed v v' →
-      (place : Place) × HasCalledAt o region entry changes reads tries (Ok (a, place)) v v'
+      (place : CommitPosition) × HasCalledAt o region entry changes reads tries (Ok (a, place)) v v'
   of_placed (Ok b) e h =
       let same : b.0 ≡ a = cc in (
         b.1,
@@ -91,5 +91,5 @@ module _ {A E : Type 0} {o : Specification E} {region : RegionShown} {entry : A 
 
   -- the record of an answer has a commit position
   pub placed_answer : HasCalled o region entry changes reads tries (Ok a) v v' →
-      (place : Place) × HasCalledAt o region entry changes reads tries (Ok (a, place)) v v'
+      (place : CommitPosition) × HasCalledAt o region entry changes reads tries (Ok (a, place)) v v'
   placed_answer h = of_placed h.placed h.result_is h.call

@@ -2,7 +2,7 @@
 use Rattle.std.specs.Prelude.{◌≡◌, ℕ, List}
 use Rattle.stm_core.specs.Client.{Client}
 use Rattle.stm_region.specs.Shown.{RegionShown}
-use Rattle.stm_region.specs.Refused.{MayRenew, RenewsNot}
+use Rattle.stm_region.specs.Refused.{MayRenew, RefusesRenewal}
 use Rattle.stm_object.specs.Object.{Specification}
 use Rattle.stm_object.specs.History.{Closes}
 use Rattle.stm_object.specs.Callers.{UserShown}
@@ -19,6 +19,6 @@ ClosesSomewhere o region v words = (version : ℕ) × Closes o region v words ve
 abbrev pub StaysUnrenewed : {E Own S : Type 0} → Specification E → RegionShown → UserShown Own → ℕ
     → RenewFault S E Own → Type 0
 StaysUnrenewed o region user last (Kept r u fault) = (r ≡ region) × (u ≡ user)
-    × RenewsNot region.renewal last user.value.grants fault
+    × RefusesRenewal region.renewal last user.value.grants fault
 StaysUnrenewed o region user last (Closed words version) =
     Closes o region user.value words.items version × MayRenew region.renewal last user.value.grants

@@ -4,7 +4,7 @@ use Rattle.std.proofs.Common.{◌≡◌, ℕ, suc, ◌<◌, ◌≤◌, inl, inr,
 use Rattle.tx_memory.specs.View.{View, Sees, RestsOn, IsWrite, Kept, Loaded, Stored, mem}
 use Rattle.tx_memory.specs.Seen.{same_or, some_le}
 use Rattle.stm_object.specs.Object.{Specification, Shows, IsFitting, IsBeginning}
-use Rattle.stm_object.specs.Bodies.{HasValue, Did}
+use Rattle.stm_object.specs.Bodies.{HasValue, HasEffect}
 
 -- the first n words of the memory are these
 pub record Are (xs : List ℕ) (m : ℕ → ℕ) (n : ℕ) : Type 0 where
@@ -128,7 +128,7 @@ pub has_done : {E : Type 0} (n : ℕ) (fits : List ℕ → Type 0) (is : E → T
     {s s' : View} {holds : List ℕ → Type 0} {makes : List ℕ → List ℕ} → is e →
     ((xs : List ℕ) → fits xs → length xs ≡ n) → WordStep n s s' holds makes →
     ((xs : List ℕ) → fits xs → holds xs → finds e xs × (makes xs ≡ after e xs)) →
-    Did (words_object n E fits is finds after code) s s' e
+    HasEffect (words_object n E fits is finds after code) s s' e
 has_done n fits is finds after code keeps e {s} {s'} {holds} {makes} may size p shown = (
   may,
   λ image xs i h.

@@ -9,7 +9,7 @@ use Rattle.stm_core.specs.Client.{Client, Record}
 use Rattle.stm_attempt.specs.declared.conflict.Conflict.{Conflict as ConflictMet}
 use Rattle.stm_attempt.specs.declared.conflict.Stop.{Stop}
 use Rattle.stm_attempt.specs.declared.conflict.Stop.TheVariants.{Memory, Conflict, Spent}
-use Rattle.stm_object.specs.declared.place.Place.{Place}
+use Rattle.stm_object.specs.declared.place.CommitPosition.{CommitPosition}
 use Rattle.stm_object.specs.Places.{place_of}
 use Rattle.stm_object.specs.History.{met_in, AreTries}
 
@@ -17,7 +17,7 @@ use Rattle.stm_object.specs.History.{met_in, AreTries}
 -- reader at its read version if it aborted; and its reads and writes, in this order
 pub record Trace : Type 0 where
   pub commits : Bool
-  pub place : Place
+  pub place : CommitPosition
   pub accesses : List Access
 
 -- nothing was read or written yet, if the accesses are known
@@ -26,22 +26,23 @@ HasNoAccess accesses = (all : List Access) → accesses ≡ Some all → all ≡
 
 -- one more attempt is traced after the others, for which `is` holds; nothing is said if no
 -- attempts are traced, or if there was no room for all of them
-abbrev pub OneMore : (Trace → Type 0) → Option (List Trace) → Option (List Trace) → Type 0
-OneMore is before after = (all : List Trace) → after ≡ Some all →
+abbrev pub AppendsTrace : (Trace → Type 0) → Option (List Trace) → Option (List Trace) → Type 0
+AppendsTrace is before after = (all : List Trace) → after ≡ Some all →
     (earlier : List Trace) × (last : Trace) × (before ≡ Some earlier)
     × (all ≡ earlier ++ (last ∷ [])) × is last
 
 -- an attempt with these accesses has committed, and its record has this commit position
-abbrev pub HasTracedCommit : Place → Option (List Access) → Option (List Trace)
+abbrev pub HasTracedCommit : CommitPosition → Option (List Access) → Option (List Trace)
     → Option (List Trace) → Type 0
-HasTracedCommit place accesses before after = OneMore (λ t. (t.commits ≡ true)
+HasTracedCommit place accesses before after = AppendsTrace (λ t. (t.commits ≡ true)
     × (t.place ≡ place) × (accesses ≡ Some t.accesses)) before after
 
 -- an attempt with these accesses has aborted
 -- Not said: the position at which the attempt is traced.
-abbrev pub HasGivenUp : Option (List Access) → Option (List Trace) → Option (List Trace) → Type 0
-HasGivenUp accesses before after =
-    OneMore (λ t. (t.commits ≡ false) × (accesses ≡ Some t.accesses)) before after
+abbrev pub HasTracedAbort : Option (List Access) → Option (List Trace) → Option (List Trace) →
+    Type 0
+HasTracedAbort accesses before after =
+    AppendsTrace (λ t. (t.commits ≡ false) × (accesses ≡ Some t.accesses)) before after
 
 -- the attempt made this record: it committed, it has the record's commit position, its reads of
 -- words before it wrote them are the record's reads, and its last writes are the record's writes;
@@ -68,19 +69,19 @@ IsOfEnd (Err e) v v' t = t.commits ≡ false
 -- one attempt with this result is traced after the others
 pub record HasTracedOne {A X : Type 0} (result : Result A X) (v v' : Client)
     (before after : Option (List Trace)) : Type 0 where
-  pub one : OneMore (IsOfEnd result v v') before after
+  pub one : AppendsTrace (IsOfEnd result v v') before after
 
 -- all of these attempts aborted
-abbrev pub AreGivenUp : List Trace → Type 0
-AreGivenUp [] = Unit {0}
-AreGivenUp (t ∷ traces) = (t.commits ≡ false) × AreGivenUp traces
+abbrev pub AreAborted : List Trace → Type 0
+AreAborted [] = Unit {0}
+AreAborted (t ∷ traces) = (t.commits ≡ false) × AreAborted traces
 
 -- the attempts of a call with this result: all aborted, except that with an answer the last one
 -- made the added record
 abbrev pub AreOfEnd : {A X : Type 0} → Result A X → Client → Client → List Trace → Type 0
 AreOfEnd (Ok a) v v' traces = (before : List Trace) × (last : Trace)
-    × (traces ≡ before ++ (last ∷ [])) × AreGivenUp before × IsOfAdded v v' last
-AreOfEnd (Err e) v v' traces = AreGivenUp traces
+    × (traces ≡ before ++ (last ∷ [])) × AreAborted before × IsOfAdded v v' last
+AreOfEnd (Err e) v v' traces = AreAborted traces
 
 -- the attempts of a call with this result are traced after the others: each attempt of the call,
 -- once

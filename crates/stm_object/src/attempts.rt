@@ -4,9 +4,9 @@ ghost use Rattle.std.specs.Prelude.{◌≡◌, true, false};
 ghost use Rattle.stm_object.specs.History.{MayAttempt, AttemptedOnce};
 ghost use Rattle.stm_object.specs.Tracing.{HasTracedOne, conflict_in};
 
-use crate::body::{Body, Told};
+use crate::body::{Body, EntryTag};
 use crate::object::{Object, ObjectLaw};
-use crate::place::Place;
+use crate::place::CommitPosition;
 use crate::tracer::Tracer;
 use std::marker::PhantomData;
 use stm_attempt::{Attempt, Gate, Logs, Point, ReadAttempt, Stop};
@@ -14,13 +14,14 @@ use stm_region::{Client, Region};
 
 /// Makes one attempt of a transaction that only reads. The attempt keeps no log, and aborts only
 /// on a conflict.
+#[inline(always)]
 pub(crate) fn try_reading<S: Object, B: Body<S>, G: Gate, T: Tracer>(
     region: &Region<ObjectLaw<S>>,
     client: &mut Client<ObjectLaw<S>>,
     body: &B,
     gate: &mut G,
     tracer: &mut T,
-) -> Result<(B::Answer, Place), Stop>
+) -> Result<(B::Answer, CommitPosition), Stop>
     requires may { MayAttempt S.is region.now client.old }
     requires reads { B.reads body.now ≡ true }
     ensures own { client.new.table ≡ client.old.table }
@@ -47,13 +48,13 @@ pub(crate) fn try_reading<S: Object, B: Body<S>, G: Gate, T: Tracer>(
         unreachable!();
     };
     gate.at(Point::ReadsDone);
-    let told = Told {
+    let told = EntryTag {
         body,
         answer: &found,
         of: PhantomData,
     };
     let version = attempt.finish(&told);
-    let place = Place {
+    let place = CommitPosition {
         renewal,
         version,
         wrote: false,
@@ -63,6 +64,7 @@ pub(crate) fn try_reading<S: Object, B: Body<S>, G: Gate, T: Tracer>(
 }
 
 /// Makes one attempt of a transaction that may write.
+#[inline(always)]
 pub(crate) fn try_writing<S: Object, B: Body<S>, G: Gate, T: Tracer>(
     region: &Region<ObjectLaw<S>>,
     client: &mut Client<ObjectLaw<S>>,
@@ -70,7 +72,7 @@ pub(crate) fn try_writing<S: Object, B: Body<S>, G: Gate, T: Tracer>(
     body: &B,
     gate: &mut G,
     tracer: &mut T,
-) -> Result<(B::Answer, Place), Stop>
+) -> Result<(B::Answer, CommitPosition), Stop>
     requires may { MayAttempt S.is region.now client.old }
     requires writes { B.reads body.now ≡ false }
     ensures own { client.new.table ≡ client.old.table }
@@ -98,14 +100,14 @@ pub(crate) fn try_writing<S: Object, B: Body<S>, G: Gate, T: Tracer>(
         tracer.give_up(&Stop::Memory);
         return Err(Stop::Memory);
     };
-    let told = Told {
+    let told = EntryTag {
         body,
         answer: &found,
         of: PhantomData,
     };
     match attempt.commit(&told, gate) {
         Ok(version) => {
-            let place = Place {
+            let place = CommitPosition {
                 renewal,
                 version,
                 wrote: version.get() > began.get(),

@@ -1,7 +1,7 @@
 //! The bodies of transactions.
 
 ghost use Rattle.std.specs.Prelude.{◌≡◌, Bool, false, not, is_some, IfSome, IfOk, IfErr};
-ghost use Rattle.stm_object.specs.Bodies.{HasValue, Did};
+ghost use Rattle.stm_object.specs.Bodies.{HasValue, HasEffect};
 
 use crate::object::Object;
 use std::marker::PhantomData;
@@ -24,7 +24,7 @@ pub trait Update<S: Object> {
     fn run<M: TxMem>(&self, memory: &mut M) -> Result<Self::Answer, M::Stop>
         requires value { HasValue S.is (M.view memory.old) }
         ensures origin { M.origin memory.new ≡ M.origin memory.old }
-        ensures answer { IfOk result (λ a. Did S.is (M.view memory.old) (M.view memory.new)
+        ensures answer { IfOk result (λ a. HasEffect S.is (M.view memory.old) (M.view memory.new)
             (entry_of self.now a)) }
         ensures wrote { IfOk result (λ a. changes self.now a ≡ false →
             (M.view memory.new).writes ≡ (M.view memory.old).writes) };
@@ -41,7 +41,7 @@ pub trait Query<S: Object> {
     fn read<M: TxRead>(&self, memory: &mut M) -> Result<Self::Answer, M::Stop>
         requires value { HasValue S.is (M.view memory.old) }
         ensures origin { M.origin memory.new ≡ M.origin memory.old }
-        ensures answer { IfOk result (λ a. Did S.is (M.view memory.old) (M.view memory.new)
+        ensures answer { IfOk result (λ a. HasEffect S.is (M.view memory.old) (M.view memory.new)
             (entry_of self.now a)) }
         ensures stopped { IfErr result (λ stop. M.stopped_for memory.new stop) };
 }
@@ -72,7 +72,7 @@ pub trait Body<S: Object> {
         ensures some { is_some result ≡ reads self.now }
         ensures origin { M.origin memory.new ≡ M.origin memory.old }
         ensures answer { IfSome result (λ r. IfOk r (λ a.
-            Did S.is (M.view memory.old) (M.view memory.new) (entry_of self.now a))) }
+            HasEffect S.is (M.view memory.old) (M.view memory.new) (entry_of self.now a))) }
         ensures stopped { IfSome result (λ r. IfErr r (λ stop. M.stopped_for memory.new stop)) };
 
     /// Runs the body on the memory if the body may write. Otherwise returns None and does nothing.
@@ -81,18 +81,18 @@ pub trait Body<S: Object> {
         ensures some { is_some result ≡ not (reads self.now) }
         ensures origin { M.origin memory.new ≡ M.origin memory.old }
         ensures answer { IfSome result (λ r. IfOk r (λ a.
-            Did S.is (M.view memory.old) (M.view memory.new) (entry_of self.now a))) }
+            HasEffect S.is (M.view memory.old) (M.view memory.new) (entry_of self.now a))) }
         ensures wrote { IfSome result (λ r. IfOk r (λ a. changes self.now a ≡ false →
             (M.view memory.new).writes ≡ (M.view memory.old).writes)) };
 }
 
 /// An update as a body, for a call with a gate or a tracer.
 #[derive(Drop)]
-pub struct Updating<'a, U> {
+pub struct UpdateBody<'a, U> {
     pub update: &'a U,
 }
 
-impl<'a, S: Object, U: Update<S>> Body<S> for Updating<'a, U> {
+impl<'a, S: Object, U: Update<S>> Body<S> for UpdateBody<'a, U> {
     ghost use Rattle.std.specs.Prelude.{false};
 
     type Answer = U::Answer;
@@ -121,11 +121,11 @@ impl<'a, S: Object, U: Update<S>> Body<S> for Updating<'a, U> {
 
 /// A query as a body, for a call with a gate or a tracer.
 #[derive(Drop)]
-pub struct Asking<'a, Q> {
+pub struct QueryBody<'a, Q> {
     pub query: &'a Q,
 }
 
-impl<'a, S: Object, Q: Query<S>> Body<S> for Asking<'a, Q> {
+impl<'a, S: Object, Q: Query<S>> Body<S> for QueryBody<'a, Q> {
     ghost use Rattle.std.specs.Prelude.{true, false};
 
     type Answer = Q::Answer;
@@ -155,12 +155,12 @@ impl<'a, S: Object, Q: Query<S>> Body<S> for Asking<'a, Q> {
 /// The tag of the record of a body and its answer. The tag stands for the code of their entry and
 /// copies neither.
 #[derive(Drop)]
-pub(crate) struct Told<'a, S: Object, B: Body<S>> {
+pub(crate) struct EntryTag<'a, S: Object, B: Body<S>> {
     pub(crate) body: &'a B,
     pub(crate) answer: &'a B::Answer,
     pub(crate) of: PhantomData<S>,
 }
 
-impl<'a, S: Object, B: Body<S>> Tag for Told<'a, S, B> {
+impl<'a, S: Object, B: Body<S>> Tag for EntryTag<'a, S, B> {
     ghost numbers = { λ t. S.is.code (B.entry_of t.body.now t.answer.now) };
 }

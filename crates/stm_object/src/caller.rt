@@ -4,14 +4,14 @@ ghost use Rattle.std.specs.Prelude.{◌≡◌, ◌≤◌, ◌⊎◌, ◌&&◌, I
 ghost use Rattle.tx_memory.specs.Image.{In};
 ghost use Rattle.stm_core.specs.Client.{Record};
 ghost use Rattle.stm_core.specs.History.{Sub};
-ghost use Rattle.stm_object.specs.Callers.{GoesOn, IsAtRest, Splits, SplitsNot, gathered};
+ghost use Rattle.stm_object.specs.Callers.{GoesOn, IsAtRest, Splits, RefusesSplit, gathered};
 ghost use Rattle.stm_object.specs.History.{ConflictWasShown, HasCalled, HasCalledAt};
 ghost use Rattle.stm_object.specs.Tracing.{HasTraced, HasTallied, conflict_in};
 
 use crate::attempts::{try_reading, try_writing};
-use crate::body::{Asking, Body, Query, Update, Updating};
-use crate::object::{Object, Own};
-use crate::place::Place;
+use crate::body::{Body, Query, QueryBody, Update, UpdateBody};
+use crate::object::{Object, UserState};
+use crate::place::CommitPosition;
 use crate::shared::{Shared, User, answer_of};
 use crate::tracer::{Tracer, Untraced};
 use std::marker::Model;
@@ -30,7 +30,7 @@ pub struct Caller<'a, S: Object> {
 impl<'a, S: Object> Model for Caller<'a, S> {
     ghost use Rattle.stm_object.specs.Callers.{CallerShown, IsAtRest};
 
-    ghost Value = { CallerShown S.Own };
+    ghost Value = { CallerShown S.UserState };
 
     ghost view = { λ y. record { shared = y.shared.now; user = y.user } };
 
@@ -69,7 +69,7 @@ impl<'a, S: Object> Caller<'a, S> {
     /// Returns the state that the user keeps for itself. The clause `at_rest` is the invariant of
     /// this type. It stands here because a proof in another crate has no other way to the
     /// invariant: there, a caller is known by its model alone.
-    pub fn own(&self) -> &S::Own
+    pub fn own(&self) -> &S::UserState
         ensures own { result.now ≡ self.now.user.own }
         ensures at_rest { IsAtRest S.is self.now }
     {
@@ -87,7 +87,7 @@ impl<'a, S: Object> Caller<'a, S> {
             (λ a. U.changes update.now a) false tries result
             self.old.user.value self.new.user.value }
     {
-        let body = Updating { update };
+        let body = UpdateBody { update };
         answer_of(self.call(&body, tries, &mut NoGate, &mut Untraced))
     }
 
@@ -101,7 +101,7 @@ impl<'a, S: Object> Caller<'a, S> {
         ensures call { HasCalled S.is self.old.shared (λ a. Q.entry_of query.now a) (λ a. false)
             true tries result self.old.user.value self.new.user.value }
     {
-        let body = Asking { query };
+        let body = QueryBody { query };
         answer_of(self.call(&body, tries, &mut NoGate, &mut Untraced))
     }
 
@@ -112,13 +112,14 @@ impl<'a, S: Object> Caller<'a, S> {
     ///
     /// Not said: when the gate is told, which no clause names; that a gate never waits; that a call
     /// terminates.
+    #[inline(always)]
     pub fn call<B: Body<S>, G: Gate, T: Tracer>(
         &mut self,
         body: &B,
         tries: u32,
         gate: &mut G,
         tracer: &mut T,
-    ) -> Result<(B::Answer, Place), Stop>
+    ) -> Result<(B::Answer, CommitPosition), Stop>
         requires tries { 1 ≤ tries }
         ensures caller { GoesOn self.old self.new }
         ensures frame { T.frame tracer.new ≡ T.frame tracer.old }
@@ -156,9 +157,9 @@ impl<'a, S: Object> Caller<'a, S> {
     pub fn split(&mut self) -> Result<Caller<'a, S>, RegionFault>
         ensures shared { self.new.shared ≡ self.old.shared }
         ensures ok { IfOk result
-            (λ other. Splits S.Own.splits self.old.user self.new.user other.user) }
+            (λ other. Splits S.UserState.splits self.old.user self.new.user other.user) }
         ensures theirs { IfOk result (λ other. other.shared ≡ self.old.shared) }
-        ensures refused { IfErr result (λ fault. SplitsNot fault self.old.user self.new.user) }
+        ensures refused { IfErr result (λ fault. RefusesSplit fault self.old.user self.new.user) }
     {
         let shared = self.shared;
         let user = &mut self.user;

@@ -12,10 +12,10 @@ mod search;
 mod shared;
 mod tracer;
 
-pub use body::{Asking, Body, Query, Update, Updating};
+pub use body::{Body, Query, QueryBody, Update, UpdateBody};
 pub use caller::Caller;
-pub use object::{Object, ObjectLaw, Own};
-pub use place::Place;
+pub use object::{Object, ObjectLaw, UserState};
+pub use place::CommitPosition;
 pub use renew::RenewFault;
 pub use search::{find, seek};
 pub use shared::{Shared, User};

@@ -6,7 +6,7 @@ use std::marker::PhantomData;
 use stm_words::Law;
 
 /// A state that each user of an object keeps for itself, outside the shared words.
-pub trait Own: Drop {
+pub trait UserState: Drop {
     /// The relation between a state before a split, the state after the split, and the state of
     /// the new user.
     ghost splits: { Self → Self → Self → Type 0 };
@@ -17,7 +17,7 @@ pub trait Own: Drop {
 }
 
 /// The state of users that keep nothing for themselves.
-impl Own for () {
+impl UserState for () {
     ghost splits = { λ _ _ _. Unit {0} };
 
     #[inline]
@@ -34,7 +34,7 @@ pub trait Object {
     type Entry;
 
     /// The state that each user keeps for itself.
-    type Own: Own;
+    type UserState: UserState;
 
     ghost is: { Specification Self.Entry };
 

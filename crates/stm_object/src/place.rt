@@ -5,7 +5,7 @@ use stm_words::Version;
 /// The commit position of a record in its region. Records are ordered by renewal, then by version;
 /// the writer of a version comes before its readers.
 #[derive(Clone, Copy, Debug, PartialEq, Eq)]
-pub struct Place {
+pub struct CommitPosition {
     /// Number of renewals of the region before the record.
     pub renewal: u32,
     /// The write version of the transaction, or its read version if it wrote nothing.

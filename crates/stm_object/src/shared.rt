@@ -3,13 +3,13 @@
 ghost use Rattle.std.specs.Prelude.{◌≡◌, IfOk, IfErr, length};
 ghost use Rattle.stm_core.specs.Event.{opener};
 ghost use Rattle.stm_region.specs.Shown.{opened_on};
-ghost use Rattle.stm_region.specs.Refused.{ClosesNot, IsLast, OpensNot};
+ghost use Rattle.stm_region.specs.Refused.{RefusesClose, IsLast, RefusesOpening};
 ghost use Rattle.stm_object.specs.Object.{IsBeginning};
 ghost use Rattle.stm_object.specs.History.{Closes, IsAlone, answer_in};
 
 use crate::object::{Object, ObjectLaw};
 use crate::pauses::Pauses;
-use crate::place::Place;
+use crate::place::CommitPosition;
 use std::alloc::Global;
 use std::marker::Model;
 use stm_attempt::{Logs, Stop};
@@ -44,7 +44,7 @@ pub struct User<S: Object> {
     pub(crate) client: Client<ObjectLaw<S>>,
     pub(crate) logs: Logs,
     pub(crate) pauses: Pauses,
-    pub(crate) own: S::Own,
+    pub(crate) own: S::UserState,
 }
 
 impl<S: Object> Model for User<S> {
@@ -52,7 +52,7 @@ impl<S: Object> Model for User<S> {
     ghost use Rattle.stm_object.specs.Callers.{UserShown};
     ghost use Rattle.stm_object.specs.History.{IsUnplaced};
 
-    ghost Value = { UserShown S.Own };
+    ghost Value = { UserShown S.UserState };
 
     ghost view = { λ t. record { table = t.client.table; value = t.client.value; own = t.own } };
 
@@ -60,7 +60,7 @@ impl<S: Object> Model for User<S> {
 }
 
 /// Returns the answer of a call without the commit position of its record.
-pub(crate) fn answer_of<A: Drop>(placed: Result<(A, Place), Stop>) -> Result<A, Stop>
+pub(crate) fn answer_of<A: Drop>(placed: Result<(A, CommitPosition), Stop>) -> Result<A, Stop>
     ensures { result ≡ answer_in placed }
 {
     match placed {
@@ -77,7 +77,7 @@ impl<S: Object> Shared<S> {
         words: &[u64],
         last: u64,
         stripes: u32,
-        own: S::Own,
+        own: S::UserState,
     ) -> Result<(Shared<S>, User<S>), RegionFault>
         requires size { S.is.IsSize (length words.now) }
         requires begins { IsBeginning S.is words.now }
@@ -86,7 +86,8 @@ impl<S: Object> Shared<S> {
         ensures user { IfOk result (λ r.
             r.1 ≡ record { table = r.0.table; value = opener; own = own }) }
         ensures range { IfOk result (λ _. IsLast last) }
-        ensures refused { IfErr result (λ fault. OpensNot (length words.now) last stripes fault) }
+        ensures refused { IfErr result (λ fault. RefusesOpening
+            (length words.now) last stripes fault) }
     {
         let (region, client) = Region::new(alloc, words, last, stripes)?;
         let user = User {
@@ -107,7 +108,7 @@ impl<S: Object> Shared<S> {
         ensures closes { IfOk result (λ r. Closes S.is self user.value r.0.items r.1) }
         ensures alone { IfOk result (λ _. IsAlone user.value) }
         ensures kept { IfErr result
-            (λ r. (r.0 ≡ self) × (r.1 ≡ user) × ClosesNot user.value.grants r.2) }
+            (λ r. (r.0 ≡ self) × (r.1 ≡ user) × RefusesClose user.value.grants r.2) }
     {
         let Shared { alloc, region } = self;
         let User {

@@ -4,12 +4,12 @@ ghost use Rattle.std.specs.Prelude.{◌≡◌, List, Option, None, IfOk, IfErr, 
 ghost use Rattle.tx_observed.specs.declared.access.Access.{Access};
 ghost use Rattle.tx_observed.specs.Accesses.{IsTracked};
 ghost use Rattle.stm_attempt.specs.declared.conflict.Conflict.{Conflict as ConflictMet};
-ghost use Rattle.stm_object.specs.Bodies.{HasValue, Did};
-ghost use Rattle.stm_object.specs.Tracing.{Trace, HasNoAccess, HasTracedCommit, HasGivenUp, conflict_of};
+ghost use Rattle.stm_object.specs.Bodies.{HasValue, HasEffect};
+ghost use Rattle.stm_object.specs.Tracing.{Trace, HasNoAccess, HasTracedCommit, HasTracedAbort, conflict_of};
 
 use crate::body::Body;
 use crate::object::Object;
-use crate::place::Place;
+use crate::place::CommitPosition;
 use stm_attempt::Stop;
 use stm_words::Version;
 use tx_memory::{TxMem, TxRead};
@@ -65,7 +65,7 @@ pub trait Tracer {
         requires tracked { IsTracked (accesses self.old)
             (M.view memory.old).reads (M.view memory.old).writes }
         ensures origin { M.origin memory.new ≡ M.origin memory.old }
-        ensures answer { IfOk result (λ a. Did S.is (M.view memory.old) (M.view memory.new)
+        ensures answer { IfOk result (λ a. HasEffect S.is (M.view memory.old) (M.view memory.new)
             (B.entry_of body.now a)) }
         ensures wrote { IfOk result (λ a. B.changes body.now a ≡ false →
             (M.view memory.new).writes ≡ (M.view memory.old).writes) }
@@ -86,7 +86,7 @@ pub trait Tracer {
         requires tracked { IsTracked (accesses self.old)
             (M.view memory.old).reads (M.view memory.old).writes }
         ensures origin { M.origin memory.new ≡ M.origin memory.old }
-        ensures answer { IfOk result (λ a. Did S.is (M.view memory.old) (M.view memory.new)
+        ensures answer { IfOk result (λ a. HasEffect S.is (M.view memory.old) (M.view memory.new)
             (B.entry_of body.now a)) }
         ensures stopped { IfErr result (λ stop. M.stopped_for memory.new stop) }
         ensures frame { frame self.new ≡ frame self.old }
@@ -97,7 +97,7 @@ pub trait Tracer {
 
     /// Receives the commit position of the attempt's record, after the attempt has committed or
     /// finished as a reader.
-    fn commit(&mut self, place: &Place)
+    fn commit(&mut self, place: &CommitPosition)
         ensures frame { frame self.new ≡ frame self.old }
         ensures ended { HasTracedCommit place.now (accesses self.old)
             (ended self.old) (ended self.new) }
@@ -107,7 +107,7 @@ pub trait Tracer {
     /// record.
     fn give_up(&mut self, stop: &Stop)
         ensures frame { frame self.new ≡ frame self.old }
-        ensures ended { HasGivenUp (accesses self.old) (ended self.old) (ended self.new) }
+        ensures ended { HasTracedAbort (accesses self.old) (ended self.old) (ended self.new) }
         ensures tally { tally self.new ≡ more (conflict_of stop.now) (tally self.old) };
 }
 
@@ -163,7 +163,7 @@ impl Tracer for Untraced {
     }
 
     #[inline]
-    fn commit(&mut self, _place: &Place) {}
+    fn commit(&mut self, _place: &CommitPosition) {}
 
     #[inline]
     fn give_up(&mut self, _stop: &Stop) {}

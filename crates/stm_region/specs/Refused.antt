@@ -20,27 +20,27 @@ IsStripes n = (1 ≤ n) × (n ≤ MOST_STRIPES)
 
 -- the conditions of each refusal of an opening: the first argument that is out of range, or no
 -- memory
-abbrev pub OpensNot : ℕ → ℕ → ℕ → RegionFault → Type 0
-OpensNot size last stripes Size = ¬ IsSize size
-OpensNot size last stripes Last = IsSize size × ¬ IsLast last
-OpensNot size last stripes Memory = IsSize size × IsLast last × IsStripes stripes
-OpensNot size last stripes Clients = ⊥
-OpensNot size last stripes (StillOut out) = ⊥
-OpensNot size last stripes Stripes = IsSize size × IsLast last × ¬ IsStripes stripes
-OpensNot size last stripes Renewals = ⊥
+abbrev pub RefusesOpening : ℕ → ℕ → ℕ → RegionFault → Type 0
+RefusesOpening size last stripes Size = ¬ IsSize size
+RefusesOpening size last stripes Last = IsSize size × ¬ IsLast last
+RefusesOpening size last stripes Memory = IsSize size × IsLast last × IsStripes stripes
+RefusesOpening size last stripes Clients = ⊥
+RefusesOpening size last stripes (StillOut out) = ⊥
+RefusesOpening size last stripes Stripes = IsSize size × IsLast last × ¬ IsStripes stripes
+RefusesOpening size last stripes Renewals = ⊥
 
 -- the conditions of each refusal of a close: other clients are out, as the client's grants show,
 -- or no memory
 -- Not said: how many other clients are out, as these may have gathered others: the number is 63
 -- less the grants of the closing client.
-abbrev pub ClosesNot : ℕ → RegionFault → Type 0
-ClosesNot grants Size = ⊥
-ClosesNot grants Last = ⊥
-ClosesNot grants Memory = grants ≡ MOST_GRANTS
-ClosesNot grants Clients = ⊥
-ClosesNot grants (StillOut out) = (grants < MOST_GRANTS) × (out ≡ MOST_GRANTS - grants)
-ClosesNot grants Stripes = ⊥
-ClosesNot grants Renewals = ⊥
+abbrev pub RefusesClose : ℕ → RegionFault → Type 0
+RefusesClose grants Size = ⊥
+RefusesClose grants Last = ⊥
+RefusesClose grants Memory = grants ≡ MOST_GRANTS
+RefusesClose grants Clients = ⊥
+RefusesClose grants (StillOut out) = (grants < MOST_GRANTS) × (out ≡ MOST_GRANTS - grants)
+RefusesClose grants Stripes = ⊥
+RefusesClose grants Renewals = ⊥
 
 -- a region may be renewed: the new last version is in range, a renewal is left, and no other
 -- client is out
@@ -50,13 +50,13 @@ MayRenew renewals last grants =
 
 -- the conditions of each refusal of a renewal before any word was moved: the first of its reasons,
 -- or no memory
-abbrev pub RenewsNot : ℕ → ℕ → ℕ → RegionFault → Type 0
-RenewsNot renewals last grants Size = ⊥
-RenewsNot renewals last grants Last = ¬ IsLast last
-RenewsNot renewals last grants Memory = MayRenew renewals last grants
-RenewsNot renewals last grants Clients = ⊥
-RenewsNot renewals last grants (StillOut out) =
+abbrev pub RefusesRenewal : ℕ → ℕ → ℕ → RegionFault → Type 0
+RefusesRenewal renewals last grants Size = ⊥
+RefusesRenewal renewals last grants Last = ¬ IsLast last
+RefusesRenewal renewals last grants Memory = MayRenew renewals last grants
+RefusesRenewal renewals last grants Clients = ⊥
+RefusesRenewal renewals last grants (StillOut out) =
     IsLast last × (renewals < MOST_RENEWALS) × (grants < MOST_GRANTS)
     × (out ≡ MOST_GRANTS - grants)
-RenewsNot renewals last grants Stripes = ⊥
-RenewsNot renewals last grants Renewals = IsLast last × (MOST_RENEWALS ≤ renewals)
+RefusesRenewal renewals last grants Stripes = ⊥
+RefusesRenewal renewals last grants Renewals = IsLast last × (MOST_RENEWALS ≤ renewals)

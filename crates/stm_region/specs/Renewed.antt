@@ -3,7 +3,7 @@ use Rattle.std.specs.Prelude.{◌≡◌, ℕ, List}
 use Rattle.stm_core.specs.Client.{Client, RecordLaw}
 use Rattle.stm_region.specs.Shown.{RegionShown, ClientShown}
 use Rattle.stm_region.specs.Closed.{Ends}
-use Rattle.stm_region.specs.Refused.{MayRenew, RenewsNot}
+use Rattle.stm_region.specs.Refused.{MayRenew, RefusesRenewal}
 use Rattle.stm_region.specs.declared.renew.RenewFault.{RenewFault}
 use Rattle.stm_region.specs.declared.renew.RenewFault.TheVariants.{Kept, Closed}
 
@@ -17,7 +17,7 @@ EndsSomewhere lawful region v words = (version : ℕ) × Ends lawful region v wo
 abbrev pub NotRenewed : {L A : Type 0} → RecordLaw →
     RegionShown → ClientShown → ℕ → RenewFault L A → Type 0
 NotRenewed lawful region client last (Kept r c fault) =
-    (r ≡ region) × (c ≡ client) × RenewsNot region.renewal last client.value.grants fault
+    (r ≡ region) × (c ≡ client) × RefusesRenewal region.renewal last client.value.grants fault
 NotRenewed lawful region client last (Closed words version) =
     Ends lawful region client.value words.items version
     × MayRenew region.renewal last client.value.grants

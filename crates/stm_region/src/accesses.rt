@@ -9,7 +9,7 @@ ghost use Rattle.stm_region.specs.Layout.{MayStepAt, Exchanges, Stores};
 ghost use Rattle.stm_region.specs.Findings.{IsOneEvent, HasActed};
 
 use crate::layout::{CLOCK, FIRST_LOCK};
-use crate::moving::{Acting, Acts};
+use crate::moving::{AccessStep, Acts};
 use crate::region::Region;
 use crate::view::View;
 use atomic_table::Seat;
@@ -19,7 +19,7 @@ use stm_words::{Law, Tag, Version, Writes};
 impl<L: Law, A: Allocator> Region<L, A> {
     /// Loads a word.
     #[inline]
-    pub(crate) fn load_as<T: Acting>(
+    pub(crate) fn load_as<T: AccessStep>(
         &self,
         seat: &mut Seat<(), View>,
         word: usize,
@@ -38,7 +38,7 @@ impl<L: Law, A: Allocator> Region<L, A> {
 
     /// Compares a word with `from` and exchanges it for the next word. Returns the word found.
     #[inline]
-    pub(crate) fn exchange_as<T: Acting>(
+    pub(crate) fn exchange_as<T: AccessStep>(
         &self,
         seat: &mut Seat<(), View>,
         word: usize,
@@ -61,7 +61,7 @@ impl<L: Law, A: Allocator> Region<L, A> {
 
     /// Stores a word.
     #[inline]
-    pub(crate) fn store_as<T: Acting>(
+    pub(crate) fn store_as<T: AccessStep>(
         &self,
         seat: &mut Seat<(), View>,
         word: usize,
@@ -82,7 +82,7 @@ impl<L: Law, A: Allocator> Region<L, A> {
     /// Gives a lock back by subtracting 1: a held lock word less 1 is the free word of its old
     /// version.
     #[inline]
-    pub(crate) fn give_back_as<T: Acting>(
+    pub(crate) fn give_back_as<T: AccessStep>(
         &self,
         seat: &mut Seat<(), View>,
         word: usize,
@@ -106,7 +106,7 @@ impl<L: Law, A: Allocator> Region<L, A> {
 
     /// Ticks the clock for a record with this tag and these writes. Returns the version found.
     #[inline]
-    pub(crate) fn tick_as<S: Acting, T: Tag, W: Writes>(
+    pub(crate) fn tick_as<S: AccessStep, T: Tag, W: Writes>(
         &self,
         seat: &mut Seat<(), View>,
         from: Version,
@@ -127,7 +127,7 @@ impl<L: Law, A: Allocator> Region<L, A> {
 
     /// Loads the clock, which ends an attempt with this tag.
     #[inline]
-    pub(crate) fn finish_as<S: Acting, T: Tag>(&self, seat: &mut Seat<(), View>, tag: &T) -> u64
+    pub(crate) fn finish_as<S: AccessStep, T: Tag>(&self, seat: &mut Seat<(), View>, tag: &T) -> u64
         requires told { S.region ≡ self.now }
         requires finishes { S.action ≡ finishes (T.numbers tag.now) }
         requires own { seat.old.table_id ≡ self.now.table }

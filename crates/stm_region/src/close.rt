@@ -3,7 +3,7 @@ ghost use Rattle.std.specs.Prelude.{◌≡◌, ◌+◌, ◌≤◌, ◌<◌, ◌+
 ghost use Rattle.std.specs.Slots.{slots_items, slots_len, IsFull};
 ghost use Rattle.stm_core.specs.Core.{IsFreeHanded};
 ghost use Rattle.stm_region.specs.Closed.{Ends};
-ghost use Rattle.stm_region.specs.Refused.{ClosesNot};
+ghost use Rattle.stm_region.specs.Refused.{RefusesClose};
 
 use crate::client::Client;
 use crate::fault::RegionFault;
@@ -62,7 +62,7 @@ impl<L: Law, A: Allocator> Region<L, A> {
         ensures ends { IfOk result (λ r. Ends L.lawful self client.value r.0.items r.1) }
         ensures all { IfOk result (λ _. client.value.grants ≡ MOST_GRANTS) }
         ensures kept { IfErr result (λ r.
-            (r.0 ≡ self) × (r.1 ≡ client) × ClosesNot client.value.grants r.2) }
+            (r.0 ≡ self) × (r.1 ≡ client) × RefusesClose client.value.grants r.2) }
     {
         if client.grants != MOST_GRANTS {
             let out = MOST_GRANTS - client.grants;

@@ -11,13 +11,13 @@ use std::marker::{Brand, PhantomData};
 use stm_words::Law;
 
 /// The step of a region that an access stands for.
-pub trait Acting {
+pub trait AccessStep {
     ghost action: { Action };
 
     ghost region: { RegionShown };
 }
 
-impl Acting for Brand {
+impl AccessStep for Brand {
     ghost action = { begin };
 
     ghost region = { nowhere };
@@ -28,7 +28,7 @@ pub struct Acts<L, T> {
     of: PhantomData<(L, T)>,
 }
 
-impl<L: Law, T: Acting> Play<(), View> for Acts<L, T> {
+impl<L: Law, T: AccessStep> Play<(), View> for Acts<L, T> {
     ghost then = { λ s m n w. acting L.fits L.lawful T.region T.action s m n w };
 }
 

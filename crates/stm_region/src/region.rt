@@ -10,7 +10,7 @@ ghost use Rattle.stm_core.specs.Event.{opener};
 ghost use Rattle.stm_region.specs.Shown.{HasSplit, with_gathered, opened_on, opened_with};
 ghost use Rattle.stm_core.specs.Guards.{stripe_of};
 ghost use Rattle.stm_region.specs.Layout.{first_cell};
-ghost use Rattle.stm_region.specs.Refused.{IsSize, IsLast, IsStripes, OpensNot};
+ghost use Rattle.stm_region.specs.Refused.{IsSize, IsLast, IsStripes, RefusesOpening};
 
 use crate::client::Client;
 use crate::fault::RegionFault;
@@ -95,7 +95,8 @@ impl<L: Law, A: Allocator + Copy> Region<L, A> {
         ensures client { IfOk result (λ r. r.1 ≡ record { table = r.0.table; value = opener }) }
         ensures ranges { IfOk result (λ r.
             IsSize (length image.now) × IsLast last × IsStripes stripes) }
-        ensures refused { IfErr result (λ fault. OpensNot (length image.now) last stripes fault) }
+        ensures refused { IfErr result (λ fault. RefusesOpening
+            (length image.now) last stripes fault) }
     {
         if image.is_empty() || image.len() > MOST_WORDS {
             return Err(RegionFault::Size);

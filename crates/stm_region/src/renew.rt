@@ -2,7 +2,7 @@
 ghost use Rattle.std.specs.Prelude.{◌≡◌, ◌+◌, ◌≤◌, [], vec_capacity, IfOk, IfErr};
 ghost use Rattle.stm_core.specs.Core.{IsFreeHanded};
 ghost use Rattle.stm_core.specs.Event.{renewing};
-ghost use Rattle.stm_region.specs.Refused.{MayRenew, RenewsNot};
+ghost use Rattle.stm_region.specs.Refused.{MayRenew, RefusesRenewal};
 ghost use Rattle.stm_region.specs.Renewed.{EndsSomewhere, NotRenewed};
 
 use crate::client::Client;
@@ -48,7 +48,7 @@ impl<L: Law, A: Allocator> Region<L, A> {
         ensures ranges { IfOk result (λ _.
             MayRenew self.now.renewal last client.now.value.grants) }
         ensures refused { IfErr result (λ fault.
-            RenewsNot self.now.renewal last client.now.value.grants fault) }
+            RefusesRenewal self.now.renewal last client.now.value.grants fault) }
     {
         if last == 0 || last >= VERSION_LIMIT {
             return Err(RegionFault::Last);

@@ -80,9 +80,9 @@ fn a_value_is_replaced(rt: HostRuntime) -> Result<(), Fail> {
     Ok(())
 }
 
-/// Returns whether addresses 9, 137 and 10 are marked.
+/// Returns whether addresses 9, 265 and 10 are marked.
 fn marked(marks: &Marks) -> [bool; 3] {
-    [Addr(9), Addr(137), Addr(10)].map(|addr| marks.is_marked(addr))
+    [Addr(9), Addr(265), Addr(10)].map(|addr| marks.is_marked(addr))
 }
 
 #[test]

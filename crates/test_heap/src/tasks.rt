@@ -2,7 +2,7 @@
 use crate::heap::Heap;
 use std::test::Fail;
 use vac_model::limits::MOST_PARTS;
-use vac_model::{Command, Kind, Reply, Task, UpdateReply, Why};
+use vac_model::{Command, Kind, Refusal, Reply, Task, UpdateReply};
 
 #[test]
 fn updates_go_on_after_refusals(rt: HostRuntime) -> Result<(), Fail> {
@@ -28,9 +28,9 @@ fn updates_go_on_after_refusals(rt: HostRuntime) -> Result<(), Fail> {
     let changed = heap.answer(&Task::update(rt.alloc(), &changes)?);
     let left = heap.one(Command::Free { kind, id });
     let mut refused = [None; MOST_PARTS];
-    refused[0] = Some(Why::NeedsCountAndPrice);
-    refused[2] = Some(Why::NotFree);
-    refused[3] = Some(Why::NoItem);
+    refused[0] = Some(Refusal::NeedsCountAndPrice);
+    refused[2] = Some(Refusal::NotFree);
+    refused[3] = Some(Refusal::NoItem);
     assert_eq!(rt;
         changed,
         Some(Reply::Update(UpdateReply { len: 5, refused }))

@@ -5,15 +5,15 @@ use crate::heap::Heap;
 use std::alloc::{AllocError, Global};
 use std::test::Fail;
 use vac_model::limits::MOST_BLOCKS;
-use vac_model::{Command, Joined, Kind, Pick, Reply, Task, TripReply, Why};
+use vac_model::{Command, CustomerOutcome, Kind, Pick, Refusal, Reply, Task, TripReply};
 
 /// Returns the reply to a trip, from the outcome for its customer and its picks.
-fn trip(joined: Joined, picks: [Option<Pick>; 3]) -> Option<Reply> {
+fn trip(joined: CustomerOutcome, picks: [Option<Pick>; 3]) -> Option<Reply> {
     Some(Reply::Trip(TripReply { joined, picks }))
 }
 
 /// Returns a pick, with the reason of its refusal, if it was refused.
-fn pick(id: u32, price: u64, refused: Option<Why>) -> Option<Pick> {
+fn pick(id: u32, price: u64, refused: Option<Refusal>) -> Option<Pick> {
     Some(Pick { id, price, refused })
 }
 
@@ -41,11 +41,17 @@ fn four_blocks_for_two_customers(rt: HostRuntime) -> Result<(), Fail> {
     ];
     let asked = Task::trip(rt.alloc(), 4, &[(car, 1)])?;
     let tripped = heap.answer(&asked);
-    assert_eq!(rt; early, [Some(Reply::No(Why::NoCustomer)); 2]);
-    let [sold_out, exists] = [Some(Reply::No(Why::SoldOut)), Some(Reply::No(Why::Exists))];
+    assert_eq!(rt; early, [Some(Reply::No(Refusal::NoCustomer)); 2]);
+    let [sold_out, exists] = [
+        Some(Reply::No(Refusal::SoldOut)),
+        Some(Reply::No(Refusal::Exists)),
+    ];
     assert_eq!(rt; made, [DONE, DONE, DONE, DONE, sold_out, exists]);
-    let picks = [pick(1, 10, Some(Why::SoldOut)), None, None];
-    assert_eq!(rt; tripped, trip(Joined::Refused(Why::Exists), picks));
+    let picks = [pick(1, 10, Some(Refusal::SoldOut)), None, None];
+    assert_eq!(rt;
+        tripped,
+        trip(CustomerOutcome::Refused(Refusal::Exists), picks)
+    );
     Ok(())
 }
 
@@ -68,14 +74,18 @@ fn one_of_each(alloc: Global, blocks: u32) -> Result<Option<Reply>, AllocError>
 }
 
 /// Returns the picks of that trip, with the reasons of their refusals, if they were refused.
-fn picks(car: Option<Why>, flight: Option<Why>, room: Option<Why>) -> [Option<Pick>; 3] {
+fn picks(
+    car: Option<Refusal>,
+    flight: Option<Refusal>,
+    room: Option<Refusal>,
+) -> [Option<Pick>; 3] {
     [pick(1, 10, car), pick(2, 20, flight), pick(3, 30, room)]
 }
 
 #[test]
 fn trips_while_blocks_run_out(rt: HostRuntime) -> Result<(), Fail> {
-    let full = Some(Why::Full);
-    let missing = Some(Why::NoCustomer);
+    let full = Some(Refusal::Full);
+    let missing = Some(Refusal::NoCustomer);
     let replies = [
         one_of_each(rt.alloc(), 7)?,
         one_of_each(rt.alloc(), 6)?,
@@ -84,11 +94,14 @@ fn trips_while_blocks_run_out(rt: HostRuntime) -> Result<(), Fail> {
         one_of_each(rt.alloc(), 3)?,
     ];
     let expected = [
-        trip(Joined::Added, picks(None, None, None)),
-        trip(Joined::Added, picks(None, None, full)),
-        trip(Joined::Added, picks(None, full, full)),
-        trip(Joined::Added, picks(full, full, full)),
-        trip(Joined::Refused(Why::Full), picks(missing, missing, missing)),
+        trip(CustomerOutcome::Added, picks(None, None, None)),
+        trip(CustomerOutcome::Added, picks(None, None, full)),
+        trip(CustomerOutcome::Added, picks(None, full, full)),
+        trip(CustomerOutcome::Added, picks(full, full, full)),
+        trip(
+            CustomerOutcome::Refused(Refusal::Full),
+            picks(missing, missing, missing),
+        ),
     ];
     assert_eq!(rt; replies, expected);
     Ok(())
@@ -112,9 +125,9 @@ fn trips_pick_the_first_of_the_dearest(rt: HostRuntime) -> Result<(), Fail> {
         heap.answer(&leave),
     ];
     let expected = [
-        trip(Joined::NotAsked, [None; 3]),
+        trip(CustomerOutcome::NotAsked, [None; 3]),
         Some(Reply::Number(None)),
-        trip(Joined::Added, [pick(2, 10, None), None, None]),
+        trip(CustomerOutcome::Added, [pick(2, 10, None), None, None]),
         Some(Reply::Number(Some(10))),
         Some(Reply::Number(None)),
     ];

@@ -8,7 +8,7 @@ use std::alloc::{AllocError, Global};
 use std::process::Abort;
 use std::test::Fail;
 use stm_attempt::{Gate, Point};
-use vac_manager::{Caller, Manager, Placed, Untraced, call, trace_call};
+use vac_manager::{CallStatistics, Caller, Manager, PlacedReply, Untraced, call, trace_call};
 use vac_model::Kind::{Car, Flight, Room};
 use vac_model::{Command, Kind, Reply, Report, Task};
 
@@ -108,8 +108,16 @@ fn serve_two(
         }),
         served: None,
     };
-    let (placed, _) = trace_call(&mut caller, more, 1, &mut gate, &mut Untraced);
-    let Placed { reply: _, place: _ } = placed.expect(rt, "it commits");
+    let mut statistics = CallStatistics::new();
+    let placed = trace_call(
+        &mut caller,
+        more,
+        1,
+        &mut gate,
+        &mut Untraced,
+        &mut statistics,
+    );
+    let PlacedReply { reply: _, place: _ } = placed.expect(rt, "it commits");
     let served = gate.served.expect(rt, "the locks were held");
     let given_up = served.expect(rt, "there is memory").desk;
     let served = serve(alloc, SETTINGS, second, new_desk(2));

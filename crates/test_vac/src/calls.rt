@@ -5,7 +5,7 @@ use crate::scripts::{Line, task_of};
 use std::alloc::Global;
 use std::process::Abort;
 use stm_attempt::Gate;
-use vac_manager::{Caller, Fault, Placed, Untraced, call, trace_call};
+use vac_manager::{CallStatistics, Caller, Fault, PlacedReply, Untraced, call, trace_call};
 use vac_model::{Reply, Task};
 
 pub(crate) type Answer = Result<Reply, Fault>;
@@ -22,8 +22,9 @@ pub(crate) fn call_gated<G: Gate>(
 ) -> Answer
     ensures { caller.new.shared ≡ caller.old.shared }
 {
-    let (placed, _effort) = trace_call(caller, task, tries, gate, &mut Untraced);
-    let Placed { reply, place: _ } = placed?;
+    let mut statistics = CallStatistics::new();
+    let placed = trace_call(caller, task, tries, gate, &mut Untraced, &mut statistics);
+    let PlacedReply { reply, place: _ } = placed?;
     Ok(reply)
 }
 

@@ -12,10 +12,10 @@ use std::alloc::Global;
 use std::process::Abort;
 use stm_region::RegionFault;
 use vac_manager::{Caller, Client, Manager};
-use vac_model::Joined;
+use vac_model::CustomerOutcome;
 use vac_model::Kind::{Car, Flight, Room};
+use vac_model::Refusal::Full;
 use vac_model::Reply::{Done, No};
-use vac_model::Why::Full;
 
 /// Creates a customer.
 fn enter(rt: &impl Abort, alloc: Global, caller: &mut Caller<'_>, id: u32)
@@ -177,7 +177,7 @@ const TASKS_OF_THE_SECOND: [Called; 5] = [
     (
         Line::Trip(6, &[(Car, 5), (Flight, 5), (Room, 5)]),
         Ok(trip!(
-            Joined::Added,
+            CustomerOutcome::Added,
             [pick!(5, 10, None), pick!(5, 30, None), pick!(5, 20, None)],
         )),
     ),

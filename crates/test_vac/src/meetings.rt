@@ -10,8 +10,8 @@ use std::process::Abort;
 use stm_attempt::{Gate, Point};
 use vac_manager::{Caller, call};
 use vac_model::Kind::{Car, Room};
+use vac_model::Refusal::SoldOut;
 use vac_model::Reply::{Done, No, Number};
-use vac_model::Why::SoldOut;
 use vac_model::{Command, Task};
 
 const FREE_CAR: Task = Task::One(Command::Free { kind: Car, id: 7 });

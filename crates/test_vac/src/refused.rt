@@ -18,9 +18,9 @@ use stm_region::RegionFault;
 use vac_audit::{AuditFault, audit_words};
 use vac_manager::{Caller, Client, Fault, Manager, RenewFault, call};
 use vac_model::Kind::{Car, Room};
+use vac_model::Refusal::Exists;
 use vac_model::Reply::Done;
-use vac_model::Why::Exists;
-use vac_model::{Command, Joined, Reply, Report, Task, UpdateReply};
+use vac_model::{Command, CustomerOutcome, Reply, Report, Task, UpdateReply};
 
 /// Number of blocks: room for all entries of the script, and no more.
 const BLOCKS: u32 = 102;
@@ -127,7 +127,10 @@ fn ask_for_rooms(rt: &(impl Abort + Print), alloc: Global, caller: &mut Caller<'
         *ask = (Room, 1 + at as u32);
     }
     let picks = [None, None, pick!(32, 32, None)];
-    let script = [(Line::Trip(3, &asks), trip!(Joined::Refused(Exists), picks))];
+    let script = [(
+        Line::Trip(3, &asks),
+        trip!(CustomerOutcome::Refused(Exists), picks),
+    )];
     expect(rt, alloc, caller, &script);
 }
 

@@ -4,13 +4,13 @@ use crate::scripts::{
     Answered, Line, add, add_command, audit, bill, cancel, delete, drop_customer, drop_flight,
     free, new_customer, number, pick, play, price, report, reserve, reserve_command, trip,
 };
-use vac_model::Joined;
+use vac_model::CustomerOutcome;
 use vac_model::Kind::{Car, Flight, Room};
-use vac_model::Reply::{Done, No, Number};
-use vac_model::Why::{
+use vac_model::Refusal::{
     Exists, Full, InUse, NeedsCountAndPrice, NoCustomer, NoItem, NotBooked, NotFree, SoldOut,
     TotalLimit, UnitLimit,
 };
+use vac_model::Reply::{Done, No, Number};
 
 const FOUR_BLOCKS: [Answered; 10] = [
     (reserve!(3, Car, 7, 1), No(NoCustomer)),
@@ -24,7 +24,7 @@ const FOUR_BLOCKS: [Answered; 10] = [
     (
         Line::Trip(4, &[(Car, 1)]),
         trip!(
-            Joined::Refused(Exists),
+            CustomerOutcome::Refused(Exists),
             [pick!(1, 10, Some(SoldOut)), None, None],
         ),
     ),

@@ -11,9 +11,9 @@ use std::process::Abort;
 use stm_attempt::Point;
 use vac_manager::{Caller, call};
 use vac_model::Kind::Car;
+use vac_model::Refusal::NoCustomer;
 use vac_model::Reply::{Done, No};
 use vac_model::Task;
-use vac_model::Why::NoCustomer;
 
 const SPENDING: [Called; 2] = [
     (add!(Car, 1, 1, Some(10)), Ok(Done)),

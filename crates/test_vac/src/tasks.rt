@@ -5,9 +5,9 @@ use crate::scripts::{
     play, report, reserve, trip, update,
 };
 use vac_model::Kind::{Car, Flight, Room};
+use vac_model::Refusal::{Exists, Full, InUse, NoCustomer, NoItem, NotFree};
 use vac_model::Reply::{Done, Number};
-use vac_model::Why::{Exists, Full, InUse, NoCustomer, NoItem, NotFree};
-use vac_model::{Command, Joined};
+use vac_model::{Command, CustomerOutcome};
 
 const TRIPS_AND_LEAVES: [Answered; 15] = [
     (add!(Car, 1, 5, Some(50)), Done),
@@ -15,15 +15,18 @@ const TRIPS_AND_LEAVES: [Answered; 15] = [
     (add!(Car, 3, 5, Some(40)), Done),
     (
         Line::Trip(3, &[(Car, 3), (Car, 1), (Car, 2), (Room, 9)]),
-        trip!(Joined::Added, [pick!(1, 50, None), None, None]),
+        trip!(CustomerOutcome::Added, [pick!(1, 50, None), None, None]),
     ),
     (
         Line::Trip(3, &[(Room, 9)]),
-        trip!(Joined::NotAsked, [None, None, None]),
+        trip!(CustomerOutcome::NotAsked, [None, None, None]),
     ),
     (
         Line::Trip(3, &[(Car, 1)]),
-        trip!(Joined::Refused(Exists), [pick!(1, 50, None), None, None]),
+        trip!(
+            CustomerOutcome::Refused(Exists),
+            [pick!(1, 50, None), None, None]
+        ),
     ),
     (free!(Car, 1), number!(3)),
     (Line::Leave(3), number!(100)),
@@ -32,7 +35,7 @@ const TRIPS_AND_LEAVES: [Answered; 15] = [
     (add!(Flight, 4, 1, Some(0)), Done),
     (
         Line::Trip(5, &[(Flight, 4)]),
-        trip!(Joined::Added, [None, pick!(4, 0, None), None]),
+        trip!(CustomerOutcome::Added, [None, pick!(4, 0, None), None]),
     ),
     (audit!(), report!([3, 1, 0, 1], 1, 15, 0)),
     (Line::Leave(5), number!(0)),
@@ -56,7 +59,7 @@ macro_rules! trip_in_order {
             (
                 Line::Trip(3, &[(Room, 9), (Flight, 2), (Car, 1)]),
                 trip!(
-                    Joined::Added,
+                    CustomerOutcome::Added,
                     [
                         pick!(1, 10, None),
                         pick!(2, 20, $flight),
@@ -94,9 +97,9 @@ macro_rules! trip_refused {
     };
 }
 
-const NO_BLOCK: [Answered; 2] = trip_refused!(Joined::Refused(Full), NoCustomer);
+const NO_BLOCK: [Answered; 2] = trip_refused!(CustomerOutcome::Refused(Full), NoCustomer);
 
-const ONE_BLOCK: [Answered; 2] = trip_refused!(Joined::Added, Full);
+const ONE_BLOCK: [Answered; 2] = trip_refused!(CustomerOutcome::Added, Full);
 
 /// The trip goes on if its customer was not added, and each pick has the reason why it was not
 /// booked.

@@ -9,7 +9,7 @@ use Rattle.vac_model.specs.declared.items.Kind.{Kind}
 use Rattle.vac_model.specs.declared.items.Item.{Item}
 use Rattle.vac_model.specs.declared.items.Booking.{Booking}
 use Rattle.vac_model.specs.declared.commands.Command.TheVariants as command
-use Rattle.vac_model.specs.declared.commands.Why.TheVariants.{Full}
+use Rattle.vac_model.specs.declared.commands.Refusal.TheVariants.{Full}
 use Rattle.vac_model.specs.declared.replies.Reply.TheVariants as reply
 use Rattle.vac_model.specs.State.{State, Bookings, Place, item_of, with_item, with_bookings, size, is_full}
 use Rattle.vac_model.specs.Step.{done, refused, step, taken, new_booking}

@@ -6,7 +6,7 @@ use Rattle.tx_memory.specs.View.{View, Sees, RestsOn}
 use Rattle.vac_model.specs.declared.items.Kind.{Kind}
 use Rattle.vac_model.specs.declared.items.Item.{Item}
 use Rattle.vac_model.specs.declared.commands.Command.TheVariants as command
-use Rattle.vac_model.specs.declared.commands.Why.TheVariants.{NotBooked}
+use Rattle.vac_model.specs.declared.commands.Refusal.TheVariants.{NotBooked}
 use Rattle.vac_model.specs.declared.replies.Reply.TheVariants as reply
 use Rattle.vac_model.specs.State.{State, Bookings, kind_number, item_of, with_item, with_bookings}
 use Rattle.vac_model.specs.Step.{done, step, given_back}

@@ -10,7 +10,7 @@ use Rattle.vac_model.specs.declared.items.Kind.{Kind}
 use Rattle.vac_model.specs.declared.items.Item.{Item}
 use Rattle.vac_model.specs.declared.items.Booking.{Booking}
 use Rattle.vac_model.specs.declared.commands.Command.TheVariants as command
-use Rattle.vac_model.specs.declared.commands.Why.TheVariants.{UnitLimit}
+use Rattle.vac_model.specs.declared.commands.Refusal.TheVariants.{UnitLimit}
 use Rattle.vac_model.specs.declared.replies.Reply.TheVariants as reply
 use Rattle.vac_model.specs.State.{State, Bookings, item_of, with_item, with_bookings}
 use Rattle.vac_model.specs.Step.{done, refused, step, taken, extended, unit_limit}

@@ -9,7 +9,7 @@ use Rattle.vac_model.specs.declared.items.Kind.TheVariants.{Flight}
 use Rattle.vac_model.specs.declared.items.Item.{Item}
 use Rattle.vac_model.specs.declared.commands.Command.TheVariants as command
 use Rattle.vac_model.specs.declared.replies.Reply.TheVariants as reply
-use Rattle.vac_model.specs.declared.commands.Why.TheVariants.{NoItem, NotFree, InUse}
+use Rattle.vac_model.specs.declared.commands.Refusal.TheVariants.{NoItem, NotFree, InUse}
 use Rattle.vac_model.specs.Ranges.{is_command}
 use Rattle.vac_model.specs.State.{State, item_of, with_item, without_item}
 use Rattle.vac_model.specs.Step.{step, deleted}

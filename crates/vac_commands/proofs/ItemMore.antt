@@ -8,7 +8,7 @@ use Rattle.vac_model.specs.declared.items.Kind.{Kind}
 use Rattle.vac_model.specs.declared.items.Item.{Item}
 use Rattle.vac_model.specs.declared.commands.Command.TheVariants as command
 use Rattle.vac_model.specs.declared.replies.Reply.TheVariants as reply
-use Rattle.vac_model.specs.declared.commands.Why.TheVariants.{TotalLimit}
+use Rattle.vac_model.specs.declared.commands.Refusal.TheVariants.{TotalLimit}
 use Rattle.vac_model.specs.Ranges.{is_command}
 use Rattle.vac_model.specs.State.{State, item_of, with_item}
 use Rattle.vac_model.specs.Step.{step, added, total_limit}

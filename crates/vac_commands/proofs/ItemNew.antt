@@ -7,7 +7,7 @@ use Rattle.vac_model.specs.declared.items.Kind.{Kind}
 use Rattle.vac_model.specs.declared.items.Item.{Item}
 use Rattle.vac_model.specs.declared.commands.Command.TheVariants as command
 use Rattle.vac_model.specs.declared.replies.Reply.TheVariants as reply
-use Rattle.vac_model.specs.declared.commands.Why.TheVariants.{NeedsCountAndPrice, Full}
+use Rattle.vac_model.specs.declared.commands.Refusal.TheVariants.{NeedsCountAndPrice, Full}
 use Rattle.vac_model.specs.Ranges.{is_command}
 use Rattle.vac_model.specs.State.{State, kind_number, item_of, with_item, is_full}
 use Rattle.vac_model.specs.Step.{step, new_item}

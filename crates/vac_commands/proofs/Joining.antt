@@ -6,7 +6,7 @@ use Rattle.std.specs.FinMap.{empty}
 use Rattle.tx_memory.specs.View.{View, Sees, RestsOn}
 use Rattle.tx_memory.specs.Seen.{some_le}
 use Rattle.vac_model.specs.declared.commands.Command.TheVariants as command
-use Rattle.vac_model.specs.declared.commands.Why.TheVariants.{Full, Exists}
+use Rattle.vac_model.specs.declared.commands.Refusal.TheVariants.{Full, Exists}
 use Rattle.vac_model.specs.declared.replies.Reply.TheVariants as reply
 use Rattle.vac_model.specs.State.{State, Bookings, kind_number, bookings_of, with_bookings, size, is_full}
 use Rattle.vac_model.specs.Ranges.{is_command}

@@ -4,7 +4,7 @@ use Rattle.std.specs.Prelude.{Option}
 use Rattle.std.specs.FinMap.{empty, empty_of_len}
 use Rattle.tx_memory.specs.View.{View, Sees}
 use Rattle.vac_model.specs.declared.commands.Command.TheVariants as command
-use Rattle.vac_model.specs.declared.commands.Why.TheVariants.{NoCustomer}
+use Rattle.vac_model.specs.declared.commands.Refusal.TheVariants.{NoCustomer}
 use Rattle.vac_model.specs.declared.replies.Reply.TheVariants as reply
 use Rattle.vac_model.specs.Ranges.{is_command}
 use Rattle.vac_model.specs.State.{State, Bookings, bookings_of, without_customer}

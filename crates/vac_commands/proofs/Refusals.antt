@@ -4,7 +4,7 @@ use Rattle.tx_memory.specs.View.{View}
 use Rattle.vac_model.specs.declared.items.Kind.{Kind}
 use Rattle.vac_model.specs.declared.commands.Command.{Command}
 use Rattle.vac_model.specs.declared.commands.Command.TheVariants as command
-use Rattle.vac_model.specs.declared.commands.Why.TheVariants.{NoCustomer, NoItem}
+use Rattle.vac_model.specs.declared.commands.Refusal.TheVariants.{NoCustomer, NoItem}
 use Rattle.vac_model.specs.declared.replies.Reply.TheVariants as reply
 use Rattle.vac_model.specs.State.{State, Bookings, item_of, bookings_of}
 use Rattle.vac_model.specs.Step.{step, refused}

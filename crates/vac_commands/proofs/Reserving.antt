@@ -6,8 +6,8 @@ use Rattle.vac_model.specs.declared.items.Kind.{Kind}
 use Rattle.vac_model.specs.declared.items.Item.{Item}
 use Rattle.vac_model.specs.declared.commands.Command.{Command}
 use Rattle.vac_model.specs.declared.commands.Command.TheVariants as command
-use Rattle.vac_model.specs.declared.commands.Why.{Why}
-use Rattle.vac_model.specs.declared.commands.Why.TheVariants.{SoldOut}
+use Rattle.vac_model.specs.declared.commands.Refusal.{Refusal}
+use Rattle.vac_model.specs.declared.commands.Refusal.TheVariants.{SoldOut}
 use Rattle.vac_model.specs.declared.replies.Reply.{Reply}
 use Rattle.vac_model.specs.declared.replies.Reply.TheVariants as reply
 use Rattle.vac_model.specs.Ranges.{is_command}
@@ -119,7 +119,7 @@ module _ (s s2 s3 s4 : View) (customer owner : ℕ) (kind : Kind) (id item link 
       (λ image state i h p. none_at image state (v.kept.seen image i) h p)
 
   -- a refusal wrote nothing, and so a later search may start where this one did
-  pub full_leaves : (c : Command) (why : Why) → link < s.size →
+  pub full_leaves : (c : Command) (why : Refusal) → link < s.size →
       ServesCommand s3 s4 c (reply.No why) (AtSpot customer owner kind id item spot) →
       LeavesStart s s4 owner link (place_key (kind, id) + 1) (AtStart customer owner kind id item link)
   full_leaves c why room v = start_reads s s4 customer owner kind id item link room

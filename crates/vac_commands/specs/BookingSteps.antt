@@ -4,7 +4,7 @@ use Rattle.std.specs.Prelude.{◌≡◌, ◌≢◌, ℕ, ◌+◌, ◌<◌, ◌�
 use Rattle.tx_memory.specs.View.{View, Sees, RestsOn, Kept}
 use Rattle.vac_model.specs.declared.commands.Command.{Command}
 use Rattle.vac_model.specs.declared.commands.Command.TheVariants.{Reserve, Cancel}
-use Rattle.vac_model.specs.declared.commands.Why.{Why}
+use Rattle.vac_model.specs.declared.commands.Refusal.{Refusal}
 use Rattle.vac_model.specs.declared.items.Kind.{Kind}
 use Rattle.vac_model.specs.declared.replies.Reply.{Reply}
 use Rattle.vac_model.specs.declared.replies.Reply.TheVariants as reply
@@ -110,7 +110,7 @@ pub record CanReserveMore (s : View) (who : CustomerAt) (what : ItemAt) (offer :
   pub booking : HasBookingAt s who.owner (what.kind, what.id) b
 
 -- the reply of a command on a booking, from the reason of its refusal, if it was refused
-abbrev pub served_reply : Option Why → Reply
+abbrev pub served_reply : Option Refusal → Reply
 served_reply None = reply.Done
 served_reply (Some why) = reply.No why
 

@@ -1,7 +1,7 @@
 -- Links of a customer's list from which the search for a booking may start.
 use Rattle.std.specs.Prelude.{◌≡◌, ℕ, ◌+◌, ◌<◌, ◌≤◌, List, length, Option, Some, None}
 use Rattle.tx_memory.specs.View.{View, Sees, RestsOn}
-use Rattle.vac_model.specs.declared.commands.Why.TheVariants.{Full}
+use Rattle.vac_model.specs.declared.commands.Refusal.TheVariants.{Full}
 use Rattle.vac_model.specs.declared.items.Kind.{Kind}
 use Rattle.vac_model.specs.declared.replies.Reply.{Reply}
 use Rattle.vac_model.specs.declared.replies.Reply.TheVariants as reply

@@ -16,7 +16,7 @@ use tx_memory::{Addr, TxMem};
 use vac_bookings::place::NEXT;
 use vac_bookings::{Spot, seek};
 use vac_model::limits::MOST_UNITS;
-use vac_model::{Command, Kind, Reply, Why};
+use vac_model::{Command, Kind, Refusal, Reply};
 use vac_records::place::BOOKINGS;
 use vac_records::{
     book_at, book_more, cancel as give_units_back, free_at, key_of, make_of, price_at, spot_of,
@@ -54,7 +54,7 @@ struct Offer {
 
 /// Returns the reply of a command on a booking: its refusal, or that the command is done.
 #[inline]
-fn reply_of(refused: Option<Why>) -> Reply
+fn reply_of(refused: Option<Refusal>) -> Reply
     ensures { result ≡ served_reply refused }
 {
     match refused {
@@ -81,10 +81,10 @@ pub fn reserve<M: TxMem>(
 {
     let (kind, id) = place;
     let Some(owner) = find_customer(memory, customer)? else {
-        return Ok(Reply::No(Why::NoCustomer));
+        return Ok(Reply::No(Refusal::NoCustomer));
     };
     let Some(item) = find_item(memory, kind, id)? else {
-        return Ok(Reply::No(Why::NoItem));
+        return Ok(Reply::No(Refusal::NoItem));
     };
     let who = CustomerAt { customer, owner };
     let what = ItemAt { kind, id, item };
@@ -100,7 +100,7 @@ pub fn reserve_at<M: TxMem>(
     what: ItemAt,
     num: u32,
     start: FreeList,
-) -> Result<Option<Why>, M::Stop>
+) -> Result<Option<Refusal>, M::Stop>
     requires state { HoldsState (M.view memory.old) }
     requires customer { CustomerIsAt (M.view memory.old) who.customer who.owner }
     requires item { ItemIsAt (M.view memory.old) what.kind what.id what.item }
@@ -126,7 +126,7 @@ pub fn reserve_from<M: TxMem>(
     num: u32,
     start: FreeList,
     from: &mut Addr,
-) -> Result<Option<Why>, M::Stop>
+) -> Result<Option<Refusal>, M::Stop>
     requires state { HoldsState (M.view memory.old) }
     requires customer { CustomerIsAt (M.view memory.old) who.customer who.owner }
     requires item { ItemIsAt (M.view memory.old) what.kind what.id what.item }
@@ -143,7 +143,7 @@ pub fn reserve_from<M: TxMem>(
 {
     let free = free_at(memory, what.item)?;
     if free < num as u64 {
-        return Ok(Some(Why::SoldOut));
+        return Ok(Some(Refusal::SoldOut));
     }
     let price = price_at(memory, what.item)?;
     let offer = Offer { num, free, price };
@@ -157,7 +157,7 @@ pub fn reserve_from<M: TxMem>(
         None => {
             let added = add_booking(memory, who, what, offer, spot, start)?;
             let Some(block) = added else {
-                return Ok(Some(Why::Full));
+                return Ok(Some(Refusal::Full));
             };
             *from = block.word(NEXT);
             Ok(None)
@@ -173,7 +173,7 @@ fn extend_booking<M: TxMem>(
     what: ItemAt,
     offer: Offer,
     booking: Block,
-) -> Result<Option<Why>, M::Stop>
+) -> Result<Option<Refusal>, M::Stop>
     requires { CanReserveMore (M.view memory.old) who what offer booking }
     ensures origin { M.origin memory.new ≡ M.origin memory.old }
     ensures answer { IfOk result (λ refused. ServesCommand (M.view memory.old) (M.view memory.new)
@@ -184,7 +184,7 @@ fn extend_booking<M: TxMem>(
         (AtBooking who.customer who.owner what.kind what.id what.item booking)) }
 {
     if units_at(memory, booking)? + offer.num as u64 > MOST_UNITS {
-        return Ok(Some(Why::UnitLimit));
+        return Ok(Some(Refusal::UnitLimit));
     }
     book_more(memory, booking, offer.num, offer.price)?;
     make_of(memory, what.item, offer.num, offer.free)?;
@@ -237,10 +237,10 @@ pub fn cancel<M: TxMem>(
 {
     let (kind, id) = place;
     let Some(owner) = find_customer(memory, customer)? else {
-        return Ok(Reply::No(Why::NoCustomer));
+        return Ok(Reply::No(Refusal::NoCustomer));
     };
     let Some(item) = find_item(memory, kind, id)? else {
-        return Ok(Reply::No(Why::NoItem));
+        return Ok(Reply::No(Refusal::NoItem));
     };
     let spot = spot_of(memory, owner, kind, id)?;
     let who = CustomerAt { customer, owner };
@@ -257,7 +257,7 @@ pub(crate) fn cancel_at<M: TxMem>(
     what: ItemAt,
     spot: Spot,
     start: FreeList,
-) -> Result<Option<Why>, M::Stop>
+) -> Result<Option<Refusal>, M::Stop>
     requires ready { CanServe (M.view memory.old) who what (cancel_of who what) }
     requires spot { HasSpot (M.view memory.old) who.owner (what.kind, what.id) spot }
     ensures origin { M.origin memory.new ≡ M.origin memory.old }
@@ -266,7 +266,7 @@ pub(crate) fn cancel_at<M: TxMem>(
         (AtSpot who.customer who.owner what.kind what.id what.item spot)) }
 {
     let Some(taken) = unbook_at(memory, spot)? else {
-        return Ok(Some(Why::NotBooked));
+        return Ok(Some(Refusal::NotBooked));
     };
     give_units_back(memory, what.item, taken.1)?;
     give(memory, start, taken.0)?;

@@ -14,7 +14,7 @@ use tx_alloc::place::MOST_BLOCKS;
 use tx_alloc::{Block, FreeList, give, take_refilling};
 use tx_memory::{TxMem, TxRead, load};
 use vac_bookings::Spot;
-use vac_model::{Command, Kind, Reply, Why};
+use vac_model::{Command, Kind, Refusal, Reply};
 use vac_records::{CUSTOMERS, init_customer, place};
 
 /// Makes a customer without bookings, in a block of the first free list that has one, beginning
@@ -26,11 +26,11 @@ pub fn new_customer<M: TxMem>(memory: &mut M, id: u32, start: FreeList) -> Resul
         (Command.NewCustomer id) reply) }
 {
     match find_customer(memory, id)? {
-        Some(_) => Ok(Reply::No(Why::Exists)),
+        Some(_) => Ok(Reply::No(Refusal::Exists)),
         None => {
             let added = add_customer(memory, id, start)?;
             match added {
-                None => Ok(Reply::No(Why::Full)),
+                None => Ok(Reply::No(Refusal::Full)),
                 Some(_) => Ok(Reply::Done),
             }
         }
@@ -103,7 +103,7 @@ pub fn drop_customer<M: TxMem>(memory: &mut M, id: u32, start: FreeList) -> Resu
         (Command.DropCustomer id) reply) }
 {
     let Some(customer) = find_customer(memory, id)? else {
-        return Ok(Reply::No(Why::NoCustomer));
+        return Ok(Reply::No(Refusal::NoCustomer));
     };
     drop_customer_at(memory, id, customer, start)?;
     Ok(Reply::Done)

@@ -13,7 +13,7 @@ use crate::find::find_item;
 use tx_alloc::{Block, FreeList, give, take_refilling};
 use tx_memory::{TxMem, TxRead};
 use vac_model::limits::MOST_TOTAL;
-use vac_model::{Command, Kind, Reply, Why};
+use vac_model::{Command, Kind, Refusal, Reply};
 use vac_records::{
     add_total, free_at, init_item, price_at, root_of, set_price, sub_total, total_at, used_at,
 };
@@ -70,14 +70,14 @@ fn add_new<M: TxMem>(
         (Command.Add kind id num price) reply) }
 {
     let Some(price) = price else {
-        return Ok(Reply::No(Why::NeedsCountAndPrice));
+        return Ok(Reply::No(Refusal::NeedsCountAndPrice));
     };
     if num == 0 {
-        return Ok(Reply::No(Why::NeedsCountAndPrice));
+        return Ok(Reply::No(Refusal::NeedsCountAndPrice));
     }
     let taken = take_refilling(memory, start)?;
     let Some(block) = taken else {
-        return Ok(Reply::No(Why::Full));
+        return Ok(Reply::No(Refusal::Full));
     };
     init_item(memory, block, id, num, price)?;
     tx_tree::insert(memory, root_of(kind), id as u64, block)?;
@@ -136,7 +136,7 @@ fn add_more<M: TxMem>(
 {
     let total = total_at(memory, item)?;
     if total + num as u64 > MOST_TOTAL {
-        return Ok(Reply::No(Why::TotalLimit));
+        return Ok(Reply::No(Refusal::TotalLimit));
     }
     add_units(memory, item, num)?;
     replace_price(memory, item, price)?;
@@ -217,11 +217,11 @@ pub fn delete<M: TxMem>(
 {
     let found = find_item(memory, kind, id)?;
     let Some(item) = found else {
-        return Ok(Reply::No(Why::NoItem));
+        return Ok(Reply::No(Refusal::NoItem));
     };
     let free = free_at(memory, item)?;
     if free < num as u64 {
-        return Ok(Reply::No(Why::NotFree));
+        return Ok(Reply::No(Refusal::NotFree));
     }
     let total = total_at(memory, item)?;
     if total > num as u64 {
@@ -242,11 +242,11 @@ pub fn drop_flight<M: TxMem>(memory: &mut M, id: u32, start: FreeList) -> Result
 {
     let found = find_item(memory, Kind::Flight, id)?;
     let Some(flight) = found else {
-        return Ok(Reply::No(Why::NoItem));
+        return Ok(Reply::No(Refusal::NoItem));
     };
     let used = used_at(memory, flight)?;
     if used > 0 {
-        return Ok(Reply::No(Why::InUse));
+        return Ok(Reply::No(Refusal::InUse));
     }
     remove_item(memory, Kind::Flight, id, start)?;
     Ok(Reply::Done)

@@ -5,13 +5,13 @@ use Rattle.std.specs.List.{flat_map, zip}
 use Rattle.std.specs.Str.{bytes_eq}
 use Rattle.std.specs.Option.{option_map}
 use Rattle.std.specs.Global.{Vec}
-use Rattle.vac_model.specs.declared.commands.Why.{Why}
-use Rattle.vac_model.specs.declared.commands.Why.TheVariants.{NeedsCountAndPrice, TotalLimit, Full, NoItem, NotFree, InUse, Exists, NoCustomer, SoldOut, NotBooked, UnitLimit}
+use Rattle.vac_model.specs.declared.commands.Refusal.{Refusal}
+use Rattle.vac_model.specs.declared.commands.Refusal.TheVariants.{NeedsCountAndPrice, TotalLimit, Full, NoItem, NotFree, InUse, Exists, NoCustomer, SoldOut, NotBooked, UnitLimit}
 use Rattle.vac_model.specs.declared.replies.Reply.{Reply}
 use Rattle.vac_model.specs.declared.replies.Reply.TheVariants as reply
 use Rattle.vac_model.specs.declared.replies.Report.{Report}
-use Rattle.vac_model.specs.declared.replies.Joined.{Joined}
-use Rattle.vac_model.specs.declared.replies.Joined.TheVariants.{NotAsked, Added, Refused}
+use Rattle.vac_model.specs.declared.replies.CustomerOutcome.{CustomerOutcome}
+use Rattle.vac_model.specs.declared.replies.CustomerOutcome.TheVariants.{NotAsked, Added, Refused}
 use Rattle.vac_model.specs.declared.replies.Pick.{Pick}
 use Rattle.vac_model.specs.declared.replies.TripReply.{TripReply}
 use Rattle.vac_model.specs.declared.replies.UpdateReply.{UpdateReply}
@@ -19,7 +19,7 @@ use Rattle.vac_lines.specs.declared.fault.LineFault.{LineFault}
 use Rattle.vac_lines.specs.declared.fault.LineFault.TheVariants as fault
 
 -- the name of a refusal
-abbrev pub why_name : Why → List ℕ
+abbrev pub why_name : Refusal → List ℕ
 why_name NeedsCountAndPrice = codes "needs-count-and-price"
 why_name TotalLimit = codes "total-limit"
 why_name Full = codes "full"
@@ -33,7 +33,7 @@ why_name NotBooked = codes "not-booked"
 why_name UnitLimit = codes "unit-limit"
 
 -- the text of a change's result: `true`, or the name of its refusal
-abbrev pub done_text : Option Why → List ℕ
+abbrev pub done_text : Option Refusal → List ℕ
 done_text None = codes "true"
 done_text (Some why) = why_name why
 
@@ -69,7 +69,7 @@ abbrev pub report_text : Report → List ℕ
 report_text r = entries_text r ++ booked_text r ++ sums_text r
 
 -- the text of the outcome for the customer of a trip
-abbrev pub joined_text : Joined → List ℕ
+abbrev pub joined_text : CustomerOutcome → List ℕ
 joined_text NotAsked = codes "-"
 joined_text Added = codes "true"
 joined_text (Refused why) = why_name why
@@ -90,7 +90,7 @@ abbrev pub trip_text : TripReply → List ℕ
 trip_text trip = codes "trip cust=" ++ joined_text trip.joined ++ picks_text trip.picks
 
 -- the text of a change's result, after a space
-abbrev pub change_text : Option Why → List ℕ
+abbrev pub change_text : Option Refusal → List ℕ
 change_text refused = codes " " ++ done_text refused
 
 -- the text of the reply to an update: the result of each change

@@ -9,7 +9,7 @@ ghost use Rattle.vac_lines.specs.Memory.{word_line};
 use crate::fault::LineFault;
 use itoa::Buffer;
 use std::alloc::AllocError;
-use vac_model::{Joined, Pick, Reply, Report, TripReply, UpdateReply, Why};
+use vac_model::{CustomerOutcome, Pick, Refusal, Reply, Report, TripReply, UpdateReply};
 
 /// Appends a text.
 pub(crate) fn append(out: &mut Vec<u8>, text: &[u8]) -> Result<(), AllocError>
@@ -118,26 +118,26 @@ fn append_reply(reply: &Reply, out: &mut Vec<u8>) -> Result<(), AllocError>
 }
 
 /// Returns the name of a refusal.
-pub fn refusal_name(why: Why) -> &'static [u8]
+pub fn refusal_name(why: Refusal) -> &'static [u8]
     ensures { result.now ≡ why_name why }
 {
     match why {
-        Why::NeedsCountAndPrice => b"needs-count-and-price",
-        Why::TotalLimit => b"total-limit",
-        Why::Full => b"full",
-        Why::NoItem => b"no-item",
-        Why::NotFree => b"not-free",
-        Why::InUse => b"in-use",
-        Why::Exists => b"exists",
-        Why::NoCustomer => b"no-customer",
-        Why::SoldOut => b"sold-out",
-        Why::NotBooked => b"not-booked",
-        Why::UnitLimit => b"unit-limit",
+        Refusal::NeedsCountAndPrice => b"needs-count-and-price",
+        Refusal::TotalLimit => b"total-limit",
+        Refusal::Full => b"full",
+        Refusal::NoItem => b"no-item",
+        Refusal::NotFree => b"not-free",
+        Refusal::InUse => b"in-use",
+        Refusal::Exists => b"exists",
+        Refusal::NoCustomer => b"no-customer",
+        Refusal::SoldOut => b"sold-out",
+        Refusal::NotBooked => b"not-booked",
+        Refusal::UnitLimit => b"unit-limit",
     }
 }
 
 /// Appends `true`, or the name of a refusal.
-fn append_done(out: &mut Vec<u8>, refused: Option<Why>) -> Result<(), AllocError>
+fn append_done(out: &mut Vec<u8>, refused: Option<Refusal>) -> Result<(), AllocError>
     ensures ok { OnOk result (out.new.items ≡ out.old.items ++ done_text refused) }
     ensures err { OnErr result (Extends out.old.items out.new.items) }
 {
@@ -216,15 +216,15 @@ fn append_trip(out: &mut Vec<u8>, trip: &TripReply) -> Result<(), AllocError>
 }
 
 /// Appends the head of a trip's reply: the outcome for its customer.
-fn append_joined(out: &mut Vec<u8>, joined: Joined) -> Result<(), AllocError>
+fn append_joined(out: &mut Vec<u8>, joined: CustomerOutcome) -> Result<(), AllocError>
     ensures ok { OnOk result (out.new.items
         ≡ out.old.items ++ (codes "trip cust=" ++ joined_text joined)) }
     ensures err { OnErr result (Extends out.old.items out.new.items) }
 {
     let became = match joined {
-        Joined::NotAsked => b"-".as_slice(),
-        Joined::Added => b"true",
-        Joined::Refused(why) => refusal_name(why),
+        CustomerOutcome::NotAsked => b"-".as_slice(),
+        CustomerOutcome::Added => b"true",
+        CustomerOutcome::Refused(why) => refusal_name(why),
     };
     append_pair(out, b"trip cust=", became)
 }
@@ -255,7 +255,7 @@ fn append_update(out: &mut Vec<u8>, update: &UpdateReply) -> Result<(), AllocErr
 }
 
 /// Appends the result of each of these changes.
-fn append_changes(out: &mut Vec<u8>, changes: &[Option<Why>]) -> Result<(), AllocError>
+fn append_changes(out: &mut Vec<u8>, changes: &[Option<Refusal>]) -> Result<(), AllocError>
     ensures ok { OnOk result (out.new.items ≡ out.old.items ++ flat_map change_text changes.now) }
     ensures err { OnErr result (Extends out.old.items out.new.items) }
 {
@@ -266,7 +266,7 @@ fn append_changes(out: &mut Vec<u8>, changes: &[Option<Why>]) -> Result<(), Allo
 }
 
 /// Appends the result of a change, after a space.
-fn append_change(out: &mut Vec<u8>, refused: Option<Why>) -> Result<(), AllocError>
+fn append_change(out: &mut Vec<u8>, refused: Option<Refusal>) -> Result<(), AllocError>
     ensures ok { OnOk result (out.new.items ≡ out.old.items ++ change_text refused) }
     ensures err { OnErr result (Extends out.old.items out.new.items) }
 {

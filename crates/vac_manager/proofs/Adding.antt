@@ -2,13 +2,13 @@
 use Rattle.std.proofs.Common.{ℕ, List}
 use Rattle.stm_core.specs.Client.{Client}
 use Rattle.stm_region.specs.Shown.{RegionShown}
-use Rattle.stm_object.specs.declared.place.Place.{Place}
+use Rattle.stm_object.specs.declared.place.CommitPosition.{CommitPosition}
 use Rattle.stm_object.specs.History.{AddsAt as AddsAtObject, AddsWithoutWrites}
 pub use Rattle.stm_object.proofs.Adding.{not_earlier, rank_small}
 use Rattle.vac_manager.specs.Called.{AddsReader}
 use Rattle.vac_manager.specs.Placed.{AddsAt}
 
-pub adds_at : (region : RegionShown) (tag : List ℕ) (place : Place) (v v' : Client) →
+pub adds_at : (region : RegionShown) (tag : List ℕ) (place : CommitPosition) (v v' : Client) →
     AddsAtObject region tag place v v' → AddsAt region.renewal tag place v v'
 adds_at region tag place v v' h = let a = h.adds in record {
   adds = record {

@@ -6,27 +6,30 @@ use Rattle.std.specs.Prelude.{IsErrOf}
 use Rattle.std.proofs.lemmas.Bool.Decides.{nat_tests}
 use Rattle.stm_core.specs.Core.{IsFreeHanded}
 use Rattle.vac_model.specs.declared.limits.TheConstants.{MOST_TRIES}
-use Rattle.vac_manager.specs.declared.placed.Effort.{Effort}
+use Rattle.vac_manager.specs.declared.placed.CallStatistics.{CallStatistics}
 use Rattle.vac_manager.specs.Placed.{nothing_done, HasCalledPlaced}
 use Rattle.vac_manager.proofs.Placing.{Tallied, took}
 use Rattle.stm_core.specs.Client.{Client}
 use Rattle.stm_region.specs.Shown.{RegionShown}
 use Rattle.stm_attempt.specs.declared.conflict.Stop.{Stop}
 use Rattle.stm_attempt.specs.declared.conflict.Stop.TheVariants as stop
-use Rattle.stm_object.specs.declared.place.Place.{Place}
-use Rattle.stm_object.specs.History.{SparesWrites, RecordsEntry, WasInOrder, IsNoConflict, IsNear}
+use Rattle.stm_object.specs.declared.place.CommitPosition.{CommitPosition}
+use Rattle.stm_object.specs.History.{WritesOnlyChanges, RecordsEntry, WasInOrder, IsNoConflict, IsNear}
 use Rattle.stm_object.specs.History.{IsStopOfEntry, HasCalledAt as HasCalledObject}
 use Rattle.stm_object.specs.Tracing.{Trace, HasTraced}
 use Rattle.vac_model.specs.declared.replies.Reply.{Reply}
 use Rattle.vac_model.specs.declared.tasks.Task.{Task}
 use Rattle.vac_tasks.specs.Reading.{only_reads}
+use Rattle.vac_manager.specs.declared.fault.Fault.{Fault}
 use Rattle.vac_manager.specs.declared.fault.Fault.TheVariants as fault
+use Rattle.vac_manager.specs.declared.placed.PlacedReply.{PlacedReply}
 use Rattle.vac_manager.specs.Law.{vacation}
 use Rattle.vac_manager.specs.Legal.{WasLegal}
 use Rattle.vac_manager.specs.Faults.{fault_of}
 use Rattle.vac_manager.specs.Ended.{reply_in, placed_in}
 use Rattle.stm_object.specs.Callers.{GoesOn}
-use Rattle.vac_manager.specs.Called.{CallerShown, ClientShown, IsOpened, HasCalled, Records, Spares, Attempts, IsNext}
+use Rattle.vac_manager.specs.Called.{CallerShown, ClientShown, IsOpened, HasCalled, Records, AddsReaderIfUnchanged}
+use Rattle.vac_manager.specs.Called.{Attempts, IsNext}
 use Rattle.vac_manager.specs.Called.{IsFault, IsNotBusy, changes_nothing, is_call, is_try_count}
 use Rattle.vac_model.specs.Ranges.{is_task}
 use Rattle.vac_manager.specs.Placed.{IsAddedAtPlace, replied}
@@ -57,32 +60,33 @@ few_tries t tries e =
     let b : nat_le tries MOST_TRIES ≡ true = second (nat_le 1 tries) (nat_le tries MOST_TRIES) a in
     grind (arith, nat_tests)
 
-replied_is : (result : Result (Reply × Place) Stop) → replied (placed_in result) ≡ reply_in result
+replied_is : (result : Result (Reply × CommitPosition) Stop) → replied (placed_in result) ≡ reply_in result
 replied_is (Ok a) = refl
 replied_is (Err s) = refl
 
 module _ (region : RegionShown) (t : Task) where
-  abbrev Called : ℕ → Result (Reply × Place) Stop → Client → Client → Type 0
+  abbrev Called : ℕ → Result (Reply × CommitPosition) Stop → Client → Client → Type 0
   Called tries result v v' = HasCalledObject {A = Reply} vacation region (λ r. (t, r))
       (λ r. not (changes_nothing t r)) (only_reads t) tries result v v'
 
-  records : (result : Result (Reply × Place) Stop) (v v' : Client) →
+  records : (result : Result (Reply × CommitPosition) Stop) (v v' : Client) →
       RecordsEntry vacation region (λ r. (t, r)) result v v' → Records region t (reply_in result) v v'
   records (Ok a) v v' h = (adds_at region _ a.1 v v' h).adds
   records (Err s) v v' h = h
 
-  pub added : (result : Result (Reply × Place) Stop) (v v' : Client) →
+  pub added : (result : Result (Reply × CommitPosition) Stop) (v v' : Client) →
       RecordsEntry vacation region (λ r. (t, r)) result v v' → IsAddedAtPlace region t (placed_in result) v v'
   added (Ok a) v v' h = adds_at region _ a.1 v v' h
   added (Err s) v v' h = h
 
-  spares : (result : Result (Reply × Place) Stop) (v v' : Client) →
-      SparesWrites (only_reads t) (λ r. not (changes_nothing t r)) result v v' → Spares t (reply_in result) v v'
+  spares : (result : Result (Reply × CommitPosition) Stop) (v v' : Client) →
+      WritesOnlyChanges (only_reads t) (λ r. not (changes_nothing t r)) result v v' →
+      AddsReaderIfUnchanged t (reply_in result) v v'
   spares (Ok a) v v' h = λ e. adds_reader v v' (h (inr (no_change (changes_nothing t a.0) e)))
   spares (Err s) v v' h = tt
 
   -- how many attempts there were
-  attempts : (tries : ℕ) (result : Result (Reply × Place) Stop) (v v' : Client) → Called tries result v v' →
+  attempts : (tries : ℕ) (result : Result (Reply × CommitPosition) Stop) (v v' : Client) → Called tries result v v' →
       Attempts tries v.attempt.number v'.attempt.number (reply_in result)
   attempts tries (Ok a) v v' g =
       let c = g.attempts.count in let n = g.attempts.number in (omega (arith, n), omega (arith, n, c))
@@ -92,44 +96,44 @@ module _ (region : RegionShown) (t : Task) where
   attempts tries (Err (stop.Spent version)) v v' g =
       let c = g.attempts.count in let n = g.attempts.number in (omega (arith, n), omega (arith, n, c))
 
-  once : (result : Result (Reply × Place) Stop) (v v' : Client) → v'.attempt.number ≡ v.attempt.number + 1 →
+  once : (result : Result (Reply × CommitPosition) Stop) (v v' : Client) → v'.attempt.number ≡ v.attempt.number + 1 →
       Attempts 1 v.attempt.number v'.attempt.number (reply_in result)
   once (Ok a) v v' e = (omega (arith, e), omega (arith, e))
   once (Err stop.Memory) v v' e = (omega (arith, e), omega (arith, e))
   once (Err (stop.Conflict x)) v v' e = e
   once (Err (stop.Spent version)) v v' e = (omega (arith, e), omega (arith, e))
 
-  next : (reads : Bool) (last before now : ℕ) (result : Result (Reply × Place) Stop) →
+  next : (reads : Bool) (last before now : ℕ) (result : Result (Reply × CommitPosition) Stop) →
       IsNear reads last before now result → IsNext last before now (reply_in result)
   next reads last before now (Ok a) h = h.0
   next reads last before now (Err stop.Memory) h = h.0
   next reads last before now (Err (stop.Conflict x)) h = h.0
   next reads last before now (Err (stop.Spent version)) h = h.0
 
-  legal : (result : Result (Reply × Place) Stop) (v v' : Client) → IsOpened region → v'.is_gathered ≡ false →
+  legal : (result : Result (Reply × CommitPosition) Stop) (v v' : Client) → IsOpened region → v'.is_gathered ≡ false →
       IfOk result (λ a. WasInOrder vacation region (t, a.0) v v') →
       IfOk (reply_in result) (λ _. WasLegal region v')
   legal (Ok a) v v' h out w = was_legal region (t, a.0) v v' h.shown out w
   legal (Err s) v v' h out w = tt
 
-  faults : (tries : ℕ) (result : Result (Reply × Place) Stop) (v v' : Client) →
+  faults : (tries : ℕ) (result : Result (Reply × CommitPosition) Stop) (v v' : Client) →
       IfErr result (λ s. IsStopOfEntry {A = Reply} vacation region (λ r. (t, r)) (λ r. not (changes_nothing t r))
       (only_reads t) tries s v v') → IfErr (reply_in result) (λ why. IsFault region t tries why v v')
   faults tries (Ok a) v v' h = tt
   faults tries (Err s) v v' h = is_fault region t tries s v v' h
 
-  not_busy : (result : Result (Reply × Place) Stop) → IfErr result (λ s. IsNoConflict s) →
+  not_busy : (result : Result (Reply × CommitPosition) Stop) → IfErr result (λ s. IsNoConflict s) →
       IfErr (reply_in result) (λ why. IsNotBusy why)
   not_busy (Ok a) h = tt
   not_busy (Err stop.Memory) h = tt
   not_busy (Err (stop.Conflict x)) h = absurd h
   not_busy (Err (stop.Spent version)) h = tt
 
-  no_arguments : (result : Result (Reply × Place) Stop) → IsErrOf (reply_in result) fault.Arguments → ⊥
+  no_arguments : (result : Result (Reply × CommitPosition) Stop) → IsErrOf (reply_in result) fault.Arguments → ⊥
   no_arguments (Ok a) e = cc
   no_arguments (Err s) e = never s (let n : fault_of s ≡ fault.Arguments = cc in n)
 
-  pub has_called : (tries : ℕ) (result : Result (Reply × Place) Stop) (c c' : ClientShown) → IsOpened region →
+  pub has_called : (tries : ℕ) (result : Result (Reply × CommitPosition) Stop) (c c' : ClientShown) → IsOpened region →
       is_call t tries ≡ true → c' ≡ record c { value = c'.value } → Called tries result c.value c'.value →
       HasCalled region t tries (reply_in result) c c'
   has_called tries result c c' opened asked same g =
@@ -180,33 +184,41 @@ module _ (region : RegionShown) (t : Task) where
     alone = λ _. tt;
   }
 
-  pub not_asked_placed : (tries : ℕ) (c : ClientShown) (e : Effort) → is_call t tries ≡ false → IsFreeHanded c.value →
+  pub not_asked_placed : (tries : ℕ) (c : ClientShown) (e : CallStatistics) → is_call t tries ≡ false →
+      IsFreeHanded c.value →
       e ≡ nothing_done → HasCalledPlaced region t tries (Err fault.Arguments) e c c
   not_asked_placed tries c e out free none = record {
     call = not_asked tries c out free;
     place = refl;
-    effort = record {
+    statistics = record {
       conflicts = [];
       shown = tt;
       closes = tt;
-      effort = none;
-      begun = let n = ap (λ (o : Effort). o.attempts) none in omega (arith, n);
+      statistics = none;
+      begun = let n = ap (λ (o : CallStatistics). o.attempts) none in omega (arith, n);
     };
   }
 
   -- a call that also tells the place of its record and what it took
-  pub has_called_placed : (tries : ℕ) (result : Result (Reply × Place) Stop) (e : Effort) (c c' : ClientShown) →
+  pub has_called_placed : (tries : ℕ) (result : Result (Reply × CommitPosition) Stop) (e : CallStatistics)
+      (c c' : ClientShown) →
       IsOpened region → is_call t tries ≡ true → tries ≤ MOST_TRIES → c' ≡ record c { value = c'.value } →
       Called tries result c.value c'.value → Tallied region t tries result c.value c'.value e →
       HasCalledPlaced region t tries (placed_in result) e c c'
   has_called_placed tries result e c c' opened asked few same g h = record {
     call = rw (replied_is result) (has_called tries result c c' opened asked same g);
     place = added result c.value c'.value g.records;
-    effort = took region t tries result c.value c'.value e few g h;
+    statistics = took region t tries result c.value c'.value e few g h;
   }
 
+  -- the statistics of a call, by what is left in the place for them
+  pub with_effort : (tries : ℕ) (result : Result PlacedReply Fault) (e e' : CallStatistics) (c c' : ClientShown) →
+      HasCalledPlaced region t tries result e c c' → e' ≡ e → HasCalledPlaced region t tries result e' c c'
+  with_effort tries result e e' c c' h same = rw same h
+
 -- the attempts of a call are traced alike however its end is told
-pub traced_as : (result : Result (Reply × Place) Stop) (v v' : Client) (before after end : Option (List Trace)) →
+pub traced_as : (result : Result (Reply × CommitPosition) Stop) (v v' : Client)
+    (before after end : Option (List Trace)) →
     HasTraced result v v' before after → end ≡ after → HasTraced (replied (placed_in result)) v v' before end
 traced_as (Ok a) v v' before after end h e = rw e (record { each = h.each })
 traced_as (Err s) v v' before after end h e = rw e (record { each = h.each })

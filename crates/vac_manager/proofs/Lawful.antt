@@ -4,7 +4,7 @@ use Rattle.std.proofs.Common.{Result, Ok, Err, IfOk}
 use Rattle.std.proofs.lemmas.Bool.Decides.{nat_tests}
 use Rattle.tx_memory.specs.View.{View}
 use Rattle.stm_region.specs.Shown.{RegionShown}
-use Rattle.stm_object.specs.Bodies.{HasValue, Did}
+use Rattle.stm_object.specs.Bodies.{HasValue, HasEffect}
 use Rattle.vac_model.specs.declared.tasks.Task.{Task}
 use Rattle.vac_model.specs.declared.replies.Reply.{Reply}
 use Rattle.vac_model.specs.Ranges.{is_task}
@@ -28,7 +28,7 @@ holds s h = record {
 }
 
 -- what ran did what the task's entry says
-pub did : (s s' : View) (t : Task) (r : Reply) → is_task t ≡ true → RanTask s s' t r → Did vacation s s' (t, r)
+pub did : (s s' : View) (t : Task) (r : Reply) → is_task t ≡ true → RanTask s s' t r → HasEffect vacation s s' (t, r)
 did s s' t r range ran = (
   range,
   λ image state i h. let o = ran.outcome image state i h in (o.reply_is, o.state),
@@ -92,7 +92,7 @@ pub few : (region : RegionShown) → IsOpened region → vacation.IsSize region.
 few region h = (omega (arith, h.size), h.small)
 
 pub ok_did : {X : Type 0} (s s' : View) (t : Task) (result : Result Reply X) → is_task t ≡ true →
-    IfOk result (λ r. RanTask s s' t r) → IfOk result (λ r. Did vacation s s' (t, r))
+    IfOk result (λ r. RanTask s s' t r) → IfOk result (λ r. HasEffect vacation s s' (t, r))
 ok_did s s' t (Ok r) range ran = did s s' t r range ran
 ok_did s s' t (Err e) range ran = tt
 

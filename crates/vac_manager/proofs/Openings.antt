@@ -96,6 +96,7 @@ opens region client xs ys n last stripes e h is c =
       renewal = ap (λ (r : RegionShown). r.renewal) is;
       start = ap (λ (r : RegionShown). r.start) is;
       first = ap (λ (r : RegionShown). r.first) is ∙ sym opening;
+      heap = subst (λ (zs : List ℕ). IsSpreadHeap zs n) (sym (opening ∙ e)) h.empty;
       shown = subst (λ (zs : List ℕ). Shows zs (empty_state n)) (sym opening) (fresh_shows xs ys n e h);
       client_is = c;
     }

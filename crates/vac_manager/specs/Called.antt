@@ -27,7 +27,7 @@ use Rattle.vac_model.specs.Code.{code}
 use Rattle.vac_manager.specs.declared.client.Lists.{Lists}
 use Rattle.vac_manager.specs.declared.fault.Fault.{Fault}
 use Rattle.vac_manager.specs.declared.fault.Fault.TheVariants as fault
-use Rattle.vac_tasks.specs.Reading.{only_reads}
+use Rattle.vac_tasks.specs.Reading.{is_question, only_reads}
 use Rattle.vac_model.specs.declared.limits.TheConstants.{MOST_TRIES}
 use Rattle.vac_manager.specs.Law.{Shows, IsLawful}
 use Rattle.vac_manager.specs.Legal.{capacity_of, IsHistoryTo, WasLegal}
@@ -68,22 +68,12 @@ is_call t tries = is_task t && is_try_count tries
 abbrev pub has_no_change : Command → Bool
 has_no_change (command.Add kind id num price) = num == 0 && is_none price
 has_no_change (command.Delete kind id num) = num == 0
-has_no_change (command.DropFlight id) = false
-has_no_change (command.NewCustomer id) = false
-has_no_change (command.DropCustomer id) = false
-has_no_change (command.Free kind id) = true
-has_no_change (command.Price kind id) = true
-has_no_change (command.Bill id) = true
-has_no_change (command.Reserve customer kind id num) = false
-has_no_change (command.Cancel customer kind id) = false
-has_no_change command.Audit = true
+has_no_change c = is_question c
 
 -- the task is a single command that was refused or that changes nothing in any state
 abbrev pub changes_nothing : Task → Reply → Bool
 changes_nothing (task.One c) reply = is_some (refusal_of reply) || has_no_change c
-changes_nothing (task.Trip customer asks) reply = false
-changes_nothing (task.Leave customer) reply = false
-changes_nothing (task.Update changes) reply = false
+changes_nothing t reply = false
 
 -- exactly one record was added, as the last one; it is the record of a reader and wrote nothing
 pub record AddsReader (v v' : Client) : Type 0 where
@@ -96,9 +86,9 @@ pub record AddsReader (v v' : Client) : Type 0 where
 -- state, a reader's record was added
 -- Not said: that an Add which sets the price that the item already has writes nothing. Such an Add
 -- writes the price.
-abbrev pub Spares : {E : Type 0} → Task → Result Reply E → Client → Client → Type 0
-Spares t (Ok reply) v v' = changes_nothing t reply ≡ true → AddsReader v v'
-Spares t (Err e) v v' = Unit {0}
+abbrev pub AddsReaderIfUnchanged : {E : Type 0} → Task → Result Reply E → Client → Client → Type 0
+AddsReaderIfUnchanged t (Ok reply) v v' = changes_nothing t reply ≡ true → AddsReader v v'
+AddsReaderIfUnchanged t (Err e) v v' = Unit {0}
 
 -- exactly one record was added, as the last one: with this tag, by the client's last attempt, in
 -- this renewal, of a version from the client's earlier floor to its present one, and after the
@@ -175,23 +165,20 @@ pub record IsSpent (region : RegionShown) (t : Task) (version : ℕ) (v : Client
 -- the number of attempts that a call made: at most the limit, exactly the limit if the call
 -- returns Busy, none if the call returns Arguments
 -- Not said: that refused memory and a spent clock end the call of a client that is not solo at
--- once. `TookEffort` of `trace_call` says so by its counts.
+-- once. `CountsAttempts` of `trace_call` says so by its counts.
 abbrev pub Attempts : ℕ → ℕ → ℕ → Result Reply Fault → Type 0
-Attempts tries before now (Ok reply) = (before < now) × (now ≤ before + tries)
 Attempts tries before now (Err fault.Arguments) = now ≡ before
-Attempts tries before now (Err fault.Memory) = (before < now) × (now ≤ before + tries)
 Attempts tries before now (Err (fault.Busy conflict)) = now ≡ before + tries
-Attempts tries before now (Err (fault.Spent version)) = (before < now) × (now ≤ before + tries)
+Attempts tries before now result = (before < now) × (now ≤ before + tries)
 
 -- the effect of a solo client's call on the version that the client knows: a reply raises the
 -- version by at most one, refused arguments and refused memory leave it, Busy is impossible, and a
 -- spent clock means that the client knew the last version
 abbrev pub IsNext : ℕ → ℕ → ℕ → Result Reply Fault → Type 0
 IsNext last before now (Ok reply) = now ≤ before + 1
-IsNext last before now (Err fault.Arguments) = now ≡ before
-IsNext last before now (Err fault.Memory) = now ≡ before
 IsNext last before now (Err (fault.Busy conflict)) = ⊥
 IsNext last before now (Err (fault.Spent version)) = before ≡ last
+IsNext last before now (Err e) = now ≡ before
 
 -- the reason for a fault: arguments out of range, a conflict that the last attempt showed, or,
 -- only if the task may write, refused memory after a step that showed no conflict, or a spent
@@ -206,10 +193,8 @@ IsFault region t tries (fault.Spent version) v v' =
 
 -- the fault is not a conflict
 abbrev pub IsNotBusy : Fault → Type 0
-IsNotBusy fault.Arguments = Unit {0}
-IsNotBusy fault.Memory = Unit {0}
 IsNotBusy (fault.Busy conflict) = ⊥
-IsNotBusy (fault.Spent version) = Unit {0}
+IsNotBusy e = Unit {0}
 
 -- the effect of a call of a task: the client's value afterwards, the records that were added, the
 -- number of attempts, the reason for a fault, and, for a solo client, the history that its records
@@ -222,7 +207,7 @@ pub record HasCalled (region : RegionShown) (t : Task) (tries : ℕ) (result : R
   pub free_handed : IsFreeHanded c'.value
   pub arguments : IsErrOf result fault.Arguments ↔ (is_call t tries ≡ false)
   pub records : Records region t result c.value c'.value
-  pub spares : Spares t result c.value c'.value
+  pub spares : AddsReaderIfUnchanged t result c.value c'.value
   pub attempts : Attempts tries c.value.attempt.number c'.value.attempt.number result
   pub once : HasAllGrants c.value
       → Attempts 1 c.value.attempt.number c'.value.attempt.number result

@@ -5,6 +5,7 @@ use Rattle.stm_core.specs.Event.{opener}
 use Rattle.stm_region.specs.Shown.{RegionShown}
 use Rattle.stm_region.specs.Closed.{Ends}
 use Rattle.tx_alloc.specs.Pool.{heap_words}
+use Rattle.tx_alloc.specs.Spread.{IsSpreadHeap}
 use Rattle.vac_model.specs.Ranges.{is_block_count}
 use Rattle.vac_model.specs.State.{State, empty_state}
 use Rattle.stm_core.specs.declared.limits.TheConstants.{MOST_STRIPES}
@@ -27,8 +28,8 @@ is_opening blocks last stripes =
     is_block_count blocks && (is_last_version last && is_stripe_count stripes)
 
 -- a manager's region was opened with this number of blocks and of lock words, with this last
--- version, and with words that represent the empty state; the region was never renewed, and its
--- first client has all grants and no record
+-- version, and with the words of a partitioned heap, which represent the empty state; the region
+-- was never renewed, and its first client has all grants and no record
 pub record Opens (blocks last stripes : ℕ) (region : RegionShown) (client : ClientShown) :
     Type 0 where
   pub size : region.size ≡ heap_words blocks
@@ -38,6 +39,7 @@ pub record Opens (blocks last stripes : ℕ) (region : RegionShown) (client : Cl
   pub first : region.first ≡ region.opening
   pub renewal : region.renewal ≡ 0
   pub start : region.start ≡ opener
+  pub heap : IsSpreadHeap region.opening blocks
   pub shown : Shows region.opening (empty_state blocks)
   pub client_is : client ≡ record {
     table = region.table;

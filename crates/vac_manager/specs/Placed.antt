@@ -10,36 +10,37 @@ use Rattle.vac_model.specs.declared.replies.Reply.{Reply}
 use Rattle.vac_model.specs.Code.{code}
 use Rattle.vac_manager.specs.declared.fault.Fault.{Fault}
 use Rattle.vac_manager.specs.declared.fault.Fault.TheVariants as fault
-pub use Rattle.stm_object.specs.declared.place.Place.{Place}
+pub use Rattle.stm_object.specs.declared.place.CommitPosition.{CommitPosition}
 pub use Rattle.stm_object.specs.Places.{place_of}
-use Rattle.vac_manager.specs.declared.placed.Placed.{Placed}
-use Rattle.vac_manager.specs.declared.placed.Effort.{Effort}
-use Rattle.vac_manager.specs.declared.sites.Site.{Site}
-use Rattle.vac_manager.specs.declared.sites.Site.TheVariants.{Root, Head, Node, Use, Stock}
-use Rattle.vac_manager.specs.Sites.{site_of}
+use Rattle.vac_manager.specs.declared.placed.PlacedReply.{PlacedReply}
+use Rattle.vac_manager.specs.declared.placed.CallStatistics.{CallStatistics}
+use Rattle.vac_manager.specs.declared.sites.WordKind.{WordKind}
+use Rattle.vac_manager.specs.declared.sites.WordKind.TheVariants.{Root, Head, Node, Use, Stock}
+use Rattle.vac_manager.specs.Sites.{word_kind_of}
 use Rattle.vac_model.specs.declared.limits.TheConstants.{MOST_TRIES}
 use Rattle.vac_manager.specs.Called.{Adds, ClientShown, HasCalled, WasShown}
 
 -- exactly one record was added, with this tag and this commit position
-pub record AddsAt (renewal : ℕ) (tag : List ℕ) (place : Place) (v v' : Client) : Type 0 where
+pub record AddsAt (renewal : ℕ) (tag : List ℕ) (place : CommitPosition) (v v' : Client) :
+    Type 0 where
   pub adds : Adds renewal tag v v'
   pub place_is : place ≡ place_of adds.added
 
 -- the result of a call without the commit position
-abbrev pub replied : {E : Type 0} → Result Placed E → Result Reply E
+abbrev pub replied : {E : Type 0} → Result PlacedReply E → Result Reply E
 replied (Ok placed) = Ok placed.reply
 replied (Err e) = Err e
 
 -- if the call returns a reply, the record of the task and the reply was added, with the commit
 -- position that the call returns; after a fault, no record was added
-abbrev pub IsAddedAtPlace : {E : Type 0} → RegionShown → Task → Result Placed E → Client
+abbrev pub IsAddedAtPlace : {E : Type 0} → RegionShown → Task → Result PlacedReply E → Client
     → Client → Type 0
 IsAddedAtPlace region t (Ok placed) v v' =
     AddsAt region.renewal (code t placed.reply) placed.place v v'
 IsAddedAtPlace region t (Err e) v v' = v'.records ≡ v.records
 
 -- the attempt statistics of no attempt
-abbrev pub nothing_done : Effort
+abbrev pub nothing_done : CallStatistics
 nothing_done = record {
   attempts = 0;
   held = 0;
@@ -55,19 +56,19 @@ nothing_done = record {
 }
 
 -- the number of attempts that aborted on a conflict
-abbrev pub conflicts_of : Effort → ℕ
+abbrev pub conflicts_of : CallStatistics → ℕ
 conflicts_of e = e.held + e.newer + e.moved + e.lost_lock + e.lost_tick
 
 -- the number of conflicts over a lock, summed over the kinds of words that a lock guards
-abbrev pub locks_of : Effort → ℕ
+abbrev pub locks_of : CallStatistics → ℕ
 locks_of e = e.roots + e.heads + e.nodes + e.uses + e.stocks
 
 -- the statistics with one more attempt
-abbrev pub one_more : Effort → Effort
+abbrev pub one_more : CallStatistics → CallStatistics
 one_more e = record e { attempts = e.attempts + 1 }
 
 -- the statistics with one more conflict over the lock of a word of this kind
-abbrev pub one_more_over : Site → Effort → Effort
+abbrev pub one_more_over : WordKind → CallStatistics → CallStatistics
 one_more_over Root e = record e { roots = e.roots + 1 }
 one_more_over Head e = record e { heads = e.heads + 1 }
 one_more_over Node e = record e { nodes = e.nodes + 1 }
@@ -76,27 +77,27 @@ one_more_over Stock e = record e { stocks = e.stocks + 1 }
 
 -- the statistics with one more attempt that aborted on this conflict, counted by the kind of the
 -- conflict and, unless a tick was lost, by the word that the lock guards
-abbrev pub conflicted : Conflict → Effort → Effort
+abbrev pub conflicted : Conflict → CallStatistics → CallStatistics
 conflicted (Held lock word) e =
-    one_more_over (site_of lock) (record (one_more e) { held = e.held + 1 })
+    one_more_over (word_kind_of lock) (record (one_more e) { held = e.held + 1 })
 conflicted (Newer lock version rv) e =
-    one_more_over (site_of lock) (record (one_more e) { newer = e.newer + 1 })
+    one_more_over (word_kind_of lock) (record (one_more e) { newer = e.newer + 1 })
 conflicted (Moved lock first second) e =
-    one_more_over (site_of lock) (record (one_more e) { moved = e.moved + 1 })
+    one_more_over (word_kind_of lock) (record (one_more e) { moved = e.moved + 1 })
 conflicted (LostLock lock found) e =
-    one_more_over (site_of lock) (record (one_more e) { lost_lock = e.lost_lock + 1 })
+    one_more_over (word_kind_of lock) (record (one_more e) { lost_lock = e.lost_lock + 1 })
 conflicted (LostTick found) e = record (one_more e) { lost_tick = e.lost_tick + 1 }
 
 -- the statistics with one more attempt, which ended with this conflict if there is one; nothing is
 -- counted beyond 1,048,576 attempts
-abbrev pub counted : Option Conflict → Effort → Effort
+abbrev pub counted : Option Conflict → CallStatistics → CallStatistics
 counted None e = if nat_lt e.attempts MOST_TRIES then one_more e else e
 counted (Some conflict) e = if nat_lt e.attempts MOST_TRIES then conflicted conflict e else e
 
 -- the statistics of attempts that aborted on these conflicts, the newest first
-abbrev pub effort_of : List Conflict → Effort
-effort_of [] = nothing_done
-effort_of (conflict ∷ earlier) = conflicted conflict (effort_of earlier)
+abbrev pub statistics_of : List Conflict → CallStatistics
+statistics_of [] = nothing_done
+statistics_of (conflict ∷ earlier) = conflicted conflict (statistics_of earlier)
 
 -- an attempt of this client, `behind` attempts after its present one, ended by showing this
 -- conflict, and changed neither the client's records nor its grants
@@ -124,7 +125,7 @@ newest (conflict ∷ earlier) = Some conflict
 
 -- the statistics with one more attempt for the end of the call, unless the call made no attempt or
 -- its last attempt met a conflict that is already counted
-abbrev pub closed_by : {R : Type 0} → Result R Fault → Effort → Effort
+abbrev pub closed_by : {R : Type 0} → Result R Fault → CallStatistics → CallStatistics
 closed_by (Ok reply) e = one_more e
 closed_by (Err fault.Arguments) e = e
 closed_by (Err fault.Memory) e = one_more e
@@ -138,21 +139,23 @@ ClosesWith fault.Memory conflicts = Unit {0}
 ClosesWith (fault.Busy conflict) conflicts = newest conflicts ≡ Some conflict
 ClosesWith (fault.Spent version) conflicts = Unit {0}
 
--- the statistics of a call are exact: each attempt that was begun is counted, and each attempt but
--- the last is counted by the conflict that it ended with, as is the last one if the call returns
--- Busy
-pub record TookEffort {R : Type 0} (region : RegionShown) (v v' : Client) (result : Result R Fault)
-    (e : Effort) : Type 0 where
+-- the number of attempts in the statistics of a call is exact. The last attempt is counted by the
+-- conflict that the call returns, if it returns Busy. Each earlier attempt is counted by a conflict
+-- that a client with the number of this attempt can show
+-- Not said: that an earlier attempt ended with the conflict by which it is counted (`HasShown`).
+pub record CountsAttempts {R : Type 0} (region : RegionShown) (v v' : Client)
+    (result : Result R Fault)
+    (e : CallStatistics) : Type 0 where
   pub conflicts : List Conflict
   pub shown : HaveShown region v conflicts
   pub closes : IfErr result (λ fault. ClosesWith fault conflicts)
-  pub effort : e ≡ closed_by result (effort_of conflicts)
+  pub statistics : e ≡ closed_by result (statistics_of conflicts)
   pub begun : v.attempt.number + e.attempts ≡ v'.attempt.number
 
 -- the effect of a call that also returns the commit position of its record and the statistics of
 -- its attempts
 pub record HasCalledPlaced (region : RegionShown) (t : Task) (tries : ℕ)
-    (result : Result Placed Fault) (e : Effort) (c c' : ClientShown) : Type 0 where
+    (result : Result PlacedReply Fault) (e : CallStatistics) (c c' : ClientShown) : Type 0 where
   pub call : HasCalled region t tries (replied result) c c'
   pub place : IsAddedAtPlace region t result c.value c'.value
-  pub effort : TookEffort region c.value c'.value result e
+  pub statistics : CountsAttempts region c.value c'.value result e

@@ -3,7 +3,7 @@ use Rattle.std.specs.Prelude.{◌≡◌, ◌+◌, ℕ, List}
 use Rattle.stm_core.specs.Client.{Client}
 use Rattle.stm_core.specs.Event.{renewing}
 use Rattle.stm_region.specs.Shown.{RegionShown}
-use Rattle.stm_region.specs.Refused.{MayRenew, RenewsNot}
+use Rattle.stm_region.specs.Refused.{MayRenew, RefusesRenewal}
 use Rattle.vac_manager.specs.Called.{ClientShown}
 use Rattle.vac_manager.specs.Opening.{ClosesInState}
 use Rattle.vac_manager.specs.declared.renew.RenewFault.{RenewFault}
@@ -33,7 +33,7 @@ pub record Renews (last : ℕ) (region : RegionShown) (c : ClientShown) (region'
 -- or the manager was closed with these words at this version
 abbrev pub StaysUnrenewed : RegionShown → ClientShown → ℕ → RenewFault → Type 0
 StaysUnrenewed region client last (Kept manager c fault) = (manager ≡ region) × (c ≡ client)
-    × RenewsNot region.renewal last client.value.grants fault
+    × RefusesRenewal region.renewal last client.value.grants fault
 StaysUnrenewed region client last (Closed words version) =
     ClosesInState region client.value words.items version
     × MayRenew region.renewal last client.value.grants

@@ -1,11 +1,12 @@
 -- Traces of a call's attempts.
 use Rattle.std.specs.Prelude.{◌≡◌, List, [], ◌∷◌, ◌++◌, Option, Some}
-pub use Rattle.stm_object.specs.Tracing.{Trace, HasNoAccess, OneMore, HasTracedCommit, HasGivenUp}
-pub use Rattle.stm_object.specs.Tracing.{IsTraceOf, IsOfAdded, AreGivenUp, AreOfEnd, HasTraced}
-use Rattle.vac_manager.specs.declared.note.AttemptNote.{AttemptNote}
+pub use Rattle.stm_object.specs.Tracing.{Trace, HasNoAccess, AppendsTrace}
+pub use Rattle.stm_object.specs.Tracing.{HasTracedCommit, HasTracedAbort}
+pub use Rattle.stm_object.specs.Tracing.{IsTraceOf, IsOfAdded, AreAborted, AreOfEnd, HasTraced}
+use Rattle.vac_manager.specs.declared.note.TracedAttempt.{TracedAttempt}
 
 -- the trace of a noted attempt
-abbrev pub trace_of : AttemptNote → Trace
+abbrev pub trace_of : TracedAttempt → Trace
 trace_of a = record { commits = a.commits; place = a.place; accesses = a.accesses.items }
 
 -- the trace is the last one of the traced attempts

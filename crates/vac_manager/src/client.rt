@@ -1,7 +1,7 @@
 //! Clients of a manager.
 
 use crate::law::Vacation;
-use stm_object::{Own, User};
+use stm_object::{User, UserState};
 use tx_alloc::FreeList;
 
 /// A client of a manager: the right to call the manager, from one thread at a time. Between calls
@@ -20,7 +20,7 @@ pub struct Lists {
     pub next: FreeList,
 }
 
-impl Own for Lists {
+impl UserState for Lists {
     ghost use Rattle.vac_manager.specs.Called.{SplitsLists};
 
     ghost splits = { λ before after other. SplitsLists before after other };

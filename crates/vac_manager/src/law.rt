@@ -19,7 +19,7 @@ impl Object for Vacation {
 
     type Entry = (Task, Reply);
 
-    type Own = Lists;
+    type UserState = Lists;
 
     ghost is = { vacation };
 

@@ -19,20 +19,20 @@ mod sites;
 mod watching;
 mod work;
 
-pub use calls::{call, trace_call};
+pub use calls::{call, trace_call, trace_valid};
 pub use client::{Caller, Client, Lists};
 pub use fault::Fault;
 pub use law::{Vacation, serial_records_are_legal};
 pub use manager::Manager;
-pub use note::{AttemptNote, Note};
-pub use placed::{Effort, Placed};
+pub use note::{CompletedCall, TracedAttempt};
+pub use placed::{CallStatistics, PlacedReply};
 pub use recorder::{NoRecorder, Recorder};
 pub use renew::RenewFault;
 pub use report::report_of;
-pub use stm_object::{Body, Object, Place, Tracer, Untraced};
+pub use stm_object::{Body, CommitPosition, Object, Tracer, Untraced};
 pub use stm_region::MOST_STRIPES;
 pub use vac_model::limits::MOST_TRIES;
 pub use vac_model::{
-    Asks, Changes, Command, Item, Joined, Kind, Pick, Reply, Report, Task, TripReply, UpdateReply,
-    Why,
+    Asks, Changes, Command, CustomerOutcome, Item, Kind, Pick, Refusal, Reply, Report, Task,
+    TripReply, UpdateReply,
 };

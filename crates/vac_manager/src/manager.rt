@@ -2,7 +2,7 @@
 
 ghost use Rattle.std.specs.Prelude.{◌≡◌, ◌↔◌, ◌+◌, ◌*◌, ◌⊎◌, min, false, IfOk, IfErr, IsErrOf};
 ghost use Rattle.stm_core.specs.declared.limits.TheConstants.{MOST_STRIPES};
-ghost use Rattle.stm_region.specs.Refused.{ClosesNot};
+ghost use Rattle.stm_region.specs.Refused.{RefusesClose};
 ghost use Rattle.tx_alloc.specs.Pool.{heap_words};
 ghost use Rattle.vac_manager.specs.Called.{HasAllGrants};
 ghost use Rattle.vac_manager.specs.Opening.{is_opening, Opens, ClosesInState};
@@ -105,7 +105,7 @@ impl Manager {
         ensures closes { IfOk result (λ r. ClosesInState self client.value r.0.items r.1) }
         ensures all { IfOk result (λ _. HasAllGrants client.value) }
         ensures kept { IfErr result
-            (λ r. (r.0 ≡ self) × (r.1 ≡ client) × ClosesNot client.value.grants r.2) }
+            (λ r. (r.0 ≡ self) × (r.1 ≡ client) × RefusesClose client.value.grants r.2) }
     {
         let Manager { shared } = self;
         match shared.close(client) {

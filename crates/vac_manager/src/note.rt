@@ -1,12 +1,12 @@
 //! Completed calls and traced attempts, as a recorder notes them.
 
-use stm_object::Place;
+use stm_object::CommitPosition;
 use tx_observed::Access;
 use vac_model::{Reply, Task};
 
 /// A traced attempt.
 #[derive(Drop)]
-pub struct AttemptNote {
+pub struct TracedAttempt {
     /// Begin of the attempt, in nanoseconds of a clock that all clients share.
     pub begin: u64,
     /// End of the attempt, by the same clock.
@@ -15,14 +15,14 @@ pub struct AttemptNote {
     pub commits: bool,
     /// Commit position of the attempt's record. An aborted attempt has no record; its position is
     /// that of a reader's record at its read version.
-    pub place: Place,
+    pub place: CommitPosition,
     /// Reads and writes of the attempt, in this order.
     pub accesses: Vec<Access>,
 }
 
 /// A completed call.
 #[derive(Drop)]
-pub struct Note {
+pub struct CompletedCall {
     /// Begin of the call, in nanoseconds of a clock that all clients share.
     pub begin: u64,
     /// Time at which the call returned, by the same clock.
@@ -30,7 +30,7 @@ pub struct Note {
     pub task: Task,
     pub reply: Reply,
     /// Commit position of the call's record.
-    pub place: Place,
+    pub place: CommitPosition,
     /// The attempt that committed, if attempts are traced and there was room for this one.
-    pub attempt: Option<Box<AttemptNote>>,
+    pub attempt: Option<Box<TracedAttempt>>,
 }

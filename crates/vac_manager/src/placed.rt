@@ -5,25 +5,25 @@ ghost use Rattle.stm_object.specs.Tracing.{conflict_of};
 ghost use Rattle.vac_model.specs.declared.limits.TheConstants.{MOST_TRIES};
 ghost use Rattle.vac_manager.specs.Placed.{nothing_done, conflicts_of, locks_of};
 ghost use Rattle.vac_manager.specs.Placed.{one_more_over, conflicted, counted};
-ghost use Rattle.vac_manager.specs.Sites.{site_of};
+ghost use Rattle.vac_manager.specs.Sites.{word_kind_of};
 
-use crate::sites::{Site, site_of};
+use crate::sites::{WordKind, word_kind_of};
 use stm_attempt::{Conflict, Stop};
-use stm_object::Place;
+use stm_object::CommitPosition;
 use vac_model::Reply;
 use vac_model::limits::MOST_TRIES;
 
 /// A reply, with the commit position of the call's record.
 #[derive(Debug, PartialEq, Eq)]
-pub struct Placed {
+pub struct PlacedReply {
     pub reply: Reply,
-    pub place: Place,
+    pub place: CommitPosition,
 }
 
 /// Attempt statistics of one call: the number of attempts, the number that aborted on each kind of
 /// conflict, and the number of conflicts over the lock of each kind of word.
 #[derive(Clone, Copy, Debug, PartialEq, Eq, Default)]
-pub struct Effort {
+pub struct CallStatistics {
     /// Attempts begun.
     pub attempts: u32,
     /// Attempts that found a lock word held by another client.
@@ -48,25 +48,25 @@ pub struct Effort {
     pub stocks: u32,
 }
 
-impl Effort {
+impl CallStatistics {
     /// Returns the statistics of no attempt.
-    pub fn new() -> Effort
+    pub fn new() -> CallStatistics
         ensures { result ≡ nothing_done }
     {
-        Effort::default()
+        CallStatistics::default()
     }
 
     /// Counts a conflict by the kind of word that its lock guards.
     fn count_over(&mut self, lock: u32)
         requires few { locks_of self.old < MOST_TRIES }
-        ensures { self.new ≡ one_more_over (site_of lock) self.old }
+        ensures { self.new ≡ one_more_over (word_kind_of lock) self.old }
     {
-        match site_of(lock) {
-            Site::Root => self.roots += 1,
-            Site::Head => self.heads += 1,
-            Site::Node => self.nodes += 1,
-            Site::Use => self.uses += 1,
-            Site::Stock => self.stocks += 1,
+        match word_kind_of(lock) {
+            WordKind::Root => self.roots += 1,
+            WordKind::Head => self.heads += 1,
+            WordKind::Node => self.nodes += 1,
+            WordKind::Use => self.uses += 1,
+            WordKind::Stock => self.stocks += 1,
         }
     }
 

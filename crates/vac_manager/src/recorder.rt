@@ -1,11 +1,11 @@
 //! Recorders of a client's completed calls.
 
 ghost use Rattle.std.specs.Prelude.{◌≡◌, List, Option, None, OnOk};
-ghost use Rattle.vac_manager.specs.declared.note.Note.{Note};
+ghost use Rattle.vac_manager.specs.declared.note.CompletedCall.{CompletedCall};
 ghost use Rattle.vac_manager.specs.Tracing.{Trace};
 ghost use Rattle.vac_manager.specs.Keeping.{HasKept, HasTakenOut};
 
-use crate::placed::Placed;
+use crate::placed::PlacedReply;
 use std::alloc::AllocError;
 use stm_object::{Tracer, Untraced};
 use vac_model::Task;
@@ -16,7 +16,7 @@ pub trait Recorder {
     type Tracing: Tracer + Drop;
 
     /// The recorded calls in their order; None if nothing is recorded.
-    ghost notes: { Self → Option (List Note) };
+    ghost notes: { Self → Option (List CompletedCall) };
 
     /// The traced attempts; None if no attempts are traced, or if there was no room for all of
     /// them.
@@ -47,7 +47,7 @@ pub trait Recorder {
 
     /// Appends a completed call to the recorded calls. The call's attempt is the last one that was
     /// traced; the other traced attempts stay.
-    fn keep(&mut self, task: Task, placed: Placed)
+    fn keep(&mut self, task: Task, placed: PlacedReply)
         requires { ready self.old }
         ensures kept { HasKept task placed (traced self.old) (notes self.old) (notes self.new) }
         ensures taken { HasTakenOut (traced self.old) (traced self.new) };
@@ -80,7 +80,7 @@ impl Recorder for NoRecorder {
         let Untraced = tracer;
     }
 
-    fn keep(&mut self, _task: Task, placed: Placed) {
-        let Placed { reply: _, place: _ } = placed;
+    fn keep(&mut self, _task: Task, placed: PlacedReply) {
+        let PlacedReply { reply: _, place: _ } = placed;
     }
 }

@@ -1,7 +1,7 @@
 //! The kind of word that a lock guards.
 
 ghost use Rattle.std.specs.Prelude.{◌≡◌};
-ghost use Rattle.vac_manager.specs.Sites.{site_of};
+ghost use Rattle.vac_manager.specs.Sites.{word_kind_of};
 
 use tx_alloc::place::{BLOCK_WORDS, FIRST_BLOCK, FIRST_HEAD};
 
@@ -10,7 +10,7 @@ const FIFTH: u32 = 4;
 
 /// The kind of a word, as far as its address shows it.
 #[derive(Clone, Copy, Debug, PartialEq, Eq)]
-pub enum Site {
+pub enum WordKind {
     /// A root of a table.
     Root,
     /// A head of a free list.
@@ -27,21 +27,21 @@ pub enum Site {
 }
 
 /// Returns the kind of the first word that the lock with this number guards.
-pub(crate) fn site_of(lock: u32) -> Site
-    ensures { result ≡ site_of lock }
+pub(crate) fn word_kind_of(lock: u32) -> WordKind
+    ensures { result ≡ word_kind_of lock }
 {
     if lock < FIRST_HEAD {
-        return Site::Root;
+        return WordKind::Root;
     }
     if lock < FIRST_BLOCK {
-        return Site::Head;
+        return WordKind::Head;
     }
     let place = lock % BLOCK_WORDS;
     if place < FIFTH {
-        Site::Node
+        WordKind::Node
     } else if place == FIFTH {
-        Site::Use
+        WordKind::Use
     } else {
-        Site::Stock
+        WordKind::Stock
     }
 }

@@ -3,32 +3,33 @@
 ghost use Rattle.std.specs.Prelude.{◌≤◌};
 ghost use Rattle.vac_manager.specs.Placed.{conflicts_of, locks_of};
 
-use crate::placed::Effort;
+use crate::placed::CallStatistics;
 use stm_attempt::Stop;
-use stm_object::{Body, Object, Place, Tracer};
+use stm_object::{Body, CommitPosition, Object, Tracer};
 use stm_words::Version;
 use tx_memory::{TxMem, TxRead};
 
 /// A tracer that counts the attempts of a call and passes each step on to another tracer.
-pub(crate) struct Counting<'a, T: Tracer> {
-    pub(crate) effort: Effort,
+pub(crate) struct CountingTracer<'a, T: Tracer> {
+    pub(crate) statistics: &'a mut CallStatistics,
     pub(crate) tracer: &'a mut T,
-    ghost conflicts: { conflicts_of effort ≤ effort.attempts },
-    ghost locks: { locks_of effort ≤ effort.attempts },
+    ghost conflicts: { conflicts_of statistics.now ≤ statistics.now.attempts },
+    ghost locks: { locks_of statistics.now ≤ statistics.now.attempts },
 }
 
-impl<'a, T: Tracer> Tracer for Counting<'a, T> {
+impl<'a, T: Tracer> Tracer for CountingTracer<'a, T> {
     ghost use Rattle.std.specs.Prelude.{ℕ};
-    ghost use Rattle.vac_manager.specs.declared.placed.Effort.{Effort};
+    ghost use Rattle.vac_manager.specs.declared.placed.CallStatistics.{CallStatistics};
     ghost use Rattle.vac_manager.specs.Placed.{counted};
 
-    ghost Frame = { ℕ × T.Frame };
+    ghost Frame = { ℕ × ℕ × T.Frame };
 
-    ghost frame = { λ c. (c.tracer.ghost_name, T.frame c.tracer.now) };
+    ghost frame = { λ c.
+        (c.statistics.ghost_name, c.tracer.ghost_name, T.frame c.tracer.now) };
 
-    ghost Tally = { Effort };
+    ghost Tally = { CallStatistics };
 
-    ghost tally = { λ c. c.effort };
+    ghost tally = { λ c. c.statistics.now };
 
     ghost more = { λ conflict e. counted conflict e };
 
@@ -65,14 +66,14 @@ impl<'a, T: Tracer> Tracer for Counting<'a, T> {
     }
 
     #[inline]
-    fn commit(&mut self, place: &Place) {
-        self.effort.count_answer();
+    fn commit(&mut self, place: &CommitPosition) {
+        self.statistics.count_answer();
         self.tracer.commit(place);
     }
 
     #[inline]
     fn give_up(&mut self, stop: &Stop) {
-        self.effort.count_stop(stop);
+        self.statistics.count_stop(stop);
         self.tracer.give_up(stop);
     }
 }

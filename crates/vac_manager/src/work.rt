@@ -13,13 +13,13 @@ use vac_tasks::{only_reads, read_task, run_task};
 /// A task that can be issued, as the body of a transaction. New entries take their blocks from
 /// free list `start` first.
 #[derive(Drop)]
-pub(crate) struct Work<'a> {
+pub(crate) struct TaskBody<'a> {
     pub(crate) task: &'a Task,
     pub(crate) start: FreeList,
     ghost range: { is_task task.now ≡ true },
 }
 
-impl<'a> Body<Vacation> for Work<'a> {
+impl<'a> Body<Vacation> for TaskBody<'a> {
     ghost use Rattle.std.specs.Prelude.{not};
     ghost use Rattle.vac_tasks.specs.Reading as reading;
     ghost use Rattle.vac_manager.specs.Called.{changes_nothing};

@@ -5,14 +5,15 @@ use Rattle.std.specs.List.{flat_map}
 use Rattle.vac_model.specs.declared.items.Kind.{Kind}
 use Rattle.vac_model.specs.declared.commands.Command.{Command}
 use Rattle.vac_model.specs.declared.commands.Command.TheVariants as command
-use Rattle.vac_model.specs.declared.commands.Why.{Why}
-use Rattle.vac_model.specs.declared.commands.Why.TheVariants.{NeedsCountAndPrice, TotalLimit, Full, NoItem, NotFree}
-use Rattle.vac_model.specs.declared.commands.Why.TheVariants.{InUse, Exists, NoCustomer, SoldOut, NotBooked, UnitLimit}
+use Rattle.vac_model.specs.declared.commands.Refusal.{Refusal}
+use Rattle.vac_model.specs.declared.commands.Refusal.TheVariants.{NeedsCountAndPrice, TotalLimit, Full, NoItem, NotFree}
+use Rattle.vac_model.specs.declared.commands.Refusal.TheVariants.{InUse, Exists, NoCustomer, SoldOut, NotBooked}
+use Rattle.vac_model.specs.declared.commands.Refusal.TheVariants.{UnitLimit}
 use Rattle.vac_model.specs.declared.replies.Reply.{Reply}
 use Rattle.vac_model.specs.declared.replies.Reply.TheVariants as reply
 use Rattle.vac_model.specs.declared.replies.Report.{Report}
-use Rattle.vac_model.specs.declared.replies.Joined.{Joined}
-use Rattle.vac_model.specs.declared.replies.Joined.TheVariants as joined
+use Rattle.vac_model.specs.declared.replies.CustomerOutcome.{CustomerOutcome}
+use Rattle.vac_model.specs.declared.replies.CustomerOutcome.TheVariants as joined
 use Rattle.vac_model.specs.declared.replies.Pick.{Pick}
 use Rattle.vac_model.specs.declared.tasks.Task.{Task}
 use Rattle.vac_model.specs.declared.tasks.Task.TheVariants as task
@@ -136,7 +137,7 @@ task_back (task.Leave customer) rest = refl
 task_back (task.Update changes) rest = ap (λ (r : Read (List Command)). (task.Update r.0, r.1))
     (list_back command_code read_command command_back changes rest)
 
-abbrev why_at : ℕ → Why
+abbrev why_at : ℕ → Refusal
 why_at n =
     if n == 0 then NeedsCountAndPrice
     else if n == 1 then TotalLimit
@@ -150,7 +151,7 @@ why_at n =
     else if n == 9 then NotBooked
     else UnitLimit
 
-abbrev read_why : List ℕ → Read Why
+abbrev read_why : List ℕ → Read Refusal
 read_why l = (why_at (head l), tail l)
 
 why_back : ReadsBack why_code read_why
@@ -166,7 +167,7 @@ why_back SoldOut rest = refl
 why_back NotBooked rest = refl
 why_back UnitLimit rest = refl
 
-abbrev read_joined : List ℕ → Read Joined
+abbrev read_joined : List ℕ → Read CustomerOutcome
 read_joined l =
     if head l == 0 then (joined.NotAsked, tail l)
     else if head l == 1 then (joined.Added, tail l)
@@ -175,7 +176,7 @@ read_joined l =
 joined_back : ReadsBack joined_code read_joined
 joined_back joined.NotAsked rest = refl
 joined_back joined.Added rest = refl
-joined_back (joined.Refused why) rest = ap (λ (r : Read Why). (joined.Refused r.0, r.1)) (why_back why rest)
+joined_back (joined.Refused why) rest = ap (λ (r : Read Refusal). (joined.Refused r.0, r.1)) (why_back why rest)
 
 abbrev read_pick : List ℕ → Read Pick
 read_pick l =
@@ -184,7 +185,7 @@ read_pick l =
 
 pick_back : ReadsBack pick_code read_pick
 pick_back p rest =
-    ap (λ (r : Read (Option Why)). let q : Pick = record { id = p.id; price = p.price; refused = r.0 } in
+    ap (λ (r : Read (Option Refusal)). let q : Pick = record { id = p.id; price = p.price; refused = r.0 } in
     (q, r.1)) (option_back why_code read_why why_back p.refused rest)
 
 abbrev read_report : List ℕ → Read Report
@@ -226,17 +227,17 @@ reply_back reply.Done rest = refl
 reply_back (reply.Number n) rest = ap (λ (r : Read (Option ℕ)). (reply.Number r.0, r.1))
     (option_back number_code read_number number_back n rest)
 reply_back (reply.Report r) rest = refl
-reply_back (reply.No why) rest = ap (λ (r : Read Why). (reply.No r.0, r.1)) (why_back why rest)
+reply_back (reply.No why) rest = ap (λ (r : Read Refusal). (reply.No r.0, r.1)) (why_back why rest)
 reply_back (reply.Trip t) rest =
     let picks = list_code (option_code pick_code) t.picks in
     let front : read_joined ((joined_code t.joined ++ picks) ++ rest) ≡ (t.joined, picks ++ rest) =
     ap read_joined (append_assoc (joined_code t.joined) picks rest) ∙ joined_back t.joined (picks ++ rest) in
-    ap (λ (j : Read Joined). let ps = read_list (read_option read_pick) j.1 in
+    ap (λ (j : Read CustomerOutcome). let ps = read_list (read_option read_pick) j.1 in
     (reply.Trip (record { joined = j.0; picks = ps.0 }), ps.1)) front
     ∙ ap (λ (ps : Read (List (Option Pick))). (reply.Trip (record { joined = t.joined; picks = ps.0 }), ps.1))
     (list_back (option_code pick_code) (read_option read_pick) (option_back pick_code read_pick pick_back) t.picks rest)
 reply_back (reply.Update u) rest =
-    ap (λ (r : Read (List (Option Why))). (reply.Update (record { len = u.len; refused = r.0 }), r.1))
+    ap (λ (r : Read (List (Option Refusal))). (reply.Update (record { len = u.len; refused = r.0 }), r.1))
     (list_back (option_code why_code) (read_option read_why) (option_back why_code read_why why_back) u.refused rest)
 
 -- no two pairs of a task and a reply have one code

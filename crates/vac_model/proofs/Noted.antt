@@ -3,7 +3,7 @@ use Rattle.std.proofs.Common.{◌≡◌, ℕ, ◌+◌, ◌-◌, ◌<◌, List, [
 use Rattle.std.proofs.Common.{append_assoc}
 use Rattle.std.specs.Prelude.{Option, None, replicate, suc, zero}
 use Rattle.vac_model.specs.declared.commands.Command.{Command}
-use Rattle.vac_model.specs.declared.commands.Why.{Why}
+use Rattle.vac_model.specs.declared.commands.Refusal.{Refusal}
 use Rattle.vac_model.specs.declared.replies.Reply.{Reply}
 use Rattle.vac_model.specs.State.{State}
 use Rattle.vac_model.specs.Step.{step}
@@ -28,7 +28,7 @@ set_after [] ys y z = refl
 set_after (x ∷ xs) ys y z = ap (λ r. x ∷ r) (set_after xs ys y z)
 
 -- nothing noted
-abbrev no_why : Option Why
+abbrev no_why : Option Refusal
 no_why = None
 
 one_fewer : (n : ℕ) → 0 < n → replicate n no_why ≡ no_why ∷ replicate (n - 1) no_why
@@ -36,7 +36,7 @@ one_fewer zero h = absurd (omega arith)
 one_fewer (suc n) h = let same : suc n - 1 ≡ n = omega arith in ap (λ m. no_why ∷ replicate m no_why) (sym same)
 
 -- a refusal is noted in its entry
-pub noted : (whys : List (Option Why)) (i : ℕ) (w : Option Why) → length whys ≡ i → i < 32
+pub noted : (whys : List (Option Refusal)) (i : ℕ) (w : Option Refusal) → length whys ≡ i → i < 32
     → slice_set (whys ++ replicate (32 - i) None) i w ≡ (whys ++ w ∷ []) ++ replicate (32 - (i + 1)) None
 noted whys i w e h =
     let one : 32 - i - 1 ≡ 32 - (i + 1) = omega arith in

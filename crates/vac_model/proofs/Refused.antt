@@ -8,12 +8,13 @@ use Rattle.vac_model.specs.declared.items.Kind.{Kind}
 use Rattle.vac_model.specs.declared.items.Kind.TheVariants.{Car, Flight, Room}
 use Rattle.vac_model.specs.declared.commands.Command.{Command}
 use Rattle.vac_model.specs.declared.commands.Command.TheVariants as command
-use Rattle.vac_model.specs.declared.commands.Why.{Why}
-use Rattle.vac_model.specs.declared.commands.Why.TheVariants.{NeedsCountAndPrice, TotalLimit, Full, NoItem, NotFree}
-use Rattle.vac_model.specs.declared.commands.Why.TheVariants.{InUse, Exists, NoCustomer, SoldOut, NotBooked, UnitLimit}
+use Rattle.vac_model.specs.declared.commands.Refusal.{Refusal}
+use Rattle.vac_model.specs.declared.commands.Refusal.TheVariants.{NeedsCountAndPrice, TotalLimit, Full, NoItem, NotFree}
+use Rattle.vac_model.specs.declared.commands.Refusal.TheVariants.{InUse, Exists, NoCustomer, SoldOut, NotBooked}
+use Rattle.vac_model.specs.declared.commands.Refusal.TheVariants.{UnitLimit}
 use Rattle.vac_model.specs.declared.replies.Reply.{Reply}
 use Rattle.vac_model.specs.declared.replies.Reply.TheVariants as reply
-use Rattle.vac_model.specs.declared.replies.Joined.TheVariants as joined
+use Rattle.vac_model.specs.declared.replies.CustomerOutcome.TheVariants as joined
 use Rattle.vac_model.specs.declared.tasks.Task.{Task}
 use Rattle.vac_model.specs.declared.tasks.Task.TheVariants as task
 use Rattle.vac_model.specs.State.{State, bill_of, item_of, bookings_of, is_full, size}
@@ -25,9 +26,9 @@ use Rattle.vac_model.proofs.Kept.{found_both, if_both, le_true, eq_false, lt_fal
 
 -- an outcome that left the state as it was if it refused
 abbrev Untouched : State → Outcome → Type 0
-Untouched s o = (why : Why) → o.1 ≡ reply.No why → o.0 ≡ s
+Untouched s o = (why : Refusal) → o.1 ≡ reply.No why → o.0 ≡ s
 
-never_done : {A : Type 0} (why : Why) → ◌≡◌ {A = Reply} reply.Done (reply.No why) → A
+never_done : {A : Type 0} (why : Refusal) → ◌≡◌ {A = Reply} reply.Done (reply.No why) → A
 never_done why e = absurd (let never : ◌≡◌ {A = Reply} reply.Done (reply.No why) = e in cc)
 
 add_new_untouched : (s : State) (kind : Kind) (id num : ℕ) (price : Option ℕ) →
@@ -187,12 +188,12 @@ full_step s (command.Cancel customer kind id) n e = absurd n
 full_step s command.Audit n e = absurd n
 
 -- no task but a command is refused as a whole
-trip_answers : (any : Bool) (a b : Outcome) (why : Why) → ¬ (a.1 ≡ reply.No why) → ¬ (b.1 ≡ reply.No why) →
+trip_answers : (any : Bool) (a b : Outcome) (why : Refusal) → ¬ (a.1 ≡ reply.No why) → ¬ (b.1 ≡ reply.No why) →
     (cond any a b).1 ≡ reply.No why → ⊥
 trip_answers true a b why f g e = f e
 trip_answers false a b why f g e = g e
 
-pub run_answers : (s : State) (t : Task) (why : Why) → (run s t).1 ≡ reply.No why → IsOne t
+pub run_answers : (s : State) (t : Task) (why : Refusal) → (run s t).1 ≡ reply.No why → IsOne t
 run_answers s (task.One c) why = λ e. tt
 run_answers s (task.Trip customer asks) why = λ e.
     let car = choice_of s Car asks in

@@ -7,7 +7,7 @@ use Rattle.std.specs.Cmp.{nat_cmp_total}
 use Rattle.vac_model.specs.declared.items.Kind.{Kind}
 use Rattle.vac_model.specs.declared.items.Item.{Item}
 use Rattle.vac_model.specs.declared.commands.Command.TheVariants as command
-use Rattle.vac_model.specs.declared.commands.Why.TheVariants.{SoldOut, Full, UnitLimit}
+use Rattle.vac_model.specs.declared.commands.Refusal.TheVariants.{SoldOut, Full, UnitLimit}
 use Rattle.vac_model.specs.declared.replies.Reply.{Reply}
 use Rattle.vac_model.specs.declared.replies.Reply.TheVariants as reply
 use Rattle.vac_model.specs.State.{State, Booking, Bookings, item_of, with_item, bookings_of, with_bookings}

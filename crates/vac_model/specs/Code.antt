@@ -5,13 +5,13 @@ use Rattle.std.specs.Prelude.{ℕ, Option, Some, None, List, [], ◌∷◌, ◌+
 use Rattle.std.specs.List.{flat_map}
 use Rattle.vac_model.specs.declared.commands.Command.{Command}
 use Rattle.vac_model.specs.declared.commands.Command.TheVariants as command
-use Rattle.vac_model.specs.declared.commands.Why.{Why}
-use Rattle.vac_model.specs.declared.commands.Why.TheVariants.{NeedsCountAndPrice, TotalLimit, Full, NoItem, NotFree, InUse, Exists, NoCustomer, SoldOut, NotBooked, UnitLimit}
+use Rattle.vac_model.specs.declared.commands.Refusal.{Refusal}
+use Rattle.vac_model.specs.declared.commands.Refusal.TheVariants.{NeedsCountAndPrice, TotalLimit, Full, NoItem, NotFree, InUse, Exists, NoCustomer, SoldOut, NotBooked, UnitLimit}
 use Rattle.vac_model.specs.declared.replies.Reply.{Reply}
 use Rattle.vac_model.specs.declared.replies.Reply.TheVariants as reply
 use Rattle.vac_model.specs.declared.replies.Report.{Report}
-use Rattle.vac_model.specs.declared.replies.Joined.{Joined}
-use Rattle.vac_model.specs.declared.replies.Joined.TheVariants as joined
+use Rattle.vac_model.specs.declared.replies.CustomerOutcome.{CustomerOutcome}
+use Rattle.vac_model.specs.declared.replies.CustomerOutcome.TheVariants as joined
 use Rattle.vac_model.specs.declared.replies.Pick.{Pick}
 use Rattle.vac_model.specs.declared.tasks.Task.{Task}
 use Rattle.vac_model.specs.declared.tasks.Task.TheVariants as task
@@ -58,7 +58,7 @@ task_code (task.Leave customer) = 2 ∷ customer ∷ []
 task_code (task.Update changes) = 3 ∷ list_code command_code changes
 
 -- the index of a refusal among the refusals
-abbrev pub why_place : Why → ℕ
+abbrev pub why_place : Refusal → ℕ
 why_place NeedsCountAndPrice = 0
 why_place TotalLimit = 1
 why_place Full = 2
@@ -72,7 +72,7 @@ why_place NotBooked = 9
 why_place UnitLimit = 10
 
 -- the code of a refusal: its index
-abbrev pub why_code : Why → List ℕ
+abbrev pub why_code : Refusal → List ℕ
 why_code why = why_place why ∷ []
 
 -- the code of a report: its nine numbers
@@ -82,7 +82,7 @@ report_code r =
     ∷ r.used ∷ r.free ∷ r.total ∷ r.billed ∷ []
 
 -- the code of what happened to a trip's customer: not created, created, or refused with the reason
-abbrev pub joined_code : Joined → List ℕ
+abbrev pub joined_code : CustomerOutcome → List ℕ
 joined_code joined.NotAsked = 0 ∷ []
 joined_code joined.Added = 1 ∷ []
 joined_code (joined.Refused why) = 2 ∷ why_code why

@@ -7,11 +7,11 @@ use Rattle.vac_model.specs.declared.items.Kind.{Kind}
 use Rattle.vac_model.specs.declared.items.Kind.TheVariants.{Car, Flight, Room}
 use Rattle.vac_model.specs.declared.commands.Command.{Command}
 use Rattle.vac_model.specs.declared.commands.Command.TheVariants as command
-use Rattle.vac_model.specs.declared.commands.Why.{Why}
+use Rattle.vac_model.specs.declared.commands.Refusal.{Refusal}
 use Rattle.vac_model.specs.declared.replies.Reply.{Reply}
 use Rattle.vac_model.specs.declared.replies.Reply.TheVariants as reply
-use Rattle.vac_model.specs.declared.replies.Joined.{Joined}
-use Rattle.vac_model.specs.declared.replies.Joined.TheVariants as joined
+use Rattle.vac_model.specs.declared.replies.CustomerOutcome.{CustomerOutcome}
+use Rattle.vac_model.specs.declared.replies.CustomerOutcome.TheVariants as joined
 use Rattle.vac_model.specs.declared.replies.Pick.{Pick}
 use Rattle.vac_model.specs.declared.tasks.Task.{Task}
 use Rattle.vac_model.specs.declared.tasks.Task.TheVariants as task
@@ -19,7 +19,7 @@ use Rattle.vac_model.specs.State.{State, Place, bookings_of, bill_of, kind_numbe
 use Rattle.vac_model.specs.Step.{Outcome, step, when_found, number_answered, price_of}
 
 -- the reason of a refusal, if the reply is one
-abbrev pub refusal_of : Reply → Option Why
+abbrev pub refusal_of : Reply → Option Refusal
 refusal_of reply.Done = None
 refusal_of (reply.Number n) = None
 refusal_of (reply.Report r) = None
@@ -47,7 +47,7 @@ choice_of s kind asks =
     else best) None asks
 
 -- the outcome for the customer of a trip: created, or refused with the reason
-abbrev pub joined_of : Reply → Joined
+abbrev pub joined_of : Reply → CustomerOutcome
 joined_of reply.Done = joined.Added
 joined_of (reply.Number n) = joined.Added
 joined_of (reply.Report r) = joined.Added
@@ -90,7 +90,7 @@ leave s customer =
 
 -- the state after these commands, and for each command the reason of its refusal, if it was
 -- refused
-abbrev pub steps : State → List Command → State × List (Option Why)
+abbrev pub steps : State → List Command → State × List (Option Refusal)
 steps s [] = (s, [])
 steps s (c ∷ cs) =
     let first = step s c in

@@ -10,8 +10,8 @@ use Rattle.vac_model.specs.declared.items.Kind.TheVariants.{Flight}
 use Rattle.vac_model.specs.declared.items.Item.{Item}
 use Rattle.vac_model.specs.declared.commands.Command.{Command}
 use Rattle.vac_model.specs.declared.commands.Command.TheVariants as command
-use Rattle.vac_model.specs.declared.commands.Why.{Why}
-use Rattle.vac_model.specs.declared.commands.Why.TheVariants.{NeedsCountAndPrice, TotalLimit, Full, NoItem, NotFree, InUse, Exists, NoCustomer, SoldOut, NotBooked, UnitLimit}
+use Rattle.vac_model.specs.declared.commands.Refusal.{Refusal}
+use Rattle.vac_model.specs.declared.commands.Refusal.TheVariants.{NeedsCountAndPrice, TotalLimit, Full, NoItem, NotFree, InUse, Exists, NoCustomer, SoldOut, NotBooked, UnitLimit}
 use Rattle.vac_model.specs.declared.replies.Reply.{Reply}
 use Rattle.vac_model.specs.declared.replies.Reply.TheVariants as reply
 use Rattle.vac_model.specs.State.{State, Booking, Bookings, Place, item_of, with_item, without_item, bookings_of, with_bookings, without_customer, is_full, bill_of, report}
@@ -29,7 +29,7 @@ abbrev pub Outcome : Type 0
 Outcome = State × Reply
 
 -- the outcome of a refused command, which changes nothing
-abbrev pub refused : State → Why → Outcome
+abbrev pub refused : State → Refusal → Outcome
 refused s why = (s, reply.No why)
 
 -- the outcome of a command that took effect

@@ -150,7 +150,7 @@ fn has_deletable_units(kind: Kind) -> bool
 /// The reason why a command was refused. No code reads the numbers: the program writes names, and
 /// the code of a record has the refusal's index.
 #[derive(Clone, Copy, Debug, PartialEq, Eq)]
-pub enum Why {
+pub enum Refusal {
     NeedsCountAndPrice = 1,
     TotalLimit = 2,
     Full = 3,

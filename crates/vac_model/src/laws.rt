@@ -8,11 +8,11 @@ ghost use Rattle.vac_model.specs.declared.items.Kind.TheVariants.{Car, Flight, R
 ghost use Rattle.vac_model.specs.declared.items.Item.{Item};
 ghost use Rattle.vac_model.specs.declared.commands.Command.{Command};
 ghost use Rattle.vac_model.specs.declared.commands.Command.TheVariants as command;
-ghost use Rattle.vac_model.specs.declared.commands.Why.{Why};
-ghost use Rattle.vac_model.specs.declared.commands.Why.TheVariants.{NeedsCountAndPrice, TotalLimit, Full, NoItem, NotFree, InUse, Exists, NoCustomer, SoldOut, NotBooked, UnitLimit};
+ghost use Rattle.vac_model.specs.declared.commands.Refusal.{Refusal};
+ghost use Rattle.vac_model.specs.declared.commands.Refusal.TheVariants.{NeedsCountAndPrice, TotalLimit, Full, NoItem, NotFree, InUse, Exists, NoCustomer, SoldOut, NotBooked, UnitLimit};
 ghost use Rattle.vac_model.specs.declared.replies.Reply.{Reply};
 ghost use Rattle.vac_model.specs.declared.replies.Reply.TheVariants as reply;
-ghost use Rattle.vac_model.specs.declared.replies.Joined.TheVariants as joined;
+ghost use Rattle.vac_model.specs.declared.replies.CustomerOutcome.TheVariants as joined;
 ghost use Rattle.vac_model.specs.declared.tasks.Task.{Task};
 ghost use Rattle.vac_model.specs.declared.tasks.Task.TheVariants as task;
 ghost use Rattle.vac_model.specs.State.{State, Booking, Bookings, empty_state, item_of, bookings_of, units_of, size, report};
@@ -37,7 +37,7 @@ pub fn states_stay_balanced()
 
 /// States that a refused command changes nothing.
 pub fn refused_commands_change_nothing()
-    ensures { (s : State) (c : Command) (why : Why)
+    ensures { (s : State) (c : Command) (why : Refusal)
         → (step s c).1 ≡ reply.No why → (step s c).0 ≡ s }
 {}
 
@@ -52,7 +52,7 @@ pub fn full_where_no_entry_is_left()
 
 /// States that a trip, a leave and an update are never refused as a whole.
 pub fn only_commands_are_refused()
-    ensures { (s : State) (t : Task) (why : Why) → (run s t).1 ≡ reply.No why → IsOne t }
+    ensures { (s : State) (t : Task) (why : Refusal) → (run s t).1 ≡ reply.No why → IsOne t }
 {}
 
 /// States that a `Cancel` and a `DropCustomer` give back exactly the units that were booked.

@@ -13,7 +13,7 @@ pub mod limits;
 mod replies;
 mod tasks;
 
-pub use commands::{Command, Why};
+pub use commands::{Command, Refusal};
 pub use items::{Booking, Item, Kind};
-pub use replies::{Joined, Pick, Reply, Report, TripReply, UpdateReply};
+pub use replies::{CustomerOutcome, Pick, Reply, Report, TripReply, UpdateReply};
 pub use tasks::{Asks, Changes, INLINE_ASKS, INLINE_CHANGES, Task};

@@ -1,6 +1,6 @@
 //! The replies to tasks. Every reply has a fixed size.
 
-use crate::commands::Why;
+use crate::commands::Refusal;
 use crate::limits::MOST_PARTS;
 
 /// The reply to a task.
@@ -13,7 +13,7 @@ pub enum Reply {
     /// The report of the whole state.
     Report(Report),
     /// The command was refused and changed nothing.
-    No(Why),
+    No(Refusal),
     /// The outcome of a trip.
     Trip(TripReply),
     /// The outcome of an update.
@@ -39,19 +39,19 @@ pub struct Report {
 /// of that kind among the asks was found.
 #[derive(Clone, Copy, Debug, PartialEq, Eq)]
 pub struct TripReply {
-    pub joined: Joined,
+    pub joined: CustomerOutcome,
     pub picks: [Option<Pick>; 3],
 }
 
 /// The outcome for the customer of a trip.
 #[derive(Clone, Copy, Debug, PartialEq, Eq)]
-pub enum Joined {
+pub enum CustomerOutcome {
     /// Nothing was picked, so no customer was created.
     NotAsked,
     /// The customer is new.
     Added,
     /// The customer was not added; the trip went on.
-    Refused(Why),
+    Refused(Refusal),
 }
 
 /// The item that a trip picked of one kind, its price, and the reason if it could not be booked.
@@ -59,7 +59,7 @@ pub enum Joined {
 pub struct Pick {
     pub id: u32,
     pub price: u64,
-    pub refused: Option<Why>,
+    pub refused: Option<Refusal>,
 }
 
 /// The reply to an update: for each of its `len` changes the reason of its refusal, if it was
@@ -67,5 +67,5 @@ pub struct Pick {
 #[derive(Clone, Copy, Debug, PartialEq, Eq)]
 pub struct UpdateReply {
     pub len: u8,
-    pub refused: [Option<Why>; MOST_PARTS],
+    pub refused: [Option<Refusal>; MOST_PARTS],
 }

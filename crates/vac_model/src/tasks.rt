@@ -101,6 +101,7 @@ impl Task {
 
     /// Returns a trip with these asks. Fails only if memory is refused; up to eight asks need no
     /// memory.
+    #[inline(always)]
     pub fn trip(alloc: Global, customer: u32, asks: &[(Kind, u32)]) -> Result<Task, AllocError>
         ensures ok { IfOk result (λ task. task ≡ Task.Trip customer asks.now) }
         ensures inline { length asks.now ≤ INLINE_ASKS → IsOk result }

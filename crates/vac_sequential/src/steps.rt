@@ -13,7 +13,7 @@ use crate::maps::{BookingMap, Rebook};
 use crate::tables::Tables;
 use std::alloc::AllocError;
 use vac_model::limits::{MOST_TOTAL, MOST_UNITS};
-use vac_model::{Command, Kind, Reply, Why};
+use vac_model::{Command, Kind, Refusal, Reply};
 
 impl Tables {
     ghost use Rattle.vac_model.specs.State.{item_of, bookings_of, bill_of};
@@ -32,19 +32,19 @@ impl Tables {
         let item = match self.item(kind, id) {
             None => {
                 let Some(price) = price else {
-                    return Ok(Reply::No(Why::NeedsCountAndPrice));
+                    return Ok(Reply::No(Refusal::NeedsCountAndPrice));
                 };
                 if num == 0 {
-                    return Ok(Reply::No(Why::NeedsCountAndPrice));
+                    return Ok(Reply::No(Refusal::NeedsCountAndPrice));
                 }
                 if self.is_full() {
-                    return Ok(Reply::No(Why::Full));
+                    return Ok(Reply::No(Refusal::Full));
                 }
                 new_item(num, price)
             }
             Some(item) => {
                 if item.total + num as u64 > MOST_TOTAL {
-                    return Ok(Reply::No(Why::TotalLimit));
+                    return Ok(Reply::No(Refusal::TotalLimit));
                 }
                 added(item, num, price)
             }
@@ -58,10 +58,10 @@ impl Tables {
         ensures ok { IfOk result (λ reply. rules.delete self.old kind id num ≡ (self.new, reply)) }
     {
         let Some(item) = self.item(kind, id) else {
-            return Ok(Reply::No(Why::NoItem));
+            return Ok(Reply::No(Refusal::NoItem));
         };
         if item.free < num as u64 {
-            return Ok(Reply::No(Why::NotFree));
+            return Ok(Reply::No(Refusal::NotFree));
         }
         if item.total == num as u64 {
             self.remove_item(kind, id)?;
@@ -76,10 +76,10 @@ impl Tables {
         ensures ok { IfOk result (λ reply. rules.drop_flight self.old id ≡ (self.new, reply)) }
     {
         let Some(item) = self.item(Kind::Flight, id) else {
-            return Ok(Reply::No(Why::NoItem));
+            return Ok(Reply::No(Refusal::NoItem));
         };
         if item.used > 0 {
-            return Ok(Reply::No(Why::InUse));
+            return Ok(Reply::No(Refusal::InUse));
         }
         self.remove_item(Kind::Flight, id)?;
         Ok(Reply::Done)
@@ -90,10 +90,10 @@ impl Tables {
         ensures ok { IfOk result (λ reply. rules.new_customer self.old id ≡ (self.new, reply)) }
     {
         if self.bookings(id).is_some() {
-            return Ok(Reply::No(Why::Exists));
+            return Ok(Reply::No(Refusal::Exists));
         }
         if self.is_full() {
-            return Ok(Reply::No(Why::Full));
+            return Ok(Reply::No(Refusal::Full));
         }
         self.insert_customer(id)?;
         Ok(Reply::Done)
@@ -112,25 +112,25 @@ impl Tables {
             (λ reply. rules.reserve self.old customer kind id num ≡ (self.new, reply)) }
     {
         let Some(bookings) = self.bookings(customer) else {
-            return Ok(Reply::No(Why::NoCustomer));
+            return Ok(Reply::No(Refusal::NoCustomer));
         };
         let booked = bookings.get(kind, id);
         let Some(item) = self.item(kind, id) else {
-            return Ok(Reply::No(Why::NoItem));
+            return Ok(Reply::No(Refusal::NoItem));
         };
         if item.free < num as u64 {
-            return Ok(Reply::No(Why::SoldOut));
+            return Ok(Reply::No(Refusal::SoldOut));
         }
         let booking = match booked {
             None => {
                 if self.is_full() {
-                    return Ok(Reply::No(Why::Full));
+                    return Ok(Reply::No(Refusal::Full));
                 }
                 new_booking(num, item.price)
             }
             Some(booking) => {
                 if booking.units + num as u64 > MOST_UNITS {
-                    return Ok(Reply::No(Why::UnitLimit));
+                    return Ok(Reply::No(Refusal::UnitLimit));
                 }
                 extended(booking, num, item.price)
             }
@@ -147,14 +147,14 @@ impl Tables {
             (λ reply. rules.cancel self.old customer kind id ≡ (self.new, reply)) }
     {
         let Some(bookings) = self.bookings(customer) else {
-            return Ok(Reply::No(Why::NoCustomer));
+            return Ok(Reply::No(Refusal::NoCustomer));
         };
         let booked = bookings.get(kind, id);
         let Some(item) = self.item(kind, id) else {
-            return Ok(Reply::No(Why::NoItem));
+            return Ok(Reply::No(Refusal::NoItem));
         };
         let Some(booking) = booked else {
-            return Ok(Reply::No(Why::NotBooked));
+            return Ok(Reply::No(Refusal::NotBooked));
         };
         let change = Rebook {
             kind,
@@ -172,7 +172,7 @@ impl Tables {
     {
         let taken = self.take_customer(id)?;
         let Some(bookings) = taken else {
-            return Ok(Reply::No(Why::NoCustomer));
+            return Ok(Reply::No(Refusal::NoCustomer));
         };
         self.give_back_all(bookings)?;
         Ok(Reply::Done)

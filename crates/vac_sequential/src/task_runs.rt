@@ -11,10 +11,12 @@ ghost use Rattle.vac_model.specs.Fits.{IsSmall};
 use crate::tables::Tables;
 use std::alloc::AllocError;
 use vac_model::limits::MOST_PARTS;
-use vac_model::{Command, Joined, Kind, Pick, Reply, Task, TripReply, UpdateReply, Why};
+use vac_model::{
+    Command, CustomerOutcome, Kind, Pick, Refusal, Reply, Task, TripReply, UpdateReply,
+};
 
 /// Returns the reason of a refusal, if the reply is one.
-fn refusal(reply: &Reply) -> Option<Why>
+fn refusal(reply: &Reply) -> Option<Refusal>
     ensures { result ≡ tasks.refusal_of reply.now }
 {
     match reply {
@@ -24,12 +26,12 @@ fn refusal(reply: &Reply) -> Option<Why>
 }
 
 /// Returns the result for the customer in the reply to `NewCustomer`.
-fn joined(reply: &Reply) -> Joined
+fn joined(reply: &Reply) -> CustomerOutcome
     ensures { result ≡ tasks.joined_of reply.now }
 {
     match reply {
-        Reply::No(why) => Joined::Refused(*why),
-        _ => Joined::Added,
+        Reply::No(why) => CustomerOutcome::Refused(*why),
+        _ => CustomerOutcome::Added,
     }
 }
 
@@ -139,7 +141,7 @@ impl Tables {
             return self.book_choices(customer, car, flight, room);
         }
         Ok(Reply::Trip(TripReply {
-            joined: Joined::NotAsked,
+            joined: CustomerOutcome::NotAsked,
             picks: [None, None, None],
         }))
     }

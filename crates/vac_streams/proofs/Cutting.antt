@@ -10,7 +10,7 @@ use Rattle.std.proofs.lemmas.List.Splits.{slice_split-cons_no}
 use Rattle.std.proofs.lemmas.Bool.{cases_lt}
 use Rattle.vac_lines.proofs.Extends.{take_least}
 use Rattle.vac_lines.specs.Lines.{lines_of, without_empty_end, HasNo}
-use Rattle.vac_streams.specs.Told.{LongLine, told_of, told_lines}
+use Rattle.vac_streams.specs.Told.{LongLine, message_of, line_messages}
 use Rattle.vac_streams.specs.Feeding.{HasBegun}
 
 -- no byte of a text ends a line
@@ -64,32 +64,32 @@ is_empty text = eqb (length text) 0
 
 module _ (longest : ℕ) where
   -- a line that is too long
-  long_line : (line : List ℕ) → longest < length line → told_of longest line ≡ LongLine
+  long_line : (line : List ℕ) → longest < length line → message_of longest line ≡ LongLine
   long_line line h = rw (lt-ltb longest (length line) h) refl
 
   -- only the fact that a line is too long matters for its message
-  pub told_prefix : (line : List ℕ) → told_of longest (take (longest + 1) line) ≡ told_of longest line
+  pub told_prefix : (line : List ℕ) → message_of longest (take (longest + 1) line) ≡ message_of longest line
   told_prefix line =
       elim (cases_lt (longest + 1) (length line)) [
         | inl h ↦ let kept : length (take (longest + 1) line) ≡ longest + 1 = length-take-le (longest + 1) line
             (omega arith) in
             long_line (take (longest + 1) line) (omega arith) ∙ sym (long_line line (omega arith))
-        | inr h ↦ ap (told_of longest) (take_all (longest + 1) line h)
+        | inr h ↦ ap (message_of longest) (take_all (longest + 1) line h)
       ]
 
   -- a line that is too long, in front of others
   long_map : (line : List ℕ) (rest : List (List ℕ)) → longest < length line
-      → map (told_of longest) (without_empty_end (line ∷ rest)) ≡ LongLine ∷ map (told_of longest)
+      → map (message_of longest) (without_empty_end (line ∷ rest)) ≡ LongLine ∷ map (message_of longest)
       (without_empty_end rest)
   long_map line [] h =
       let some : is_empty line ≡ false = ne_eqb (length line) 0 (λ e. omega arith) in
-      ap (λ v. map (told_of longest) (cond v [] (line ∷ []))) some ∙ ap (λ t. t ∷ []) (long_line line h)
-  long_map line (next ∷ more) h = ap (λ t. t ∷ map (told_of longest) (without_empty_end (next ∷ more)))
+      ap (λ v. map (message_of longest) (cond v [] (line ∷ []))) some ∙ ap (λ t. t ∷ []) (long_line line h)
+  long_map line (next ∷ more) h = ap (λ t. t ∷ map (message_of longest) (without_empty_end (next ∷ more)))
       (long_line line h)
 
   -- so the start of a line that is too long need not be kept in whole
   told_kept : (line text : List ℕ) → HasNoEnd line
-      → told_lines longest (take (longest + 1) line ++ text) ≡ told_lines longest (line ++ text)
+      → line_messages longest (take (longest + 1) line ++ text) ≡ line_messages longest (line ++ text)
   told_kept line text h =
       elim (cases_lt (longest + 1) (length line)) [
         | inl long ↦
@@ -99,42 +99,45 @@ module _ (longest : ℕ) where
             let prefix = parts_behind (take (longest + 1) line) text p.0 p.1
             (All-take (λ x. x ≢ 10) (longest + 1) line h) p.2 in
             let whole = parts_behind line text p.0 p.1 h p.2 in
-            ap (λ t. map (told_of longest) (without_empty_end t)) prefix
+            ap (λ t. map (message_of longest) (without_empty_end t)) prefix
             ∙ (long_map (take (longest + 1) line ++ p.0) p.1
             (omega (arith, length-append (take (longest + 1) line) p.0))
             ∙ sym (long_map (line ++ p.0) p.1 (omega (arith, length-append line p.0))))
-            ∙ ap (λ t. map (told_of longest) (without_empty_end t)) (sym whole)
-        | inr short ↦ ap (λ l. told_lines longest (l ++ text)) (take_all (longest + 1) line short)
+            ∙ ap (λ t. map (message_of longest) (without_empty_end t)) (sym whole)
+        | inr short ↦ ap (λ l. line_messages longest (l ++ text)) (take_all (longest + 1) line short)
       ]
 
   -- a line end is known
   pub told_cut : (start line behind rest x : List ℕ) → HasNoEnd start → HasNoEnd line → rest ≡ line ++ 10 ∷ behind
-      → told_lines longest (start ++ (rest ++ x)) ≡ told_of longest (start ++ line) ∷ told_lines longest (behind ++ x)
+      → line_messages longest (start ++ (rest ++ x)) ≡ message_of longest (start ++ line) ∷ line_messages longest
+      (behind ++ x)
   told_cut start line behind rest x h g e =
-      ap (λ t. told_lines longest (start ++ (t ++ x))) e
-      ∙ ap (λ t. told_lines longest (start ++ t)) (append_assoc line (10 ∷ behind) x)
-      ∙ ap (told_lines longest) (sym (append_assoc start line (10 ∷ (behind ++ x))))
-      ∙ ap (map (told_of longest)) (lines_cut (start ++ line) (behind ++ x) (All-append (λ y. y ≢ 10) start line h g))
+      ap (λ t. line_messages longest (start ++ (t ++ x))) e
+      ∙ ap (λ t. line_messages longest (start ++ t)) (append_assoc line (10 ∷ behind) x)
+      ∙ ap (line_messages longest) (sym (append_assoc start line (10 ∷ (behind ++ x))))
+      ∙ ap (map (message_of longest)) (lines_cut (start ++ line) (behind ++ x)
+      (All-append (λ y. y ≢ 10) start line h g))
 
   -- more of the last line is known
   pub told_moved : (start rest after x : List ℕ) → HasNoEnd start → HasNoEnd rest
       → after ≡ take (longest + 1) (start ++ rest)
-      → told_lines longest (start ++ (rest ++ x)) ≡ told_lines longest (after ++ x)
+      → line_messages longest (start ++ (rest ++ x)) ≡ line_messages longest (after ++ x)
   told_moved start rest after x h g k =
-      ap (told_lines longest) (sym (append_assoc start rest x))
+      ap (line_messages longest) (sym (append_assoc start rest x))
       ∙ sym (told_kept (start ++ rest) x (All-append (λ y. y ≢ 10) start rest h g))
-      ∙ ap (λ l. told_lines longest (l ++ x)) (sym k)
+      ∙ ap (λ l. line_messages longest (l ++ x)) (sym k)
 
   -- the last line, without its end
   pub told_last : (start : List ℕ) → HasNoEnd start → 0 < length start
-      → told_lines longest start ≡ told_of longest start ∷ []
+      → line_messages longest start ≡ message_of longest start ∷ []
   told_last start h n =
       let some : is_empty start ≡ false = ne_eqb (length start) 0 (λ z. omega arith) in
-      ap (map (told_of longest)) (lines_last start h) ∙ ap (λ v. map (told_of longest) (cond v [] (start ∷ []))) some
+      ap (map (message_of longest)) (lines_last start h) ∙ ap (λ v. map (message_of longest)
+      (cond v [] (start ∷ []))) some
 
   -- there is no last line
-  pub told_none : (start : List ℕ) → start ≡ [] → told_lines longest start ≡ []
-  told_none start e = ap (told_lines longest) e
+  pub told_none : (start : List ℕ) → start ≡ [] → line_messages longest start ≡ []
+  told_none start e = ap (line_messages longest) e
 
   -- the kept part of a line has no line end and is short
   pub has_begun : (start more : List ℕ) → HasNoEnd start → HasNoEnd more

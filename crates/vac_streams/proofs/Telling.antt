@@ -8,42 +8,43 @@ use Rattle.vac_streams.specs.declared.fault.StreamFault.{StreamFault}
 use Rattle.vac_streams.specs.declared.fault.StreamFault.TheVariants.{Read, Write, Memory, Bound}
 use Rattle.vac_streams.specs.declared.next.Next.{Next}
 use Rattle.vac_streams.specs.declared.next.Next.TheVariants.{GoOn, Stop}
-use Rattle.vac_streams.specs.Told.{Told, Line, LongLine, Pause, told_of, told_lines, lines_in}
-use Rattle.vac_streams.specs.Heard.{ToldAll, ToldLast, AreFirst, AreFirstOf, HeardAll, HeardLast, HeardFirst, Heard}
+use Rattle.vac_streams.specs.Told.{Message, Line, LongLine, Pause, message_of, line_messages, lines_in}
+use Rattle.vac_streams.specs.Heard.{ReceivedAll, ReceivedLast, AreFirst, AreFirstOf, HeardAll, HeardLast, HeardFirst}
+use Rattle.vac_streams.specs.Heard.{Heard}
 use Rattle.vac_streams.specs.Feeding.{HasBegun, FedAll, FedLast, Fed, EndedAll, EndedLast, Ended}
 use Rattle.vac_streams.proofs.Cutting.{HasNoEnd, told_cut, told_moved, told_last, told_none}
 
 -- the lines of two lists of messages
-pub lines_both : (a b : List Told) → lines_in (a ++ b) ≡ lines_in a ++ lines_in b
+pub lines_both : (a b : List Message) → lines_in (a ++ b) ≡ lines_in a ++ lines_in b
 lines_both [] b = refl
 lines_both (Line text ∷ a) b = ap (λ t. Line text ∷ t) (lines_both a b)
 lines_both (LongLine ∷ a) b = ap (λ t. LongLine ∷ t) (lines_both a b)
 lines_both (Pause ∷ a) b = lines_both a b
 
 -- the message of a line is no pause
-one_line : (longest : ℕ) (line : List ℕ) → lines_in (told_of longest line ∷ []) ≡ told_of longest line ∷ []
+one_line : (longest : ℕ) (line : List ℕ) → lines_in (message_of longest line ∷ []) ≡ message_of longest line ∷ []
 one_line longest line =
     elim (nat_lt longest (length line)) as (λ v. lines_in (cond v LongLine (Line line) ∷ []) ≡ cond v LongLine
     (Line line) ∷ []) [ true ↦ refl | false ↦ refl ]
 
 -- one more line
-lines_more : (longest : ℕ) (told : List Told) (line : List ℕ)
-    → lines_in (told ++ told_of longest line ∷ []) ≡ lines_in told ++ told_of longest line ∷ []
-lines_more longest told line = lines_both told (told_of longest line ∷ [])
+lines_more : (longest : ℕ) (told : List Message) (line : List ℕ)
+    → lines_in (told ++ message_of longest line ∷ []) ≡ lines_in told ++ message_of longest line ∷ []
+lines_more longest told line = lines_both told (message_of longest line ∷ [])
     ∙ ap (λ t. lines_in told ++ t) (one_line longest line)
 
 -- one more pause
-lines_paused : (told : List Told) → lines_in (told ++ Pause ∷ []) ≡ lines_in told
+lines_paused : (told : List Message) → lines_in (told ++ Pause ∷ []) ≡ lines_in told
 lines_paused told = lines_both told (Pause ∷ []) ∙ append-nil (lines_in told)
 
-module _ {S O : Type 0} (hears : S → O → Told → Result Next StreamFault → S → O → Type 0) where
-  pub told_nothing : (s : S) (o : O) → ToldAll hears s o [] s o
+module _ {S O : Type 0} (hears : S → O → Message → Result Next StreamFault → S → O → Type 0) where
+  pub told_nothing : (s : S) (o : O) → ReceivedAll hears s o [] s o
   told_nothing s o = (refl, refl)
 
   -- the sink heard one more message
-  pub told_more : (s : S) (o : O) (told : List Told) (x : Told) (t : S) (p : O) (u : S) (q : O)
-      → ToldAll hears s o told t p → hears t p x (Ok GoOn) u q
-      → ToldAll hears s o (told ++ x ∷ []) u q
+  pub told_more : (s : S) (o : O) (told : List Message) (x : Message) (t : S) (p : O) (u : S) (q : O)
+      → ReceivedAll hears s o told t p → hears t p x (Ok GoOn) u q
+      → ReceivedAll hears s o (told ++ x ∷ []) u q
   told_more s o [] x t p u q h k = (
     u,
     q,
@@ -54,13 +55,14 @@ module _ {S O : Type 0} (hears : S → O → Told → Result Next StreamFault �
   told_more s o (y ∷ told) x t p u q h k = (h.0, h.1, h.2, told_more h.0 h.1 told x t p u q h.3 k)
 
   -- two parts
-  pub told_both : (s : S) (o : O) (a b : List Told) (t : S) (p : O) (u : S) (q : O) → ToldAll hears s o a t p
-      → ToldAll hears t p b u q → ToldAll hears s o (a ++ b) u q
-  told_both s o [] b t p u q h k = subst (λ z. ToldAll hears z o b u q) h.0 (subst (λ z. ToldAll hears t z b u q) h.1 k)
+  pub told_both : (s : S) (o : O) (a b : List Message) (t : S) (p : O) (u : S) (q : O) → ReceivedAll hears s o a t p
+      → ReceivedAll hears t p b u q → ReceivedAll hears s o (a ++ b) u q
+  told_both s o [] b t p u q h k = subst (λ z. ReceivedAll hears z o b u q) h.0
+      (subst (λ z. ReceivedAll hears t z b u q) h.1 k)
   told_both s o (y ∷ a) b t p u q h k = (h.0, h.1, h.2, told_both h.0 h.1 a b t p u q h.3 k)
 
-  told_then_last : (s : S) (o : O) (a b : List Told) (r : Result Next StreamFault) (t : S) (p : O) (u : S) (q : O)
-      → ToldAll hears s o a t p → ToldLast hears t p b r u q → ToldLast hears s o (a ++ b) r u q
+  told_then_last : (s : S) (o : O) (a b : List Message) (r : Result Next StreamFault) (t : S) (p : O) (u : S) (q : O)
+      → ReceivedAll hears s o a t p → ReceivedLast hears t p b r u q → ReceivedLast hears s o (a ++ b) r u q
   told_then_last s o a b r t p u q h k = record {
     before = a ++ k.before;
     last = k.last;
@@ -71,8 +73,8 @@ module _ {S O : Type 0} (hears : S → O → Told → Result Next StreamFault �
     then = k.then;
   }
 
-  ended_by : (s : S) (o : O) (told : List Told) (x : Told) (r : Result Next StreamFault) (t : S) (p : O) (u : S)
-      (q : O) → ToldAll hears s o told t p → hears t p x r u q → ToldLast hears s o (told ++ x ∷ []) r u q
+  ended_by : (s : S) (o : O) (told : List Message) (x : Message) (r : Result Next StreamFault) (t : S) (p : O) (u : S)
+      (q : O) → ReceivedAll hears s o told t p → hears t p x r u q → ReceivedLast hears s o (told ++ x ∷ []) r u q
   ended_by s o told x r t p u q h k = record {
     before = told;
     last = x;
@@ -85,10 +87,10 @@ module _ {S O : Type 0} (hears : S → O → Told → Result Next StreamFault �
 
   -- the part of a chunk that was passed so far: whatever follows the chunk follows the rest
   pub record FedTo (longest : ℕ) (line0 line chunk rest : List ℕ) (s : S) (o : O) (t : S) (p : O) : Type 0 where
-    pub told : List Told
+    pub told : List Message
     pub only : lines_in told ≡ told
-    pub heard : ToldAll hears s o told t p
-    pub same : (x : List ℕ) → told_lines longest (line0 ++ (chunk ++ x)) ≡ lines_in told ++ told_lines longest
+    pub heard : ReceivedAll hears s o told t p
+    pub same : (x : List ℕ) → line_messages longest (line0 ++ (chunk ++ x)) ≡ lines_in told ++ line_messages longest
         (line ++ (rest ++ x))
 
   pub fed_first : (longest : ℕ) (line chunk : List ℕ) (s : S) (o : O) → FedTo longest line line chunk chunk s o s o
@@ -98,35 +100,35 @@ module _ {S O : Type 0} (hears : S → O → Told → Result Next StreamFault �
   pub fed_line : (longest : ℕ) (line0 start chunk rest line behind after : List ℕ) (s : S) (o : O) (t : S) (p : O)
       (u : S) (q : O) → FedTo longest line0 start chunk rest s o t p
       → HasNoEnd start → HasNoEnd line → rest ≡ line ++ 10 ∷ behind
-      → hears t p (told_of longest (start ++ line)) (Ok GoOn) u q → after ≡ []
+      → hears t p (message_of longest (start ++ line)) (Ok GoOn) u q → after ≡ []
       → FedTo longest line0 after chunk behind s o u q
   fed_line longest line0 start chunk rest line behind after s o t p u q f h g e k z =
-      let x = told_of longest (start ++ line) in
+      let x = message_of longest (start ++ line) in
       record {
         told = f.told ++ x ∷ [];
         only = lines_more longest f.told (start ++ line) ∙ ap (λ l. l ++ x ∷ []) f.only;
         heard = told_more s o f.told x t p u q f.heard k;
         same = λ y. f.same y ∙ ap (λ l. lines_in f.told ++ l) (told_cut longest start line behind rest y h g e)
-            ∙ sym (append_assoc (lines_in f.told) (x ∷ []) (told_lines longest (behind ++ y)))
-            ∙ ap (λ l. l ++ told_lines longest (behind ++ y)) (sym (lines_more longest f.told (start ++ line)))
-            ∙ ap (λ l. lines_in (f.told ++ x ∷ []) ++ told_lines longest (l ++ (behind ++ y))) (sym z);
+            ∙ sym (append_assoc (lines_in f.told) (x ∷ []) (line_messages longest (behind ++ y)))
+            ∙ ap (λ l. l ++ line_messages longest (behind ++ y)) (sym (lines_more longest f.told (start ++ line)))
+            ∙ ap (λ l. lines_in (f.told ++ x ∷ []) ++ line_messages longest (l ++ (behind ++ y))) (sym z);
       }
 
   -- the sink's answer to a line ended the reading
   pub fed_last : (longest : ℕ) (line0 start chunk rest line behind : List ℕ) (r : Result Next StreamFault) (s : S)
       (o : O) (t : S) (p : O) (u : S) (q : O) → FedTo longest line0 start chunk rest s o t p
       → HasNoEnd start → HasNoEnd line → rest ≡ line ++ 10 ∷ behind
-      → hears t p (told_of longest (start ++ line)) r u q → FedLast hears longest r line0 chunk s o u q
+      → hears t p (message_of longest (start ++ line)) r u q → FedLast hears longest r line0 chunk s o u q
   fed_last longest line0 start chunk rest line behind r s o t p u q f h g e k =
-      let x = told_of longest (start ++ line) in
+      let x = message_of longest (start ++ line) in
       record {
         told = f.told ++ x ∷ [];
         heard = ended_by s o f.told x r t p u q f.heard k;
         first = λ y. (
-          told_lines longest (behind ++ y),
+          line_messages longest (behind ++ y),
           f.same y ∙ ap (λ l. lines_in f.told ++ l) (told_cut longest start line behind rest y h g e)
-              ∙ sym (append_assoc (lines_in f.told) (x ∷ []) (told_lines longest (behind ++ y)))
-              ∙ ap (λ l. l ++ told_lines longest (behind ++ y)) (sym (lines_more longest f.told (start ++ line))),
+              ∙ sym (append_assoc (lines_in f.told) (x ∷ []) (line_messages longest (behind ++ y)))
+              ∙ ap (λ l. l ++ line_messages longest (behind ++ y)) (sym (lines_more longest f.told (start ++ line))),
         );
       }
 
@@ -153,7 +155,7 @@ module _ {S O : Type 0} (hears : S → O → Told → Result Next StreamFault �
     told = f.told ++ Pause ∷ [];
     paused = refl;
     heard = told_more s o f.told Pause t p u q f.heard k;
-    same = λ x. f.same x ∙ ap (λ l. l ++ told_lines longest (line ++ x)) (sym (lines_paused f.told));
+    same = λ x. f.same x ∙ ap (λ l. l ++ line_messages longest (line ++ x)) (sym (lines_paused f.told));
   }
 
   -- the sink's answer to a pause ended the reading
@@ -164,9 +166,9 @@ module _ {S O : Type 0} (hears : S → O → Told → Result Next StreamFault �
     told = f.told ++ Pause ∷ [];
     heard = ended_by s o f.told Pause r t p u q f.heard k;
     first = λ x. (
-      told_lines longest (line ++ x),
+      line_messages longest (line ++ x),
       f.same x
-          ∙ ap (λ l. l ++ told_lines longest (line ++ x)) (sym (lines_paused f.told)),
+          ∙ ap (λ l. l ++ line_messages longest (line ++ x)) (sym (lines_paused f.told)),
     );
   }
 
@@ -190,35 +192,35 @@ module _ {S O : Type 0} (hears : S → O → Told → Result Next StreamFault �
   }
 
   last_all : (longest : ℕ) (line : List ℕ) (s : S) (o : O) (t : S) (p : O) → HasNoEnd line → 0 < length line
-      → hears s o (told_of longest line) (Ok GoOn) t p → EndedAll hears longest line s o t p
+      → hears s o (message_of longest line) (Ok GoOn) t p → EndedAll hears longest line s o t p
   last_all longest line s o t p h n k = record {
-    told = told_of longest line ∷ [];
+    told = message_of longest line ∷ [];
     heard = (t, p, k, (refl, refl));
     same = one_line longest line ∙ sym (told_last longest line h n);
   }
 
   last_last : (longest : ℕ) (line : List ℕ) (r : Result Next StreamFault) (s : S) (o : O) (t : S) (p : O)
-      → HasNoEnd line → 0 < length line → hears s o (told_of longest line) r t p
+      → HasNoEnd line → 0 < length line → hears s o (message_of longest line) r t p
       → EndedLast hears longest r line s o t p
   last_last longest line r s o t p h n k = record {
-    told = told_of longest line ∷ [];
-    heard = ended_by s o [] (told_of longest line) r s o t p (told_nothing s o) k;
+    told = message_of longest line ∷ [];
+    heard = ended_by s o [] (message_of longest line) r s o t p (told_nothing s o) k;
     first = (
       [],
-      told_last longest line h n ∙ sym (append-nil (lines_in (told_of longest line ∷ []))
+      told_last longest line h n ∙ sym (append-nil (lines_in (message_of longest line ∷ []))
           ∙ one_line longest line),
     );
   }
 
   pub ended_line : (longest : ℕ) (line : List ℕ) (r : Result Next StreamFault) (s : S) (o : O) (t : S) (p : O)
       → HasNoEnd line → 0 < length line
-      → hears s o (told_of longest (line ++ [])) r t p → Ended hears longest r line s o t p
+      → hears s o (message_of longest (line ++ [])) r t p → Ended hears longest r line s o t p
   ended_line longest line (Ok GoOn) s o t p h n k = last_all longest line s o t p h n
-      (subst (λ l. hears s o (told_of longest l) (Ok GoOn) t p) (append-nil line) k)
+      (subst (λ l. hears s o (message_of longest l) (Ok GoOn) t p) (append-nil line) k)
   ended_line longest line (Ok Stop) s o t p h n k = last_last longest line (Ok Stop) s o t p h n
-      (subst (λ l. hears s o (told_of longest l) (Ok Stop) t p) (append-nil line) k)
+      (subst (λ l. hears s o (message_of longest l) (Ok Stop) t p) (append-nil line) k)
   ended_line longest line (Err fault) s o t p h n k = last_last longest line (Err fault) s o t p h n
-      (subst (λ l. hears s o (told_of longest l) (Err fault) t p) (append-nil line) k)
+      (subst (λ l. hears s o (message_of longest l) (Err fault) t p) (append-nil line) k)
 
   -- the part of the input that was read so far: whatever follows, the lines are those passed and
   -- those of the line that has begun
@@ -226,9 +228,9 @@ module _ {S O : Type 0} (hears : S → O → Told → Result Next StreamFault �
       (p : O) : Type 0 where
     pub bytes : List ℕ
     pub consumed : Consumes unread left bytes
-    pub told : List Told
-    pub heard : ToldAll hears s o told t p
-    pub same : (x : List ℕ) → told_lines longest (bytes ++ x) ≡ lines_in told ++ told_lines longest (line ++ x)
+    pub told : List Message
+    pub heard : ReceivedAll hears s o told t p
+    pub same : (x : List ℕ) → line_messages longest (bytes ++ x) ≡ lines_in told ++ line_messages longest (line ++ x)
 
   pub heard_nothing : (longest : ℕ) (unread : Option (List ℕ)) (line : List ℕ) (s : S) (o : O) → line ≡ []
       → HeardTo longest unread unread line s o s o
@@ -237,7 +239,7 @@ module _ {S O : Type 0} (hears : S → O → Told → Result Next StreamFault �
     consumed = Consumes-nil unread;
     told = [];
     heard = told_nothing s o;
-    same = λ x. ap (λ l. told_lines longest (l ++ x)) (sym e);
+    same = λ x. ap (λ l. line_messages longest (l ++ x)) (sym e);
   }
 
   -- nothing was read
@@ -261,15 +263,15 @@ module _ {S O : Type 0} (hears : S → O → Told → Result Next StreamFault �
     consumed = Consumes-trans unread left now h.bytes chunk h.consumed c;
     told = h.told ++ f.told;
     heard = told_both s o h.told f.told t p u q h.heard f.heard;
-    same = λ x. ap (told_lines longest) (append_assoc h.bytes chunk x) ∙ h.same (chunk ++ x)
+    same = λ x. ap (line_messages longest) (append_assoc h.bytes chunk x) ∙ h.same (chunk ++ x)
         ∙ ap (λ l. lines_in h.told ++ l) (f.same x)
-        ∙ sym (append_assoc (lines_in h.told) (lines_in f.told) (told_lines longest (line' ++ x)))
-        ∙ ap (λ l. l ++ told_lines longest (line' ++ x)) (sym (lines_both h.told f.told));
+        ∙ sym (append_assoc (lines_in h.told) (lines_in f.told) (line_messages longest (line' ++ x)))
+        ∙ ap (λ l. l ++ line_messages longest (line' ++ x)) (sym (lines_both h.told f.told));
   }
 
   -- first lines of the following text, after the lines passed, are first lines of the whole text
-  first_both : (longest : ℕ) (a b : List Told) (text rest : List ℕ)
-      → told_lines longest text ≡ lines_in a ++ told_lines longest rest → AreFirst longest (lines_in b) rest
+  first_both : (longest : ℕ) (a b : List Message) (text rest : List ℕ)
+      → line_messages longest text ≡ lines_in a ++ line_messages longest rest → AreFirst longest (lines_in b) rest
       → AreFirst longest (lines_in (a ++ b)) text
   first_both longest a b text rest e f = (
     f.0,
@@ -288,7 +290,7 @@ module _ {S O : Type 0} (hears : S → O → Told → Result Next StreamFault �
     told = h.told ++ f.told;
     heard = told_then_last s o h.told f.told r t p u q h.heard f.heard;
     first = inr (λ x. first_both longest h.told f.told ((h.bytes ++ chunk) ++ x) (line ++ (chunk ++ x))
-        (ap (told_lines longest) (append_assoc h.bytes chunk x) ∙ h.same (chunk ++ x)) (f.first x));
+        (ap (line_messages longest) (append_assoc h.bytes chunk x) ∙ h.same (chunk ++ x)) (f.first x));
   }
 
   -- all lines so far are first lines of the whole
@@ -299,15 +301,15 @@ module _ {S O : Type 0} (hears : S → O → Told → Result Next StreamFault �
     consumed = h.consumed;
     told = h.told;
     heard = h.heard;
-    first = λ x. (told_lines longest (line ++ x), h.same x);
+    first = λ x. (line_messages longest (line ++ x), h.same x);
   }
 
   -- the lines of the whole
   whole : (longest : ℕ) (unread left : Option (List ℕ)) (line : List ℕ) (s : S) (o : O) (t : S) (p : O)
       (h : HeardTo longest unread left line s o t p)
-      → told_lines longest h.bytes ≡ lines_in h.told ++ told_lines longest line
-  whole longest unread left line s o t p h = ap (told_lines longest) (sym (append-nil h.bytes)) ∙ h.same []
-      ∙ ap (λ l. lines_in h.told ++ told_lines longest l) (append-nil line)
+      → line_messages longest h.bytes ≡ lines_in h.told ++ line_messages longest line
+  whole longest unread left line s o t p h = ap (line_messages longest) (sym (append-nil h.bytes)) ∙ h.same []
+      ∙ ap (λ l. lines_in h.told ++ line_messages longest l) (append-nil line)
 
   same_bytes : (unread left now : Option (List ℕ)) (bytes : List ℕ) → Consumes unread left bytes
       → Consumes left now [] → Consumes unread now bytes
@@ -410,13 +412,13 @@ module _ {S O : Type 0} (hears : S → O → Told → Result Next StreamFault �
       (subst (λ n. Fed hears same (Ok n) line0 line chunk s o t p) e f)
 
 -- lines that are first whatever follows are first lines of the bytes read
-pub first_of_read : (longest : ℕ) (lines : List Told) (bytes : List ℕ) (left : Option (List ℕ))
+pub first_of_read : (longest : ℕ) (lines : List Message) (bytes : List ℕ) (left : Option (List ℕ))
     → AreFirstOf longest lines bytes left → AreFirst longest lines bytes
 first_of_read longest lines bytes left (inl f) = f.1
 first_of_read longest lines bytes left (inr f) = subst (AreFirst longest lines) (append-nil bytes) (f [])
 
 -- they are first lines of the whole input
-pub first_of_input : (longest : ℕ) (lines : List Told) (bytes : List ℕ) (unread left : Option (List ℕ))
+pub first_of_input : (longest : ℕ) (lines : List Message) (bytes : List ℕ) (unread left : Option (List ℕ))
     → Consumes unread left bytes → AreFirstOf longest lines bytes left
     → IfSome unread (λ input. AreFirst longest lines input)
 first_of_input longest lines bytes None left c f = tt

@@ -2,7 +2,7 @@
 
 ghost use Rattle.std.specs.Prelude.{◌≡◌, ◌<◌, ◌≤◌, ◌+◌, ◌^◌, [], ◌++◌, length, take, vec_capacity};
 ghost use Rattle.std.specs.Prelude.{IfOk, OnOk};
-ghost use Rattle.vac_streams.specs.Told.{told_of};
+ghost use Rattle.vac_streams.specs.Told.{message_of};
 ghost use Rattle.vac_streams.specs.Feeding.{HasBegun, Fed, Ended};
 
 use crate::fault::StreamFault;
@@ -58,7 +58,7 @@ impl Lines {
         output: &mut O,
     ) -> Result<Next, StreamFault>
         requires { 0 < S.room sink.old }
-        ensures heard { S.hears sink.old output.old (told_of self.now.longest line.now)
+        ensures heard { S.hears sink.old output.old (message_of self.now.longest line.now)
             result sink.new output.new }
         ensures room { IfOk result (λ _. S.room sink.old ≤ S.room sink.new + 1) }
     {
@@ -80,7 +80,7 @@ impl Lines {
         ensures longest { self.new.longest ≡ self.old.longest }
         ensures line { OnOk result (self.new.line.items ≡ []) }
         ensures heard { S.hears sink.old output.old
-            (told_of self.old.longest (self.old.line.items ++ rest.now))
+            (message_of self.old.longest (self.old.line.items ++ rest.now))
             result sink.new output.new }
         ensures room { IfOk result (λ _. S.room sink.old ≤ S.room sink.new + 1) }
     {

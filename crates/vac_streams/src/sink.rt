@@ -3,7 +3,7 @@
 ghost use Rattle.std.specs.Prelude.{ℕ, ◌+◌, ◌<◌, ◌≤◌, Result, IfOk};
 ghost use Rattle.vac_streams.specs.declared.fault.StreamFault.{StreamFault};
 ghost use Rattle.vac_streams.specs.declared.next.Next.{Next};
-ghost use Rattle.vac_streams.specs.Told.{Told, Line, LongLine, Pause};
+ghost use Rattle.vac_streams.specs.Told.{Message, Line, LongLine, Pause};
 
 use crate::fault::StreamFault;
 use crate::next::Next;
@@ -16,7 +16,7 @@ pub trait Sink<O> {
 
     /// The effect of a message: from the first sink and output, this message with this answer
     /// leads to the last sink and output.
-    ghost hears: { Self → O → Told → Result Next StreamFault → Self → O → Type 0 };
+    ghost hears: { Self → O → Message → Result Next StreamFault → Self → O → Type 0 };
 
     /// Receives a line, without its end.
     fn line(&mut self, line: &[u8], output: &mut O) -> Result<Next, StreamFault>

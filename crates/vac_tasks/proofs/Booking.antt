@@ -8,11 +8,11 @@ use Rattle.tx_memory.specs.View.{View, Sees, RestsOn, Kept}
 use Rattle.vac_model.specs.declared.items.Kind.{Kind}
 use Rattle.vac_model.specs.declared.items.Kind.TheVariants.{Car, Flight, Room}
 use Rattle.vac_model.specs.declared.commands.Command.TheVariants as command
-use Rattle.vac_model.specs.declared.commands.Why.{Why}
-use Rattle.vac_model.specs.declared.commands.Why.TheVariants.{Full, Exists, NoCustomer}
+use Rattle.vac_model.specs.declared.commands.Refusal.{Refusal}
+use Rattle.vac_model.specs.declared.commands.Refusal.TheVariants.{Full, Exists, NoCustomer}
 use Rattle.vac_model.specs.declared.replies.Reply.{Reply}
 use Rattle.vac_model.specs.declared.replies.Reply.TheVariants as reply
-use Rattle.vac_model.specs.declared.replies.Joined.TheVariants.{Added, Refused, NotAsked}
+use Rattle.vac_model.specs.declared.replies.CustomerOutcome.TheVariants.{Added, Refused, NotAsked}
 use Rattle.vac_model.specs.declared.replies.Pick.{Pick}
 use Rattle.vac_model.specs.declared.tasks.Task.TheVariants as task
 use Rattle.vac_model.specs.State.{State, Place, Bookings, bookings_of, with_bookings, is_full}
@@ -261,12 +261,12 @@ pub reserve_range : (id : ℕ) (kind : Kind) (item : ℕ) → is_id id ≡ true 
 reserve_range id kind item a b = rw (a, b) refl
 
 -- the refusal of a reply that was made of a refusal
-refusal_back : (why : Option Why) → refusal_of (served_reply why) ≡ why
+refusal_back : (why : Option Refusal) → refusal_of (served_reply why) ≡ why
 refusal_back None = refl
 refusal_back (Some why) = refl
 
 pub reserved : (s s' : View) (id : ℕ) (kind : Kind) (block : Option ℕ) (o : Option Choice) (b : ℕ) (c : Choice)
-    (link : ℕ) (why : Option Why) → block ≡ Some b → o ≡ Some c → b ≢ 0 → c.item ≢ 0 → c.id < 2 ^ 32 →
+    (link : ℕ) (why : Option Refusal) → block ≡ Some b → o ≡ Some c → b ≢ 0 → c.item ≢ 0 → c.id < 2 ^ 32 →
     is_command (command.Reserve id kind c.id 1) ≡ true →
     ServesCommand s s' (command.Reserve id kind c.id 1) (served_reply why) (AtStart id b kind c.id c.item link) →
     RunsWhere s s' (picks id kind o) (Some (record { id = c.id; price = c.price; refused = why }))
@@ -284,7 +284,7 @@ reserved s s' id kind block o b c link why is_b is_c b_some c_some small range v
       state = λ image state i h p. rw is_c (out image state i h p).state;
       answer = λ image state i h p. rw is_c (ap (λ (x : Reply). Some
           (record { id = c.id; price = c.price; refused = refusal_of x })) (out image state i h p).reply_is ∙
-          ap (λ (x : Option Why). Some (record { id = c.id; price = c.price; refused = x })) (refusal_back why));
+          ap (λ (x : Option Refusal). Some (record { id = c.id; price = c.price; refused = x })) (refusal_back why));
     }
 
 pub reserved_stays : (s s' : View) (id : ℕ) (kind : Kind) (block : Option ℕ) (o : Option Choice) (b : ℕ) (c : Choice)

@@ -7,7 +7,7 @@ use Rattle.std.specs.Option.{option_map}
 use Rattle.tx_memory.specs.View.{View}
 use Rattle.vac_model.specs.declared.commands.Command.{Command}
 use Rattle.vac_model.specs.declared.commands.Command.TheVariants as command
-use Rattle.vac_model.specs.declared.commands.Why.{Why}
+use Rattle.vac_model.specs.declared.commands.Refusal.{Refusal}
 use Rattle.vac_model.specs.declared.replies.Report.{Report}
 use Rattle.vac_model.specs.declared.replies.Reply.{Reply}
 use Rattle.vac_model.specs.declared.replies.Reply.TheVariants as reply
@@ -151,23 +151,24 @@ after_more state cs ds c r one is =
     steps_more state (steps state cs).0 (step (steps state cs).0 c).0 cs ds c r refl one
     (ap (λ (x : Reply). ((step (steps state cs).0 c).0, x)) is)
 
-noted_more : (state : State) (cs ds : List Command) (c : Command) (r : Reply) (whys : List (Option Why)) (i : ℕ)
-    (w : Option Why) → ds ≡ cs ++ c ∷ [] →
+noted_more : (state : State) (cs ds : List Command) (c : Command) (r : Reply) (whys : List (Option Refusal)) (i : ℕ)
+    (w : Option Refusal) → ds ≡ cs ++ c ∷ [] →
     length cs ≡ i → i < 32 → w ≡ refusal_of r → (steps state cs).1 ++ replicate (32 - length cs) None ≡ whys →
     (step (steps state cs).0 c).1 ≡ r →
     (steps state ds).1 ++ replicate (32 - length ds) None ≡ slice_set whys i w
 noted_more state cs ds c r whys i w one at short why before is =
     let count : length ds ≡ i + 1 = ap length one ∙ length-append cs (c ∷ []) ∙ ap (λ (k : ℕ). k + 1) at in
     let after = after_more state cs ds c r one is in
-    ap (λ (o : State × List (Option Why)). o.1 ++ replicate (32 - length ds) None) after
+    ap (λ (o : State × List (Option Refusal)). o.1 ++ replicate (32 - length ds) None) after
     ∙ ap (λ (k : ℕ). ((steps state cs).1 ++ refusal_of r ∷ []) ++ replicate (32 - k) None) count
-    ∙ ap (λ (x : Option Why). ((steps state cs).1 ++ x ∷ []) ++ replicate (32 - (i + 1)) None) (sym why)
+    ∙ ap (λ (x : Option Refusal). ((steps state cs).1 ++ x ∷ []) ++ replicate (32 - (i + 1)) None) (sym why)
     ∙ sym (noted (steps state cs).1 i w (length-steps state cs ∙ at) short)
     ∙ ap (λ (k : ℕ). slice_set ((steps state cs).1 ++ replicate (32 - k) None) i w) (sym at)
-    ∙ ap (λ (ws : List (Option Why)). slice_set ws i w) before
+    ∙ ap (λ (ws : List (Option Refusal)). slice_set ws i w) before
 
-pub changed_more : (s s1 s2 : View) (cs ds : List Command) (c : Command) (r : Reply) (whys : List (Option Why)) (i : ℕ)
-    (w : Option Why) →
+pub changed_more : (s s1 s2 : View) (cs ds : List Command) (c : Command) (r : Reply) (whys : List (Option Refusal))
+    (i : ℕ)
+    (w : Option Refusal) →
     Runs s s1 (changed cs) whys → Ran s1 s2 c r → ds ≡ cs ++ c ∷ [] → length cs ≡ i → i < 32 → w ≡ refusal_of r →
     Runs s s2 (changed ds) (slice_set whys i w)
 changed_more s s1 s2 cs ds c r whys i w before ran one at short why = record {
@@ -176,7 +177,7 @@ changed_more s s1 s2 cs ds c r whys i w before ran one at short why = record {
       let sees1 = ran.kept.seen image sees in
       let o = ran.outcome image (steps state cs).0 sees (before.state image state sees1 h) in
       let after = after_more state cs ds c r one o.reply_is in
-      subst (λ (x : State × List (Option Why)). IsState (mem s2 image) (length image) x.0) (sym after) o.state;
+      subst (λ (x : State × List (Option Refusal)). IsState (mem s2 image) (length image) x.0) (sym after) o.state;
   answer = λ image state sees h.
       let sees1 = ran.kept.seen image sees in
       let o = ran.outcome image (steps state cs).0 sees (before.state image state sees1 h) in
@@ -184,7 +185,7 @@ changed_more s s1 s2 cs ds c r whys i w before ran one at short why = record {
 }
 
 -- an update out of all its changes
-pub updated : (s s' : View) (cs : List Command) (whys : List (Option Why)) → Runs s s' (changed cs) whys →
+pub updated : (s s' : View) (cs : List Command) (whys : List (Option Refusal)) → Runs s s' (changed cs) whys →
     RanTask s s' (task.Update cs) (reply.Update (record { len = length cs; refused = whys }))
 updated s s' cs whys runs = record {
   kept = runs.kept;
@@ -192,7 +193,7 @@ updated s s' cs whys runs = record {
   idle = tt;
   outcome = λ image state i h. record {
     state = runs.state image state i h;
-    reply_is = ap (λ (ws : List (Option Why)). reply.Update (record { len = length cs; refused = ws }))
+    reply_is = ap (λ (ws : List (Option Refusal)). reply.Update (record { len = length cs; refused = ws }))
         (runs.answer image state i h);
   };
 }

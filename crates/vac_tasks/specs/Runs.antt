@@ -3,7 +3,7 @@ use Rattle.std.specs.Prelude.{◌≡◌, ◌-◌, ℕ, List, ◌++◌, Option, N
 use Rattle.tx_memory.specs.View.{View, Sees, Kept}
 use Rattle.vac_model.specs.declared.limits.TheConstants.{MOST_PARTS}
 use Rattle.vac_model.specs.declared.commands.Command.{Command}
-use Rattle.vac_model.specs.declared.commands.Why.{Why}
+use Rattle.vac_model.specs.declared.commands.Refusal.{Refusal}
 use Rattle.vac_model.specs.declared.items.Kind.{Kind}
 use Rattle.vac_model.specs.State.{State}
 use Rattle.vac_model.specs.Run.{steps}
@@ -47,6 +47,6 @@ pub record BlocksStay (s s' : View)
       (id : ℕ) → customer_block h' id ≡ customer_block h id
 
 -- the state after these changes, and the refusals that an update records for them
-abbrev pub changed : List Command → State → State × List (Option Why)
+abbrev pub changed : List Command → State → State × List (Option Refusal)
 changed cs s =
     ((steps s cs).0, (steps s cs).1 ++ replicate (MOST_PARTS - length cs) None)

@@ -5,7 +5,7 @@ use Rattle.tx_memory.specs.View.{View, Sees}
 use Rattle.vac_model.specs.declared.items.Kind.{Kind}
 use Rattle.vac_model.specs.declared.items.Kind.TheVariants.{Car, Flight, Room}
 use Rattle.vac_model.specs.declared.commands.Command.TheVariants as command
-use Rattle.vac_model.specs.declared.replies.Joined.{Joined}
+use Rattle.vac_model.specs.declared.replies.CustomerOutcome.{CustomerOutcome}
 use Rattle.vac_model.specs.Amounts.{is_id}
 use Rattle.vac_model.specs.State.{State, Place}
 use Rattle.vac_model.specs.Step.{step, price_of}
@@ -146,7 +146,7 @@ pub record LeavesTurn (s s' : View) (block : Option ℕ) (link key : ℕ)
       (h' : IsState (mem s' image) (length image) state') → StartsAt h' block link key
 
 -- the state after NewCustomer was run for the customer, and the result for the trip
-abbrev pub asked_to_join : ℕ → State → State × Joined
+abbrev pub asked_to_join : ℕ → State → State × CustomerOutcome
 asked_to_join id s =
     ((step s (command.NewCustomer id)).0, joined_of (step s (command.NewCustomer id)).1)
 

@@ -11,7 +11,7 @@ use tx_memory::{TxMem, TxRead};
 use vac_commands::{
     add, bill, cancel, delete, drop_customer, drop_flight, free, new_customer, price, reserve,
 };
-use vac_model::{Command, Reply, Why};
+use vac_model::{Command, Refusal, Reply};
 use vac_report::report;
 
 /// Returns whether the command is a question, which changes nothing.
@@ -25,7 +25,7 @@ pub(crate) fn asks_only(command: &Command) -> bool
 }
 
 /// Returns the reason of a refusal, or `None` if the reply is no refusal.
-pub(crate) fn refusal(reply: &Reply) -> Option<Why>
+pub(crate) fn refusal(reply: &Reply) -> Option<Refusal>
     ensures { result ≡ refusal_of reply.now }
 {
     match reply {

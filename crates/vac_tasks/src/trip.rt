@@ -16,7 +16,7 @@ ghost use Rattle.vac_tasks.specs.Trips.{ChoiceIsAt, ChoicesAreAt, AtPick, AtChoi
 use tx_alloc::{Block, FreeList};
 use tx_memory::{Addr, TxMem, TxRead};
 use vac_commands::{CustomerAt, ItemAt, add_customer, find_customer, find_item, reserve_from};
-use vac_model::{Joined, Kind, Pick, Reply, Task, TripReply, Why};
+use vac_model::{CustomerOutcome, Kind, Pick, Refusal, Reply, Task, TripReply};
 use vac_records::place::BOOKINGS;
 use vac_records::price_at;
 
@@ -39,7 +39,7 @@ struct Choices {
 /// The result of the customer's part of a trip, and the customer's block, if the customer exists.
 #[derive(Clone, Copy)]
 struct Owner {
-    joined: Joined,
+    joined: CustomerOutcome,
     block: Option<Block>,
 }
 
@@ -145,17 +145,17 @@ fn join<M: TxMem>(memory: &mut M, customer: u32, start: FreeList) -> Result<Owne
 {
     if let Some(block) = find_customer(memory, customer)? {
         return Ok(Owner {
-            joined: Joined::Refused(Why::Exists),
+            joined: CustomerOutcome::Refused(Refusal::Exists),
             block: Some(block),
         });
     }
     match add_customer(memory, customer, start)? {
         Some(block) => Ok(Owner {
-            joined: Joined::Added,
+            joined: CustomerOutcome::Added,
             block: Some(block),
         }),
         None => Ok(Owner {
-            joined: Joined::Refused(Why::Full),
+            joined: CustomerOutcome::Refused(Refusal::Full),
             block: None,
         }),
     }
@@ -194,7 +194,7 @@ fn reserve_choice<M: TxMem>(
         return Ok(Some(Pick {
             id: chosen.id,
             price: chosen.price,
-            refused: Some(Why::NoCustomer),
+            refused: Some(Refusal::NoCustomer),
         }));
     };
     let customer = CustomerAt {
@@ -264,7 +264,7 @@ pub(crate) fn trip<M: TxMem>(
         return book_choices(memory, customer, &choices, start);
     }
     Ok(Reply::Trip(TripReply {
-        joined: Joined::NotAsked,
+        joined: CustomerOutcome::NotAsked,
         picks: [None, None, None],
     }))
 }
