@@ -13,8 +13,8 @@ use Rattle.judge_object.specs.Orders.{of_client, IsOrderOf}
 use Rattle.judge_calls.specs.declared.fault.CallFault.{CallFault}
 use Rattle.judge_calls.specs.declared.verdict.Verdict.{Verdict}
 use Rattle.judge_calls.specs.declared.verdict.Verdict.TheVariants.{Legal, Fault, Illegal}
-use Rattle.judge_calls.specs.declared.held.HeldVerdict.{HeldVerdict}
-use Rattle.judge_calls.specs.declared.held.HeldVerdict.TheVariants.{BadTasks, Foreign, Missing, Judged}
+use Rattle.judge_calls.specs.declared.held.WorkloadVerdict.{WorkloadVerdict}
+use Rattle.judge_calls.specs.declared.held.WorkloadVerdict.TheVariants.{BadTasks, Foreign, Missing, Judged}
 use Rattle.judge_calls.specs.declared.in_order.OrderVerdict.{OrderVerdict}
 use Rattle.judge_calls.specs.declared.in_order.OrderVerdict.TheVariants.{Held, LeftOut}
 use Rattle.judge_calls.specs.Call.{Call, line_call}
@@ -22,7 +22,7 @@ use Rattle.judge_calls.specs.Verdict.{verdict_on}
 use Rattle.judge_calls.specs.Laws.{Lists, IsLinearization}
 use Rattle.judge_calls.specs.Work.{Asked, line_asked, work_of, tasks_of, is_next, first_foreign, first_missing}
 use Rattle.judge_calls.specs.Work.{calls_in}
-use Rattle.judge_calls.specs.Work.{held_against_work, held_by, held_verdict, is_whole}
+use Rattle.judge_calls.specs.Work.{held_against_work, held_by, workload_verdict, is_whole}
 use Rattle.judge_calls.specs.Whole.{asked_by, forms, IsDoneBy, LegalIsWhole}
 use Rattle.judge_calls.specs.NotWhole.{AskForFirst, HandsOut, IsFirstMissing, MissingIsFirst}
 use Rattle.judge_calls.specs.AnyOrder.{line_of_call, unless_left_out, told_by_lines, unless_foreign, order_held_by}
@@ -107,7 +107,7 @@ left_uncovered : (found : Option ℕ) (client number : ℕ) → is_covered (unle
 left_uncovered None client number = refl
 left_uncovered (Some line) client number = refl
 
-told_whole : (lines : List (Result Call CallFault)) (verdict : HeldVerdict) →
+told_whole : (lines : List (Result Call CallFault)) (verdict : WorkloadVerdict) →
     is_covered (told_by_lines lines verdict) ≡ true → is_whole verdict ≡ true
 told_whole lines (Judged verdict) h = h
 told_whole lines (BadTasks line) h = h
@@ -115,7 +115,7 @@ told_whole lines (Foreign line) h = h
 told_whole lines (Missing client number) h =
     absurd (false_true (sym (left_uncovered (line_of_call client (number - 1) 1 lines) client number) ∙ h))
 
-whole_told : (lines : List (Result Call CallFault)) (verdict : HeldVerdict) → is_whole verdict ≡ true →
+whole_told : (lines : List (Result Call CallFault)) (verdict : WorkloadVerdict) → is_whole verdict ≡ true →
     is_covered (told_by_lines lines verdict) ≡ true
 whole_told lines (Judged verdict) h = h
 whole_told lines (BadTasks line) h = absurd (false_true h)
@@ -136,7 +136,7 @@ covered_whole whole n tasks bytes text calls order r h = go (work_of (map line_a
         let lines = map line_call (lines_of bytes) in
         let parts = unless_covered (first_foreign work [] lines)
         (told_by_lines lines (held_against_work n work text)) g in
-        let legal : is_whole (held_verdict n tasks text) ≡ true =
+        let legal : is_whole (workload_verdict n tasks text) ≡ true =
         ap (λ w. is_whole (held_by n w text)) e ∙ told_whole lines (held_against_work n work text) parts.1 in
         let all = (whole n tasks text).0 legal in
         let handed = work_lines (map line_asked (lines_of tasks)) work e in
@@ -163,7 +163,7 @@ whole_covered whole n tasks bytes text calls order r h =
     let none : first_foreign h.work [] lines ≡ None =
     ap (first_foreign h.work []) r.listed
     ∙ none_foreign h.work [] calls (λ k. ((h.asked k).0, (h.asked k).1)) in
-    let legal : is_whole (held_verdict n tasks text) ≡ true =
+    let legal : is_whole (workload_verdict n tasks text) ≡ true =
     (whole n tasks text).1 (record {
       work = h.work;
       calls = order;
@@ -187,7 +187,7 @@ covered_is_whole whole =
 
 -- ---- a foreign task
 
-pub held_same : (a b : HeldVerdict) → Held a ≡ Held b → a ≡ b
+pub held_same : (a b : WorkloadVerdict) → Held a ≡ Held b → a ≡ b
 held_same a b e = cc
 
 foreign_same : (k line : ℕ) → Foreign k ≡ Foreign line → k ≡ line
@@ -196,7 +196,7 @@ foreign_same k line e = cc
 some_none : (line : ℕ) → ◌≡◌ {A = Option ℕ} (Some line) None → ⊥
 some_none line e = cc
 
-pub left_not : (line : ℕ) (verdict : HeldVerdict) → LeftOut line ≡ Held verdict → ⊥
+pub left_not : (line : ℕ) (verdict : WorkloadVerdict) → LeftOut line ≡ Held verdict → ⊥
 left_not line verdict e = cc
 
 missing_not : (client number line : ℕ) → Missing client number ≡ Foreign line → ⊥
@@ -208,7 +208,7 @@ left_foreign (Some at) client number line e = left_not at (Foreign line) e
 left_foreign None client number line e =
     missing_not client number line (held_same (Missing client number) (Foreign line) e)
 
-told_foreign : (lines : List (Result Call CallFault)) (verdict : HeldVerdict) (line : ℕ) →
+told_foreign : (lines : List (Result Call CallFault)) (verdict : WorkloadVerdict) (line : ℕ) →
     told_by_lines lines verdict ≡ Held (Foreign line) → verdict ≡ Foreign line
 told_foreign lines (Judged verdict) line e = held_same (Judged verdict) (Foreign line) e
 told_foreign lines (BadTasks at) line e = held_same (BadTasks at) (Foreign line) e
@@ -412,7 +412,7 @@ left_same k line e = cc
 record IsMissed (n : ℕ) (tasks bytes text : List ℕ) (verdict : OrderVerdict) : Type 0 where
   client : ℕ
   number : ℕ
-  held : held_verdict n tasks text ≡ Missing client number
+  held : workload_verdict n tasks text ≡ Missing client number
   told : unless_left_out (line_of_call client (number - 1) 1 (map line_call (lines_of bytes))) client number ≡ verdict
 
 -- a verdict of this kind comes from a missing task alone
@@ -421,7 +421,7 @@ IsOfMissing (LeftOut line) = ⊤
 IsOfMissing (Held (Missing client number)) = ⊤
 IsOfMissing verdict = ⊥
 
-missed_told : (lines : List (Result Call CallFault)) (held : HeldVerdict) (verdict : OrderVerdict) →
+missed_told : (lines : List (Result Call CallFault)) (held : WorkloadVerdict) (verdict : OrderVerdict) →
     told_by_lines lines held ≡ verdict → IsOfMissing verdict →
     (it : ℕ × ℕ) × (held ≡ Missing it.0 it.1)
     × (unless_left_out (line_of_call it.0 (it.1 - 1) 1 lines) it.0 it.1 ≡ verdict)
@@ -465,7 +465,7 @@ missing_never first n tasks bytes text calls order r client number h =
     decide m.client m.number m.held (line_of_call m.client (m.number - 1) 1 (map line_call (lines_of bytes))) refl
     m.told
   where
-    decide : (k i : ℕ) → held_verdict n tasks text ≡ Missing k i → (found : Option ℕ) →
+    decide : (k i : ℕ) → workload_verdict n tasks text ≡ Missing k i → (found : Option ℕ) →
         line_of_call k (i - 1) 1 (map line_call (lines_of bytes)) ≡ found →
         unless_left_out found k i ≡ Held (Missing client number) → IsNeverSubmitted n tasks text calls client number
     decide k i held (Some line) e g = absurd (left_not line (Missing client number) g)
@@ -523,7 +523,7 @@ left_pending first n tasks bytes text calls order r line h =
     decide m.client m.number m.held (line_of_call m.client (m.number - 1) 1 (map line_call (lines_of bytes))) refl
     m.told
   where
-    decide : (k i : ℕ) → held_verdict n tasks text ≡ Missing k i → (found : Option ℕ) →
+    decide : (k i : ℕ) → workload_verdict n tasks text ≡ Missing k i → (found : Option ℕ) →
         line_of_call k (i - 1) 1 (map line_call (lines_of bytes)) ≡ found →
         unless_left_out found k i ≡ LeftOut line → IsLeftOutOfOrder n tasks text calls order line
     decide k i held None e g = absurd (left_not line (Missing k i) (sym g))

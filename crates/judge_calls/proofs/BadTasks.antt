@@ -3,12 +3,12 @@ use Rattle.std.proofs.Common.{◌≡◌, ℕ, ◌+◌, suc, List, [], ◌∷◌,
 use Rattle.std.proofs.Common.{arith}
 use Rattle.vac_lines.specs.Lines.{lines_of}
 use Rattle.judge_calls.specs.declared.fault.CallFault.{CallFault}
-use Rattle.judge_calls.specs.declared.held.HeldVerdict.TheVariants.{BadTasks}
+use Rattle.judge_calls.specs.declared.held.WorkloadVerdict.TheVariants.{BadTasks}
 use Rattle.judge_calls.specs.Call.{line_call}
 use Rattle.judge_calls.specs.Verdict.{verdict_on}
 use Rattle.judge_calls.specs.Work.{Asked, line_asked, onto_work, work_of, first_foreign, calls_in, first_missing}
 use Rattle.judge_calls.specs.Work.{held_by}
-use Rattle.judge_calls.specs.Work.{held_verdict}
+use Rattle.judge_calls.specs.Work.{workload_verdict}
 use Rattle.judge_calls.specs.NotWhole.{IsFirstWithoutTask, BadTasksIsFirst}
 use Rattle.judge_calls.proofs.NotWhole.{not_bad}
 
@@ -54,7 +54,7 @@ bad_named (a ∷ before) fault rest =
     let same : length before + 1 + 1 ≡ suc (length before) + 1 = omega arith in
     ap (onto_work a) (bad_named before fault rest) ∙ ap Err same
 
-bad_first : (n : ℕ) (tasks bytes : List ℕ) (line : ℕ) → held_verdict n tasks bytes ≡ BadTasks line
+bad_first : (n : ℕ) (tasks bytes : List ℕ) (line : ℕ) → workload_verdict n tasks bytes ≡ BadTasks line
     → IsFirstWithoutTask tasks line
 bad_first n tasks bytes line h = go (work_of (map line_asked (lines_of tasks))) refl h
   where
@@ -77,7 +77,7 @@ bad_first n tasks bytes line h = go (work_of (map line_asked (lines_of tasks))) 
         }
 
 first_bad : (n : ℕ) (tasks bytes : List ℕ) (line : ℕ) → IsFirstWithoutTask tasks line
-    → held_verdict n tasks bytes ≡ BadTasks line
+    → workload_verdict n tasks bytes ≡ BadTasks line
 first_bad n tasks bytes line h =
     let work : work_of (map line_asked (lines_of tasks)) ≡ Err line =
     ap work_of h.handed ∙ bad_named h.before h.fault h.rest ∙ ap Err (sym h.number) in

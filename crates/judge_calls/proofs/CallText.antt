@@ -15,15 +15,15 @@ use Rattle.vac_model.specs.declared.items.Kind.{Kind}
 use Rattle.vac_model.specs.declared.items.Kind.TheVariants.{Car, Flight, Room}
 use Rattle.vac_model.specs.declared.commands.Command.{Command}
 use Rattle.vac_model.specs.declared.commands.Command.TheVariants as command
-use Rattle.vac_model.specs.declared.commands.Why.{Why}
-use Rattle.vac_model.specs.declared.commands.Why.TheVariants as why
+use Rattle.vac_model.specs.declared.commands.Refusal.{Refusal}
+use Rattle.vac_model.specs.declared.commands.Refusal.TheVariants as why
 use Rattle.vac_model.specs.declared.tasks.Task.{Task}
 use Rattle.vac_model.specs.declared.tasks.Task.TheVariants as task
 use Rattle.vac_model.specs.declared.replies.Reply.{Reply}
 use Rattle.vac_model.specs.declared.replies.Reply.TheVariants as reply
 use Rattle.vac_model.specs.declared.replies.Report.{Report}
-use Rattle.vac_model.specs.declared.replies.Joined.{Joined}
-use Rattle.vac_model.specs.declared.replies.Joined.TheVariants.{NotAsked, Added, Refused}
+use Rattle.vac_model.specs.declared.replies.CustomerOutcome.{CustomerOutcome}
+use Rattle.vac_model.specs.declared.replies.CustomerOutcome.TheVariants.{NotAsked, Added, Refused}
 use Rattle.vac_model.specs.declared.replies.Pick.{Pick}
 use Rattle.vac_model.specs.Amounts.{is_id, is_amount, is_optional_amount, is_unit_count, is_list_length}
 use Rattle.vac_model.specs.Amounts.{has_deletable_units}
@@ -214,7 +214,7 @@ number_fits n small = record {
 }
 
 -- the name of a refusal
-why_fits : (w : Why) → Fits 21 (why_name w)
+why_fits : (w : Refusal) → Fits 21 (why_name w)
 why_fits why.NeedsCountAndPrice = record { clean = refl; size = omega arith }
 why_fits why.TotalLimit = record { clean = refl; size = omega arith }
 why_fits why.Full = record { clean = refl; size = omega arith }
@@ -227,14 +227,14 @@ why_fits why.SoldOut = record { clean = refl; size = omega arith }
 why_fits why.NotBooked = record { clean = refl; size = omega arith }
 why_fits why.UnitLimit = record { clean = refl; size = omega arith }
 
-done_fits : (w : Option Why) → Fits 21 (done_text w)
+done_fits : (w : Option Refusal) → Fits 21 (done_text w)
 done_fits None = record { clean = refl; size = omega arith }
 done_fits (Some w) = why_fits w
 
 field_fits : (name : List ℕ) (n : ℕ) → Fits 11 name → n < 2 ^ 64 → Fits 31 (field_text name n)
 field_fits name n p small = fits_both 11 20 name (decimal n) p (number_fits n small)
 
-joined_fits : (j : Joined) → Fits 21 (joined_text j)
+joined_fits : (j : CustomerOutcome) → Fits 21 (joined_text j)
 joined_fits NotAsked = record { clean = refl; size = omega arith }
 joined_fits Added = record { clean = refl; size = omega arith }
 joined_fits (Refused w) = why_fits w
@@ -258,7 +258,7 @@ picks_fit (name ∷ names) (p ∷ ps) h g =
     (fits_both 50 (50 * length names) (name ++ pick_text p) (flat_map (λ p. p.0 ++ pick_text p.1) (zip names ps)) own
     more)
 
-changes_fit : (changes : List (Option Why)) → Fits (22 * length changes) (flat_map change_text changes)
+changes_fit : (changes : List (Option Refusal)) → Fits (22 * length changes) (flat_map change_text changes)
 changes_fit [] = record { clean = refl; size = omega arith }
 changes_fit (w ∷ ws) =
     let own = fits_both 1 21 (codes " ") (done_text w) (record { clean = refl; size = omega arith }) (done_fits w) in
@@ -298,7 +298,7 @@ report_fits r h = fits_both 186 93 (entries_text r ++ booked_text r) (sums_text 
         (field_fits (codes " total=") r.total (record { clean = refl; size = omega arith }) (at 7 (omega arith)))
         (field_fits (codes " billed=") r.billed (record { clean = refl; size = omega arith }) (at 8 (omega arith)))
 
-update_fits : (len : ℕ) (refused : List (Option Why)) → length refused ≤ 32 →
+update_fits : (len : ℕ) (refused : List (Option Refusal)) → length refused ≤ 32 →
     Fits 800 (codes "update" ++ flat_map change_text (take len refused))
 update_fits len refused few =
     let changes = take len refused in

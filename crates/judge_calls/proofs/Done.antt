@@ -11,13 +11,13 @@ use Rattle.vac_lines.specs.TaskText.{task_text}
 use Rattle.judge_calls.specs.declared.fault.CallFault.{CallFault}
 use Rattle.judge_calls.specs.declared.verdict.Verdict.{Verdict}
 use Rattle.judge_calls.specs.declared.verdict.Verdict.TheVariants.{Legal, Fault, Illegal}
-use Rattle.judge_calls.specs.declared.held.HeldVerdict.TheVariants.{Judged, Foreign}
+use Rattle.judge_calls.specs.declared.held.WorkloadVerdict.TheVariants.{Judged, Foreign}
 use Rattle.judge_calls.specs.Call.{Call, line_call}
 use Rattle.judge_calls.specs.Verdict.{verdict_on, is_legal}
 use Rattle.judge_calls.specs.Laws.{LegalIsLinearization}
 use Rattle.judge_calls.specs.Work.{Asked, line_asked, onto_work, work_of, tasks_of, made_by, is_last, has_stopped}
 use Rattle.judge_calls.specs.Work.{is_that, is_next, first_foreign, calls_in, is_missing, first_missing, joined_verdict}
-use Rattle.judge_calls.specs.Work.{held_by, held_verdict, is_whole}
+use Rattle.judge_calls.specs.Work.{held_by, workload_verdict, is_whole}
 use Rattle.judge_calls.specs.Whole.{asked_by, forms, IsDoneBy, IsWholeHistory, LegalIsWhole}
 use Rattle.judge_calls.proofs.Handed.{Test, test}
 
@@ -330,7 +330,8 @@ suffices work calls k d =
           inr (omega (arith, made, size, none))
     ]
 
-whole_history : LegalIsLinearization → (n : ℕ) (tasks bytes : List ℕ) → is_whole (held_verdict n tasks bytes) ≡ true →
+whole_history : LegalIsLinearization → (n : ℕ) (tasks bytes : List ℕ) →
+    is_whole (workload_verdict n tasks bytes) ≡ true →
     IsWholeHistory n tasks bytes
 whole_history legal n tasks bytes h = go (work_of (map line_asked (lines_of tasks))) refl h
   where
@@ -353,7 +354,7 @@ whole_history legal n tasks bytes h = go (work_of (map line_asked (lines_of task
         }
 
 history_whole : LegalIsLinearization → (n : ℕ) (tasks bytes : List ℕ) → IsWholeHistory n tasks bytes →
-    is_whole (held_verdict n tasks bytes) ≡ true
+    is_whole (workload_verdict n tasks bytes) ≡ true
 history_whole legal n tasks bytes h =
     let lines = map line_call (lines_of bytes) in
     let work : work_of (map line_asked (lines_of tasks)) ≡ Ok h.work = ap work_of h.handed ∙ lines_work h.work in

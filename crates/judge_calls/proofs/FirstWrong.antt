@@ -7,8 +7,8 @@ use Rattle.vac_model.specs.Run.{run}
 use Rattle.vac_model.specs.declared.replies.Reply.{Reply}
 use Rattle.vac_lines.specs.Lines.{lines_of}
 use Rattle.judge_calls.specs.declared.fault.CallFault.{CallFault}
-use Rattle.judge_calls.specs.declared.verdict.Wrong.{Wrong}
-use Rattle.judge_calls.specs.declared.verdict.Wrong.TheVariants as wrong
+use Rattle.judge_calls.specs.declared.verdict.CallViolation.{CallViolation}
+use Rattle.judge_calls.specs.declared.verdict.CallViolation.TheVariants as wrong
 use Rattle.judge_calls.specs.declared.verdict.Verdict.TheVariants.{Fault, Illegal}
 use Rattle.judge_calls.specs.Call.{Call, line_call}
 use Rattle.judge_time.proofs.Order as spans
@@ -28,18 +28,18 @@ false_true e = cc
 -- ---- which cause is found
 
 -- what the tests say where this is wrong
-abbrev Tests : Bool → Bool → Bool → Reply → Wrong → Type 0
+abbrev Tests : Bool → Bool → Bool → Reply → CallViolation → Type 0
 Tests client time reply r wrong.Client = client ≡ true
 Tests client time reply r wrong.Time = (client ≡ false) × (time ≡ true)
 Tests client time reply r (wrong.Reply e) = (client ≡ false) × (time ≡ false) × (reply ≡ false) × (e ≡ r)
 
-wrong_same : (x y : Wrong) → Some x ≡ Some y → x ≡ y
+wrong_same : (x y : CallViolation) → Some x ≡ Some y → x ≡ y
 wrong_same x y e = cc
 
-no_wrong : (w : Wrong) → None ≡ Some w → ⊥
+no_wrong : (w : CallViolation) → None ≡ Some w → ⊥
 no_wrong w e = cc
 
-tests_of : (client time reply : Bool) (r : Reply) (w : Wrong) →
+tests_of : (client time reply : Bool) (r : Reply) (w : CallViolation) →
     found client time reply (Some (wrong.Reply r)) ≡ Some w → Tests client time reply r w
 tests_of true time reply r w h = subst (Tests true time reply r) (wrong_same wrong.Client w h) refl
 tests_of false true reply r w h = subst (Tests false true reply r) (wrong_same wrong.Time w h) (refl, refl)
@@ -51,7 +51,7 @@ tests_of false false false r w h = subst (Tests false false false r) (wrong_same
   refl,
 )
 
-of_tests : (client time reply : Bool) (r : Reply) (w : Wrong) → Tests client time reply r w →
+of_tests : (client time reply : Bool) (r : Reply) (w : CallViolation) → Tests client time reply r w →
     found client time reply (Some (wrong.Reply r)) ≡ Some w
 of_tests client time reply r wrong.Client h = ap (λ b. found b time reply (Some (wrong.Reply r))) h
 of_tests client time reply r wrong.Time h = ap (λ b. found b time reply (Some (wrong.Reply r))) h.0 ∙
@@ -65,11 +65,12 @@ abbrev expected : ℕ → List Call → Call → Reply
 expected n cs c = (run (state_after (empty_state n) cs) c.op).1
 
 -- the tests on a call behind calls in a legal order
-abbrev TestsOn : ℕ → List Call → Call → Wrong → Type 0
+abbrev TestsOn : ℕ → List Call → Call → CallViolation → Type 0
 TestsOn n cs c w = Tests (call_breaks_client (reverse_aux cs []) c) (call_breaks_time (reverse_aux cs []) c)
     (is_right c.reply (expected n cs c)) (expected n cs c) w
 
-cause_of : (n : ℕ) (cs : List Call) (c : Call) (w : Wrong) → IsLinearization n cs → TestsOn n cs c w → IsCause n cs c w
+cause_of : (n : ℕ) (cs : List Call) (c : Call) (w : CallViolation) → IsLinearization n cs → TestsOn n cs c w →
+    IsCause n cs c w
 cause_of n cs c wrong.Client l h = λ t. false_true (sym (spans.of_turns span_of cs c t) ∙ h)
 cause_of n cs c wrong.Time l h = (
   spans.turns_of span_of cs c (record { times = l.times; clients = l.clients }) h.0,
@@ -83,7 +84,8 @@ cause_of n cs c (wrong.Reply e) l h =
       λ a. false_true (sym h.2 ∙ of_answer (expected n cs c) c.reply (subst (λ r. IsAnswerOf r c.reply) h.3 a)),
     )
 
-of_cause : (n : ℕ) (cs : List Call) (c : Call) (w : Wrong) → IsLinearization n cs → IsCause n cs c w → TestsOn n cs c w
+of_cause : (n : ℕ) (cs : List Call) (c : Call) (w : CallViolation) → IsLinearization n cs → IsCause n cs c w →
+    TestsOn n cs c w
 of_cause n cs c wrong.Client l h =
     passes (call_breaks_client (reverse_aux cs []) c) (λ e. h (spans.turns_of span_of cs c
     (record { times = l.times; clients = l.clients }) e))
@@ -105,7 +107,8 @@ last_reply s [] c h = h.0
 last_reply s (d ∷ cs) c h = last_reply (run s d.op).0 cs c h.1
 
 -- with the call there is no linearization
-none_with : (n : ℕ) (cs : List Call) (c : Call) (w : Wrong) → IsCause n cs c w → IsLinearization n (cs ++ c ∷ []) → ⊥
+none_with : (n : ℕ) (cs : List Call) (c : Call) (w : CallViolation) → IsCause n cs c w →
+    IsLinearization n (cs ++ c ∷ []) → ⊥
 none_with n cs c wrong.Client h l = h (record { times = l.times; clients = l.clients })
 none_with n cs c wrong.Time h l = h.1 l.precedence
 none_with n cs c (wrong.Reply e) h l = h.3 (subst (λ r. IsAnswerOf r c.reply) (sym h.2)
@@ -114,7 +117,7 @@ none_with n cs c (wrong.Reply e) h l = h.3 (subst (λ r. IsAnswerOf r c.reply) (
 -- ---- the first line that is wrong
 
 -- such a line stands behind calls that are right
-record Found (s : State) (earlier : List Call) (lines : List (Result Call CallFault)) (line : ℕ) (w : Wrong) :
+record Found (s : State) (earlier : List Call) (lines : List (Result Call CallFault)) (line : ℕ) (w : CallViolation) :
     Type 0 where
   before : List Call
   call : Call
@@ -124,13 +127,13 @@ record Found (s : State) (earlier : List Call) (lines : List (Result Call CallFa
   right : AllRight s earlier before
   is : wrong_of (state_after s before) (reverse_aux before earlier) call ≡ Some w
 
-not_fault : (k line : ℕ) (f : CallFault) (w : Wrong) → Fault k f ≡ Illegal line w → ⊥
+not_fault : (k line : ℕ) (f : CallFault) (w : CallViolation) → Fault k f ≡ Illegal line w → ⊥
 not_fault k line f w e = cc
 
-illegal_same : (k line : ℕ) (v w : Wrong) → Illegal k v ≡ Illegal line w → (k ≡ line) × (v ≡ w)
+illegal_same : (k line : ℕ) (v w : CallViolation) → Illegal k v ≡ Illegal line w → (k ≡ line) × (v ≡ w)
 illegal_same k line v w e = (cc, cc)
 
-find : (s : State) (earlier : List Call) (lines : List (Result Call CallFault)) (line : ℕ) (w : Wrong) →
+find : (s : State) (earlier : List Call) (lines : List (Result Call CallFault)) (line : ℕ) (w : CallViolation) →
     judged s earlier lines ≡ Illegal line w → Found s earlier lines line w
 find s earlier [] line w h = absurd (let e = h in cc)
 find s earlier (Err fault ∷ rest) line w h = absurd (not_fault (length earlier + 1) line fault w h)
@@ -138,7 +141,7 @@ find s earlier (Ok c ∷ rest) line w h = decide (λ g. find (run s c.op).0 (c �
     (wrong_of s earlier c) refl h
   where
     decide : (judged (run s c.op).0 (c ∷ earlier) rest ≡ Illegal line w →
-        Found (run s c.op).0 (c ∷ earlier) rest line w) → (found : Option Wrong) → wrong_of s earlier c ≡ found
+        Found (run s c.op).0 (c ∷ earlier) rest line w) → (found : Option CallViolation) → wrong_of s earlier c ≡ found
         → unless_wrong found (length earlier + 1) (judged (run s c.op).0 (c ∷ earlier) rest) ≡ Illegal line w →
         Found s earlier (Ok c ∷ rest) line w
     decide next None e g =
@@ -165,7 +168,8 @@ find s earlier (Ok c ∷ rest) line w h = decide (λ g. find (run s c.op).0 (c �
         }
 
 -- so it is the verdict
-named : (s : State) (earlier before : List Call) (call : Call) (rest : List (Result Call CallFault)) (w : Wrong) →
+named : (s : State) (earlier before : List Call) (call : Call) (rest : List (Result Call CallFault))
+    (w : CallViolation) →
     AllRight s earlier before
     → wrong_of (state_after s before) (reverse_aux before earlier) call ≡ Some w →
     judged s earlier (map Ok before ++ Ok call ∷ rest) ≡ Illegal (length earlier + length before + 1) w
@@ -179,7 +183,7 @@ named s earlier (c ∷ cs) call rest w h e =
     (wrong_none s earlier c h.0)
     ∙ named (run s c.op).0 (c ∷ earlier) cs call rest w h.1 e ∙ ap (λ k. Illegal k w) same
 
-first_wrong : (n : ℕ) (bytes : List ℕ) (line : ℕ) (w : Wrong) → verdict_on n bytes ≡ Illegal line w →
+first_wrong : (n : ℕ) (bytes : List ℕ) (line : ℕ) (w : CallViolation) → verdict_on n bytes ≡ Illegal line w →
     IsFirstWrong n bytes line w
 first_wrong n bytes line w h =
     let f = find (empty_state n) [] (map line_call (lines_of bytes)) line w h in
@@ -199,7 +203,7 @@ first_wrong n bytes line w h =
       cause = cause;
     }
 
-wrong_first : (n : ℕ) (bytes : List ℕ) (line : ℕ) (w : Wrong) → IsFirstWrong n bytes line w →
+wrong_first : (n : ℕ) (bytes : List ℕ) (line : ℕ) (w : CallViolation) → IsFirstWrong n bytes line w →
     verdict_on n bytes ≡ Illegal line w
 wrong_first n bytes line w f =
     let tests = of_cause n f.before f.call w f.legal f.cause in
@@ -226,7 +230,7 @@ record Faulty (s : State) (earlier : List Call) (lines : List (Result Call CallF
 fault_same : (k line : ℕ) (f g : CallFault) → Fault k f ≡ Fault line g → (k ≡ line) × (f ≡ g)
 fault_same k line f g e = (cc, cc)
 
-not_wrong : (k line : ℕ) (w : Wrong) (f : CallFault) → Illegal k w ≡ Fault line f → ⊥
+not_wrong : (k line : ℕ) (w : CallViolation) (f : CallFault) → Illegal k w ≡ Fault line f → ⊥
 not_wrong k line w f e = cc
 
 find_fault : (s : State) (earlier : List Call) (lines : List (Result Call CallFault)) (line : ℕ) (fault : CallFault) →
@@ -246,7 +250,8 @@ find_fault s earlier (Ok c ∷ rest) line fault h = decide (λ g. find_fault (ru
     (c ∷ earlier) rest line fault g) (wrong_of s earlier c) refl h
   where
     decide : (judged (run s c.op).0 (c ∷ earlier) rest ≡ Fault line fault →
-        Faulty (run s c.op).0 (c ∷ earlier) rest line fault) → (found : Option Wrong) → wrong_of s earlier c ≡ found
+        Faulty (run s c.op).0 (c ∷ earlier) rest line fault) → (found : Option CallViolation) →
+        wrong_of s earlier c ≡ found
         → unless_wrong found (length earlier + 1) (judged (run s c.op).0 (c ∷ earlier) rest) ≡ Fault line fault →
         Faulty s earlier (Ok c ∷ rest) line fault
     decide next None e g =

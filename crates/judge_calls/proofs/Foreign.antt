@@ -11,15 +11,15 @@ use Rattle.vac_lines.specs.Lines.{lines_of}
 use Rattle.vac_lines.specs.TaskText.{task_text}
 use Rattle.judge_time.proofs.Order.{fails}
 use Rattle.judge_calls.specs.declared.fault.CallFault.{CallFault}
-use Rattle.judge_calls.specs.declared.verdict.Wrong.{Wrong}
+use Rattle.judge_calls.specs.declared.verdict.CallViolation.{CallViolation}
 use Rattle.judge_calls.specs.declared.verdict.Verdict.{Verdict}
 use Rattle.judge_calls.specs.declared.verdict.Verdict.TheVariants.{Legal, Fault, Illegal}
-use Rattle.judge_calls.specs.declared.held.HeldVerdict.TheVariants.{Judged, BadTasks, Foreign}
+use Rattle.judge_calls.specs.declared.held.WorkloadVerdict.TheVariants.{Judged, BadTasks, Foreign}
 use Rattle.judge_calls.specs.Call.{Call, line_call}
 use Rattle.judge_calls.specs.Order.{wrong_of}
 use Rattle.judge_calls.specs.Verdict.{judged, unless_wrong, verdict_on}
 use Rattle.judge_calls.specs.Work.{Asked, line_asked, work_of, tasks_of, made_by, is_next, first_foreign, calls_in}
-use Rattle.judge_calls.specs.Work.{first_missing, comes_first, joined_verdict, held_by, held_verdict}
+use Rattle.judge_calls.specs.Work.{first_missing, comes_first, joined_verdict, held_by, workload_verdict}
 use Rattle.judge_calls.specs.Whole.{asked_by, forms}
 use Rattle.judge_calls.specs.NotWhole.{AskForFirst, IsFirstForeign, ForeignIsFirst}
 use Rattle.judge_calls.proofs.Order.{right_of, wrong_none}
@@ -94,7 +94,7 @@ right_before s earlier (c ∷ before) rest h =
   where
     go : (comes_first (length (c ∷ earlier) + length before + 1)
         (judged (run s c.op).0 (c ∷ earlier) (map Ok before ++ rest)) ≡ true
-        → AllRight (run s c.op).0 (c ∷ earlier) before) → (found : Option Wrong) → wrong_of s earlier c ≡ found
+        → AllRight (run s c.op).0 (c ∷ earlier) before) → (found : Option CallViolation) → wrong_of s earlier c ≡ found
         → comes_first (length earlier + length (c ∷ before) + 1) (unless_wrong found (length earlier + 1)
         (judged (run s c.op).0 (c ∷ earlier) (map Ok before ++ rest))) ≡ true → AllRight s earlier (c ∷ before)
     go next None e g =
@@ -113,7 +113,7 @@ after_all s earlier (Err fault ∷ rest) = le_to (length earlier + 1) (length ea
 after_all s earlier (Ok c ∷ rest) = go (after_all (run s c.op).0 (c ∷ earlier) rest) (wrong_of s earlier c)
   where
     go : comes_first (length (c ∷ earlier) + 1) (judged (run s c.op).0 (c ∷ earlier) rest) ≡ true
-        → (found : Option Wrong) → comes_first (length earlier + 1)
+        → (found : Option CallViolation) → comes_first (length earlier + 1)
         (unless_wrong found (length earlier + 1) (judged (run s c.op).0 (c ∷ earlier) rest)) ≡ true
     go next None =
         let more : length earlier + 1 ≤ suc (length earlier) + 1 = omega arith in
@@ -210,7 +210,7 @@ other_named work earlier (c ∷ before) call rest h e =
         ap (λ b. cond b more (Some (length earlier + 1))) t ∙ next g ∙ ap Some same
     go next false t g = absurd (none_some (length earlier + 1) g)
 
-foreign_first : (n : ℕ) (tasks bytes : List ℕ) (line : ℕ) → held_verdict n tasks bytes ≡ Foreign line
+foreign_first : (n : ℕ) (tasks bytes : List ℕ) (line : ℕ) → workload_verdict n tasks bytes ≡ Foreign line
     → IsFirstForeign n tasks bytes line
 foreign_first n tasks bytes line h = go (work_of (map line_asked (lines_of tasks))) refl h
   where
@@ -239,7 +239,7 @@ foreign_first n tasks bytes line h = go (work_of (map line_asked (lines_of tasks
         }
 
 first_other : (n : ℕ) (tasks bytes : List ℕ) (line : ℕ) → IsFirstForeign n tasks bytes line
-    → held_verdict n tasks bytes ≡ Foreign line
+    → workload_verdict n tasks bytes ≡ Foreign line
 first_other n tasks bytes line h =
     let lines = map line_call (lines_of bytes) in
     let work : work_of (map line_asked (lines_of tasks)) ≡ Ok h.work = ap work_of h.handed ∙ lines_work h.work in

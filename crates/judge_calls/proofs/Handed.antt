@@ -15,9 +15,9 @@ use Rattle.vac_lines.specs.Lines.{lines_of, HasNo}
 use Rattle.vac_streams.proofs.Cutting.{HasNoEnd, lines_cut, lines_last}
 use Rattle.judge_calls.specs.declared.fault.CallFault.{CallFault}
 use Rattle.judge_calls.specs.declared.fault.CallFault.TheVariants.{BadCall}
-use Rattle.judge_calls.specs.declared.work.Work.{Work}
+use Rattle.judge_calls.specs.declared.work.Workload.{Workload}
 use Rattle.judge_calls.specs.declared.holding.CallCount.{CallCount}
-use Rattle.judge_calls.specs.declared.holding.Holding.{Holding}
+use Rattle.judge_calls.specs.declared.holding.CallCounts.{CallCounts}
 use Rattle.judge_calls.specs.Call.{Call, line_call, joined_words}
 use Rattle.judge_calls.specs.Work.{Asked, words_asked, text_asked, line_asked, onto_work, work_of, tasks_of, made_by}
 use Rattle.judge_calls.specs.Work.{has_stopped, is_next, first_foreign, calls_in, is_missing, first_missing}
@@ -96,7 +96,8 @@ clients_more : (work : List Asked) (a : Asked) → map (λ b. b.client) (work ++
 clients_more [] a = refl
 clients_more (b ∷ work) a = ap (λ t. b.client ∷ t) (clients_more work a)
 
-pub push_more : (old new : Work) (client : ℕ) (task : Task) (tasks tasks' : Vec Task) (left : FinMap nat_cmp (Vec Task))
+pub push_more : (old new : Workload) (client : ℕ) (task : Task) (tasks tasks' : Vec Task)
+    (left : FinMap nat_cmp (Vec Task))
     → tasks.items ≡ tasks_listed (get old.tasks client)
     → tasks'.items ≡ tasks.items ++ task ∷ [] → left ≡ remove old.tasks client → new.tasks ≡ insert left client tasks' →
     new.clients.items ≡ old.clients.items ++ client ∷ []
@@ -125,7 +126,7 @@ push_more old new client task tasks tasks' left had pushed l i c = λ work h. re
     itself n = grind (arith, nat_tests)
 
 -- so far this work was read
-pub record ReadTo (kept : Work) (count : ℕ) (text rest : List ℕ) : Type 0 where
+pub record ReadTo (kept : Workload) (count : ℕ) (text rest : List ℕ) : Type 0 where
   pub work : List Asked
   pub is : IsWork kept work
   pub number : count ≡ length work
@@ -143,7 +144,7 @@ onto_more work a (Err line) =
     let same : length work + (line + 1) ≡ length (work ++ a ∷ []) + line = omega (arith, size) in
     ap Err same
 
-pub read_first : (kept : Work) (text : List ℕ) → IsWork kept [] → ReadTo kept 0 text text
+pub read_first : (kept : Workload) (text : List ℕ) → IsWork kept [] → ReadTo kept 0 text text
 read_first kept text h = record {
   work = [];
   is = h;
@@ -151,7 +152,7 @@ read_first kept text h = record {
   all = sym (onto_none (work_of (map line_asked (lines_of text))));
 }
 
-pub read_more : (kept after : Work) (count count' : ℕ) (text rest line behind : List ℕ) (a : ℕ × Task) →
+pub read_more : (kept after : Workload) (count count' : ℕ) (text rest line behind : List ℕ) (a : ℕ × Task) →
     ReadTo kept count text rest → lines_of rest ≡ line ∷ lines_of behind
     → line_asked line ≡ Ok (asked_of a) → count' ≡ count + 1 →
     ((work : List Asked) → IsWork kept work → IsWork after (work ++ asked_of a ∷ [])) →
@@ -167,7 +168,7 @@ read_more kept after count count' text rest line behind a r cut is n p =
           ∙ onto_more r.work (asked_of a) (work_of (map line_asked (lines_of behind)));
     }
 
-pub read_bad : (kept : Work) (count count' : ℕ) (text rest line behind : List ℕ) (fault : CallFault) →
+pub read_bad : (kept : Workload) (count count' : ℕ) (text rest line behind : List ℕ) (fault : CallFault) →
     ReadTo kept count text rest → lines_of rest ≡ line ∷ lines_of behind
     → line_asked line ≡ Err fault → count' ≡ count + 1 → work_of (map line_asked (lines_of text)) ≡ Err count'
 read_bad kept count count' text rest line behind fault r cut is n =
@@ -176,10 +177,10 @@ read_bad kept count count' text rest line behind fault r cut is n =
     ap (λ x. onto_all r.work (work_of (x ∷ map line_asked (lines_of behind)))) is ∙ ap Err same
 
 -- what was read in the end
-abbrev pub IsRead : Work → List ℕ → Type 0
+abbrev pub IsRead : Workload → List ℕ → Type 0
 IsRead kept text = (work : List Asked) × IsWork kept work × (work_of (map line_asked (lines_of text)) ≡ Ok work)
 
-pub read_all : (kept : Work) (count : ℕ) (text rest : List ℕ) → ReadTo kept count text rest → lines_of rest ≡ [] →
+pub read_all : (kept : Workload) (count : ℕ) (text rest : List ℕ) → ReadTo kept count text rest → lines_of rest ≡ [] →
     IsRead kept text
 read_all kept count text rest r none = (
   r.work,
@@ -190,7 +191,7 @@ read_all kept count text rest r none = (
 
 -- ---- calls
 
-pub count_more : (old new : Holding) (c : Call) (p p' : CallCount) → new.clients ≡ insert old.clients c.client p' →
+pub count_more : (old new : CallCounts) (c : Call) (p p' : CallCount) → new.clients ≡ insert old.clients c.client p' →
     p'.made ≡ p.made + 1
     → p'.stopped ≡ (is_none c.reply || p.stopped) → new.count ≡ old.count + 1 → (calls : List Call) → Counts old calls →
     IsCallCount p c.client calls → Counts new (c ∷ calls)
@@ -229,7 +230,7 @@ count_more old new c p p' i made stopped n calls h so_far = record {
     kept_on (Some q) k f h = record { made = h.made ∙ made_on k f; stopped = h.stopped ∙ stopped_on k f }
 
 -- the lines of a text up to here asked for their clients' next tasks
-pub record HeldTo (work : Work) (held : Holding) (text rest : List ℕ) : Type 0 where
+pub record HeldTo (work : Workload) (held : CallCounts) (text rest : List ℕ) : Type 0 where
   pub calls : List Call
   pub counts : Counts held calls
   pub line : (asked : List Asked) → IsWork work asked
@@ -237,15 +238,15 @@ pub record HeldTo (work : Work) (held : Holding) (text rest : List ℕ) : Type 0
       (map line_call (lines_of rest))
   pub all : calls_in [] (map line_call (lines_of text)) ≡ calls_in calls (map line_call (lines_of rest))
 
-pub held_first : (work : Work) (held : Holding) (text : List ℕ) → Counts held [] → HeldTo work held text text
+pub held_first : (work : Workload) (held : CallCounts) (text : List ℕ) → Counts held [] → HeldTo work held text text
 held_first work held text c = record { calls = []; counts = c; line = λ asked w. refl; all = refl }
 
 -- what is said of a call that is taken, or not
-abbrev pub IsTaken : Work → Holding → Call → Bool → Type 0
+abbrev pub IsTaken : Workload → CallCounts → Call → Bool → Type 0
 IsTaken work held c next = (asked : List Asked) (calls : List Call) → IsWork work asked → Counts held calls →
     next ≡ is_next asked calls c
 
-pub held_more : (work : Work) (held after : Holding) (text rest line behind : List ℕ) (c : Call) →
+pub held_more : (work : Workload) (held after : CallCounts) (text rest line behind : List ℕ) (c : Call) →
     HeldTo work held text rest → lines_of rest ≡ line ∷ lines_of behind
     → line_call line ≡ Ok c → IsTaken work held c true → ((calls : List Call) → Counts held calls →
     Counts after (c ∷ calls)) → HeldTo work after text behind
@@ -262,15 +263,15 @@ held_more work held after text rest line behind c h cut is next counts =
     }
 
 -- this is the first line that is foreign
-abbrev pub IsForeign : Work → List ℕ → Option ℕ → Type 0
+abbrev pub IsForeign : Workload → List ℕ → Option ℕ → Type 0
 IsForeign work text found = (asked : List Asked) → IsWork work asked →
     found ≡ first_foreign asked [] (map line_call (lines_of text))
 
 -- so many calls are all
-abbrev pub CountsAll : Holding → List ℕ → Type 0
+abbrev pub CountsAll : CallCounts → List ℕ → Type 0
 CountsAll held text = Counts held (calls_in [] (map line_call (lines_of text)))
 
-pub held_foreign : (work : Work) (held : Holding) (number : ℕ) (text rest line behind : List ℕ) (c : Call) →
+pub held_foreign : (work : Workload) (held : CallCounts) (number : ℕ) (text rest line behind : List ℕ) (c : Call) →
     HeldTo work held text rest → lines_of rest ≡ line ∷ lines_of behind
     → line_call line ≡ Ok c → IsTaken work held c false → number ≡ held.count + 1 → IsForeign work text (Some number)
 held_foreign work held number text rest line behind c h cut is next n = λ asked w.
@@ -281,7 +282,7 @@ held_foreign work held number text rest line behind c h cut is next n = λ asked
     ∙ ap (λ b. cond b (first_foreign asked (c ∷ h.calls) more) (Some (length h.calls + 1)))
     (sym (next asked h.calls w h.counts)) ∙ ap Some same)
 
-pub held_fault : (work : Work) (held : Holding) (text rest line behind : List ℕ) (fault : CallFault) →
+pub held_fault : (work : Workload) (held : CallCounts) (text rest line behind : List ℕ) (fault : CallFault) →
     HeldTo work held text rest → lines_of rest ≡ line ∷ lines_of behind
     → line_call line ≡ Err fault → IsForeign work text None × CountsAll held text
 held_fault work held text rest line behind fault h cut is =
@@ -292,7 +293,8 @@ held_fault work held text rest line behind fault h cut is =
           ap (λ x. calls_in h.calls (x ∷ more)) is)) h.counts,
     )
 
-pub held_all : (work : Work) (held : Holding) (text rest : List ℕ) → HeldTo work held text rest → lines_of rest ≡ [] →
+pub held_all : (work : Workload) (held : CallCounts) (text rest : List ℕ) → HeldTo work held text rest →
+    lines_of rest ≡ [] →
     IsForeign work text None × CountsAll held text
 held_all work held text rest h none = (
   λ asked w. sym (h.line asked w ∙ ap (λ ls. first_foreign asked h.calls (map line_call ls)) none),
@@ -302,7 +304,7 @@ held_all work held text rest h none = (
 -- ---- tasks that are missing
 
 -- the tasks of these clients are still to be looked at
-pub record SeenTo (work : Work) (held : Holding) (seen : FinMap nat_cmp ℕ) (rest : List ℕ) (asked : List Asked)
+pub record SeenTo (work : Workload) (held : CallCounts) (seen : FinMap nat_cmp ℕ) (rest : List ℕ) (asked : List Asked)
     (calls : List Call) : Type 0 where
   pub before : List Asked
   pub behind : List Asked
@@ -311,11 +313,11 @@ pub record SeenTo (work : Work) (held : Holding) (seen : FinMap nat_cmp ℕ) (re
   pub same : first_missing calls [] asked ≡ first_missing calls before behind
 
 -- so it is whatever the work and the calls are
-abbrev pub AllSeen : Work → Holding → FinMap nat_cmp ℕ → List ℕ → Type 0
+abbrev pub AllSeen : Workload → CallCounts → FinMap nat_cmp ℕ → List ℕ → Type 0
 AllSeen work held seen rest = (asked : List Asked) (calls : List Call) → IsWork work asked → Counts held calls →
     SeenTo work held seen rest asked calls
 
-pub seen_first : (work : Work) (held : Holding) (seen : FinMap nat_cmp ℕ) (rest : List ℕ) → seen ≡ empty →
+pub seen_first : (work : Workload) (held : CallCounts) (seen : FinMap nat_cmp ℕ) (rest : List ℕ) → seen ≡ empty →
     rest ≡ work.clients.items → AllSeen work held seen rest
 seen_first work held seen rest e c = λ asked calls w h. record {
   before = [];
@@ -326,7 +328,7 @@ seen_first work held seen rest e c = λ asked calls w h. record {
 }
 
 -- a client is open or not, as its numbers say
-number_of : (p : CallCount) (held : Holding) (client before : ℕ) (calls : List Call) → IsCallCount p client calls →
+number_of : (p : CallCount) (held : CallCounts) (client before : ℕ) (calls : List Call) → IsCallCount p client calls →
     (nat_le p.made before && not p.stopped) ≡ is_missing calls client before
 number_of p held client before calls h = ap (λ m. nat_le m before && not p.stopped) h.made ∙
     ap (λ b. nat_le (made_by client calls) before && not b) h.stopped
@@ -336,7 +338,7 @@ seen_head : (client : ℕ) (rest : List ℕ) (behind : List Asked) → map (λ a
 seen_head client rest [] e = absurd (let h = e in cc)
 seen_head client rest (a ∷ more) e = (a, more, refl, cc, cc)
 
-pub seen_more : (work : Work) (held : Holding) (seen seen' : FinMap nat_cmp ℕ) (client before number : ℕ)
+pub seen_more : (work : Workload) (held : CallCounts) (seen seen' : FinMap nat_cmp ℕ) (client before number : ℕ)
     (rest behind : List ℕ) (p : CallCount) → AllSeen work held seen rest
     → rest ≡ client ∷ behind → before ≡ unwrap_or (get seen client) 0 → number ≡ before + 1 →
     seen' ≡ insert seen client number
@@ -399,11 +401,11 @@ pub closed_by_made : (a b : ℕ) (s : Bool) → b < a → (nat_le a b && not s) 
 closed_by_made a b s h = grind (arith, nat_tests)
 
 -- this is the first task that is missing
-abbrev pub IsMissing : Work → Holding → Option (ℕ × ℕ) → Type 0
+abbrev pub IsMissing : Workload → CallCounts → Option (ℕ × ℕ) → Type 0
 IsMissing work held found = (asked : List Asked) (calls : List Call) → IsWork work asked → Counts held calls →
     found ≡ first_missing calls [] asked
 
-pub seen_missing : (work : Work) (held : Holding) (seen : FinMap nat_cmp ℕ) (client before number : ℕ)
+pub seen_missing : (work : Workload) (held : CallCounts) (seen : FinMap nat_cmp ℕ) (client before number : ℕ)
     (rest behind : List ℕ) (p : CallCount) → AllSeen work held seen rest
     → rest ≡ client ∷ behind → before ≡ unwrap_or (get seen client) 0 → number ≡ before + 1
     → ((calls : List Call) → Counts held calls → IsCallCount p client calls) →
@@ -423,7 +425,8 @@ seen_missing work held seen client before number rest behind p all cut b n so_fa
     ∙ ap (λ k. Some (k, length (tasks_of k s.before) + 1)) q.3 ∙ ap (λ m. Some (client, m))
     (ap (λ m. m + 1) (sym is) ∙ sym n))
 
-pub seen_all : (work : Work) (held : Holding) (seen : FinMap nat_cmp ℕ) (rest : List ℕ) → AllSeen work held seen rest →
+pub seen_all : (work : Workload) (held : CallCounts) (seen : FinMap nat_cmp ℕ) (rest : List ℕ) →
+    AllSeen work held seen rest →
     rest ≡ [] → IsMissing work held None
 seen_all work held seen rest all none = λ asked calls w h.
     let s = all asked calls w h in

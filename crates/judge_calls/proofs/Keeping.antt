@@ -7,8 +7,8 @@ use Rattle.judge_time.specs.declared.span.Misplaced.{Misplaced}
 use Rattle.judge_time.specs.declared.span.Misplaced.TheVariants as place
 use Rattle.judge_time.specs.Order.{itself, misplaced}
 use Rattle.judge_time.proofs.Order.{misplaced_mapped}
-use Rattle.judge_calls.specs.declared.verdict.Wrong.{Wrong}
-use Rattle.judge_calls.specs.declared.verdict.Wrong.TheVariants.{Client, Time, Reply}
+use Rattle.judge_calls.specs.declared.verdict.CallViolation.{CallViolation}
+use Rattle.judge_calls.specs.declared.verdict.CallViolation.TheVariants.{Client, Time, Reply}
 use Rattle.judge_calls.specs.Call.{Call}
 use Rattle.judge_object.specs.Call.{span_of}
 use Rattle.judge_calls.specs.Order.{call_breaks_client, call_breaks_time, wrong_of}
@@ -16,7 +16,7 @@ use Rattle.vac_lines.specs.Text.{is_right}
 use Rattle.judge_calls.specs.Judging.{TimesSay, JudgesTimes}
 
 -- what is wrong with the place of a call is wrong with the call
-abbrev pub as_wrong : Option Misplaced → Option Wrong
+abbrev pub as_wrong : Option Misplaced → Option CallViolation
 as_wrong None = None
 as_wrong (Some place.Client) = Some Client
 as_wrong (Some place.Time) = Some Time
@@ -46,11 +46,11 @@ well_placed earlier call span e h =
     ap (λ b. cond b (Some place.Time) None) h.1
 
 -- the order of the tests
-abbrev found : Bool → Bool → Bool → Option Wrong → Option Wrong
+abbrev found : Bool → Bool → Bool → Option CallViolation → Option CallViolation
 found client time reply last = cond client (Some Client) (cond time (Some Time) (cond reply None last))
 
 -- what is wrong with the times is wrong with the call
-pub wrong_times : (s : State) (earlier : List Call) (c : Call) (w : Wrong) → JudgesTimes earlier c (Some w) →
+pub wrong_times : (s : State) (earlier : List Call) (c : Call) (w : CallViolation) → JudgesTimes earlier c (Some w) →
     wrong_of s earlier c ≡ Some w
 wrong_times s earlier c Client h = ap (λ b. found b (call_breaks_time earlier c) (is_right c.reply (run s c.op).1)
     (Some (Reply (run s c.op).1))) h
@@ -71,5 +71,5 @@ wrong_reply s earlier c same h e =
     ∙ ap (λ b. cond b None (Some (Reply (run s c.op).1))) (sym e)
 
 -- a wrong that is found is none that is not
-pub no_wrong : (w : Wrong) → Some w ≡ None → ⊥
+pub no_wrong : (w : CallViolation) → Some w ≡ None → ⊥
 no_wrong w e = cc

@@ -8,7 +8,7 @@ use Rattle.vac_model.specs.State.{State, empty_state}
 use Rattle.vac_model.specs.Run.{run}
 use Rattle.vac_lines.specs.Lines.{lines_of}
 use Rattle.judge_calls.specs.declared.fault.CallFault.{CallFault}
-use Rattle.judge_calls.specs.declared.verdict.Wrong.{Wrong}
+use Rattle.judge_calls.specs.declared.verdict.CallViolation.{CallViolation}
 use Rattle.judge_calls.specs.declared.verdict.Verdict.{Verdict}
 use Rattle.judge_calls.specs.declared.verdict.Verdict.TheVariants.{Legal}
 use Rattle.judge_calls.specs.Call.{Call, line_call}
@@ -37,7 +37,7 @@ CallsOf s earlier lines = (calls : List Call) × (lines ≡ map Ok calls) × All
 false_true : false ≡ true → ⊥
 false_true e = cc
 
-unless_legal : (w : Option Wrong) (line : ℕ) (rest : Verdict) → is_legal (unless_wrong w line rest) ≡ true →
+unless_legal : (w : Option CallViolation) (line : ℕ) (rest : Verdict) → is_legal (unless_wrong w line rest) ≡ true →
     (w ≡ None) × (is_legal rest ≡ true)
 unless_legal None line rest h = (refl, h)
 unless_legal (Some w) line rest h = absurd (false_true h)

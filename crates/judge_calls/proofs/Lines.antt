@@ -5,7 +5,7 @@ use Rattle.vac_model.specs.State.{State}
 use Rattle.vac_model.specs.Run.{run}
 use Rattle.judge_calls.specs.declared.fault.CallFault.{CallFault}
 use Rattle.judge_calls.specs.declared.judge.Judge.{Judge}
-use Rattle.judge_calls.specs.declared.verdict.Wrong.{Wrong}
+use Rattle.judge_calls.specs.declared.verdict.CallViolation.{CallViolation}
 use Rattle.judge_calls.specs.declared.verdict.Verdict.TheVariants.{Illegal}
 use Rattle.judge_calls.specs.Call.{Call}
 use Rattle.judge_object.specs.Call.{span_of}
@@ -13,7 +13,7 @@ use Rattle.judge_calls.specs.Verdict.{judged, unless_wrong}
 use Rattle.judge_calls.specs.Judging.{Follows, JudgesCall, Takes, DecidesVerdict}
 
 -- a call was judged as the next
-abbrev pub JudgesNext : Judge → Judge → Call → Option Wrong → Type 0
+abbrev pub JudgesNext : Judge → Judge → Call → Option CallViolation → Type 0
 JudgesNext judge after call found =
     (s : State) (earlier : List Call) → Follows judge s earlier → JudgesCall after s earlier call found
 
@@ -22,7 +22,7 @@ number_is : (judge : Judge) (line : ℕ) (s : State) (earlier : List Call) → l
     Follows judge s earlier → length earlier + 1 ≡ line
 number_is judge line s earlier n f = sym (n ∙ ap (λ k. k + 1) (f.spans.count_is ∙ length-map earlier span_of))
 
-pub ends_wrong : (judge after : Judge) (read : Result Call CallFault) (call : Call) (line : ℕ) (wrong : Wrong) →
+pub ends_wrong : (judge after : Judge) (read : Result Call CallFault) (call : Call) (line : ℕ) (wrong : CallViolation) →
     read ≡ Ok call → line ≡ judge.spans.count + 1
     → JudgesNext judge after call (Some wrong) → DecidesVerdict judge read (Illegal line wrong)
 ends_wrong judge after read call line wrong e n h = record {

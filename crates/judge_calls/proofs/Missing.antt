@@ -9,12 +9,12 @@ use Rattle.vac_lines.specs.Lines.{lines_of}
 use Rattle.vac_lines.specs.TaskText.{task_text}
 use Rattle.judge_calls.specs.declared.verdict.Verdict.{Verdict}
 use Rattle.judge_calls.specs.declared.verdict.Verdict.TheVariants.{Legal, Fault, Illegal}
-use Rattle.judge_calls.specs.declared.held.HeldVerdict.TheVariants.{BadTasks, Missing}
+use Rattle.judge_calls.specs.declared.held.WorkloadVerdict.TheVariants.{BadTasks, Missing}
 use Rattle.judge_calls.specs.Call.{Call, line_call}
 use Rattle.judge_calls.specs.Verdict.{verdict_on, is_legal}
 use Rattle.judge_calls.specs.Laws.{LegalIsLinearization}
 use Rattle.judge_calls.specs.Work.{Asked, line_asked, work_of, tasks_of, made_by, has_stopped, first_foreign, calls_in}
-use Rattle.judge_calls.specs.Work.{is_missing, first_missing, unless_missing, joined_verdict, held_by, held_verdict}
+use Rattle.judge_calls.specs.Work.{is_missing, first_missing, unless_missing, joined_verdict, held_by, workload_verdict}
 use Rattle.judge_calls.specs.Whole.{asked_by, forms}
 use Rattle.judge_calls.specs.NotWhole.{AskForFirst, AsksForTask, IsSettled, IsLeftOut, IsFirstMissing, MissingIsFirst}
 use Rattle.judge_calls.proofs.Handed.{Test, test, found_open}
@@ -317,7 +317,7 @@ left_named all before (a ∷ front) task after closed missing =
     ∙ ap (λ m. Some (task.client, m + 1)) (moved task.client a before front)
 
 missing_first : LegalIsLinearization → (n : ℕ) (tasks bytes : List ℕ) (client number : ℕ)
-    → held_verdict n tasks bytes ≡ Missing client number → IsFirstMissing n tasks bytes client number
+    → workload_verdict n tasks bytes ≡ Missing client number → IsFirstMissing n tasks bytes client number
 missing_first legal n tasks bytes client number h = go (work_of (map line_asked (lines_of tasks))) refl h
   where
     go : (r : Result (List Asked) ℕ) → work_of (map line_asked (lines_of tasks)) ≡ r
@@ -362,7 +362,7 @@ named_legal it (Fault k f) h = absurd (false_true h)
 named_legal it (Illegal k w) h = absurd (false_true h)
 
 first_left : LegalIsLinearization → (n : ℕ) (tasks bytes : List ℕ) (client number : ℕ)
-    → IsFirstMissing n tasks bytes client number → held_verdict n tasks bytes ≡ Missing client number
+    → IsFirstMissing n tasks bytes client number → workload_verdict n tasks bytes ≡ Missing client number
 first_left legal n tasks bytes client number h =
     let lines = map line_call (lines_of bytes) in
     let all = calls_in [] (map Ok h.calls) in

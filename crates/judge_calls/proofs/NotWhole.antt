@@ -5,7 +5,7 @@ use Rattle.std.proofs.Common.{sym, ap, subst, ◌∙◌, inl, inr, arith}
 use Rattle.std.proofs.lemmas.Bool.Decides.{nat_tests}
 use Rattle.judge_calls.specs.declared.verdict.Verdict.{Verdict}
 use Rattle.judge_calls.specs.declared.verdict.Verdict.TheVariants.{Legal, Fault, Illegal}
-use Rattle.judge_calls.specs.declared.held.HeldVerdict.TheVariants.{Judged, BadTasks, Foreign, Missing}
+use Rattle.judge_calls.specs.declared.held.WorkloadVerdict.TheVariants.{Judged, BadTasks, Foreign, Missing}
 use Rattle.judge_calls.specs.Call.{Call}
 use Rattle.judge_calls.specs.Verdict.{is_legal}
 use Rattle.judge_calls.specs.Work.{Asked, tasks_of, comes_first, joined_verdict}

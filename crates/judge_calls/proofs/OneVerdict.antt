@@ -7,15 +7,15 @@ use Rattle.vac_lines.specs.Lines.{lines_of}
 use Rattle.judge_calls.specs.declared.fault.CallFault.{CallFault}
 use Rattle.judge_calls.specs.declared.verdict.Verdict.{Verdict}
 use Rattle.judge_calls.specs.declared.verdict.Verdict.TheVariants.{Legal, Fault, Illegal}
-use Rattle.judge_calls.specs.declared.held.HeldVerdict.{HeldVerdict}
-use Rattle.judge_calls.specs.declared.held.HeldVerdict.TheVariants.{BadTasks, Foreign, Missing, Judged}
+use Rattle.judge_calls.specs.declared.held.WorkloadVerdict.{WorkloadVerdict}
+use Rattle.judge_calls.specs.declared.held.WorkloadVerdict.TheVariants.{BadTasks, Foreign, Missing, Judged}
 use Rattle.judge_calls.specs.declared.in_order.OrderVerdict.{OrderVerdict}
 use Rattle.judge_calls.specs.declared.in_order.OrderVerdict.TheVariants.{Held, LeftOut}
 use Rattle.judge_calls.specs.Call.{Call, line_call}
 use Rattle.judge_calls.specs.Verdict.{verdict_on, is_legal}
 use Rattle.judge_calls.specs.Laws.{IsLinearization, LegalIsLinearization}
 use Rattle.judge_calls.specs.Work.{Asked, line_asked, work_of, first_foreign, first_missing, calls_in}
-use Rattle.judge_calls.specs.Work.{held_against_work, held_by, held_verdict, unless_missing, joined_verdict}
+use Rattle.judge_calls.specs.Work.{held_against_work, held_by, workload_verdict, unless_missing, joined_verdict}
 use Rattle.judge_calls.specs.Whole.{asked_by, LegalIsWhole}
 use Rattle.judge_calls.specs.NotWhole.{AskForFirst, HandsOut, IsFirstWithoutTask, MissingIsFirst}
 use Rattle.judge_calls.specs.AnyOrder.{line_of_call, unless_left_out, told_by_lines, unless_foreign, order_held_by}
@@ -30,12 +30,13 @@ use Rattle.judge_calls.proofs.AnyOrder.{held_same, left_not, missing_positive, s
 
 -- ---- what the order says, told by the lines
 
-left_held : (found : Option ℕ) (client number : ℕ) (v : HeldVerdict) → unless_left_out found client number ≡ Held v →
+left_held : (found : Option ℕ) (client number : ℕ) (v : WorkloadVerdict) →
+    unless_left_out found client number ≡ Held v →
     Missing client number ≡ v
 left_held None client number v e = held_same (Missing client number) v e
 left_held (Some line) client number v e = absurd (left_not line v e)
 
-told_same : (lines : List (Result Call CallFault)) (held v : HeldVerdict) → told_by_lines lines held ≡ Held v →
+told_same : (lines : List (Result Call CallFault)) (held v : WorkloadVerdict) → told_by_lines lines held ≡ Held v →
     held ≡ v
 told_same lines (Judged u) v e = held_same (Judged u) v e
 told_same lines (BadTasks line) v e = held_same (BadTasks line) v e
@@ -123,7 +124,7 @@ all_asked n tasks bytes text calls order r verdict it work handed k =
 -- the verdict if all calls ask for tasks and the order alone names a missing task
 missing_told : (n : ℕ) (tasks bytes text : List ℕ) (calls order : List Call) →
     IsReordered bytes text calls order → (work : List Asked) → HandsOut tasks work →
-    ((k : ℕ) → AskForFirst k work calls) → (client number : ℕ) → held_verdict n tasks text ≡ Missing client number →
+    ((k : ℕ) → AskForFirst k work calls) → (client number : ℕ) → workload_verdict n tasks text ≡ Missing client number →
     order_verdict n tasks bytes text
     ≡ unless_left_out (line_of_call client (number - 1) 1 (map Ok calls)) client number
 missing_told n tasks bytes text calls order r work handed asked client number h =

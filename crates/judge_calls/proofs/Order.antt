@@ -8,8 +8,8 @@ use Rattle.vac_model.specs.State.{State}
 use Rattle.vac_model.specs.Run.{run}
 use Rattle.vac_model.specs.declared.replies.Reply.{Reply}
 use Rattle.vac_lines.specs.Text.{reply_text}
-use Rattle.judge_calls.specs.declared.verdict.Wrong.{Wrong}
-use Rattle.judge_calls.specs.declared.verdict.Wrong.TheVariants as wrong
+use Rattle.judge_calls.specs.declared.verdict.CallViolation.{CallViolation}
+use Rattle.judge_calls.specs.declared.verdict.CallViolation.TheVariants as wrong
 use Rattle.judge_calls.specs.Call.{Call}
 use Rattle.judge_time.specs.Order as spans
 pub use Rattle.judge_time.proofs.Tests.{both_false, false_both, turn_from, turn_test, time_from, time_test}
@@ -58,13 +58,13 @@ none_ended c (e ∷ es) h = false_both (spans.ended_before span_of c e) (list_an
     (time_test c.end e.begin h.0.time) (none_ended c es h.1)
 
 -- the order of the tests
-abbrev pub found : Bool → Bool → Bool → Option Wrong → Option Wrong
+abbrev pub found : Bool → Bool → Bool → Option CallViolation → Option CallViolation
 found client time reply last = cond client (Some wrong.Client) (cond time (Some wrong.Time) (cond reply None last))
 
-some_none : (w : Wrong) → Some w ≡ None → ⊥
+some_none : (w : CallViolation) → Some w ≡ None → ⊥
 some_none w e = cc
 
-found_none : (client time reply : Bool) (w : Wrong) → found client time reply (Some w) ≡ None →
+found_none : (client time reply : Bool) (w : CallViolation) → found client time reply (Some w) ≡ None →
     (client ≡ false) × (time ≡ false) × (reply ≡ true)
 found_none true time reply w h = absurd (some_none wrong.Client h)
 found_none false true reply w h = absurd (some_none wrong.Time h)
@@ -95,7 +95,7 @@ right_of s earlier c h =
 
 pub wrong_none : (s : State) (earlier : List Call) (c : Call) → IsRight s earlier c → wrong_of s earlier c ≡ None
 wrong_none s earlier c h =
-    let last : Option Wrong = Some (wrong.Reply (run s c.op).1) in
+    let last : Option CallViolation = Some (wrong.Reply (run s c.op).1) in
     let client : call_breaks_client earlier c ≡ false = false_both (nat_lt c.end c.begin)
     (list_any (spans.overlaps span_of c) earlier) (time_test c.end c.begin h.own)
     (none_overlaps c earlier h.fits) in

@@ -12,8 +12,8 @@ use Rattle.vac_streams.specs.declared.fault.StreamFault.{StreamFault}
 use Rattle.vac_streams.specs.declared.next.Next.{Next}
 use Rattle.vac_streams.specs.declared.next.Next.TheVariants.{GoOn, Stop}
 use Rattle.vac_streams.specs.Told as told
-use Rattle.vac_streams.specs.Told.{Told, told_of, told_lines, lines_in}
-use Rattle.vac_streams.specs.Heard.{ToldAll, ToldLast, AreFirst, AreFirstOf, HeardAll, HeardLast, Heard}
+use Rattle.vac_streams.specs.Told.{Message, message_of, line_messages, lines_in}
+use Rattle.vac_streams.specs.Heard.{ReceivedAll, ReceivedLast, AreFirst, AreFirstOf, HeardAll, HeardLast, Heard}
 use Rattle.vac_streams.proofs.Telling.{lines_both}
 use Rattle.judge_calls.specs.declared.fault.CallFault.{CallFault}
 use Rattle.judge_calls.specs.declared.reading.History.{History}
@@ -27,34 +27,34 @@ use Rattle.judge_calls.specs.Hearing.{told_call, HearsCall}
 use Rattle.judge_calls.specs.Reading.{HasVerdict}
 
 -- a line is the same call as what is told of it
-pub line_told : (line : List ℕ) → line_call line ≡ told_call (told_of 4096 line)
+pub line_told : (line : List ℕ) → line_call line ≡ told_call (message_of 4096 line)
 line_told line =
     elim (cases_lt 4096 (length line)) [
       | inl h ↦ let long : nat_lt 4096 (length line) ≡ true = grind (arith, nat_tests) in rw long refl
       | inr h ↦
           let short : nat_lt 4096 (length line) ≡ false = grind (arith, nat_tests) in
-          let same : told_of 4096 line ≡ told.Line line = ap (λ b. cond b told.LongLine (told.Line line)) short in
+          let same : message_of 4096 line ≡ told.Line line = ap (λ b. cond b told.LongLine (told.Line line)) short in
           sym (ap told_call same)
     ]
 
 -- the calls of lines are those of what is told of them
-pub lines_told : (lines : List (List ℕ)) → map line_call lines ≡ map told_call (map (told_of 4096) lines)
+pub lines_told : (lines : List (List ℕ)) → map line_call lines ≡ map told_call (map (message_of 4096) lines)
 lines_told [] = refl
 lines_told (line ∷ more) =
-    ap (λ r. r ∷ map line_call more) (line_told line) ∙ ap (λ t. told_call (told_of 4096 line) ∷ t) (lines_told more)
+    ap (λ r. r ∷ map line_call more) (line_told line) ∙ ap (λ t. told_call (message_of 4096 line) ∷ t) (lines_told more)
 
 -- so the verdict on a text is that on what is told of it
 verdict_told : (n : ℕ) (bytes : List ℕ)
-    → verdict_on n bytes ≡ judged (empty_state n) [] (map told_call (told_lines 4096 bytes))
+    → verdict_on n bytes ≡ judged (empty_state n) [] (map told_call (line_messages 4096 bytes))
 verdict_told n bytes = ap (judged (empty_state n) []) (lines_told (lines_of bytes))
 
 -- these lines were taken: whatever follows, the verdict is the same
-abbrev Taken : State → List Call → List Told → History → Type 0
+abbrev Taken : State → List Call → List Message → History → Type 0
 Taken s earlier lines y = (t : State) × (calls : List Call) × Follows y.judge t calls
     × ((more : List (Result Call CallFault)) →
     judged s earlier (map told_call lines ++ more) ≡ judged t calls more)
 
-taken_line : (x u y : History) (s : State) (earlier : List Call) (line : Told) (lines : List Told)
+taken_line : (x u y : History) (s : State) (earlier : List Call) (line : Message) (lines : List Message)
     → Takes x.judge u.judge (told_call line) → Follows x.judge s earlier
     → ((t : State) (calls : List Call) → Follows u.judge t calls → Taken t calls lines y)
     → Taken s earlier (line ∷ lines) y
@@ -70,7 +70,7 @@ same_verdict : (a b : Verdict) → Some a ≡ Some b → a ≡ b
 same_verdict a b e = cc
 
 -- the last line that was told brought the verdict, whatever follows
-stopped : (u : History) (last : Told) (y : History) (verdict : Verdict) (s : State) (earlier : List Call)
+stopped : (u : History) (last : Message) (y : History) (verdict : Verdict) (s : State) (earlier : List Call)
     (more : List (Result Call CallFault)) → HearsCall u last (Ok Stop) y → y.found ≡ Some verdict
     → Follows u.judge s earlier → judged s earlier (map told_call (lines_in (last ∷ [])) ++ more) ≡ verdict
 stopped u (told.Line text) y verdict s earlier more h e f =
@@ -88,10 +88,10 @@ of_whole n (Some xs) None bytes verdict c h = absurd c
 of_whole n (Some xs) (Some ys) bytes verdict c h = ap (verdict_on n) c ∙ h ys
 
 module _ {O : Type 0} where
-  abbrev hears : History → O → Told → Result Next StreamFault → History → O → Type 0
+  abbrev hears : History → O → Message → Result Next StreamFault → History → O → Type 0
   hears x o line answer y p = HearsCall x line answer y
 
-  taken_told : (x : History) (o : O) (lines : List Told) (y : History) (p : O) → ToldAll hears x o lines y p
+  taken_told : (x : History) (o : O) (lines : List Message) (y : History) (p : O) → ReceivedAll hears x o lines y p
       → (s : State) (earlier : List Call) → Follows x.judge s earlier → Taken s earlier (lines_in lines) y
   taken_told x o [] y p h s earlier f =
       (s, earlier, subst (λ (z : History). Follows z.judge s earlier) (sym h.0) f, λ more. refl)
@@ -123,8 +123,8 @@ module _ {O : Type 0} where
             h.ended same;
       }
 
-  of_told : (n : ℕ) (x : History) (o : O) (lines : List Told) (y : History) (p : O) (verdict : Verdict)
-      (more : List Told) → Follows x.judge (empty_state n) [] → ToldLast hears x o lines (Ok Stop) y p
+  of_told : (n : ℕ) (x : History) (o : O) (lines : List Message) (y : History) (p : O) (verdict : Verdict)
+      (more : List Message) → Follows x.judge (empty_state n) [] → ReceivedLast hears x o lines (Ok Stop) y p
       → y.found ≡ Some verdict → judged (empty_state n) [] (map told_call (lines_in lines ++ more)) ≡ verdict
   of_told n x o lines y p verdict more f h e =
       let t = taken_told x o h.before h.sink h.output h.first (empty_state n) [] f in
@@ -138,16 +138,16 @@ module _ {O : Type 0} where
       ap (judged (empty_state n) []) calls ∙ t.3 (map told_call last ++ map told_call more)
       ∙ stopped h.sink h.last y verdict t.0 t.1 (map told_call more) h.then e t.2
 
-  of_first : (n : ℕ) (x : History) (o : O) (lines : List Told) (y : History) (p : O) (verdict : Verdict)
-      (text : List ℕ) → Follows x.judge (empty_state n) [] → ToldLast hears x o lines (Ok Stop) y p
+  of_first : (n : ℕ) (x : History) (o : O) (lines : List Message) (y : History) (p : O) (verdict : Verdict)
+      (text : List ℕ) → Follows x.judge (empty_state n) [] → ReceivedLast hears x o lines (Ok Stop) y p
       → y.found ≡ Some verdict → AreFirst 4096 (lines_in lines) text → verdict_on n text ≡ verdict
   of_first n x o lines y p verdict text f h e first =
       verdict_told n text ∙ ap (λ l. judged (empty_state n) [] (map told_call l)) first.1
       ∙ of_told n x o lines y p verdict first.0 f h e
 
-  by_first : (n : ℕ) (unread left : Option (List ℕ)) (x : History) (o : O) (lines : List Told) (y : History) (p : O)
+  by_first : (n : ℕ) (unread left : Option (List ℕ)) (x : History) (o : O) (lines : List Message) (y : History) (p : O)
       (verdict : Verdict) (bytes : List ℕ) → Follows x.judge (empty_state n) []
-      → ToldLast hears x o lines (Ok Stop) y p → y.found ≡ Some verdict → Consumes unread left bytes
+      → ReceivedLast hears x o lines (Ok Stop) y p → y.found ≡ Some verdict → Consumes unread left bytes
       → AreFirstOf 4096 (lines_in lines) bytes left → HasVerdict n unread left verdict
   by_first n unread left x o lines y p verdict bytes f h e c (inl first) =
       let same = of_first n x o lines y p verdict bytes f h e first.1 in

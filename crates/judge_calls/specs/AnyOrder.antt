@@ -13,14 +13,14 @@ use Rattle.vac_streams.specs.declared.fault.StreamFault.TheVariants as fault
 use Rattle.judge_object.specs.Call.{is_answered}
 use Rattle.judge_object.specs.Orders.{IsOrderOf}
 use Rattle.judge_calls.specs.declared.fault.CallFault.{CallFault}
-use Rattle.judge_calls.specs.declared.held.HeldVerdict.{HeldVerdict}
-use Rattle.judge_calls.specs.declared.held.HeldVerdict.TheVariants.{BadTasks, Foreign, Missing}
+use Rattle.judge_calls.specs.declared.held.WorkloadVerdict.{WorkloadVerdict}
+use Rattle.judge_calls.specs.declared.held.WorkloadVerdict.TheVariants.{BadTasks, Foreign, Missing}
 use Rattle.judge_calls.specs.declared.in_order.OrderVerdict.{OrderVerdict}
 use Rattle.judge_calls.specs.declared.in_order.OrderVerdict.TheVariants.{Held, LeftOut}
 use Rattle.judge_calls.specs.Call.{Call, line_call}
 use Rattle.judge_calls.specs.Laws.{Lists, IsLinearization}
 use Rattle.judge_calls.specs.Work.{Asked, line_asked, work_of, first_foreign, held_against_work}
-use Rattle.judge_calls.specs.Work.{held_text, is_whole}
+use Rattle.judge_calls.specs.Work.{workload_verdict_text, is_whole}
 use Rattle.judge_calls.specs.Whole.{asked_by, IsDoneBy}
 use Rattle.judge_calls.specs.NotWhole.{HandsOut, AskForFirst, IsFirstMissing}
 use Rattle.judge_calls.specs.HeldReading.{IsReadWhole}
@@ -44,7 +44,7 @@ unless_left_out (Some line) client number = LeftOut line
 unless_left_out None client number = Held (Missing client number)
 
 -- the verdict on an order, told by the lines of the history
-abbrev pub told_by_lines : List (Result Call CallFault) → HeldVerdict → OrderVerdict
+abbrev pub told_by_lines : List (Result Call CallFault) → WorkloadVerdict → OrderVerdict
 told_by_lines lines (Missing client number) =
     unless_left_out (line_of_call client (number - 1) 1 lines) client number
 told_by_lines lines verdict = Held verdict
@@ -74,7 +74,7 @@ order_verdict n tasks bytes text =
 
 -- the output for the verdict
 abbrev pub order_verdict_text : OrderVerdict → List ℕ
-order_verdict_text (Held verdict) = held_text verdict
+order_verdict_text (Held verdict) = workload_verdict_text verdict
 order_verdict_text (LeftOut line) = as_line (codes "illegal pending " ++ decimal line)
 
 -- true if the verdict is that the order is legal and covers the workload
@@ -86,7 +86,7 @@ is_covered (LeftOut line) = false
 
 -- the workload was read to its end, and exactly the verdict was written. The returned value is true
 -- if the order is legal and covers the workload
-pub record HasHeldOrder (n : ℕ) (covered : Bool) (tasks tasks_left : Option (List ℕ))
+pub record HasCheckedOrder (n : ℕ) (covered : Bool) (tasks tasks_left : Option (List ℕ))
     (bytes text : List ℕ) (held holds : Option (List ℕ)) : Type 0 where
   pub work : List ℕ
   pub work_read : IsReadWhole tasks tasks_left work
@@ -94,7 +94,7 @@ pub record HasHeldOrder (n : ℕ) (covered : Bool) (tasks tasks_left : Option (L
   pub written : Appends held holds (order_verdict_text (order_verdict n work bytes text))
 
 -- the workload was read to its end, and a prefix of the verdict was written
-pub record HasHeldOrderInPart (n : ℕ) (tasks tasks_left : Option (List ℕ))
+pub record HasCheckedOrderInPart (n : ℕ) (tasks tasks_left : Option (List ℕ))
     (bytes text : List ℕ) (held holds : Option (List ℕ)) : Type 0 where
   pub work : List ℕ
   pub work_read : IsReadWhole tasks tasks_left work
@@ -103,11 +103,11 @@ pub record HasHeldOrderInPart (n : ℕ) (tasks tasks_left : Option (List ℕ))
 -- a fault ended the judging. After a fault of the output a prefix of the verdict was written,
 -- after any other fault nothing
 -- Not said: which cause gives which of the faults of reading, of memory and of bounds.
-abbrev pub HasHeldOrderStopped : ℕ → StreamFault → Option (List ℕ) → Option (List ℕ) → List ℕ
+abbrev pub HasStoppedCheckingOrder : ℕ → StreamFault → Option (List ℕ) → Option (List ℕ) → List ℕ
     → List ℕ → Option (List ℕ) → Option (List ℕ) → Type 0
-HasHeldOrderStopped n fault.Write tasks tasks_left bytes text held holds =
-    HasHeldOrderInPart n tasks tasks_left bytes text held holds
-HasHeldOrderStopped n fault tasks tasks_left bytes text held holds = Appends held holds []
+HasStoppedCheckingOrder n fault.Write tasks tasks_left bytes text held holds =
+    HasCheckedOrderInPart n tasks tasks_left bytes text held holds
+HasStoppedCheckingOrder n fault tasks tasks_left bytes text held holds = Appends held holds []
 
 -- ---- the verdict is right
 

@@ -5,7 +5,7 @@ use Rattle.vac_streams.specs.declared.fault.StreamFault.{StreamFault}
 use Rattle.vac_streams.specs.declared.next.Next.{Next}
 use Rattle.vac_streams.specs.declared.next.Next.TheVariants.{GoOn, Stop}
 use Rattle.vac_streams.specs.Told as told
-use Rattle.vac_streams.specs.Told.{Told}
+use Rattle.vac_streams.specs.Told.{Message}
 use Rattle.judge_calls.specs.declared.fault.CallFault.{CallFault}
 use Rattle.judge_calls.specs.declared.fault.CallFault.TheVariants as fault
 use Rattle.judge_calls.specs.declared.verdict.Verdict.{Verdict}
@@ -14,20 +14,20 @@ use Rattle.judge_calls.specs.Call.{Call, line_call}
 use Rattle.judge_calls.specs.Judging.{Takes, DecidesVerdict, IsJudgeStop}
 
 -- the call of a reported line, or its fault. A pause is no call, so its value here does not matter
-abbrev pub told_call : Told → Result Call CallFault
+abbrev pub told_call : Message → Result Call CallFault
 told_call (told.Line text) = line_call text
 told_call told.LongLine = Err (fault.Line LongLine)
 told_call told.Pause = Err fault.BadCall
 
 -- a line decided the verdict, and the verdict is kept
-pub record BringsVerdict (x : History) (line : Told) (y : History) : Type 0 where
+pub record BringsVerdict (x : History) (line : Message) (y : History) : Type 0 where
   pub verdict : Verdict
   pub found : y.found ≡ Some verdict
   pub ends : DecidesVerdict x.judge (told_call line) verdict
 
 -- the effect of a reported line on a history: the judge took the line; the line decided the
 -- verdict; a pause changed nothing; or a fault of the judge ended the reading
-abbrev pub HearsCall : History → Told → Result Next StreamFault → History → Type 0
+abbrev pub HearsCall : History → Message → Result Next StreamFault → History → Type 0
 HearsCall x line (Err stop) y = IsJudgeStop x.judge stop
 HearsCall x told.Pause (Ok next) y = (next ≡ GoOn) × (y ≡ x)
 HearsCall x line (Ok GoOn) y = Takes x.judge y.judge (told_call line)

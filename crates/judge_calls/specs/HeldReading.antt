@@ -5,7 +5,7 @@ use Rattle.std.specs.Io.KnownBytes.{Appends, Consumes, IsAtEnd}
 use Rattle.vac_lines.specs.Writing.{AppendsPrefix}
 use Rattle.vac_streams.specs.declared.fault.StreamFault.{StreamFault}
 use Rattle.vac_streams.specs.declared.fault.StreamFault.TheVariants as fault
-use Rattle.judge_calls.specs.Work.{held_verdict, held_text, is_whole}
+use Rattle.judge_calls.specs.Work.{workload_verdict, workload_verdict_text, is_whole}
 
 -- an input was read to its end, and its bytes are these
 pub record IsReadWhole (unread left : Option (List ℕ)) (bytes : List ℕ) : Type 0 where
@@ -15,29 +15,30 @@ pub record IsReadWhole (unread left : Option (List ℕ)) (bytes : List ℕ) : Ty
 -- the workload and the history were read to their ends, and exactly the verdict on both was
 -- written. The returned value is true if the history is legal and covers the workload
 -- Not said: anything of the bytes of a stream that no contract describes.
-pub record HasHeld (n : ℕ) (legal : Bool) (tasks tasks_left unread left held holds
+pub record HasChecked (n : ℕ) (legal : Bool) (tasks tasks_left unread left held holds
     : Option (List ℕ)) : Type 0 where
   pub work : List ℕ
   pub bytes : List ℕ
   pub work_read : IsReadWhole tasks tasks_left work
   pub history_read : IsReadWhole unread left bytes
-  pub answered : legal ≡ is_whole (held_verdict n work bytes)
-  pub written : Appends held holds (held_text (held_verdict n work bytes))
+  pub answered : legal ≡ is_whole (workload_verdict n work bytes)
+  pub written : Appends held holds (workload_verdict_text (workload_verdict n work bytes))
 
 -- the workload and the history were read to their ends, and a prefix of the verdict was written
-pub record HasHeldInPart (n : ℕ) (tasks tasks_left unread left held holds : Option (List ℕ))
+pub record HasCheckedInPart (n : ℕ) (tasks tasks_left unread left held holds : Option (List ℕ))
     : Type 0 where
   pub work : List ℕ
   pub bytes : List ℕ
   pub work_read : IsReadWhole tasks tasks_left work
   pub history_read : IsReadWhole unread left bytes
-  pub written : AppendsPrefix held holds (held_text (held_verdict n work bytes))
+  pub written : AppendsPrefix held holds (workload_verdict_text (workload_verdict n work bytes))
 
 -- a fault ended the judging. After a fault of the output a prefix of the verdict was written,
 -- after any other fault nothing
 -- Not said: which cause gives which of the faults of reading, of memory and of bounds.
-abbrev pub HasHeldStopped : ℕ → StreamFault → Option (List ℕ) → Option (List ℕ) → Option (List ℕ)
+abbrev pub HasStoppedChecking : ℕ → StreamFault → Option (List ℕ) → Option (List ℕ) →
+    Option (List ℕ)
     → Option (List ℕ) → Option (List ℕ) → Option (List ℕ) → Type 0
-HasHeldStopped n fault.Write tasks tasks_left unread left held holds =
-    HasHeldInPart n tasks tasks_left unread left held holds
-HasHeldStopped n fault tasks tasks_left unread left held holds = Appends held holds []
+HasStoppedChecking n fault.Write tasks tasks_left unread left held holds =
+    HasCheckedInPart n tasks tasks_left unread left held holds
+HasStoppedChecking n fault tasks tasks_left unread left held holds = Appends held holds []

@@ -4,9 +4,9 @@ use Rattle.std.specs.Ordering.{nat_cmp}
 use Rattle.std.specs.FinMap.{FinMap, get}
 use Rattle.std.specs.Global.{Vec}
 use Rattle.vac_model.specs.declared.tasks.Task.{Task}
-use Rattle.judge_calls.specs.declared.work.Work.{Work}
+use Rattle.judge_calls.specs.declared.work.Workload.{Workload}
 use Rattle.judge_calls.specs.declared.holding.CallCount.{CallCount}
-use Rattle.judge_calls.specs.declared.holding.Holding.{Holding}
+use Rattle.judge_calls.specs.declared.holding.CallCounts.{CallCounts}
 use Rattle.judge_calls.specs.Call.{Call}
 use Rattle.judge_calls.specs.Work.{Asked, tasks_of, made_by, has_stopped}
 
@@ -20,7 +20,7 @@ tasks_listed None = []
 tasks_listed (Some tasks) = tasks.items
 
 -- the kept value represents this workload
-pub record IsWork (kept : Work) (work : List Asked) : Type 0 where
+pub record IsWork (kept : Workload) (work : List Asked) : Type 0 where
   pub clients : kept.clients.items ≡ map (λ a. a.client) work
   pub tasks : (client : ℕ) → tasks_listed (get kept.tasks client) ≡ tasks_of client work
 
@@ -41,7 +41,7 @@ IsKept None client calls = (0 ≡ made_by client calls) × (false ≡ has_stoppe
 IsKept (Some so_far) client calls = IsCallCount so_far client calls
 
 -- the kept value counts the calls of each client
-pub record Counts (kept : Holding) (calls : List Call) : Type 0 where
+pub record Counts (kept : CallCounts) (calls : List Call) : Type 0 where
   pub clients : (client : ℕ) → IsKept (get kept.clients client) client calls
   pub number : kept.count ≡ length calls
 

@@ -7,8 +7,8 @@ use Rattle.vac_streams.specs.declared.fault.StreamFault.TheVariants as fault
 use Rattle.judge_time.specs.Keeping.{Keeps}
 use Rattle.judge_calls.specs.declared.fault.CallFault.{CallFault}
 use Rattle.judge_calls.specs.declared.judge.Judge.{Judge}
-use Rattle.judge_calls.specs.declared.verdict.Wrong.{Wrong}
-use Rattle.judge_calls.specs.declared.verdict.Wrong.TheVariants.{Client, Time, Reply}
+use Rattle.judge_calls.specs.declared.verdict.CallViolation.{CallViolation}
+use Rattle.judge_calls.specs.declared.verdict.CallViolation.TheVariants.{Client, Time, Reply}
 use Rattle.judge_calls.specs.declared.verdict.Verdict.{Verdict}
 use Rattle.judge_calls.specs.Call.{Call}
 use Rattle.judge_object.specs.Call.{span_of}
@@ -24,20 +24,20 @@ pub record Follows (judge : Judge) (s : State) (earlier : List Call) : Type 0 wh
 
 -- the result of checking the times of a call agrees with two tests: whether the call breaks the
 -- order of its client, and whether it breaks the order of time
-abbrev pub TimesSay : Bool → Bool → Option Wrong → Type 0
+abbrev pub TimesSay : Bool → Bool → Option CallViolation → Type 0
 TimesSay client time None = (client ≡ false) × (time ≡ false)
 TimesSay client time (Some Client) = client ≡ true
 TimesSay client time (Some Time) = (client ≡ false) × (time ≡ true)
 TimesSay client time (Some (Reply expected)) = ⊥
 
 -- the first fault of the times of a call after earlier calls, or none
-abbrev pub JudgesTimes : List Call → Call → Option Wrong → Type 0
+abbrev pub JudgesTimes : List Call → Call → Option CallViolation → Type 0
 JudgesTimes earlier call found =
     TimesSay (call_breaks_client earlier call) (call_breaks_time earlier call) found
 
 -- the first fault of a call, or none; a call without a fault was taken by the judge
 pub record JudgesCall (after : Judge) (s : State) (earlier : List Call) (call : Call)
-    (found : Option Wrong) : Type 0 where
+    (found : Option CallViolation) : Type 0 where
   pub found_is : wrong_of s earlier call ≡ found
   pub taken : found ≡ None → Follows after (run s call.op).0 (call ∷ earlier)
 

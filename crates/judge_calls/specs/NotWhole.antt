@@ -6,10 +6,10 @@ use Rattle.std.specs.Prelude.{◌≡◌, ◌↔◌, ◌⊎◌, ℕ, ◌+◌, tru
 use Rattle.vac_lines.specs.Lines.{lines_of}
 use Rattle.vac_lines.specs.TaskText.{task_text}
 use Rattle.judge_calls.specs.declared.fault.CallFault.{CallFault}
-use Rattle.judge_calls.specs.declared.held.HeldVerdict.TheVariants.{BadTasks, Foreign, Missing}
+use Rattle.judge_calls.specs.declared.held.WorkloadVerdict.TheVariants.{BadTasks, Foreign, Missing}
 use Rattle.judge_calls.specs.Call.{Call, line_call}
 use Rattle.judge_calls.specs.Laws.{IsLinearization, Lists}
-use Rattle.judge_calls.specs.Work.{Asked, line_asked, tasks_of, has_stopped, held_verdict}
+use Rattle.judge_calls.specs.Work.{Asked, line_asked, tasks_of, has_stopped, workload_verdict}
 use Rattle.judge_calls.specs.Whole.{asked_by, forms}
 
 -- each line of the workload gives a task, and the tasks are these
@@ -29,7 +29,7 @@ pub record IsFirstWithoutTask (tasks : List ℕ) (line : ℕ) : Type 0 where
 -- task, whatever the history is
 abbrev pub BadTasksIsFirst : Type 0
 BadTasksIsFirst = (n : ℕ) (tasks bytes : List ℕ) (line : ℕ) →
-    (held_verdict n tasks bytes ≡ BadTasks line) ↔ IsFirstWithoutTask tasks line
+    (workload_verdict n tasks bytes ≡ BadTasks line) ↔ IsFirstWithoutTask tasks line
 
 -- the calls of a client submit the first tasks of the client, in their order
 -- Not said: that the tasks are the same. Only their plain forms are.
@@ -58,7 +58,7 @@ pub record IsFirstForeign (n : ℕ) (tasks bytes : List ℕ) (line : ℕ) : Type
 -- submit the next task of its client
 abbrev pub ForeignIsFirst : Type 0
 ForeignIsFirst = (n : ℕ) (tasks bytes : List ℕ) (line : ℕ) →
-    (held_verdict n tasks bytes ≡ Foreign line) ↔ IsFirstForeign n tasks bytes line
+    (workload_verdict n tasks bytes ≡ Foreign line) ↔ IsFirstForeign n tasks bytes line
 
 -- some call submits the task that follows the earlier tasks of the workload: the call has the
 -- client and the plain form of the task, and the client has as many earlier calls as earlier tasks
@@ -105,5 +105,5 @@ pub record IsFirstMissing (n : ℕ) (tasks bytes : List ℕ) (client number : �
 -- out
 abbrev pub MissingIsFirst : Type 0
 MissingIsFirst = (n : ℕ) (tasks bytes : List ℕ) (client number : ℕ) →
-    (held_verdict n tasks bytes ≡ Missing client number)
+    (workload_verdict n tasks bytes ≡ Missing client number)
     ↔ IsFirstMissing n tasks bytes client number

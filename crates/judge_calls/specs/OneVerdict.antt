@@ -1,7 +1,7 @@
 -- The verdict on an order that was found for the calls of a history, and that is a linearization:
 -- exactly one verdict has its condition, and this verdict is given.
 use Rattle.std.specs.Prelude.{◌≡◌, ◌↔◌, ℕ, List}
-use Rattle.judge_calls.specs.declared.held.HeldVerdict.TheVariants.{Judged, BadTasks, Foreign, Missing}
+use Rattle.judge_calls.specs.declared.held.WorkloadVerdict.TheVariants.{Judged, BadTasks, Foreign, Missing}
 use Rattle.judge_calls.specs.declared.in_order.OrderVerdict.{OrderVerdict}
 use Rattle.judge_calls.specs.declared.in_order.OrderVerdict.TheVariants.{Held, LeftOut}
 use Rattle.judge_calls.specs.Call.{Call}

@@ -6,8 +6,8 @@ use Rattle.vac_model.specs.Run.{run}
 use Rattle.vac_lines.specs.Text.{is_right}
 use Rattle.judge_object.specs.Call.{span_of}
 use Rattle.judge_time.specs.Order as spans
-use Rattle.judge_calls.specs.declared.verdict.Wrong.{Wrong}
-use Rattle.judge_calls.specs.declared.verdict.Wrong.TheVariants as wrong
+use Rattle.judge_calls.specs.declared.verdict.CallViolation.{CallViolation}
+use Rattle.judge_calls.specs.declared.verdict.CallViolation.TheVariants as wrong
 use Rattle.judge_calls.specs.Call.{Call}
 
 -- true if the call ends before it begins, or overlaps an earlier call of its client
@@ -19,7 +19,7 @@ abbrev pub call_breaks_time : List Call → Call → Bool
 call_breaks_time earlier call = spans.breaks_time span_of earlier call
 
 -- the first fault of a call after earlier calls that leave the state s, or none
-abbrev pub wrong_of : State → List Call → Call → Option Wrong
+abbrev pub wrong_of : State → List Call → Call → Option CallViolation
 wrong_of s earlier call =
     let expected = (run s call.op).1 in
     if call_breaks_client earlier call then Some wrong.Client

@@ -7,8 +7,8 @@ use Rattle.vac_lines.specs.Text.{reply_text, report_text, fault_text, field_text
 use Rattle.vac_lines.specs.Script.{as_line}
 use Rattle.judge_calls.specs.declared.fault.CallFault.{CallFault}
 use Rattle.judge_calls.specs.declared.fault.CallFault.TheVariants.{BadCall, Line}
-use Rattle.judge_calls.specs.declared.verdict.Wrong.{Wrong}
-use Rattle.judge_calls.specs.declared.verdict.Wrong.TheVariants.{Client, Time, Reply}
+use Rattle.judge_calls.specs.declared.verdict.CallViolation.{CallViolation}
+use Rattle.judge_calls.specs.declared.verdict.CallViolation.TheVariants.{Client, Time, Reply}
 use Rattle.judge_calls.specs.declared.verdict.Summary.{Summary}
 use Rattle.judge_calls.specs.declared.verdict.Verdict.{Verdict}
 use Rattle.judge_calls.specs.declared.verdict.Verdict.TheVariants.{Legal, Fault, Illegal}
@@ -24,7 +24,7 @@ summary_of s calls = record {
 }
 
 -- a wrong call decides the verdict; otherwise the rest of the lines decides
-abbrev pub unless_wrong : Option Wrong → ℕ → Verdict → Verdict
+abbrev pub unless_wrong : Option CallViolation → ℕ → Verdict → Verdict
 unless_wrong None line rest = rest
 unless_wrong (Some wrong) line rest = Illegal line wrong
 
@@ -46,7 +46,7 @@ call_fault_text BadCall = codes "fault bad-call"
 call_fault_text (Line fault) = fault_text fault
 
 -- the text of a wrong call: the kind of fault, the line and, for a wrong reply, the expected reply
-abbrev pub wrong_text : Wrong → ℕ → List ℕ
+abbrev pub wrong_text : CallViolation → ℕ → List ℕ
 wrong_text Client line = codes "illegal client " ++ decimal line
 wrong_text Time line = codes "illegal time " ++ decimal line
 wrong_text (Reply expected) line =

@@ -6,7 +6,7 @@ use Rattle.vac_lines.specs.Lines.{lines_of}
 use Rattle.vac_lines.specs.TaskText.{task_text}
 use Rattle.judge_calls.specs.Call.{Call}
 use Rattle.judge_calls.specs.Laws.{IsLinearization, Lists}
-use Rattle.judge_calls.specs.Work.{Asked, line_asked, tasks_of, has_stopped, held_verdict, is_whole}
+use Rattle.judge_calls.specs.Work.{Asked, line_asked, tasks_of, has_stopped, workload_verdict, is_whole}
 
 -- the tasks that the calls of a client submit, in their order
 abbrev pub asked_by : ℕ → List Call → List Task
@@ -40,4 +40,4 @@ pub record IsWholeHistory (n : ℕ) (tasks bytes : List ℕ) : Type 0 where
 -- the workload
 abbrev pub LegalIsWhole : Type 0
 LegalIsWhole = (n : ℕ) (tasks bytes : List ℕ) →
-    (is_whole (held_verdict n tasks bytes) ≡ true) ↔ IsWholeHistory n tasks bytes
+    (is_whole (workload_verdict n tasks bytes) ≡ true) ↔ IsWholeHistory n tasks bytes

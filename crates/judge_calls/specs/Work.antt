@@ -13,8 +13,8 @@ use Rattle.judge_calls.specs.declared.fault.CallFault.{CallFault}
 use Rattle.judge_calls.specs.declared.fault.CallFault.TheVariants.{BadCall}
 use Rattle.judge_calls.specs.declared.verdict.Verdict.{Verdict}
 use Rattle.judge_calls.specs.declared.verdict.Verdict.TheVariants.{Legal, Fault, Illegal}
-use Rattle.judge_calls.specs.declared.held.HeldVerdict.{HeldVerdict}
-use Rattle.judge_calls.specs.declared.held.HeldVerdict.TheVariants.{BadTasks, Judged, Foreign, Missing}
+use Rattle.judge_calls.specs.declared.held.WorkloadVerdict.{WorkloadVerdict}
+use Rattle.judge_calls.specs.declared.held.WorkloadVerdict.TheVariants.{BadTasks, Judged, Foreign, Missing}
 use Rattle.judge_calls.specs.Call.{Call, ◌>>=◌, at_client, as_call_fault, joined_words, line_call}
 use Rattle.judge_calls.specs.Verdict.{verdict_on, verdict_text, is_legal}
 
@@ -123,19 +123,19 @@ comes_first line (Illegal named wrong) = nat_le line named
 
 -- the verdict on the history alone; if that verdict is legal and a task is missing, the verdict
 -- that the task is missing
-abbrev pub unless_missing : Option (ℕ × ℕ) → Verdict → HeldVerdict
+abbrev pub unless_missing : Option (ℕ × ℕ) → Verdict → WorkloadVerdict
 unless_missing (Some missing) (Legal found) = Missing missing.0 missing.1
 unless_missing missing verdict = Judged verdict
 
 -- the first faulty line decides. For one line the task is checked before the client, the times and
 -- the reply
-abbrev pub joined_verdict : Option ℕ → Option (ℕ × ℕ) → Verdict → HeldVerdict
+abbrev pub joined_verdict : Option ℕ → Option (ℕ × ℕ) → Verdict → WorkloadVerdict
 joined_verdict None missing verdict = unless_missing missing verdict
 joined_verdict (Some line) missing verdict =
     if comes_first line verdict then Foreign line else Judged verdict
 
 -- the verdict on the lines of a history, checked against a workload
-abbrev pub held_against_work : ℕ → List Asked → List ℕ → HeldVerdict
+abbrev pub held_against_work : ℕ → List Asked → List ℕ → WorkloadVerdict
 held_against_work n work bytes =
     let lines = map line_call (lines_of bytes) in
     joined_verdict (first_foreign work [] lines) (first_missing (calls_in [] lines) [] work)
@@ -143,24 +143,24 @@ held_against_work n work bytes =
 
 -- the verdict on a history checked against a workload, or the first line of the workload that
 -- gives no task
-abbrev pub held_by : ℕ → Result (List Asked) ℕ → List ℕ → HeldVerdict
+abbrev pub held_by : ℕ → Result (List Asked) ℕ → List ℕ → WorkloadVerdict
 held_by n (Ok work) bytes = held_against_work n work bytes
 held_by n (Err line) bytes = BadTasks line
 
 -- the verdict on a history of a system of n blocks, checked against the text of a workload
-abbrev pub held_verdict : ℕ → List ℕ → List ℕ → HeldVerdict
-held_verdict n tasks bytes = held_by n (work_of (map line_asked (lines_of tasks))) bytes
+abbrev pub workload_verdict : ℕ → List ℕ → List ℕ → WorkloadVerdict
+workload_verdict n tasks bytes = held_by n (work_of (map line_asked (lines_of tasks))) bytes
 
 -- the output for the verdict on a history and a workload
-abbrev pub held_text : HeldVerdict → List ℕ
-held_text (Judged verdict) = verdict_text verdict
-held_text (BadTasks line) = as_line (codes "fault bad-tasks " ++ decimal line)
-held_text (Foreign line) = as_line (codes "illegal task " ++ decimal line)
-held_text (Missing client number) =
+abbrev pub workload_verdict_text : WorkloadVerdict → List ℕ
+workload_verdict_text (Judged verdict) = verdict_text verdict
+workload_verdict_text (BadTasks line) = as_line (codes "fault bad-tasks " ++ decimal line)
+workload_verdict_text (Foreign line) = as_line (codes "illegal task " ++ decimal line)
+workload_verdict_text (Missing client number) =
     as_line (codes "illegal missing " ++ decimal client ++ codes " " ++ decimal number)
 
 -- true if the verdict is that the history is legal and covers the workload, except for the tasks
 -- of a client after its pending call
-abbrev pub is_whole : HeldVerdict → Bool
+abbrev pub is_whole : WorkloadVerdict → Bool
 is_whole (Judged verdict) = is_legal verdict
 is_whole _ = false

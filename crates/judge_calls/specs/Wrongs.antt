@@ -7,8 +7,8 @@ use Rattle.vac_model.specs.Run.{run}
 use Rattle.judge_time.specs.Laws as spans
 use Rattle.vac_lines.specs.Lines.{lines_of}
 use Rattle.judge_calls.specs.declared.fault.CallFault.{CallFault}
-use Rattle.judge_calls.specs.declared.verdict.Wrong.{Wrong}
-use Rattle.judge_calls.specs.declared.verdict.Wrong.TheVariants.{Client, Time, Reply}
+use Rattle.judge_calls.specs.declared.verdict.CallViolation.{CallViolation}
+use Rattle.judge_calls.specs.declared.verdict.CallViolation.TheVariants.{Client, Time, Reply}
 use Rattle.judge_calls.specs.declared.verdict.Verdict.TheVariants.{Fault, Illegal}
 use Rattle.judge_calls.specs.Call.{Call, line_call}
 use Rattle.judge_calls.specs.Verdict.{verdict_on}
@@ -24,7 +24,7 @@ CallsTakeTurns calls = spans.TakeTurns span_of calls
 
 -- the reason why no linearization goes on from these calls with this call. The turns of clients
 -- are checked first, then the times, then the reply: the sequential manager gives another reply
-abbrev pub IsCause : ℕ → List Call → Call → Wrong → Type 0
+abbrev pub IsCause : ℕ → List Call → Call → CallViolation → Type 0
 IsCause n calls call Client = CallsTakeTurns (calls ++ call ∷ []) → ⊥
 IsCause n calls call Time =
     CallsTakeTurns (calls ++ call ∷ []) × (CallsKeepPrecedence (calls ++ call ∷ []) → ⊥)
@@ -34,7 +34,7 @@ IsCause n calls call (Reply expected) =
     × (IsAnswerOf expected call.reply → ⊥)
 
 -- the line is the first wrong line, and its call is wrong for this reason
-pub record IsFirstWrong (n : ℕ) (bytes : List ℕ) (line : ℕ) (wrong : Wrong) : Type 0 where
+pub record IsFirstWrong (n : ℕ) (bytes : List ℕ) (line : ℕ) (wrong : CallViolation) : Type 0 where
   pub before : List Call
   pub call : Call
   pub rest : List (Result Call CallFault)
@@ -46,7 +46,7 @@ pub record IsFirstWrong (n : ℕ) (bytes : List ℕ) (line : ℕ) (wrong : Wrong
 
 -- the verdict calls a line illegal if and only if the line is the first wrong line
 abbrev pub IllegalIsFirstWrong : Type 0
-IllegalIsFirstWrong = (n : ℕ) (bytes : List ℕ) (line : ℕ) (wrong : Wrong) →
+IllegalIsFirstWrong = (n : ℕ) (bytes : List ℕ) (line : ℕ) (wrong : CallViolation) →
     (verdict_on n bytes ≡ Illegal line wrong) ↔ IsFirstWrong n bytes line wrong
 
 -- the line is no call, and the lines before it are a legal history

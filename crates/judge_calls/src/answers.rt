@@ -5,7 +5,7 @@ ghost use Rattle.std.specs.Prelude.{◌≤◌, All, length};
 ghost use Rattle.judge_calls.specs.CallText.{IsPick, IsReply};
 
 use vac_model::limits::MOST_PARTS;
-use vac_model::{Pick, Reply, Report, TripReply, UpdateReply, Why};
+use vac_model::{Pick, Refusal, Reply, Report, TripReply, UpdateReply};
 
 /// Reads the id of a pick, so that the prover knows its range.
 fn read_pick(pick: Option<Pick>)
@@ -35,7 +35,7 @@ fn read_report(report: Report)
 }
 
 /// Reads the number of changes for which an update has room.
-fn read_room(refused: [Option<Why>; MOST_PARTS])
+fn read_room(refused: [Option<Refusal>; MOST_PARTS])
     ensures { length refused ≤ MOST_PARTS }
 {
     let _room = refused.as_slice().len();

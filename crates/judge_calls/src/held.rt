@@ -3,15 +3,15 @@
 ghost use Rattle.std.specs.Prelude.{◌≡◌, ◌≢◌, ◌≤◌, ◌++◌, IfOk, OnOk, OnErr, IfErr, List};
 ghost use Rattle.vac_lines.specs.Text.{Extends, field_text};
 ghost use Rattle.vac_lines.specs.Script.{as_line};
-ghost use Rattle.judge_calls.specs.Work.{Asked, comes_first, held_against_work, held_verdict};
-ghost use Rattle.judge_calls.specs.Work.{held_text, is_whole};
+ghost use Rattle.judge_calls.specs.Work.{Asked, comes_first, held_against_work, workload_verdict};
+ghost use Rattle.judge_calls.specs.Work.{workload_verdict_text, is_whole};
 ghost use Rattle.judge_calls.specs.Holding.{IsWork};
-ghost use Rattle.judge_calls.specs.HeldReading.{IsReadWhole, HasHeld, HasHeldStopped};
+ghost use Rattle.judge_calls.specs.HeldReading.{IsReadWhole, HasChecked, HasStoppedChecking};
 
-use crate::holding::{first_missing, hold_calls};
+use crate::holding::{check_calls, first_missing};
 use crate::reading::judge_input;
 use crate::verdict::{Verdict, print_verdict};
-use crate::work::{Work, read_work};
+use crate::work::{Workload, read_workload};
 use std::alloc::{AllocError, Global};
 use std::io::{ErrorKind, Read, Write};
 use vac_lines::{append_field, keep_whole, write_and_flush};
@@ -20,7 +20,7 @@ use vac_streams::StreamFault;
 
 /// The verdict on a history that is checked against a workload. Lines are numbered from 1.
 #[derive(Clone, Copy, Debug, PartialEq, Eq)]
-pub enum HeldVerdict {
+pub enum WorkloadVerdict {
     /// The verdict on the history alone. If that verdict is legal, the history covers the
     /// workload, except for the tasks of a client after its pending call.
     Judged(Verdict),
@@ -45,12 +45,12 @@ fn comes_first(line: u64, verdict: &Verdict) -> bool
 }
 
 /// Judges the text of a history, checked against a workload.
-pub(crate) fn hold_by_work(
+pub(crate) fn check_history(
     alloc: Global,
     blocks: u32,
-    work: &Work,
+    work: &Workload,
     history: &[u8],
-) -> Result<HeldVerdict, StreamFault>
+) -> Result<WorkloadVerdict, StreamFault>
     requires some { 1 ≤ blocks }
     requires most { blocks ≤ MOST_BLOCKS }
     ensures held { IfOk result (λ verdict. (asked : List Asked) → IsWork work.now asked →
@@ -59,19 +59,19 @@ pub(crate) fn hold_by_work(
 {
     let mut input = history;
     let verdict = judge_input(alloc, blocks, &mut input)?;
-    let (held, foreign) = hold_calls(alloc, work, history)?;
+    let (held, foreign) = check_calls(alloc, work, history)?;
     if let Some(line) = foreign {
         if comes_first(line, &verdict) {
-            return Ok(HeldVerdict::Foreign { line });
+            return Ok(WorkloadVerdict::Foreign { line });
         }
-        return Ok(HeldVerdict::Judged(verdict));
+        return Ok(WorkloadVerdict::Judged(verdict));
     }
     if let Verdict::Legal(_) = verdict {
         if let Some((client, number)) = first_missing(alloc, work, &held)? {
-            return Ok(HeldVerdict::Missing { client, number });
+            return Ok(WorkloadVerdict::Missing { client, number });
         }
     }
-    Ok(HeldVerdict::Judged(verdict))
+    Ok(WorkloadVerdict::Judged(verdict))
 }
 
 /// Judges the text of a history, checked against the text of the workload.
@@ -80,15 +80,16 @@ fn hold(
     blocks: u32,
     tasks: &[u8],
     history: &[u8],
-) -> Result<HeldVerdict, StreamFault>
+) -> Result<WorkloadVerdict, StreamFault>
     requires some { 1 ≤ blocks }
     requires most { blocks ≤ MOST_BLOCKS }
-    ensures held { IfOk result (λ verdict. verdict ≡ held_verdict blocks tasks.now history.now) }
+    ensures held { IfOk result (λ verdict. verdict ≡ workload_verdict blocks tasks.now
+        history.now) }
     ensures fault { IfErr result (λ fault. fault ≢ StreamFault.Write) }
 {
-    match read_work(alloc, tasks)? {
-        Ok(work) => hold_by_work(alloc, blocks, &work, history),
-        Err(line) => Ok(HeldVerdict::BadTasks { line }),
+    match read_workload(alloc, tasks)? {
+        Ok(work) => check_history(alloc, blocks, &work, history),
+        Err(line) => Ok(WorkloadVerdict::BadTasks { line }),
     }
 }
 
@@ -105,7 +106,8 @@ pub(crate) fn append_line(out: &mut Vec<u8>, text: &[u8], number: u64) -> Result
 /// Appends the line that reports a client's task with this number as missing.
 fn append_missing(out: &mut Vec<u8>, client: u32, number: u64) -> Result<(), AllocError>
     ensures ok { OnOk result
-        (out.new.items ≡ out.old.items ++ held_text (HeldVerdict.Missing client number)) }
+        (out.new.items ≡ out.old.items ++ workload_verdict_text
+        (WorkloadVerdict.Missing client number)) }
     ensures err { OnErr result (Extends out.old.items out.new.items) }
 {
     append_field(out, b"illegal missing ", u64::from(client))?;
@@ -113,26 +115,29 @@ fn append_missing(out: &mut Vec<u8>, client: u32, number: u64) -> Result<(), All
 }
 
 /// Appends the text of a verdict. If memory is refused, nothing is appended.
-pub fn print_held(verdict: &HeldVerdict, out: &mut Vec<u8>) -> Result<(), AllocError>
-    ensures ok { OnOk result (out.new.items ≡ out.old.items ++ held_text verdict.now) }
+pub fn print_workload_verdict(
+    verdict: &WorkloadVerdict,
+    out: &mut Vec<u8>,
+) -> Result<(), AllocError>
+    ensures ok { OnOk result (out.new.items ≡ out.old.items ++ workload_verdict_text verdict.now) }
     ensures err { OnErr result (out.new.items ≡ out.old.items) }
 {
     let start = out.len();
     let printed = match verdict {
-        HeldVerdict::Judged(verdict) => print_verdict(verdict, out),
-        HeldVerdict::BadTasks { line } => append_line(out, b"fault bad-tasks ", *line),
-        HeldVerdict::Foreign { line } => append_line(out, b"illegal task ", *line),
-        HeldVerdict::Missing { client, number } => append_missing(out, *client, *number),
+        WorkloadVerdict::Judged(verdict) => print_verdict(verdict, out),
+        WorkloadVerdict::BadTasks { line } => append_line(out, b"fault bad-tasks ", *line),
+        WorkloadVerdict::Foreign { line } => append_line(out, b"illegal task ", *line),
+        WorkloadVerdict::Missing { client, number } => append_missing(out, *client, *number),
     };
     keep_whole(out, start, printed)
 }
 
 /// Returns whether the verdict is that the history is legal and covers the workload, except for
 /// the tasks of a client after its pending call.
-pub(crate) fn is_whole(verdict: &HeldVerdict) -> bool
+pub(crate) fn is_whole(verdict: &WorkloadVerdict) -> bool
     ensures { result ≡ is_whole verdict.now }
 {
-    matches!(verdict, HeldVerdict::Judged(Verdict::Legal(_)))
+    matches!(verdict, WorkloadVerdict::Judged(Verdict::Legal(_)))
 }
 
 /// Reads an input to its end.
@@ -159,7 +164,7 @@ pub fn read_all<R: Read>(alloc: Global, input: &mut R) -> Result<Vec<u8>, Stream
 /// After a fault of the output a prefix of the verdict's text was written, after any other fault
 /// nothing.
 /// Not said: how much memory the function takes. It keeps both texts in memory as a whole.
-pub fn judge_work<V: Read, R: Read, W: Write>(
+pub fn judge_with_workload<V: Read, R: Read, W: Write>(
     alloc: Global,
     blocks: u32,
     tasks: &mut V,
@@ -168,11 +173,11 @@ pub fn judge_work<V: Read, R: Read, W: Write>(
 ) -> Result<bool, StreamFault>
     requires some { 1 ≤ blocks }
     requires most { blocks ≤ MOST_BLOCKS }
-    ensures ok { IfOk result (λ legal. HasHeld blocks legal
+    ensures ok { IfOk result (λ legal. HasChecked blocks legal
         (V.remaining tasks.old) (V.remaining tasks.new)
         (R.remaining input.old) (R.remaining input.new)
         (W.contents output.old) (W.contents output.new)) }
-    ensures err { IfErr result (λ fault. HasHeldStopped blocks fault
+    ensures err { IfErr result (λ fault. HasStoppedChecking blocks fault
         (V.remaining tasks.old) (V.remaining tasks.new)
         (R.remaining input.old) (R.remaining input.new)
         (W.contents output.old) (W.contents output.new)) }
@@ -181,7 +186,7 @@ pub fn judge_work<V: Read, R: Read, W: Write>(
     let history = read_all(alloc, input)?;
     let verdict = hold(alloc, blocks, work.as_slice(), history.as_slice())?;
     let mut text = Vec::new(alloc);
-    print_held(&verdict, &mut text)?;
+    print_workload_verdict(&verdict, &mut text)?;
     write_and_flush(output, text.as_slice())?;
     Ok(is_whole(&verdict))
 }

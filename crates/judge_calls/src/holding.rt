@@ -12,7 +12,7 @@ ghost use Rattle.judge_calls.specs.Holding.{IsWork, Counts, IsCallCount};
 use crate::by_client::ByClient;
 use crate::call::{CallLine, read_call};
 use crate::fault::CallFault;
-use crate::work::{Work, next_line};
+use crate::work::{Workload, next_line};
 use std::alloc::{AllocError, Global};
 use vac_lines::{LineFault, print_task};
 use vac_model::Task;
@@ -29,7 +29,7 @@ pub(crate) struct CallCount {
 
 /// The number of calls of each client.
 #[derive(Drop)]
-pub(crate) struct Holding {
+pub(crate) struct CallCounts {
     clients: ByClient<CallCount>,
     /// Number of calls of all clients.
     count: u64,
@@ -58,12 +58,12 @@ fn count_after(so_far: CallCount, call: &CallLine<'_>) -> Result<CallCount, Stre
     Ok(CallCount { made, stopped })
 }
 
-impl Holding {
+impl CallCounts {
     /// Creates the count of no calls.
-    fn new(alloc: Global) -> Holding
+    fn new(alloc: Global) -> CallCounts
         ensures { Counts result [] }
     {
-        Holding {
+        CallCounts {
             clients: ByClient::new(alloc),
             count: 0,
         }
@@ -98,7 +98,12 @@ impl Holding {
 
     /// Returns whether a call submits the next task of its client. If the call does, it is
     /// counted.
-    fn take(&mut self, alloc: Global, work: &Work, call: &CallLine<'_>) -> Result<bool, StreamFault>
+    fn take(
+        &mut self,
+        alloc: Global,
+        work: &Workload,
+        call: &CallLine<'_>,
+    ) -> Result<bool, StreamFault>
         ensures next { IfOk result (λ next. (asked : List Asked) (calls : List Call) →
             IsWork work.now asked → Counts self.old calls →
             next ≡ is_next asked calls (shown_call call.now)) }
@@ -121,18 +126,18 @@ impl Holding {
 /// Counts the calls of a history, and returns the counts with the first line whose call does not
 /// submit the next task of its client. If there is such a line, its call and the calls after it
 /// are not counted.
-pub(crate) fn hold_calls(
+pub(crate) fn check_calls(
     alloc: Global,
-    work: &Work,
+    work: &Workload,
     text: &[u8],
-) -> Result<(Holding, Option<u64>), StreamFault>
+) -> Result<(CallCounts, Option<u64>), StreamFault>
     ensures line { IfOk result (λ found. (asked : List Asked) → IsWork work.now asked →
         found.1 ≡ first_foreign asked [] (map line_call (lines_of text.now))) }
     ensures counts { IfOk result (λ found. found.1 ≡ None →
         Counts found.0 (calls_in [] (map line_call (lines_of text.now)))) }
     ensures fault { IfErr result (λ fault. fault ≢ StreamFault.Write) }
 {
-    let mut held = Holding::new(alloc);
+    let mut held = CallCounts::new(alloc);
     let mut rest = text;
     while let Some((line, behind)) = next_line(rest) {
         let number = held.count.checked_add(1).ok_or(StreamFault::Bound)?;
@@ -153,8 +158,8 @@ pub(crate) fn hold_calls(
 /// the tasks of the client.
 pub(crate) fn first_missing(
     alloc: Global,
-    work: &Work,
-    held: &Holding,
+    work: &Workload,
+    held: &CallCounts,
 ) -> Result<Option<(u32, u64)>, StreamFault>
     ensures missing { IfOk result (λ found. (asked : List Asked) (calls : List Call) →
         IsWork work.now asked → Counts held.now calls → found ≡ first_missing calls [] asked) }

@@ -7,13 +7,15 @@ ghost use Rattle.judge_calls.specs.Work.{Asked};
 ghost use Rattle.judge_calls.specs.Holding.{IsWork};
 ghost use Rattle.judge_calls.specs.AnyOrder.{line_of_call, told_by_lines, order_against_work};
 ghost use Rattle.judge_calls.specs.AnyOrder.{order_verdict, order_verdict_text, is_covered};
-ghost use Rattle.judge_calls.specs.AnyOrder.{HasHeldOrder, HasHeldOrderStopped};
+ghost use Rattle.judge_calls.specs.AnyOrder.{HasCheckedOrder, HasStoppedCheckingOrder};
 
 use crate::call::read_call;
 use crate::fault::CallFault;
-use crate::held::{HeldVerdict, append_line, hold_by_work, is_whole, print_held, read_all};
-use crate::holding::hold_calls;
-use crate::work::{Work, next_line, read_work};
+use crate::held::{
+    WorkloadVerdict, append_line, check_history, is_whole, print_workload_verdict, read_all,
+};
+use crate::holding::check_calls;
+use crate::work::{Workload, next_line, read_workload};
 use std::alloc::{AllocError, Global};
 use std::io::{Read, Write};
 use vac_lines::{LineFault, keep_whole, write_and_flush};
@@ -26,7 +28,7 @@ use vac_streams::StreamFault;
 pub enum OrderVerdict {
     /// The verdict on the order as a history of its own. A task that is missing is submitted by no
     /// call of the history.
-    Held(HeldVerdict),
+    Held(WorkloadVerdict),
     /// The order leaves out the pending call of a line, so that the task of the call is missing.
     LeftOut { line: u64 },
 }
@@ -68,13 +70,13 @@ fn find_call(
 fn tell_by_lines(
     alloc: Global,
     history: &[u8],
-    verdict: HeldVerdict,
+    verdict: WorkloadVerdict,
 ) -> Result<OrderVerdict, StreamFault>
     ensures told { IfOk result (λ told. told ≡
         told_by_lines (map line_call (lines_of history.now)) verdict) }
     ensures fault { IfErr result (λ fault. fault ≢ StreamFault.Write) }
 {
-    let HeldVerdict::Missing { client, number } = verdict else {
+    let WorkloadVerdict::Missing { client, number } = verdict else {
         return Ok(OrderVerdict::Held(verdict));
     };
     match find_call(alloc, history, client, number.saturating_sub(1))? {
@@ -84,10 +86,10 @@ fn tell_by_lines(
 }
 
 /// Judges a history and the text of an order of its calls, checked against a workload.
-fn hold_order_by_work(
+fn check_order(
     alloc: Global,
     blocks: u32,
-    work: &Work,
+    work: &Workload,
     history: &[u8],
     order: &[u8],
 ) -> Result<OrderVerdict, StreamFault>
@@ -97,11 +99,11 @@ fn hold_order_by_work(
         verdict ≡ order_against_work blocks asked history.now order.now) }
     ensures fault { IfErr result (λ fault. fault ≢ StreamFault.Write) }
 {
-    let (_, foreign) = hold_calls(alloc, work, history)?;
+    let (_, foreign) = check_calls(alloc, work, history)?;
     if let Some(line) = foreign {
-        return Ok(OrderVerdict::Held(HeldVerdict::Foreign { line }));
+        return Ok(OrderVerdict::Held(WorkloadVerdict::Foreign { line }));
     }
-    let verdict = hold_by_work(alloc, blocks, work, order)?;
+    let verdict = check_history(alloc, blocks, work, order)?;
     tell_by_lines(alloc, history, verdict)
 }
 
@@ -119,9 +121,9 @@ fn hold_order(
         verdict ≡ order_verdict blocks tasks.now history.now order.now) }
     ensures fault { IfErr result (λ fault. fault ≢ StreamFault.Write) }
 {
-    match read_work(alloc, tasks)? {
-        Ok(work) => hold_order_by_work(alloc, blocks, &work, history, order),
-        Err(line) => Ok(OrderVerdict::Held(HeldVerdict::BadTasks { line })),
+    match read_workload(alloc, tasks)? {
+        Ok(work) => check_order(alloc, blocks, &work, history, order),
+        Err(line) => Ok(OrderVerdict::Held(WorkloadVerdict::BadTasks { line })),
     }
 }
 
@@ -132,7 +134,7 @@ fn print_order_verdict(verdict: &OrderVerdict, out: &mut Vec<u8>) -> Result<(), 
 {
     let start = out.len();
     let printed = match verdict {
-        OrderVerdict::Held(verdict) => print_held(verdict, out),
+        OrderVerdict::Held(verdict) => print_workload_verdict(verdict, out),
         OrderVerdict::LeftOut { line } => append_line(out, b"illegal pending ", *line),
     };
     keep_whole(out, start, printed)
@@ -155,7 +157,7 @@ fn is_covered(verdict: &OrderVerdict) -> bool
 ///
 /// After a fault of the output a prefix of the verdict's text was written, after any other fault
 /// nothing.
-pub fn judge_work_in_order<V: Read, W: Write>(
+pub fn judge_order_with_workload<V: Read, W: Write>(
     alloc: Global,
     blocks: u32,
     tasks: &mut V,
@@ -165,10 +167,10 @@ pub fn judge_work_in_order<V: Read, W: Write>(
 ) -> Result<bool, StreamFault>
     requires some { 1 ≤ blocks }
     requires most { blocks ≤ MOST_BLOCKS }
-    ensures ok { IfOk result (λ covered. HasHeldOrder blocks covered
+    ensures ok { IfOk result (λ covered. HasCheckedOrder blocks covered
         (V.remaining tasks.old) (V.remaining tasks.new) history.now order.now
         (W.contents output.old) (W.contents output.new)) }
-    ensures err { IfErr result (λ fault. HasHeldOrderStopped blocks fault
+    ensures err { IfErr result (λ fault. HasStoppedCheckingOrder blocks fault
         (V.remaining tasks.old) (V.remaining tasks.new) history.now order.now
         (W.contents output.old) (W.contents output.new)) }
 {

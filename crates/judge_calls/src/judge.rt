@@ -12,7 +12,7 @@ ghost use Rattle.judge_calls.specs.Verdict.{summary_of};
 
 use crate::call::{Answer, CallLine, read_call};
 use crate::fault::CallFault;
-use crate::verdict::{Summary, Verdict, Wrong};
+use crate::verdict::{CallViolation, Summary, Verdict};
 use judge_time::{Misplaced, Spans};
 use std::alloc::{AllocError, Global};
 use tx_alloc::FreeList;
@@ -90,19 +90,19 @@ impl Judge {
     }
 
     /// Returns the fault of the times of a call after the calls before it, if there is one.
-    fn judge_times(&self, call: &CallLine<'_>) -> Option<Wrong>
+    fn judge_times(&self, call: &CallLine<'_>) -> Option<CallViolation>
         ensures { (s : State) (earlier : List Call) → Follows self.now s earlier →
             JudgesTimes earlier (shown_call call.now) result }
     {
         match self.spans.find(&call.span()) {
-            Some(Misplaced::Client) => Some(Wrong::Client),
-            Some(Misplaced::Time) => Some(Wrong::Time),
+            Some(Misplaced::Client) => Some(CallViolation::Client),
+            Some(Misplaced::Time) => Some(CallViolation::Time),
             None => None,
         }
     }
 
     /// Judges a call, and takes the call if it has no fault.
-    fn judge_call(&mut self, call: &CallLine<'_>) -> Result<Option<Wrong>, AllocError>
+    fn judge_call(&mut self, call: &CallLine<'_>) -> Result<Option<CallViolation>, AllocError>
         requires in_range { is_task call.now.task ≡ true }
         requires room { self.old.spans.count + 1 < 2 ^ 64 }
         ensures { IfOk result (λ found. (s : State) (earlier : List Call) →
@@ -114,7 +114,7 @@ impl Judge {
         }
         let reply = self.heap.run(&call.task, FreeList::new(0));
         if !is_expected(&mut self.expected, call.answer, &reply)? {
-            return Ok(Some(Wrong::Reply(reply)));
+            return Ok(Some(CallViolation::Reply(reply)));
         }
         self.spans.push(&call.span())?;
         Ok(None)

@@ -23,8 +23,8 @@ mod work;
 pub use answers::numbers_of_a_reply;
 pub use call::{Answer, CALL_BYTES, CallLine, read_call};
 pub use fault::CallFault;
-pub use held::{HeldVerdict, judge_work, print_held, read_all};
-pub use in_order::{OrderVerdict, judge_work_in_order};
+pub use held::{WorkloadVerdict, judge_with_workload, print_workload_verdict, read_all};
+pub use in_order::{OrderVerdict, judge_order_with_workload};
 pub use judge::Judge;
 pub use laws::{
     a_call_never_answered_is_read, a_call_that_an_order_leaves_out_is_pending,
@@ -38,4 +38,4 @@ pub use laws::{
     bad_tasks_name_the_first_line_without_a_task, call_texts_are_read, histories_are_read,
 };
 pub use reading::judge_history;
-pub use verdict::{Summary, Verdict, Wrong, print_verdict};
+pub use verdict::{CallViolation, Summary, Verdict, print_verdict};

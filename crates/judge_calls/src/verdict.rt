@@ -11,7 +11,7 @@ use vac_model::{Reply, Report};
 
 /// The fault of a call, after the calls that come before it.
 #[derive(Clone, Copy, Debug, PartialEq, Eq)]
-pub enum Wrong {
+pub enum CallViolation {
     /// The call ends before it begins, or begins before an earlier call of its client ends.
     Client,
     /// The call ends before an earlier call of the order begins.
@@ -40,7 +40,7 @@ pub enum Verdict {
     /// The line is no call.
     Fault { line: u64, fault: CallFault },
     /// The call of the line is wrong after the calls before it.
-    Illegal { line: u64, wrong: Wrong },
+    Illegal { line: u64, wrong: CallViolation },
 }
 
 /// Appends the counts of a legal history.
@@ -87,14 +87,14 @@ fn append_fault_line(out: &mut Vec<u8>, fault: CallFault, line: u64) -> Result<(
 }
 
 /// Appends the fault of the call of a line.
-fn append_wrong(out: &mut Vec<u8>, wrong: &Wrong, line: u64) -> Result<(), AllocError>
+fn append_wrong(out: &mut Vec<u8>, wrong: &CallViolation, line: u64) -> Result<(), AllocError>
     ensures ok { OnOk result (out.new.items ≡ out.old.items ++ wrong_text wrong.now line) }
     ensures err { OnErr result (Extends out.old.items out.new.items) }
 {
     match wrong {
-        Wrong::Client => append_field(out, b"illegal client ", line),
-        Wrong::Time => append_field(out, b"illegal time ", line),
-        Wrong::Reply(expected) => {
+        CallViolation::Client => append_field(out, b"illegal client ", line),
+        CallViolation::Time => append_field(out, b"illegal time ", line),
+        CallViolation::Reply(expected) => {
             append_field(out, b"illegal reply ", line)?;
             out.extend_from_slice(b" ")?;
             print_reply(expected, out)
@@ -103,7 +103,7 @@ fn append_wrong(out: &mut Vec<u8>, wrong: &Wrong, line: u64) -> Result<(), Alloc
 }
 
 /// Appends the fault of the call of a line, as a line.
-fn append_wrong_line(out: &mut Vec<u8>, wrong: &Wrong, line: u64) -> Result<(), AllocError>
+fn append_wrong_line(out: &mut Vec<u8>, wrong: &CallViolation, line: u64) -> Result<(), AllocError>
     ensures ok { OnOk result
         (out.new.items ≡ out.old.items ++ verdict_text (Verdict.Illegal line wrong.now)) }
     ensures err { OnErr result (Extends out.old.items out.new.items) }

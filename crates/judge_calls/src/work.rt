@@ -18,7 +18,7 @@ use vac_streams::StreamFault;
 
 /// A workload: the tasks that were given to clients.
 #[derive(Drop)]
-pub(crate) struct Work {
+pub(crate) struct Workload {
     /// The client of each task, in the order of the workload.
     clients: Vec<u32>,
     /// The tasks of each client, in the order of the workload.
@@ -65,12 +65,12 @@ fn asked_at(alloc: Global, line: &[u8]) -> Result<(u32, Task), CallFault>
     Err(CallFault::BadCall)
 }
 
-impl Work {
+impl Workload {
     /// Creates an empty workload.
-    fn new(alloc: Global) -> Work
+    fn new(alloc: Global) -> Workload
         ensures { IsWork result [] }
     {
-        Work {
+        Workload {
             clients: Vec::new(alloc),
             tasks: ByClient::new(alloc),
         }
@@ -122,14 +122,17 @@ impl Work {
 
 /// Reads the lines of a workload. Returns the workload, or the number of the first line that gives
 /// no task.
-pub(crate) fn read_work(alloc: Global, text: &[u8]) -> Result<Result<Work, u64>, StreamFault>
+pub(crate) fn read_workload(
+    alloc: Global,
+    text: &[u8],
+) -> Result<Result<Workload, u64>, StreamFault>
     ensures work { IfOk result (λ found. MatchResult found
         (λ kept. (work : List Asked) × IsWork kept work
         × (work_of (list.map line_asked (lines_of text.now)) ≡ Ok work))
         (λ line. work_of (list.map line_asked (lines_of text.now)) ≡ Err line)) }
     ensures fault { IfErr result (λ fault. fault ≢ StreamFault.Write) }
 {
-    let mut work = Work::new(alloc);
+    let mut work = Workload::new(alloc);
     let mut rest = text;
     let mut count: u64 = 0;
     while let Some((line, behind)) = next_line(rest) {

@@ -40,7 +40,7 @@ one_more : (a n i : ℕ) → a ≡ 1 + n → n ≡ i → a ≡ suc i
 one_more a n i e f = omega arith
 
 -- no element passes
-count_none : {X : Type 0} (p : X → Bool) (xs : List X) →
+pub count_none : {X : Type 0} (p : X → Bool) (xs : List X) →
     ((k : ℕ) (d : X) → k < length xs → p (get_or xs k d) ≡ false) → count_by p xs ≡ 0
 count_none p [] fail = refl
 count_none p (x ∷ xs) fail =

@@ -1,5 +1,8 @@
 pub mod Counting
+pub mod Heads
 pub mod Keys
 pub mod Clients
 pub mod Greatest
+pub mod Taking
 pub mod Texts
+pub mod Windows

@@ -56,12 +56,12 @@ fn count_pending(calls: &[Span]) -> u64
 pub fn measure_calls(alloc: Global, calls: &[Span]) -> Result<Coverage, AllocError>
     ensures { IfOk result (λ coverage. coverage ≡ coverage_of calls.now) }
 {
-    let meetings = Meetings::of(alloc, calls)?;
+    let overlaps = Meetings::of(alloc, calls)?.count();
     Ok(Coverage {
         calls: calls.len() as u64,
         clients: count_clients(alloc, calls)?,
         pending: count_pending(calls),
-        overlapped: meetings.count_overlapped(),
-        most_at_once: meetings.find_most_at_once(),
+        overlapped: overlaps.overlapped,
+        most_at_once: overlaps.most_at_once,
     })
 }

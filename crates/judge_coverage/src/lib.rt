@@ -9,13 +9,18 @@
 #![tactic(auto)]
 
 mod attempts;
+mod collector;
 mod coverage;
+mod entries;
 mod meetings;
 mod moments;
 mod text;
+mod watched;
 
 pub use attempts::{AttemptCoverage, Outcome, measure_attempts};
 pub use coverage::{Coverage, measure_calls};
+pub use entries::MOST_ENTRIES;
 pub use text::{
     print_attempts_coverage, print_attempts_warning, print_calls_coverage, print_calls_warning,
 };
+pub use watched::Watched;

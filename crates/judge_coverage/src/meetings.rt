@@ -4,9 +4,22 @@ ghost use Rattle.std.specs.Prelude.{◌≡◌, IfOk};
 ghost use Rattle.judge_coverage.specs.Coverage.{met_by, overlapped_in, most_at_once_in};
 ghost use Rattle.judge_coverage.specs.Meetings.{AreMeetings};
 
-use crate::moments::Moments;
+use crate::moments::{Moments, Reached};
 use judge_time::Span;
 use std::alloc::{AllocError, Global};
+
+/// Number of clients for which the numbers reached are kept apart. Clients with equal remainders
+/// share them.
+const CLIENTS: usize = 64;
+
+/// The overlaps of calls.
+#[derive(Clone, Copy)]
+pub(crate) struct Overlaps {
+    /// Number of calls that began while a call of another client ran.
+    pub(crate) overlapped: u64,
+    /// Greatest number of calls that ran at one moment.
+    pub(crate) most_at_once: u64,
+}
 
 /// Calls with their moments, of all calls together and apart by client.
 #[derive(Drop)]
@@ -29,38 +42,38 @@ impl Meetings<'_> {
         })
     }
 
-    /// Returns the number of calls of other clients that run when a call begins.
-    fn met_by(&self, call: &Span) -> u64
+    /// Returns the number of calls of other clients that run when a call begins. The numbers that
+    /// were reached before, among all calls and among those of the client, only make the search
+    /// faster.
+    fn met_by(&self, call: &Span, all: &mut Reached, own: &mut Reached) -> u64
         requires { AreMeetings self.now }
         ensures { result ≡ met_by self.now.calls.now call.now }
     {
-        let all = self.together.running(0, call.begin);
-        all.saturating_sub(self.apart.running(call.client, call.begin))
+        let running = self.together.running(0, call.begin, all);
+        running.saturating_sub(self.apart.running(call.client, call.begin, own))
     }
 
-    /// Returns the number of calls that began while a call of another client ran.
-    pub(crate) fn count_overlapped(&self) -> u64
+    /// Counts the overlaps of the calls.
+    pub(crate) fn count(&self) -> Overlaps
         requires { AreMeetings self.now }
-        ensures { result ≡ overlapped_in self.now.calls.now }
+        ensures overlapped { result.overlapped ≡ overlapped_in self.now.calls.now }
+        ensures most_at_once { result.most_at_once ≡ most_at_once_in self.now.calls.now }
     {
-        let mut count = 0;
+        let mut all = Reached::NONE;
+        let mut own = [Reached::NONE; CLIENTS];
+        let mut overlapped = 0;
+        let mut most_at_once = 0;
         'calls: for place in 0..self.calls.len() {
-            if self.met_by(&self.calls[place]) > 0 {
-                count += 1;
+            let call = &self.calls[place];
+            let met = self.met_by(call, &mut all, &mut own[call.client as usize % CLIENTS]);
+            if met > 0 {
+                overlapped += 1;
             }
+            most_at_once = met.saturating_add(1).max(most_at_once);
         }
-        count
-    }
-
-    /// Returns the greatest number of calls that ran at one moment.
-    pub(crate) fn find_most_at_once(&self) -> u64
-        requires { AreMeetings self.now }
-        ensures { result ≡ most_at_once_in self.now.calls.now }
-    {
-        let mut most = 0;
-        'calls: for place in 0..self.calls.len() {
-            most = self.met_by(&self.calls[place]).saturating_add(1).max(most);
+        Overlaps {
+            overlapped,
+            most_at_once,
         }
-        most
     }
 }

@@ -73,12 +73,43 @@ fn sorted(mut keys: Vec<u128>) -> Result<Vec<u128>, AllocError>
     Ok(keys)
 }
 
+/// Number of keys on each side of an expected position among which a search looks first.
+const REACH: usize = 8;
+
 /// Returns the number of keys up to a key.
-fn number_up_to(keys: &[u128], key: u128) -> u64
+fn number_up_to(keys: &[u128], key: u128) -> usize
     requires { IsNonDecreasing keys.now }
     ensures { result ≡ number_up_to key keys.now }
 {
-    keys.partition_point(|other| *other <= key) as u64
+    keys.partition_point(|other| *other <= key)
+}
+
+/// Returns the number of keys up to a key. Looks first among the keys near an expected number: if
+/// some of them are up to the key, and others are not, the number is found there.
+fn number_near(keys: &[u128], expected: usize, key: u128) -> usize
+    requires { IsNonDecreasing keys.now }
+    ensures { result ≡ number_up_to key keys.now }
+{
+    let start = expected.saturating_sub(REACH).min(keys.len());
+    let end = expected.saturating_add(REACH).min(keys.len());
+    let within = number_up_to(&keys[start..end], key);
+    if within == 0 || within == end - start {
+        return number_up_to(keys, key);
+    }
+    start + within
+}
+
+/// The numbers of BEGINs and of ENDs up to a moment. A search for those of another moment begins
+/// there, since the calls of a log follow each other in time.
+#[derive(Clone, Copy)]
+pub(crate) struct Reached {
+    begins: usize,
+    ends: usize,
+}
+
+impl Reached {
+    /// The numbers before all moments.
+    pub(crate) const NONE: Reached = Reached { begins: 0, ends: 0 };
 }
 
 impl Moments {
@@ -92,15 +123,17 @@ impl Moments {
         })
     }
 
-    /// Returns the number of calls of a lane that run at a moment.
-    pub(crate) fn running(&self, lane: u32, moment: u64) -> u64
+    /// Returns the number of calls of a lane that run at a moment. The numbers that were reached
+    /// before only make the search faster.
+    pub(crate) fn running(&self, lane: u32, moment: u64, reached: &mut Reached) -> u64
         requires begins { IsNonDecreasing self.now.begins.items }
         requires ends { IsNonDecreasing self.now.ends.items }
         ensures { result ≡ number_up_to (key_of lane moment) self.now.begins.items
             - number_up_to (key_of lane moment) self.now.ends.items }
     {
         let key = key_of(lane, u128::from(moment));
-        let begun = number_up_to(self.begins.as_slice(), key);
-        begun.saturating_sub(number_up_to(self.ends.as_slice(), key))
+        reached.begins = number_near(self.begins.as_slice(), reached.begins, key);
+        reached.ends = number_near(self.ends.as_slice(), reached.ends, key);
+        reached.begins.saturating_sub(reached.ends) as u64
     }
 }

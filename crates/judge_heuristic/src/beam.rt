@@ -10,9 +10,9 @@
 
 use crate::configuration::{Chain, Configuration};
 use crate::layout::Layout;
-use crate::offers::{Offer, Offers};
+use crate::successors::{Successor, Successors};
 use judge_object::{Line, Object, Watcher};
-use judge_reservations::Asked;
+use judge_reservations::ValidTask;
 use std::alloc::{AllocError, Global};
 use std::collections::BTreeMap;
 use vac_model::Reply;
@@ -104,27 +104,27 @@ fn plan_of(tries: u64) -> Plan {
 }
 
 /// Returns copies of configurations.
-fn copies<M: Object<Op = Asked, Reply = Reply> + Drop>(
+fn copies<M: Object<Op = ValidTask, Reply = Reply> + Drop>(
     alloc: Global,
     kept: &[Configuration<M>],
 ) -> Result<Vec<Configuration<M>>, AllocError> {
     let mut copies = Vec::new(alloc);
-    'kept: for number in 0..kept.len() {
+    for number in 0..kept.len() {
         copies.push(kept[number].copy(alloc)?)?;
     }
     Ok(copies)
 }
 
 /// Returns the least cost of a configuration.
-fn least_cost<M>(offers: &[Offer<M>]) -> u64 {
+fn least_cost<M>(successors: &[Successor<M>]) -> u64 {
     let mut least = u64::MAX;
-    'offers: for number in 0..offers.len() {
-        least = least.min(offers[number].configuration.cost);
+    for number in 0..successors.len() {
+        least = least.min(successors[number].configuration.cost);
     }
     least
 }
 
-impl<M: Object<Op = Asked, Reply = Reply> + Drop> Beam<M> {
+impl<M: Object<Op = ValidTask, Reply = Reply> + Drop> Beam<M> {
     /// Creates a search that begins at a configuration.
     fn new(alloc: Global, start: Configuration<M>) -> Result<Beam<M>, AllocError> {
         let mut kept = Vec::new(alloc);
@@ -154,11 +154,11 @@ impl<M: Object<Op = Asked, Reply = Reply> + Drop> Beam<M> {
     }
 
     /// Keeps a configuration, unless an equal one is kept.
-    fn keep(&mut self, count: usize, offer: Offer<M>) -> Result<(), AllocError> {
-        let Offer {
+    fn keep(&mut self, count: usize, successor: Successor<M>) -> Result<(), AllocError> {
+        let Successor {
             chain,
             mut configuration,
-        } = offer;
+        } = successor;
         let hash = configuration.hash();
         if self.plan.width <= self.kept.len() || self.seen.get(&hash).is_some() {
             return Ok(());
@@ -180,46 +180,50 @@ impl<M: Object<Op = Asked, Reply = Reply> + Drop> Beam<M> {
     fn keep_cost(
         &mut self,
         count: usize,
-        mut offers: Vec<Offer<M>>,
+        mut successors: Vec<Successor<M>>,
         cost: u64,
-    ) -> Result<Vec<Offer<M>>, AllocError> {
+    ) -> Result<Vec<Successor<M>>, AllocError> {
         let mut others = Vec::new(self.alloc);
-        'offers: for _ in 0..offers.len() {
-            let Some(offer) = offers.pop() else {
+        for _ in 0..successors.len() {
+            let Some(successor) = successors.pop() else {
                 break;
             };
-            if offer.configuration.cost == cost {
-                self.keep(count, offer)?;
+            if successor.configuration.cost == cost {
+                self.keep(count, successor)?;
             } else {
-                others.push(offer)?;
+                others.push(successor)?;
             }
         }
         Ok(others)
     }
 
     /// Keeps the configurations of the least costs.
-    fn keep_best(&mut self, count: usize, mut offers: Vec<Offer<M>>) -> Result<(), AllocError> {
+    fn keep_best(
+        &mut self,
+        count: usize,
+        mut successors: Vec<Successor<M>>,
+    ) -> Result<(), AllocError> {
         self.seen = BTreeMap::new(self.alloc);
-        let least = least_cost(offers.as_slice());
-        'costs: for more in 0..MOST_SPREAD {
-            if offers.is_empty() || self.plan.width <= self.kept.len() {
+        let least = least_cost(successors.as_slice());
+        for more in 0..MOST_SPREAD {
+            if successors.is_empty() || self.plan.width <= self.kept.len() {
                 break;
             }
-            offers = self.keep_cost(count, offers, least.wrapping_add(more))?;
+            successors = self.keep_cost(count, successors, least.wrapping_add(more))?;
         }
         Ok(())
     }
 
     /// Places one more completed call in each configuration.
-    fn go_on(&mut self, lines: &[Line<Asked>], layout: &Layout) -> Result<(), AllocError> {
-        let mut offers = Offers::new(self.alloc, self.plan.is_wide);
+    fn go_on(&mut self, lines: &[Line<ValidTask>], layout: &Layout) -> Result<(), AllocError> {
+        let mut successors = Successors::new(self.alloc, self.plan.is_wide);
         self.expanded = self.expanded.saturating_add(self.kept.len());
-        'kept: for _ in 0..self.kept.len() {
+        for _ in 0..self.kept.len() {
             if let Some(configuration) = self.kept.pop() {
-                offers.expand(lines, layout, &configuration)?;
+                successors.expand(lines, layout, &configuration)?;
             }
         }
-        self.keep_best(lines.len(), offers.taken())
+        self.keep_best(lines.len(), successors.taken())
     }
 
     /// Notes a checkpoint, if the next one is due.
@@ -239,7 +243,7 @@ impl<M: Object<Op = Asked, Reply = Reply> + Drop> Beam<M> {
 
     /// Drops the last checkpoints, unless they are far enough back.
     fn drop_checkpoints(&mut self) {
-        'checkpoints: for _ in 0..self.checkpoints.len() {
+        for _ in 0..self.checkpoints.len() {
             let count = self.checkpoints.len();
             if count < 2 {
                 return;
@@ -274,7 +278,7 @@ impl<M: Object<Op = Asked, Reply = Reply> + Drop> Beam<M> {
     }
 
     /// Makes a step of the search. Returns whether the search may go on.
-    fn step(&mut self, lines: &[Line<Asked>], layout: &Layout) -> Result<bool, AllocError> {
+    fn step(&mut self, lines: &[Line<ValidTask>], layout: &Layout) -> Result<bool, AllocError> {
         self.note_checkpoint()?;
         self.go_on(lines, layout)?;
         if self.kept.is_empty() {
@@ -295,7 +299,7 @@ impl<M: Object<Op = Asked, Reply = Reply> + Drop> Beam<M> {
         }
         let mut number = self.kept[0].last;
         let mut places = Vec::new(self.alloc);
-        'steps: for _ in 0..self.steps.len() {
+        for _ in 0..self.steps.len() {
             if number == 0 || self.steps.len() < number {
                 break;
             }
@@ -310,9 +314,9 @@ impl<M: Object<Op = Asked, Reply = Reply> + Drop> Beam<M> {
 
 /// Searches, in at most `steps` steps, for an order of the calls, which are given in the order of
 /// their ends. Returns the positions of the calls in the order that is found.
-pub(crate) fn find_by_beam<M: Object<Op = Asked, Reply = Reply> + Drop, P: Watcher>(
+pub(crate) fn find_by_beam<M: Object<Op = ValidTask, Reply = Reply> + Drop, P: Watcher>(
     alloc: Global,
-    lines: &[Line<Asked>],
+    lines: &[Line<ValidTask>],
     layout: &Layout,
     machine: &M,
     steps: u64,
@@ -323,7 +327,7 @@ pub(crate) fn find_by_beam<M: Object<Op = Asked, Reply = Reply> + Drop, P: Watch
         Configuration::new(machine.copy()?, layout.firsts(alloc)?),
     )?;
     let most = lines.len().saturating_mul(MOST_FOR_EACH).min(MOST_IN_ALL);
-    'steps: for made in 0..steps {
+    for made in 0..steps {
         watcher.tell(beam.level, made);
         if beam.level == layout.answered {
             return beam.places();

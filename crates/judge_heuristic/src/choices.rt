@@ -4,7 +4,7 @@ use crate::layout::Layout;
 use crate::search::{QuickSearch, led_from, led_to};
 use crate::trail::Trail;
 use judge_object::{Line, Object};
-use judge_reservations::Asked;
+use judge_reservations::ValidTask;
 use std::alloc::{AllocError, Global};
 use vac_model::Reply;
 
@@ -26,16 +26,16 @@ struct Help<M> {
 /// Returns the number of calls that give their replies in the order of their ends, from the state
 /// `machine` on. In that state the call at position `made` is placed besides the calls of the
 /// trail. Counting stops at the first call that does not give its reply, or at `FARTHEST`.
-fn reach_of<M: Object<Op = Asked, Reply = Reply> + Drop>(
+fn reach_of<M: Object<Op = ValidTask, Reply = Reply> + Drop>(
     text: &mut Vec<u8>,
     trail: &Trail,
-    lines: &[Line<Asked>],
+    lines: &[Line<ValidTask>],
     layout: &Layout,
     made: usize,
     mut machine: M,
 ) -> Result<u64, AllocError> {
     let mut count: u64 = 0;
-    'places: for place in trail.low..lines.len() {
+    for place in trail.low..lines.len() {
         if place == made || trail.is_made(layout, place) {
             continue;
         }
@@ -70,13 +70,13 @@ fn place_of<M>(help: &Option<Help<M>>, count: usize) -> usize {
     }
 }
 
-impl<M: Object<Op = Asked, Reply = Reply> + Drop> QuickSearch<M> {
+impl<M: Object<Op = ValidTask, Reply = Reply> + Drop> QuickSearch<M> {
     /// Returns whether the candidate must precede the call that ends first; a random deviation may
     /// reverse the result. The candidate leads to the state `now`, the call that ends first to the
     /// state `after`.
     fn is_first(
         &mut self,
-        lines: &[Line<Asked>],
+        lines: &[Line<ValidTask>],
         place: usize,
         now: &M,
         after: &M,
@@ -90,11 +90,11 @@ impl<M: Object<Op = Asked, Reply = Reply> + Drop> QuickSearch<M> {
             Some(later) if later.hash() == both.hash() => return Ok(false),
             Some(_) => false,
         };
-        let is_first = is_needed != self.tally.strays(4);
+        let is_first = is_needed != self.counts.deviates(4);
         if is_first {
-            self.doubt(place, low)?;
+            self.add_choice_point(place, low)?;
         } else {
-            self.doubt(low, place)?;
+            self.add_choice_point(low, place)?;
         }
         Ok(is_first)
     }
@@ -102,13 +102,13 @@ impl<M: Object<Op = Asked, Reply = Reply> + Drop> QuickSearch<M> {
     /// As `is_first`, for two calls that conflict only through the capacity. The candidate's reply
     /// says that no block is left, and the candidate does not give its reply after the call that
     /// ends first.
-    fn is_full_first(&mut self, lines: &[Line<Asked>], now: &M) -> Result<bool, AllocError> {
+    fn is_full_first(&mut self, lines: &[Line<ValidTask>], now: &M) -> Result<bool, AllocError> {
         if let Some(machine) = &self.machine
             && machine.hash() == now.hash()
         {
             return Ok(true);
         }
-        if !self.tally.strays(2) {
+        if !self.counts.deviates(2) {
             return Ok(false);
         }
         Ok(led_to(&mut self.text, Some(now), lines, self.trail.low)?.is_some())
@@ -118,7 +118,7 @@ impl<M: Object<Op = Asked, Reply = Reply> + Drop> QuickSearch<M> {
     /// first. That call leads to the state `after`.
     fn rival(
         &mut self,
-        lines: &[Line<Asked>],
+        lines: &[Line<ValidTask>],
         layout: &Layout,
         place: usize,
         after: &M,
@@ -139,14 +139,14 @@ impl<M: Object<Op = Asked, Reply = Reply> + Drop> QuickSearch<M> {
     /// the state `after`.
     fn guard(
         &mut self,
-        lines: &[Line<Asked>],
+        lines: &[Line<ValidTask>],
         layout: &Layout,
         rivals: &[usize],
         after: &M,
     ) -> Result<Option<(usize, M)>, AllocError> {
-        'rivals: for number in 0..rivals.len() {
+        for number in 0..rivals.len() {
             let place = rivals[number];
-            if !self.tally.may_look(MADE) {
+            if !self.counts.may_look(MADE) {
                 return Ok(None);
             }
             if let Some(now) = self.rival(lines, layout, place, after)? {
@@ -160,7 +160,7 @@ impl<M: Object<Op = Asked, Reply = Reply> + Drop> QuickSearch<M> {
     /// The measure of the call is a random number if `is_drawn`.
     fn help(
         &mut self,
-        lines: &[Line<Asked>],
+        lines: &[Line<ValidTask>],
         layout: &Layout,
         place: usize,
         is_drawn: bool,
@@ -177,7 +177,7 @@ impl<M: Object<Op = Asked, Reply = Reply> + Drop> QuickSearch<M> {
             return Ok(None);
         }
         if is_drawn {
-            reach = self.tally.draw(FARTHEST);
+            reach = self.counts.draw(FARTHEST);
         }
         Ok(Some(Help {
             reach,
@@ -190,13 +190,13 @@ impl<M: Object<Op = Asked, Reply = Reply> + Drop> QuickSearch<M> {
     /// another helping call, if there is one.
     fn best_help(
         &mut self,
-        lines: &[Line<Asked>],
+        lines: &[Line<ValidTask>],
         layout: &Layout,
         is_drawn: bool,
     ) -> Result<(Option<Help<M>>, usize), AllocError> {
         let mut best = None;
         let mut other = lines.len();
-        'clients: for client in 0..self.trail.heads.len() {
+        for client in 0..self.trail.heads.len() {
             let place = self.trail.head(client);
             let Some(help) = self.help(lines, layout, place, is_drawn)? else {
                 continue;
@@ -216,11 +216,11 @@ impl<M: Object<Op = Asked, Reply = Reply> + Drop> QuickSearch<M> {
     /// or if the calls of all clients may not be looked at.
     fn look_ahead(
         &mut self,
-        lines: &[Line<Asked>],
+        lines: &[Line<ValidTask>],
         layout: &Layout,
         may_look: bool,
     ) -> Result<Option<usize>, AllocError> {
-        let is_drawn = self.tally.strays(2);
+        let is_drawn = self.counts.deviates(2);
         if !may_look {
             return Ok(None);
         }
@@ -236,7 +236,7 @@ impl<M: Object<Op = Asked, Reply = Reply> + Drop> QuickSearch<M> {
             return Ok(None);
         };
         if other < lines.len() {
-            self.doubt(place, other)?;
+            self.add_choice_point(place, other)?;
         }
         self.move_to(machine)?;
         Ok(Some(place))
@@ -245,14 +245,14 @@ impl<M: Object<Op = Asked, Reply = Reply> + Drop> QuickSearch<M> {
     /// Makes a planned call, which may come next. Returns whether the call gives its reply there.
     fn keep_to_plan(
         &mut self,
-        lines: &[Line<Asked>],
+        lines: &[Line<ValidTask>],
         layout: &Layout,
         place: usize,
     ) -> Result<bool, AllocError> {
         if !self.attempt(lines, place)? {
             return Ok(false);
         }
-        self.doubts.note_again(&self.trail, layout, place)?;
+        self.choice_points.note_again(&self.trail, layout, place)?;
         Ok(true)
     }
 
@@ -261,10 +261,10 @@ impl<M: Object<Op = Asked, Reply = Reply> + Drop> QuickSearch<M> {
     /// not come next, or if it is the call that ends first and does not give its reply.
     fn planned(
         &mut self,
-        lines: &[Line<Asked>],
+        lines: &[Line<ValidTask>],
         layout: &Layout,
     ) -> Result<Option<usize>, AllocError> {
-        'plan: for _ in 0..self.plan.len() {
+        for _ in 0..self.plan.len() {
             let Some(place) = self.plan.pop() else {
                 return Ok(None);
             };
@@ -287,7 +287,7 @@ impl<M: Object<Op = Asked, Reply = Reply> + Drop> QuickSearch<M> {
     /// first does not give its reply, makes a call after which it does.
     fn decide(
         &mut self,
-        lines: &[Line<Asked>],
+        lines: &[Line<ValidTask>],
         layout: &Layout,
         rivals: &[usize],
     ) -> Result<Option<usize>, AllocError> {
@@ -307,11 +307,11 @@ impl<M: Object<Op = Asked, Reply = Reply> + Drop> QuickSearch<M> {
     fn unplanned(
         &mut self,
         alloc: Global,
-        lines: &[Line<Asked>],
+        lines: &[Line<ValidTask>],
         layout: &Layout,
     ) -> Result<Option<usize>, AllocError> {
         let low = self.trail.low;
-        let may_look = self.tally.may_look(self.trail.heads.len() as u64);
+        let may_look = self.counts.may_look(self.trail.heads.len() as u64);
         if may_look {
             let rivals = self.trail.rivals(alloc, lines, layout)?;
             if !rivals.is_empty() {
@@ -328,7 +328,7 @@ impl<M: Object<Op = Asked, Reply = Reply> + Drop> QuickSearch<M> {
     pub(crate) fn choose(
         &mut self,
         alloc: Global,
-        lines: &[Line<Asked>],
+        lines: &[Line<ValidTask>],
         layout: &Layout,
     ) -> Result<Option<usize>, AllocError> {
         match self.planned(lines, layout)? {

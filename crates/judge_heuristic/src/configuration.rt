@@ -2,7 +2,7 @@
 
 use crate::layout::Layout;
 use judge_object::{Line, Object};
-use judge_reservations::Asked;
+use judge_reservations::ValidTask;
 use std::alloc::{AllocError, Global};
 use vac_model::Reply;
 
@@ -40,7 +40,7 @@ fn mixed(number: usize, other: usize) -> u64 {
     mixed ^ (mixed >> 32)
 }
 
-impl<M: Object<Op = Asked, Reply = Reply> + Drop> Configuration<M> {
+impl<M: Object<Op = ValidTask, Reply = Reply> + Drop> Configuration<M> {
     /// Creates a configuration in which no call is placed. The calls `heads` are the clients'
     /// first ones.
     pub(crate) fn new(machine: M, heads: Vec<usize>) -> Configuration<M> {
@@ -73,7 +73,7 @@ impl<M: Object<Op = Asked, Reply = Reply> + Drop> Configuration<M> {
 
     /// Returns whether the call at a position, which is its client's next one or a later one, may
     /// be placed before the first call that is not placed has ended.
-    pub(crate) fn is_open(&self, lines: &[Line<Asked>], place: usize) -> bool {
+    pub(crate) fn is_open(&self, lines: &[Line<ValidTask>], place: usize) -> bool {
         place != self.low
             && place < lines.len()
             && self.low < lines.len()
@@ -82,9 +82,9 @@ impl<M: Object<Op = Asked, Reply = Reply> + Drop> Configuration<M> {
 
     /// Returns whether a later call of the same client may conflict with the first call that is
     /// not placed.
-    pub(crate) fn leads(&self, lines: &[Line<Asked>], layout: &Layout, place: usize) -> bool {
+    pub(crate) fn leads(&self, lines: &[Line<ValidTask>], layout: &Layout, place: usize) -> bool {
         let mut next = place;
-        'next: for _ in 0..8 {
+        for _ in 0..8 {
             next = layout.spot(next).next;
             if !self.is_open(lines, next) {
                 return false;
@@ -108,7 +108,7 @@ impl<M: Object<Op = Asked, Reply = Reply> + Drop> Configuration<M> {
 
     /// Finds the first position whose call is not placed.
     fn find_low(&mut self, layout: &Layout) {
-        'places: for place in self.low..layout.len() {
+        for place in self.low..layout.len() {
             self.low = place;
             let client = layout.spot(place).client;
             if client < self.heads.len() && self.heads[client] <= place {

@@ -3,7 +3,7 @@
 
 use crate::configuration::Chain;
 use judge_object::Line;
-use judge_reservations::Asked;
+use judge_reservations::ValidTask;
 use std::alloc::{AllocError, Global};
 use std::collections::BTreeMap;
 use vac_model::{Command, Kind, Task};
@@ -161,7 +161,7 @@ fn says_full(reply: &Option<Vec<u8>>) -> bool {
 /// Returns a bit set with a bit for each key from position `from` on.
 fn mask_of(keys: &[u64], from: usize) -> u64 {
     let mut mask = 0;
-    'keys: for place in from..keys.len() {
+    for place in from..keys.len() {
         mask |= 1 << (keys[place].wrapping_mul(0x9e37_79b9_7f4a_7c15) >> 58);
     }
     mask
@@ -169,7 +169,7 @@ fn mask_of(keys: &[u64], from: usize) -> u64 {
 
 /// Returns whether a key is among the keys from position `from` up to position `to`.
 fn is_among(keys: &[u64], from: usize, to: usize, key: u64) -> bool {
-    'keys: for place in from..to {
+    for place in from..to {
         if place < keys.len() && keys[place] == key {
             return true;
         }
@@ -196,7 +196,7 @@ impl Clients {
 
 impl Layout {
     /// Computes the layout of the calls.
-    pub(crate) fn new(alloc: Global, lines: &[Line<Asked>]) -> Result<Layout, AllocError> {
+    pub(crate) fn new(alloc: Global, lines: &[Line<ValidTask>]) -> Result<Layout, AllocError> {
         let mut layout = Layout {
             spots: Vec::new(alloc),
             keys: Vec::new(alloc),
@@ -207,7 +207,7 @@ impl Layout {
             numbers: BTreeMap::new(alloc),
             lasts: Vec::new(alloc),
         };
-        'lines: for place in 0..lines.len() {
+        for place in 0..lines.len() {
             let line = &lines[place];
             let client = layout.client_of(&mut clients, line.client, place)?;
             layout.add(line, client, lines.len())?;
@@ -234,7 +234,12 @@ impl Layout {
     }
 
     /// Adds a call whose client has no known next call.
-    fn add(&mut self, line: &Line<Asked>, client: usize, count: usize) -> Result<(), AllocError> {
+    fn add(
+        &mut self,
+        line: &Line<ValidTask>,
+        client: usize,
+        count: usize,
+    ) -> Result<(), AllocError> {
         let from = self.keys.len();
         add_keys(line.op.task(), &mut self.keys)?;
         if line.reply.is_some() {
@@ -284,7 +289,7 @@ impl Layout {
             return false;
         }
         let keys = self.keys.as_slice();
-        'keys: for number in a.from..a.to {
+        for number in a.from..a.to {
             if number < keys.len() && is_among(keys, b.from, b.to, keys[number]) {
                 return true;
             }

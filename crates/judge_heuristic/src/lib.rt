@@ -2,17 +2,17 @@
 //! its caller checks the order that it proposes.
 #![tactic(auto)]
 
+mod backtrack;
 mod beam;
+mod choice_points;
 mod choices;
 mod configuration;
-mod doubts;
+mod counts;
 mod layout;
-mod offers;
 mod quick;
-mod retreat;
+mod saved_states;
 mod search;
-mod tally;
+mod successors;
 mod trail;
-mod versions;
 
 pub use quick::find_quickly;

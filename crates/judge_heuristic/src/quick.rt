@@ -20,16 +20,16 @@ use crate::beam::find_by_beam;
 use crate::layout::Layout;
 use crate::search::{Quick, QuickSearch};
 use judge_object::{Line, Object, Watcher};
-use judge_reservations::Asked;
+use judge_reservations::ValidTask;
 use std::alloc::{AllocError, Global};
 use vac_model::Reply;
 
-impl<M: Object<Op = Asked, Reply = Reply> + Drop> QuickSearch<M> {
+impl<M: Object<Op = ValidTask, Reply = Reply> + Drop> QuickSearch<M> {
     /// Makes one step of the search.
     fn step(
         &mut self,
         alloc: Global,
-        lines: &[Line<Asked>],
+        lines: &[Line<ValidTask>],
         layout: &Layout,
     ) -> Result<Quick, AllocError> {
         match self.choose(alloc, lines, layout)? {
@@ -44,9 +44,9 @@ impl<M: Object<Op = Asked, Reply = Reply> + Drop> QuickSearch<M> {
 /// first. Each search makes at most `steps` steps. If no call is completed, nothing is searched.
 ///
 /// Not said: anything of the order that is found, or that an order is found.
-pub fn find_quickly<M: Object<Op = Asked, Reply = Reply> + Drop, P: Watcher>(
+pub fn find_quickly<M: Object<Op = ValidTask, Reply = Reply> + Drop, P: Watcher>(
     alloc: Global,
-    lines: &[Line<Asked>],
+    lines: &[Line<ValidTask>],
     machine: M,
     steps: u64,
     watcher: &mut P,
@@ -61,7 +61,7 @@ pub fn find_quickly<M: Object<Op = Asked, Reply = Reply> + Drop, P: Watcher>(
         return Ok(Some(places));
     }
     let mut search = QuickSearch::new(alloc, machine, &layout)?;
-    'steps: for made in 0..steps {
+    for made in 0..steps {
         watcher.tell(search.trail.placed, made);
         match search.step(alloc, lines, &layout)? {
             Quick::On => {}

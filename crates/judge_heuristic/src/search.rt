@@ -2,13 +2,13 @@
 
 ghost use Rattle.std.specs.Prelude.{◌<◌, length, IfOk, IfSome};
 
-use crate::doubts::{Doubt, Doubts, Pair};
+use crate::choice_points::{ChoicePoint, ChoicePoints, Pair};
+use crate::counts::SearchCounts;
 use crate::layout::Layout;
-use crate::tally::Tally;
+use crate::saved_states::{SavedState, SavedStates};
 use crate::trail::{Tail, Trail};
-use crate::versions::{Version, Versions};
 use judge_object::{Line, Object};
-use judge_reservations::Asked;
+use judge_reservations::ValidTask;
 use std::alloc::{AllocError, Global};
 use vac_lines::is_right;
 use vac_model::Reply;
@@ -19,8 +19,8 @@ use vac_model::Reply;
 pub(crate) struct Cut<M> {
     pub(crate) at: usize,
     pub(crate) tail: Tail,
-    pub(crate) doubts: Vec<Doubt>,
-    pub(crate) versions: Vec<Version<M>>,
+    pub(crate) choice_points: Vec<ChoicePoint>,
+    pub(crate) saved_states: Vec<SavedState<M>>,
     pub(crate) machine: Option<M>,
 }
 
@@ -30,17 +30,17 @@ pub(crate) struct QuickSearch<M> {
     /// The state after the calls of the trail; `None` while it changes.
     pub(crate) machine: Option<M>,
     /// Kept states of earlier points of the search.
-    pub(crate) versions: Versions<M>,
+    pub(crate) saved_states: SavedStates<M>,
     /// The calls made so far.
     pub(crate) trail: Trail,
     /// The planned calls, the next one last.
     pub(crate) plan: Vec<usize>,
     /// The choice points that may have been decided wrongly.
-    pub(crate) doubts: Doubts,
+    pub(crate) choice_points: ChoicePoints,
     /// The cut part that is put back if a try does not help.
     pub(crate) cut: Option<Cut<M>>,
     /// Counts and random numbers of the search.
-    pub(crate) tally: Tally,
+    pub(crate) counts: SearchCounts,
     /// Buffer for the text of the last compared reply.
     pub(crate) text: Vec<u8>,
 }
@@ -55,9 +55,9 @@ pub(crate) enum Quick {
 
 /// Runs the call at a position, if there is one, and returns the next state and the reply. The
 /// given state is used up.
-pub(crate) fn made_at<M: Object<Op = Asked, Reply = Reply> + Drop>(
+pub(crate) fn made_at<M: Object<Op = ValidTask, Reply = Reply> + Drop>(
     machine: M,
-    lines: &[Line<Asked>],
+    lines: &[Line<ValidTask>],
     place: usize,
 ) -> Result<Option<(M, Reply)>, AllocError>
     ensures { IfOk result (λ made. IfSome made (λ _. place < length lines.now)) }
@@ -70,10 +70,10 @@ pub(crate) fn made_at<M: Object<Op = Asked, Reply = Reply> + Drop>(
 
 /// Runs a call, and returns the next state if the call gives its reply. The given state is used
 /// up, and the buffer is overwritten with the text of the reply.
-pub(crate) fn led_from<M: Object<Op = Asked, Reply = Reply> + Drop>(
+pub(crate) fn led_from<M: Object<Op = ValidTask, Reply = Reply> + Drop>(
     text: &mut Vec<u8>,
     machine: M,
-    lines: &[Line<Asked>],
+    lines: &[Line<ValidTask>],
     place: usize,
 ) -> Result<Option<M>, AllocError> {
     let Some((next, reply)) = made_at(machine, lines, place)? else {
@@ -87,10 +87,10 @@ pub(crate) fn led_from<M: Object<Op = Asked, Reply = Reply> + Drop>(
 }
 
 /// Runs a call on a copy of the state, and returns the next state if the call gives its reply.
-pub(crate) fn led_to<M: Object<Op = Asked, Reply = Reply> + Drop>(
+pub(crate) fn led_to<M: Object<Op = ValidTask, Reply = Reply> + Drop>(
     text: &mut Vec<u8>,
     machine: Option<&M>,
-    lines: &[Line<Asked>],
+    lines: &[Line<ValidTask>],
     place: usize,
 ) -> Result<Option<M>, AllocError> {
     match machine {
@@ -99,7 +99,7 @@ pub(crate) fn led_to<M: Object<Op = Asked, Reply = Reply> + Drop>(
     }
 }
 
-impl<M: Object<Op = Asked, Reply = Reply> + Drop> QuickSearch<M> {
+impl<M: Object<Op = ValidTask, Reply = Reply> + Drop> QuickSearch<M> {
     /// Creates a search at its beginning.
     pub(crate) fn new(
         alloc: Global,
@@ -108,25 +108,30 @@ impl<M: Object<Op = Asked, Reply = Reply> + Drop> QuickSearch<M> {
     ) -> Result<QuickSearch<M>, AllocError> {
         Ok(QuickSearch {
             machine: Some(machine),
-            versions: Versions::new(alloc),
+            saved_states: SavedStates::new(alloc),
             trail: Trail::new(alloc, layout)?,
             plan: Vec::new(alloc),
-            doubts: Doubts::new(alloc),
+            choice_points: ChoicePoints::new(alloc),
             cut: None,
-            tally: Tally::new(layout.answered),
+            counts: SearchCounts::new(layout.answered),
             text: Vec::new(alloc),
         })
     }
 
     /// Records a choice between two calls.
-    pub(crate) fn doubt(&mut self, taken: usize, other: usize) -> Result<(), AllocError> {
-        self.doubts.add(self.trail.len(), Pair { taken, other })
+    pub(crate) fn add_choice_point(
+        &mut self,
+        taken: usize,
+        other: usize,
+    ) -> Result<(), AllocError> {
+        self.choice_points
+            .add(self.trail.len(), Pair { taken, other })
     }
 
     /// Keeps the current state, if the next one is due.
     fn keep(&mut self) -> Result<(), AllocError> {
         match &self.machine {
-            Some(machine) => self.versions.keep(self.trail.len(), machine),
+            Some(machine) => self.saved_states.keep(self.trail.len(), machine),
             None => Ok(()),
         }
     }
@@ -134,27 +139,29 @@ impl<M: Object<Op = Asked, Reply = Reply> + Drop> QuickSearch<M> {
     /// Forgets the states to which the search cannot go back.
     fn forget(&mut self) {
         let mut needed = self.trail.settle();
-        if let Some(first) = self.doubts.first() {
+        if let Some(first) = self.choice_points.first() {
             needed = needed.min(first);
         }
         if let Some(cut) = &self.cut {
             needed = needed.min(cut.at).min(cut.tail.settled);
         }
-        self.versions.forget(needed);
+        self.saved_states.forget(needed);
     }
 
     /// Rebuilds the state after all calls of the trail: runs the calls again from the last kept
     /// state.
-    pub(crate) fn make_again(&mut self, lines: &[Line<Asked>]) -> Result<(), AllocError> {
+    pub(crate) fn make_again(&mut self, lines: &[Line<ValidTask>]) -> Result<(), AllocError> {
         self.machine = None;
-        self.machine = self.versions.made_again(lines, self.trail.path.as_slice())?;
+        self.machine = self
+            .saved_states
+            .made_again(lines, self.trail.path.as_slice())?;
         Ok(())
     }
 
     /// Makes the call at a position, if the call gives its reply. Returns whether it does.
     pub(crate) fn attempt(
         &mut self,
-        lines: &[Line<Asked>],
+        lines: &[Line<ValidTask>],
         place: usize,
     ) -> Result<bool, AllocError> {
         self.keep()?;
@@ -179,14 +186,14 @@ impl<M: Object<Op = Asked, Reply = Reply> + Drop> QuickSearch<M> {
     /// Appends the call at a position, which the current state includes, to the trail.
     pub(crate) fn go_on(
         &mut self,
-        lines: &[Line<Asked>],
+        lines: &[Line<ValidTask>],
         layout: &Layout,
         place: usize,
     ) -> Result<Quick, AllocError> {
         self.trail.go_on(lines, layout, place)?;
         self.forget();
-        if self.tally.rises_to(self.trail.placed) {
-            self.doubts.leave();
+        if self.counts.rises_to(self.trail.placed) {
+            self.choice_points.leave();
             self.cut = None;
         }
         if self.trail.placed == layout.answered {

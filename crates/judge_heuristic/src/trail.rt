@@ -2,7 +2,7 @@
 
 use crate::layout::Layout;
 use judge_object::Line;
-use judge_reservations::Asked;
+use judge_reservations::ValidTask;
 use std::alloc::{AllocError, Global};
 
 /// Largest number of calls that the search takes back one by one.
@@ -47,7 +47,7 @@ pub(crate) struct Trail {
 }
 
 /// Returns whether the call at a position is completed.
-pub(crate) fn is_answered(lines: &[Line<Asked>], place: usize) -> bool {
+pub(crate) fn is_answered(lines: &[Line<ValidTask>], place: usize) -> bool {
     place < lines.len() && lines[place].reply.is_some()
 }
 
@@ -55,7 +55,7 @@ impl Tail {
     /// Returns the positions of the calls, the earliest last.
     pub(crate) fn places(&self, alloc: Global) -> Result<Vec<usize>, AllocError> {
         let mut places = Vec::new(alloc);
-        'turns: for number in 0..self.turns.len() {
+        for number in 0..self.turns.len() {
             places.push(self.turns[number].place)?;
         }
         Ok(places)
@@ -102,7 +102,7 @@ impl Trail {
     }
 
     /// Returns whether the call at a position, which is its client's next one, may come next.
-    pub(crate) fn is_open(&self, lines: &[Line<Asked>], place: usize) -> bool {
+    pub(crate) fn is_open(&self, lines: &[Line<ValidTask>], place: usize) -> bool {
         place < lines.len()
             && self.low < lines.len()
             && u128::from(lines[place].begin) <= lines[self.low].end
@@ -114,8 +114,8 @@ impl Trail {
     }
 
     /// Finds the first position whose call is not placed.
-    fn find_low(&mut self, lines: &[Line<Asked>], layout: &Layout) {
-        'places: for place in self.low..lines.len() {
+    fn find_low(&mut self, lines: &[Line<ValidTask>], layout: &Layout) {
+        for place in self.low..lines.len() {
             self.low = place;
             if !self.is_made(layout, place) {
                 return;
@@ -127,7 +127,7 @@ impl Trail {
     /// Appends a call to the trail.
     fn add(
         &mut self,
-        lines: &[Line<Asked>],
+        lines: &[Line<ValidTask>],
         layout: &Layout,
         turn: Turn,
     ) -> Result<(), AllocError> {
@@ -141,7 +141,7 @@ impl Trail {
     }
 
     /// Takes back the last call.
-    fn take(&mut self, lines: &[Line<Asked>], layout: &Layout) -> Option<Turn> {
+    fn take(&mut self, lines: &[Line<ValidTask>], layout: &Layout) -> Option<Turn> {
         let turn = self.path.pop()?;
         self.low = turn.low;
         self.is_full = turn.is_full;
@@ -155,7 +155,7 @@ impl Trail {
     /// Appends the call at a position to the trail.
     pub(crate) fn go_on(
         &mut self,
-        lines: &[Line<Asked>],
+        lines: &[Line<ValidTask>],
         layout: &Layout,
         place: usize,
     ) -> Result<(), AllocError> {
@@ -172,7 +172,7 @@ impl Trail {
     }
 
     /// Takes back the last call, unless the call is settled. Returns the number of calls left.
-    pub(crate) fn go_back(&mut self, lines: &[Line<Asked>], layout: &Layout) -> Option<usize> {
+    pub(crate) fn go_back(&mut self, lines: &[Line<ValidTask>], layout: &Layout) -> Option<usize> {
         if self.path.len() <= self.settled {
             return None;
         }
@@ -196,13 +196,13 @@ impl Trail {
     pub(crate) fn cut_to(
         &mut self,
         alloc: Global,
-        lines: &[Line<Asked>],
+        lines: &[Line<ValidTask>],
         layout: &Layout,
         at: usize,
     ) -> Result<Tail, AllocError> {
         let (low, is_full) = (self.low, self.is_full);
         let mut turns = Vec::new(alloc);
-        'back: for _ in at..self.path.len() {
+        for _ in at..self.path.len() {
             match self.take(lines, layout) {
                 Some(turn) => turns.push(turn)?,
                 None => break,
@@ -219,7 +219,7 @@ impl Trail {
     /// Puts back the calls that were taken back.
     pub(crate) fn put_back(
         &mut self,
-        lines: &[Line<Asked>],
+        lines: &[Line<ValidTask>],
         layout: &Layout,
         tail: Tail,
     ) -> Result<(), AllocError> {
@@ -229,7 +229,7 @@ impl Trail {
             is_full,
             settled,
         } = tail;
-        'turns: for _ in 0..turns.len() {
+        for _ in 0..turns.len() {
             if let Some(turn) = turns.pop() {
                 self.add(lines, layout, turn)?;
             }
@@ -243,7 +243,7 @@ impl Trail {
     /// Returns the positions of the calls that were made.
     pub(crate) fn places(&self, alloc: Global) -> Result<Vec<usize>, AllocError> {
         let mut places = Vec::new(alloc);
-        'path: for number in 0..self.path.len() {
+        for number in 0..self.path.len() {
             places.push(self.path[number].place)?;
         }
         Ok(places)
@@ -256,13 +256,13 @@ impl Trail {
     pub(crate) fn rivals(
         &self,
         alloc: Global,
-        lines: &[Line<Asked>],
+        lines: &[Line<ValidTask>],
         layout: &Layout,
     ) -> Result<Vec<usize>, AllocError> {
         let low = self.low;
         let is_tight = self.is_full && layout.spot(low).is_freeing;
         let mut rivals = Vec::new(alloc);
-        'clients: for client in 0..self.heads.len() {
+        for client in 0..self.heads.len() {
             let place = self.heads[client];
             if place == low || !self.is_open(lines, place) {
                 continue;
@@ -278,13 +278,13 @@ impl Trail {
     /// next calls of clients.
     pub(crate) fn met(&self, alloc: Global, layout: &Layout) -> Result<Vec<usize>, AllocError> {
         let mut met = Vec::new(alloc);
-        'path: for number in self.path.len().saturating_sub(NEAR)..self.path.len() {
+        for number in self.path.len().saturating_sub(NEAR)..self.path.len() {
             let place = self.path[number].place;
             if layout.meets(place, self.low) {
                 met.push(place)?;
             }
         }
-        'clients: for client in 0..self.heads.len() {
+        for client in 0..self.heads.len() {
             let place = self.heads[client];
             if place != self.low && layout.meets(place, self.low) {
                 met.push(place)?;

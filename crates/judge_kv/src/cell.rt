@@ -10,8 +10,8 @@ ghost use Rattle.judge_kv.specs.Rules.{cell, held_after, has, extended, increase
 use crate::answer::Answer;
 use crate::command::{Change, Command, Operation};
 use crate::value::Value;
-use judge_many::Named;
-use judge_object::Object;
+use judge_many::{Named, Names};
+use judge_object::{Line, Object};
 use std::alloc::{AllocError, Global};
 use std::marker::Model;
 use std::rc::Rc;
@@ -286,9 +286,17 @@ impl Object for Cell {
 }
 
 impl Named for Cell {
+    ghost use Rattle.judge_many.specs.Naming.{AreOwn};
+
     ghost name = { λ op. op.key };
+
+    ghost naming = { λ calls objects. AreOwn objects };
 
     fn name(op: &Operation) -> &[u8] {
         op.key()
+    }
+
+    fn names(_alloc: Global, _lines: &[Line<Operation>]) -> Result<Names, AllocError> {
+        Ok(Names::Alone)
     }
 }

@@ -12,6 +12,6 @@ mod words;
 pub use answer::Answer;
 pub use cell::Cell;
 pub use command::{Change, Command, Operation};
-pub use starting::{Beginnings, FirstValues, StartFault, read_first_values};
+pub use starting::{FirstValues, StartFault, StartValues, read_first_values};
 pub use value::Value;
 pub use words::read_held;

@@ -41,7 +41,7 @@ impl StartFault {
 }
 
 /// A place for the values that keys have at first.
-pub trait Beginnings: Drop {
+pub trait StartValues: Drop {
     /// The value that each key has, or none.
     ghost held: { Self → List ℕ → Held };
 
@@ -56,7 +56,7 @@ pub trait Beginnings: Drop {
 }
 
 /// The keys by themselves, each of which begins in a state of its own.
-impl Beginnings for Starts<Cell> {
+impl StartValues for Starts<Cell> {
     ghost held = { λ starts. start_of starts };
 
     fn has_value(&self, key: &[u8]) -> Result<bool, AllocError> {
@@ -116,7 +116,7 @@ fn read_words(
 }
 
 /// Reads the key and the value of a line, where keys have these values by the lines before.
-fn read_line<F: Beginnings>(
+fn read_line<F: StartValues>(
     alloc: Global,
     firsts: &F,
     line: &[u8],
@@ -150,7 +150,7 @@ fn first_line(text: &[u8]) -> (&[u8], &[u8])
 
 /// Reads a text as the first values of keys: a line `KEY VALUE` for each key that has one. They go
 /// into a place in which no key has a value.
-pub fn read_first_values<F: Beginnings>(
+pub fn read_first_values<F: StartValues>(
     alloc: Global,
     empty: F,
     text: &[u8],

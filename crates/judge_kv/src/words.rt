@@ -13,7 +13,7 @@ use crate::answer::Answer;
 use crate::cell::Cell;
 use crate::command::{Change, Command, Operation};
 use crate::value::Value;
-use judge_text::{Worded, read_quoted};
+use judge_text::{TextObject, read_quoted};
 use std::alloc::{AllocError, Global};
 use std::rc::Rc;
 use vac_lines::read_memory_word;
@@ -203,7 +203,7 @@ fn read_command(alloc: Global, name: &[u8], words: &[&[u8]]) -> Result<Option<Co
     }
 }
 
-impl Worded for Cell {
+impl TextObject for Cell {
     ghost use Rattle.judge_kv.specs.Words.{store_language};
 
     ghost language = { store_language };

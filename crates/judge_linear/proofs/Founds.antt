@@ -1,5 +1,5 @@
 -- What is found of the calls as they are kept is found of a text.
-use Rattle.std.proofs.Common.{◌≡◌, ℕ, ◌-◌, ◌<◌, ◌≤◌, ◌==◌, suc, zero, Bool, true, false, cond, List, [], ◌∷◌, ◌++◌}
+use Rattle.std.proofs.Common.{◌≡◌, ℕ, ◌+◌, ◌-◌, ◌<◌, ◌≤◌, ◌==◌, suc, zero, Bool, true, false, cond, List, [], ◌∷◌, ◌++◌}
 use Rattle.std.proofs.Common.{length, map, get_or, Option, Some, None, inl, inr, refl, sym, ap, ◌∙◌, subst}
 use Rattle.std.proofs.Common.{arith}
 use Rattle.std.specs.Prelude.{All, IfSome, ◌⊎◌}
@@ -29,7 +29,7 @@ use Rattle.judge_search.specs.Stuck.{AreStuck}
 use Rattle.judge_search.specs.Judging.{calls_at, IsLinearizedBy, HasNoOrder}
 use Rattle.judge_linear.specs.Reading.{first_wrong, texts_of, numbers_of, call_at, IsLineAt, AreKeptLines, ReadWhole}
 use Rattle.judge_linear.specs.Reading.{ReadWrong}
-use Rattle.judge_linear.specs.Found.{Wrong, NoOrder, Order, IllegalPart, Undecided, calls_numbered}
+use Rattle.judge_linear.specs.Found.{Wrong, NoOrder, Order, IllegalPart, Undecided, calls_numbered, relaxed_numbered}
 use Rattle.judge_linear.specs.Found.{part_text}
 use Rattle.judge_linear.specs.Judged.{HasNoOrderOf}
 use Rattle.judge_linear.specs.declared.part.IllegalPart as declared
@@ -39,7 +39,14 @@ use Rattle.judge_part.specs.Lines.{has_part}
 use Rattle.judge_object.specs.Orders.{IsLinearizable}
 use Rattle.vac_model.specs.declared.limits.TheConstants.{MOST_BLOCKS}
 use Rattle.std.specs.List.{list_all}
-use Rattle.judge_linear.specs.Found.{AreKeptInOrder, RunsWithin, TextRunsWithin}
+use Rattle.judge_linear.specs.Found.{AreKeptInOrder, ArePartsAt, RunsBefore, RunsWithin, TextRunsWithin}
+use Rattle.judge_linear.specs.Judged.{IsReadAt}
+use Rattle.judge_levels.specs.declared.level.Level.{Level}
+use Rattle.judge_levels.specs.declared.level.Level.TheVariants as level
+use Rattle.judge_levels.specs.Levels.{keeps_all_of}
+use Rattle.judge_levels.specs.Relaxed.{untimed, alone, relax}
+use Rattle.judge_levels.proofs.Levels.{at_is_relaxed}
+use Rattle.judge_object.specs.Call as object
 use Rattle.judge_linear.specs.Found.{told_by, line_at, order_text, placed_text, none_text, open_text}
 use Rattle.judge_linear.specs.Ordering.{FindsText, HasText}
 use Rattle.judge_search.proofs.Placing.{times}
@@ -227,80 +234,113 @@ numbers_distinct ns (p ∷ ps) d e h x =
         let zero : cond {A = ℕ} (get_or ns p 0 == x) 1 0 ≡ 0 = ap (λ (b : Bool). cond {A = ℕ} b 1 0) f in
         let whole = times_cons x (get_or ns p 0) (numbers_at ns ps) in omega arith
 
--- what is found of the lines as they are kept
-module _ (lines kept : List (Line Task)) (k : AreKeptLines lines kept) (bytes : List ℕ)
-    (texts : texts_of lines ≡ lines_of bytes) (listed : Lists bytes (calls_of lines))
-    (right : first_wrong bytes ≡ None) where
-  long : length (calls_of lines) ≡ length lines
-  long = length-map lines call_of
+length_alone : {O : Type 0} (n : ℕ) (cs : List (object.Call O)) → length (alone n cs) ≡ length cs
+length_alone n [] = refl
+length_alone n (c ∷ cs) = ap suc (length_alone (n + 1) cs)
 
-  kept_are : AreKeptInOrder bytes (calls_of lines) (numbers_of kept)
+length_relaxed : {O : Type 0} (want : Level) (cs : List (object.Call O)) → length (relax want cs) ≡ length cs
+length_relaxed level.Linearizable cs = refl
+length_relaxed level.Sequential cs = length-map cs untimed
+length_relaxed level.Serializable cs = length_alone 1 cs
+
+keeps_itself : (want : Level) → keeps_all_of want want ≡ true
+keeps_itself level.Linearizable = refl
+keeps_itself level.Sequential = refl
+keeps_itself level.Serializable = refl
+
+-- what is found of the lines as they are kept
+module _ (want : Level) (lines kept : List (Line Task)) (k : AreKeptLines lines kept) (bytes : List ℕ)
+    (read : IsReadAt want bytes lines) where
+  long : length read.calls ≡ length lines
+  long = sym (length_relaxed want read.calls) ∙ sym (ap (λ (cs : List (object.Call Task)). length cs) read.are)
+      ∙ length-map lines call_of
+
+  pub kept_same : calls_of kept ≡ relaxed_numbered want read.calls (numbers_of kept)
+  kept_same = kept_calls lines kept k.each ∙ ap (λ cs. calls_numbered cs (numbers_of kept)) read.are
+
+  kept_merges : IsMerge (relax want read.calls) (calls_of kept)
+  kept_merges = subst (λ cs. IsMerge cs (calls_of kept)) read.are k.merges
+
+  pub kept_are : AreKeptInOrder want bytes read.calls (numbers_of kept)
   kept_are = record {
-    listed = listed;
-    right = right;
+    listed = read.listed;
+    right = read.right;
+    last = read.last;
     numbers_are = record {
       distinct = k.distinct;
       first = numbers_first lines kept k.each;
       last = subst (λ m. All (λ n. n ≤ m) (numbers_of kept)) (sym long) (numbers_last lines kept k.each);
     };
-    merges = subst (IsMerge (calls_of lines)) (kept_calls lines kept k.each) k.merges;
+    merges = subst (IsMerge (relax want read.calls)) kept_same kept_merges;
   }
 
-  takes : (n steps : ℕ) → RunsWithin (empty_state n) (calls_of kept) steps → TextRunsWithin n bytes steps
-  takes n steps r = record {
-    calls = calls_of lines;
+  pub takes : (n given left steps : ℕ) → given + left ≤ steps → RunsBefore want n bytes read.calls given →
+      RunsWithin (empty_state n) (calls_of kept) left → TextRunsWithin want n bytes steps
+  takes n given left steps l before r = record {
+    calls = read.calls;
     numbers = numbers_of kept;
-    kept = kept_are;
-    runs = subst (λ cs. RunsWithin (empty_state n) cs steps) (kept_calls lines kept k.each) r;
+    are_kept = kept_are;
+    given = given;
+    left = left;
+    together = l;
+    before = before;
+    runs = subst (λ cs. RunsWithin (empty_state n) cs left) kept_same r;
   }
 
-  pub finds_order : (n steps : ℕ) (places : List ℕ) (text : List ℕ) →
-      RunsWithin (empty_state n) (calls_of kept) steps →
+  pub finds_order : (n given left : ℕ) (places : List ℕ) (text : List ℕ) → RunsBefore want n bytes read.calls given →
+      RunsWithin (empty_state n) (calls_of kept) left →
       IsLinearizedBy reserving (empty_state n) (calls_of kept) places →
       text ≡ placed_text (texts_of kept) places
-      → FindsText n steps bytes outcome.Ordered text
-  finds_order n steps places text r h e =
+      → FindsText want n (given + left) bytes outcome.Ordered text
+  finds_order n given left places text before r h e =
       let within : All (λ p. p < length kept) places = subst (λ m. All (λ p. p < m) places)
       (length-map kept call_of) h.within in
       let numbers = numbers_at (numbers_of kept) places in
       let inside : All (λ p. p < length (numbers_of kept)) places =
       subst (λ m. All (λ p. p < m) places) (sym (length-map kept (λ (l : Line Task). l.number))) within in
-      let calls : calls_at reserving (calls_of kept) places ≡ calls_numbered (calls_of lines) numbers =
-      order_calls lines kept k.each places within in
+      let calls : calls_at reserving (calls_of kept) places ≡ relaxed_numbered want read.calls numbers =
+      order_calls lines kept k.each places within ∙ ap (λ cs. calls_numbered cs numbers) read.are in
       record {
         found = Order numbers;
         is = record {
-          calls = calls_of lines;
-          listed = listed;
-          right = right;
-          numbers_are = record {
-            distinct = numbers_distinct (numbers_of kept) places k.distinct h.distinct inside;
-            first = order_first lines kept k.each places within;
-            last = subst (λ m. All (λ n. n ≤ m) numbers) (sym long) (order_last lines kept k.each places within);
+          shown = want;
+          keeps = keeps_itself want;
+          ordered = record {
+            calls = read.calls;
+            listed = read.listed;
+            right = read.right;
+            numbers_are = record {
+              distinct = numbers_distinct (numbers_of kept) places k.distinct h.distinct inside;
+              first = order_first lines kept k.each places within;
+              last = subst (λ m. All (λ n. n ≤ m) numbers) (sym long) (order_last lines kept k.each places within);
+            };
+            orders = subst (IsOrderOf (relax want read.calls)) calls (order_given reserving (relax want read.calls)
+                (calls_of kept) (calls_at reserving (calls_of kept) places) kept_merges h.orders);
+            linearization = subst (IsLinearization n) calls h.linearization;
           };
-          orders = subst (IsOrderOf (calls_of lines)) calls (order_given reserving (calls_of lines) (calls_of kept)
-              (calls_at reserving (calls_of kept) places) k.merges h.orders);
-          linearization = subst (IsLinearization n) calls h.linearization;
         };
-        takes = takes n steps r;
+        takes = takes n given left (given + left) (omega arith) before r;
         answered = refl;
-        text_is = e ∙ order_lines lines kept k.each bytes places texts within;
+        text_is = e ∙ order_lines lines kept k.each bytes places read.texts within;
       }
 
-  pub finds_none : (n steps most : ℕ) (made : ℕ → Bool) (s : State) (found : List (Stuck Reply)) (text : List ℕ)
-      → RunsWithin (empty_state n) (calls_of kept) steps → HasNoOrder reserving (empty_state n) (calls_of kept) most
+  pub finds_none : (n given left most : ℕ) (made : ℕ → Bool) (s : State) (found : List (Stuck Reply)) (text : List ℕ)
+      → RunsBefore want n bytes read.calls given → RunsWithin (empty_state n) (calls_of kept) left →
+      HasNoOrder reserving (empty_state n) (calls_of kept) most
       (record { rest = rest_of made 0 (calls_of kept); state = s }) →
       AreStuck reserving s made (calls_of kept) found
-      → text ≡ none_text most (told_by (numbers_of kept) found) → FindsText n steps bytes outcome.Illegal text
-  finds_none n steps most made s found text r h a e =
-      let same = kept_calls lines kept k.each in
+      → text ≡ none_text most (told_by (numbers_of kept) found) →
+      FindsText want n (given + left) bytes outcome.Illegal text
+  finds_none n given left most made s found text before r h a e =
+      let same = kept_same in
       record {
         found = NoOrder most (told_by (numbers_of kept) found);
         is = record {
-          calls = calls_of lines;
+          calls = read.calls;
           numbers = numbers_of kept;
-          kept = kept_are;
-          none = none_given reserving (empty_state n) (calls_of lines) (calls_of kept) k.merges h.none;
+          are_kept = kept_are;
+          none = λ at. none_given reserving (empty_state n) (relax want read.calls) (calls_of kept) kept_merges h.none
+              (at_is_relaxed reserving want (empty_state n) read.calls read.last at);
           made = made;
           state = s;
           deepest = subst (λ cs. Deepest reserving (start (empty_state n) cs) most
@@ -311,16 +351,18 @@ module _ (lines kept : List (Line Task)) (k : AreKeptLines lines kept) (bytes : 
           are = subst (λ cs. AreStuck reserving s made cs found) same a;
           told = refl;
         };
-        takes = takes n steps r;
+        takes = takes n given left (given + left) (omega arith) before r;
         answered = refl;
         text_is = e;
       }
 
-  pub finds_part : (n steps : ℕ) (part : declared.IllegalPart) (text : List ℕ) → n ≤ MOST_BLOCKS →
-      HasNoOrderOf kept part → text ≡ part_text part.scope.customers.items part.scope.items.items
-      (told_by (numbers_of part.calls.lines.items) part.stuck.items) → FindsText n steps bytes outcome.Illegal text
-  finds_part n steps part text few h e =
-      let same = kept_calls lines kept k.each in
+  pub finds_part : (n given left : ℕ) (part : declared.IllegalPart) (text : List ℕ) → n ≤ MOST_BLOCKS →
+      RunsBefore want n bytes read.calls given → HasNoOrderOf kept part →
+      text ≡ part_text part.scope.customers.items part.scope.items.items
+      (told_by (numbers_of part.calls.lines.items) part.stuck.items) →
+      FindsText want n (given + left) bytes outcome.Illegal text
+  finds_part n given left part text few before h e =
+      let same = kept_same in
       let scope = part.scope in
       let sorted = part.calls.lines.items in
       let tell : Stuck Reply → ℕ × Reply = λ one. (get_or (numbers_of sorted) one.place 0, one.expected) in
@@ -328,9 +370,9 @@ module _ (lines kept : List (Line Task)) (k : AreKeptLines lines kept) (bytes : 
         found = IllegalPart scope.customers.items scope.items.items (told_by (numbers_of sorted) part.stuck.items);
         is = record {
           blocks = few;
-          calls = calls_of lines;
+          calls = read.calls;
           numbers = numbers_of kept;
-          kept = kept_are;
+          are_kept = kept_are;
           scope = scope;
           is_scope = record {
             customers_are = refl;
@@ -342,7 +384,8 @@ module _ (lines kept : List (Line Task)) (k : AreKeptLines lines kept) (bytes : 
           parts = calls_of sorted;
           part_numbers = numbers_of sorted;
           merges = subst (λ cs. IsMerge (part_of_history scope cs) (calls_of sorted)) same h.merges;
-          are_parts = parts_at scope lines kept h.from sorted k.each h.numbers h.sorted;
+          are_parts = subst (λ cs. ArePartsAt scope cs (numbers_of sorted) (calls_of sorted)) read.are
+              (parts_at scope lines kept h.from sorted k.each h.numbers h.sorted);
           most = h.most;
           made = h.made;
           state = h.state;
@@ -353,80 +396,85 @@ module _ (lines kept : List (Line Task)) (k : AreKeptLines lines kept) (bytes : 
           told = refl;
           some = subst (λ m. 1 ≤ m) (sym (length-map part.stuck.items tell)) h.some;
         };
-        takes = takes n steps (record { made = 0; within = omega arith; run = tt });
+        takes = takes n given left (given + left) (omega arith) before
+            (record { made = 0; within = omega arith; run = tt });
         answered = refl;
         text_is = e;
       }
 
-  pub finds_nothing : (n steps most : ℕ) (text : List ℕ) → RunsWithin (empty_state n) (calls_of kept) steps →
-      IsUndecided reserving (start (empty_state n) (calls_of kept)) steps most →
-      text ≡ open_text most → FindsText n steps bytes outcome.Undecided text
-  finds_nothing n steps most text r h e = record {
+  pub finds_nothing : (n given left most : ℕ) (text : List ℕ) → RunsBefore want n bytes read.calls given →
+      RunsWithin (empty_state n) (calls_of kept) left →
+      IsUndecided reserving (start (empty_state n) (calls_of kept)) left most →
+      text ≡ open_text most → FindsText want n (given + left) bytes outcome.Undecided text
+  finds_nothing n given left most text before r h e = record {
     found = Undecided most;
     is = record {
-      calls = calls_of lines;
+      calls = read.calls;
       numbers = numbers_of kept;
-      kept = kept_are;
-      undecided = subst (λ cs. IsUndecided reserving (start (empty_state n) cs) steps most)
-          (kept_calls lines kept k.each) h;
+      are_kept = kept_are;
+      given = given;
+      left = left;
+      together = refl;
+      before = before;
+      undecided = subst (λ cs. IsUndecided reserving (start (empty_state n) cs) left most) kept_same h;
     };
-    takes = takes n steps r;
+    takes = takes n given left (given + left) (omega arith) before r;
     answered = refl;
     text_is = e;
   }
 
 -- what is found of a text that was read, whole or up to its first wrong line
-pub text_whole : (n steps : ℕ) (unread left : Option (List ℕ)) (history : History) (result : Outcome) (text : List ℕ) →
-    ReadWhole unread left history
+pub text_whole : (want : Level) (n steps : ℕ) (unread left : Option (List ℕ)) (history : History) (result : Outcome)
+    (text : List ℕ) → ReadWhole unread left history
     → ((bytes : List ℕ) → texts_of history.lines.items ≡ lines_of bytes → Lists bytes (calls_of history.lines.items) →
-    first_wrong bytes ≡ None → FindsText n steps bytes result text)
-    → HasText n steps unread left result text
-text_whole n steps unread left history result text r f =
+    first_wrong bytes ≡ None → FindsText want n steps bytes result text)
+    → HasText want n steps unread left result text
+text_whole want n steps unread left history result text r f =
     let found = f r.bytes r.texts r.listed r.right in
     record {
       bytes = r.bytes;
       consumed = r.consumed;
       of_read = inl (r.ended, found);
-      of_input = Consumes-whole unread left r.bytes (λ input. FindsText n steps input result text) r.consumed r.ended
-          found;
+      of_input = Consumes-whole unread left r.bytes (λ input. FindsText want n steps input result text) r.consumed
+          r.ended found;
     }
 
-wrong_text : (n steps : ℕ) (bytes : List ℕ) (verdict : Verdict) (text : List ℕ) → text ≡ verdict_text verdict →
-    first_wrong bytes ≡ Some verdict → FindsText n steps bytes outcome.Illegal text
-wrong_text n steps bytes verdict text e h =
+wrong_text : (want : Level) (n steps : ℕ) (bytes : List ℕ) (verdict : Verdict) (text : List ℕ) →
+    text ≡ verdict_text verdict → first_wrong bytes ≡ Some verdict → FindsText want n steps bytes outcome.Illegal text
+wrong_text want n steps bytes verdict text e h =
     record { found = Wrong verdict; is = h; takes = tt; answered = refl; text_is = e }
 
-of_whole : (n steps : ℕ) (unread left : Option (List ℕ)) (bytes : List ℕ) (result : Outcome) (text : List ℕ) →
-    Consumes unread left bytes
-    → ((x : List ℕ) → FindsText n steps (bytes ++ x) result text) →
-    IfSome unread (λ input. FindsText n steps input result text)
-of_whole n steps None left bytes result text c h = tt
-of_whole n steps (Some xs) None bytes result text c h = absurd c
-of_whole n steps (Some xs) (Some ys) bytes result text c h =
-    subst (λ input. FindsText n steps input result text) (sym c) (h ys)
+of_whole : (want : Level) (n steps : ℕ) (unread left : Option (List ℕ)) (bytes : List ℕ) (result : Outcome)
+    (text : List ℕ) → Consumes unread left bytes
+    → ((x : List ℕ) → FindsText want n steps (bytes ++ x) result text) →
+    IfSome unread (λ input. FindsText want n steps input result text)
+of_whole want n steps None left bytes result text c h = tt
+of_whole want n steps (Some xs) None bytes result text c h = absurd c
+of_whole want n steps (Some xs) (Some ys) bytes result text c h =
+    subst (λ input. FindsText want n steps input result text) (sym c) (h ys)
 
-pub text_wrong : (n steps : ℕ) (unread left : Option (List ℕ)) (verdict : Verdict) (text : List ℕ) →
+pub text_wrong : (want : Level) (n steps : ℕ) (unread left : Option (List ℕ)) (verdict : Verdict) (text : List ℕ) →
     ReadWrong unread left verdict → text ≡ verdict_text verdict
-    → HasText n steps unread left outcome.Illegal text
-text_wrong n steps unread left verdict text r e = go r.is
+    → HasText want n steps unread left outcome.Illegal text
+text_wrong want n steps unread left verdict text r e = go r.is
   where
     go : (IsAtEnd left × (first_wrong r.bytes ≡ Some verdict)) ⊎ ((x : List ℕ) →
-        first_wrong (r.bytes ++ x) ≡ Some verdict) → HasText n steps unread left outcome.Illegal text
+        first_wrong (r.bytes ++ x) ≡ Some verdict) → HasText want n steps unread left outcome.Illegal text
     go (inl h) =
-        let found = wrong_text n steps r.bytes verdict text e h.1 in
+        let found = wrong_text want n steps r.bytes verdict text e h.1 in
         record {
           bytes = r.bytes;
           consumed = r.consumed;
           of_read = inl (h.0, found);
-          of_input = Consumes-whole unread left r.bytes (λ input. FindsText n steps input outcome.Illegal text)
+          of_input = Consumes-whole unread left r.bytes (λ input. FindsText want n steps input outcome.Illegal text)
               r.consumed h.0 found;
         }
     go (inr h) =
-        let all : (x : List ℕ) → FindsText n steps (r.bytes ++ x) outcome.Illegal text =
-        λ x. wrong_text n steps (r.bytes ++ x) verdict text e (h x) in
+        let all : (x : List ℕ) → FindsText want n steps (r.bytes ++ x) outcome.Illegal text =
+        λ x. wrong_text want n steps (r.bytes ++ x) verdict text e (h x) in
         record {
           bytes = r.bytes;
           consumed = r.consumed;
           of_read = inr all;
-          of_input = of_whole n steps unread left r.bytes outcome.Illegal text r.consumed all;
+          of_input = of_whole want n steps unread left r.bytes outcome.Illegal text r.consumed all;
         }

@@ -52,7 +52,8 @@ each_read : (lines : List (Line Task)) → AreNumbered 1 lines → All (IsLineAt
 each_read lines h = lines_behind [] lines h
 
 -- the same where it says from when on it and those after it begin
-at_soonest : (lines sorted : List (Line Task)) → All (IsLineAt lines) sorted → All (IsLineAt lines) (soonest_of sorted)
+pub at_soonest : (lines sorted : List (Line Task)) → All (IsLineAt lines) sorted →
+    All (IsLineAt lines) (soonest_of sorted)
 at_soonest lines [] h = h
 at_soonest lines (l ∷ ls) h =
     let own = All-head (IsLineAt lines) l ls h in
@@ -64,7 +65,7 @@ at_soonest lines (l ∷ ls) h =
     })
     (at_soonest lines ls (All-tail (IsLineAt lines) l ls h))
 
-numbers_soonest : (lines : List (Line Task)) → numbers_of (soonest_of lines) ≡ numbers_of lines
+pub numbers_soonest : (lines : List (Line Task)) → numbers_of (soonest_of lines) ≡ numbers_of lines
 numbers_soonest [] = refl
 numbers_soonest (l ∷ ls) = ap (λ ns. l.number ∷ ns) (numbers_soonest ls)
 
@@ -95,7 +96,7 @@ numbers_once n (y ∷ ys) h x = go (y.number == x) refl (numbers_once (n + 1) ys
         let zero : cond {A = ℕ} (y.number == x) 1 0 ≡ 0 = ap (λ (b : Bool). cond {A = ℕ} b 1 0) e in
         let all = times_cons x y.number (numbers_of ys) in omega arith
 
-distinct_sorted : (ns ms : List ℕ) → IsPermutation ns ms → AreDistinct ns → AreDistinct ms
+pub distinct_sorted : (ns ms : List ℕ) → IsPermutation ns ms → AreDistinct ns → AreDistinct ms
 distinct_sorted ns ms p h x = subst (λ k. k ≤ 1) (sym (sum_by-IsPermutation (λ o. cond (o == x) 1 0) ns ms p)) (h x)
 
 -- lines that are sorted are kept

@@ -1,9 +1,12 @@
 pub mod Turns
 pub mod Telling
 pub mod Kept
+pub mod Freed
 pub mod PartCalls
 pub mod Founds
 pub mod Printing
 pub mod Lawful
 pub mod Written
 pub mod WrongLines
+pub mod Decided
+pub mod Below

@@ -8,13 +8,13 @@ use Rattle.vac_streams.specs.declared.fault.StreamFault.{StreamFault}
 use Rattle.vac_streams.specs.declared.next.Next.{Next}
 use Rattle.vac_streams.specs.declared.next.Next.TheVariants.{GoOn, Stop}
 use Rattle.vac_streams.specs.Told as told
-use Rattle.vac_streams.specs.Told.{Told, told_of, told_lines, lines_in}
-use Rattle.vac_streams.specs.Heard.{ToldAll, ToldLast, AreFirst, AreFirstOf, HeardAll, HeardLast, Heard}
+use Rattle.vac_streams.specs.Told.{Message, message_of, line_messages, lines_in}
+use Rattle.vac_streams.specs.Heard.{ReceivedAll, ReceivedLast, AreFirst, AreFirstOf, HeardAll, HeardLast, Heard}
 use Rattle.vac_streams.proofs.Telling.{lines_both}
 use Rattle.judge_calls.specs.declared.fault.CallFault.{CallFault}
 use Rattle.judge_calls.specs.declared.verdict.Verdict.{Verdict}
 use Rattle.judge_calls.specs.declared.verdict.Verdict.TheVariants.{Illegal}
-use Rattle.judge_calls.specs.declared.verdict.Wrong.TheVariants.{Client}
+use Rattle.judge_calls.specs.declared.verdict.CallViolation.TheVariants.{Client}
 use Rattle.judge_calls.specs.Call.{Call, line_call}
 use Rattle.judge_calls.specs.Hearing.{told_call}
 use Rattle.judge_calls.proofs.Telling.{lines_told}
@@ -25,7 +25,7 @@ use Rattle.judge_linear.specs.Reading.{HistoryHearsLine}
 use Rattle.judge_linear.specs.Reading.{ReadWhole, ReadWrong}
 
 -- what is wrong with a text is wrong with its lines as they are told
-whole_told : (bytes : List ℕ) → first_wrong bytes ≡ wrong_behind [] (map told_call (told_lines 4096 bytes))
+whole_told : (bytes : List ℕ) → first_wrong bytes ≡ wrong_behind [] (map told_call (line_messages 4096 bytes))
 whole_told bytes = ap (wrong_behind []) (lines_told (lines_of bytes))
 
 abbrev lines : HistoryText → List Call
@@ -35,7 +35,7 @@ abbrev texts : HistoryText → List (List ℕ)
 texts x = texts_of x.history.lines.items
 
 -- these lines were taken, as calls
-record Taken (x : HistoryText) (lines_are : List Told) (y : HistoryText) : Type 0 where
+record Taken (x : HistoryText) (lines_are : List Message) (y : HistoryText) : Type 0 where
   pub held : IsHeld y.history
   pub none : y.wrong ≡ x.wrong
   pub more_texts : List (List ℕ)
@@ -60,7 +60,7 @@ taken_none x h = record {
   same = λ more. refl;
 }
 
-taken_line : (x : HistoryText) (text : List ℕ) (rest : List Told) (u y : HistoryText) → TookLine x u text →
+taken_line : (x : HistoryText) (text : List ℕ) (rest : List Message) (u y : HistoryText) → TookLine x u text →
     Taken u rest y → Taken x (told.Line text ∷ rest) y
 taken_line x text rest u y t r = record {
   held = r.held;
@@ -80,48 +80,48 @@ taken_line x text rest u y t r = record {
 }
 
 -- the texts that were told
-texts_same : (ts us : List (List ℕ)) → map told.Line us ≡ map (told_of 4096) ts → us ≡ ts
+texts_same : (ts us : List (List ℕ)) → map told.Line us ≡ map (message_of 4096) ts → us ≡ ts
 texts_same [] [] e = refl
 texts_same [] (u ∷ us) e = absurd (none_first e)
   where
-    none_first : ◌≡◌ {A = List Told} (told.Line u ∷ map told.Line us) [] → ⊥
+    none_first : ◌≡◌ {A = List Message} (told.Line u ∷ map told.Line us) [] → ⊥
     none_first e = cc
 texts_same (t ∷ ts) [] e = absurd (none_first e)
   where
-    none_first : ◌≡◌ {A = List Told} [] (told_of 4096 t ∷ map (told_of 4096) ts) → ⊥
+    none_first : ◌≡◌ {A = List Message} [] (message_of 4096 t ∷ map (message_of 4096) ts) → ⊥
     none_first e = cc
 texts_same (t ∷ ts) (u ∷ us) e =
-    let two = parts (told.Line u) (told_of 4096 t) (map told.Line us) (map (told_of 4096) ts) e in
+    let two = parts (told.Line u) (message_of 4096 t) (map told.Line us) (map (message_of 4096) ts) e in
     ap (λ x. x ∷ us) (one (nat_lt 4096 (length t)) two.0) ∙ ap (λ l. t ∷ l) (texts_same ts us two.1)
   where
-    parts : (a b : Told) (xs ys : List Told) → a ∷ xs ≡ b ∷ ys → (a ≡ b) × (xs ≡ ys)
+    parts : (a b : Message) (xs ys : List Message) → a ∷ xs ≡ b ∷ ys → (a ≡ b) × (xs ≡ ys)
     parts a b xs ys e = (cc, cc)
 
     one : (b : Bool) → told.Line u ≡ cond b told.LongLine (told.Line t) → u ≡ t
     one true e = cc
     one false e = cc
 
-map_both : (xs ys : List Told) → map told_call (xs ++ ys) ≡ map told_call xs ++ map told_call ys
+map_both : (xs ys : List Message) → map told_call (xs ++ ys) ≡ map told_call xs ++ map told_call ys
 map_both [] ys = refl
 map_both (x ∷ xs) ys = ap (λ l. told_call x ∷ l) (map_both xs ys)
 
-wrong_of_first : (x : HistoryText) (lines_are : List Told) (text : List ℕ) (verdict : Verdict) →
+wrong_of_first : (x : HistoryText) (lines_are : List Message) (text : List ℕ) (verdict : Verdict) →
     x.history.lines.items ≡ []
-    → ((more : List Told) → wrong_behind (lines x) (map told_call (lines_are ++ more)) ≡ Some verdict) →
+    → ((more : List Message) → wrong_behind (lines x) (map told_call (lines_are ++ more)) ≡ Some verdict) →
     AreFirst 4096 lines_are text → first_wrong text ≡ Some verdict
 wrong_of_first x lines_are text verdict e h f =
-    whole_told text ∙ ap (λ l. wrong_behind l (map told_call (told_lines 4096 text))) (sym (ap calls_of e))
+    whole_told text ∙ ap (λ l. wrong_behind l (map told_call (line_messages 4096 text))) (sym (ap calls_of e))
     ∙ ap (λ l. wrong_behind (lines x) (map told_call l)) f.1 ∙ h f.0
 
 go_stop : GoOn ≡ Stop → ⊥
 go_stop e = cc
 
-abbrev hears : {O : Type 0} → HistoryText → O → Told → Result Next StreamFault → HistoryText → O → Type 0
+abbrev hears : {O : Type 0} → HistoryText → O → Message → Result Next StreamFault → HistoryText → O → Type 0
 hears x o told answer y p = HistoryHearsLine x told answer y
 
 module _ {O : Type 0} where
-  taken_told : (x : HistoryText) (o : O) (told_all : List Told) (y : HistoryText) (p : O) → IsHeld x.history →
-      ToldAll hears x o told_all y p → Taken x (lines_in told_all) y
+  taken_told : (x : HistoryText) (o : O) (told_all : List Message) (y : HistoryText) (p : O) → IsHeld x.history →
+      ReceivedAll hears x o told_all y p → Taken x (lines_in told_all) y
   taken_told x o [] y p i h = subst (λ z. Taken x [] z) (sym h.0) (taken_none x i)
   taken_told x o (told.Line text ∷ rest) y p i h =
       let t = h.2 i in taken_line x text (lines_in rest) h.0 y t (taken_told h.0 h.1 rest y p t.took.held h.3)
@@ -154,7 +154,7 @@ module _ {O : Type 0} where
       }
 
   -- the line that ended the reading is wrong, whatever follows
-  stopped : (u : HistoryText) (q : O) (last : Told) (y : HistoryText) (p : O) → IsHeld u.history →
+  stopped : (u : HistoryText) (q : O) (last : Message) (y : HistoryText) (p : O) → IsHeld u.history →
       hears u q last (Ok Stop) y p
       → (verdict : Verdict) × (y.wrong ≡ Some verdict) × ((more : List (Result Call CallFault)) →
       wrong_behind (lines u) (map told_call (lines_in (last ∷ [])) ++ more) ≡ Some verdict)
@@ -162,9 +162,9 @@ module _ {O : Type 0} where
   stopped u q told.LongLine y p i h = (h.1.verdict, h.1.wrong, h.1.is)
   stopped u q told.Pause y p i h = absurd (go_stop (sym h.0))
 
-  read_stopped : (x : HistoryText) (o : O) (told_all : List Told) (y : HistoryText) (p : O) → IsHeld x.history →
-      ToldLast hears x o told_all (Ok Stop) y p
-      → (verdict : Verdict) × (y.wrong ≡ Some verdict) × ((more : List Told) →
+  read_stopped : (x : HistoryText) (o : O) (told_all : List Message) (y : HistoryText) (p : O) → IsHeld x.history →
+      ReceivedLast hears x o told_all (Ok Stop) y p
+      → (verdict : Verdict) × (y.wrong ≡ Some verdict) × ((more : List Message) →
       wrong_behind (lines x) (map told_call (lines_in told_all ++ more)) ≡ Some verdict)
   read_stopped x o told_all y p i h =
       let t = taken_told x o h.before h.sink h.output i h.first in
@@ -201,7 +201,7 @@ module _ {O : Type 0} where
         },
       )
     where
-      firsts : (bytes : List ℕ) (verdict : Verdict) (told_all : List Told) →
+      firsts : (bytes : List ℕ) (verdict : Verdict) (told_all : List Message) →
           ((text : List ℕ) → AreFirst 4096 told_all text → first_wrong text ≡ Some verdict)
           → AreFirstOf 4096 told_all bytes left → (IsAtEnd left × (first_wrong bytes ≡ Some verdict)) ⊎ ((z : List ℕ) →
           first_wrong (bytes ++ z) ≡ Some verdict)

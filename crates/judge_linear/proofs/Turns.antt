@@ -13,12 +13,14 @@ use Rattle.judge_calls.specs.declared.call.CallLine.{CallLine}
 use Rattle.judge_calls.specs.declared.call.Answer.{Answer}
 use Rattle.judge_calls.specs.Parts.{shown_call, shown_end, shown_reply}
 use Rattle.judge_calls.specs.Order.{call_breaks_client}
+use Rattle.judge_time.specs.declared.span.TheConstants.{NEVER}
 use Rattle.judge_object.specs.Call.{IsBehind, EachCall}
 use Rattle.judge_object.specs.declared.line.Line.{Line}
 use Rattle.judge_linear.specs.declared.history.History.{History}
 use Rattle.judge_search.specs.Walk.{InTurn, IsTimed}
 use Rattle.judge_search.specs.Calls.{call_of, calls_of}
-use Rattle.judge_linear.specs.Reading.{calls_overlap, AreNumbered, began_before, KeepsEnds, IsHeld, IsLineOf, Took}
+use Rattle.judge_linear.specs.Reading.{EndsNever, calls_overlap, AreNumbered, began_before, KeepsEnds, IsHeld, IsLineOf}
+use Rattle.judge_linear.specs.Reading.{Took}
 use Rattle.judge_linear.specs.Reading.{texts_of}
 use Rattle.std.specs.Prelude.{◌-◌, ◌^◌}
 use Rattle.std.proofs.lemmas.List.{map-append}
@@ -166,8 +168,8 @@ pub took : (before after : History) (text : List ℕ) (c : Call) (l : Line Task)
     after.ends ≡ insert before.ends c.client c.end
     → n ≡ length before.lines.items + 1 → IsLineOf n text c l → after.lines.items ≡ before.lines.items ++ l ∷ [] →
     call_breaks_client (calls_of before.lines.items) c ≡ false
-    → IsTimed (2 ^ 64 - 1) c → Took before after text c
-took before after text c l n h e m i p f t =
+    → IsTimed (2 ^ 64 - 1) c → EndsNever c → Took before after text c
+took before after text c l n h e m i p f t never =
     let calls : calls_of after.lines.items ≡ calls_of before.lines.items ++ c ∷ [] =
     ap calls_of p ∙ map-append call_of before.lines.items (l ∷ []) ∙
     ap (λ d. calls_of before.lines.items ++ d ∷ []) i.call_is in
@@ -180,6 +182,8 @@ took before after text c l n h e m i p f t =
         turn = subst InTurn (sym calls) (turn_more (calls_of before.lines.items) c h.turn f);
         timed = subst (EachCall (IsTimed (2 ^ 64 - 1))) (sym calls)
             (each_more (IsTimed (2 ^ 64 - 1)) (calls_of before.lines.items) c h.timed t);
+        never = subst (EachCall EndsNever) (sym calls)
+            (each_more EndsNever (calls_of before.lines.items) c h.never never);
         numbered = subst (AreNumbered 1) (sym p) (numbered_more 1 before.lines.items l h.numbered (let own =
             i.number_is in omega arith));
       };
@@ -193,6 +197,14 @@ pub timed_of : (c : CallLine) → c.begin < 2 ^ 64 → IsTimed (2 ^ 64 - 1) (sho
 timed_of c l = record { begins = (let b : c.begin ≤ 2 ^ 64 - 1 = omega arith in b); ends = never c.answer }
   where
     never : (a : Option Answer) → is_some (shown_reply a) ≡ false → 2 ^ 64 - 1 ≤ shown_end a
+    never None e = omega arith
+    never (Some a) e = cc
+
+-- a pending call ends never
+pub never_of : (c : CallLine) → EndsNever (shown_call c)
+never_of c = never c.answer
+  where
+    never : (a : Option Answer) → is_some (shown_reply a) ≡ false → NEVER ≤ shown_end a
     never None e = omega arith
     never (Some a) e = cc
 

@@ -22,7 +22,10 @@ use Rattle.judge_linear.specs.declared.ordering.Outcome.TheVariants as outcome
 use Rattle.judge_search.specs.Calls.{no_call}
 use Rattle.judge_linear.specs.Reading.{call_at}
 use Rattle.judge_linear.specs.Found.{FoundOfText, Wrong, Order, NoOrder, IllegalPart, Undecided, IsFound}
-use Rattle.judge_linear.specs.Found.{calls_numbered}
+use Rattle.judge_linear.specs.Found.{calls_numbered, IsOrdered}
+use Rattle.judge_levels.specs.declared.level.Level.{Level}
+use Rattle.judge_levels.specs.declared.level.Level.TheVariants as level
+use Rattle.judge_levels.specs.Levels.{keeps_all_of}
 use Rattle.judge_linear.specs.Found.{line_at}
 use Rattle.judge_linear.specs.Found.{order_text}
 use Rattle.judge_linear.specs.Found.{found_text}
@@ -86,42 +89,55 @@ order_listed bytes calls (n ∷ ns) l f h =
     ∙ ap (λ rs. Ok (call_at calls n) ∷ rs)
     (order_listed bytes calls ns l (All-tail (λ n. 1 ≤ n) n ns f) (All-tail (λ n. n ≤ length calls) n ns h))
 
-illegal_not : outcome.Ordered ≡ outcome.Illegal → ⊥
+pub illegal_not : outcome.Ordered ≡ outcome.Illegal → ⊥
 illegal_not e = cc
 
-undecided_not : outcome.Ordered ≡ outcome.Undecided → ⊥
+pub undecided_not : outcome.Ordered ≡ outcome.Undecided → ⊥
 undecided_not e = cc
 
+pub strongest : (shown : Level) → keeps_all_of shown level.Linearizable ≡ true → shown ≡ level.Linearizable
+strongest level.Linearizable e = refl
+strongest level.Sequential e = cc
+strongest level.Serializable e = cc
+
+-- the text of a linearization
+legal_order : LegalSummary → (n : ℕ) (bytes text numbers : List ℕ) → IsOrdered level.Linearizable n bytes numbers →
+    text ≡ order_text bytes numbers → (calls : List Call) × IsJudgedLegal n text calls × IsOrderOfText bytes calls
+legal_order summary n bytes text numbers is t =
+    let calls = calls_numbered is.calls numbers in
+    let listed : Lists text calls =
+    subst (λ x. Lists x calls) (sym t) (order_listed bytes is.calls numbers is.listed is.numbers_are.first
+    is.numbers_are.last) in (
+      calls,
+      record {
+        listed = listed;
+        linearization = is.linearization;
+        verdict = summary n text calls listed is.linearization;
+      },
+      record { calls = is.calls; listed = is.listed; orders = is.orders },
+    )
+
 -- the text of an order that was found
-legal_text : LegalSummary → (n steps : ℕ) (bytes text : List ℕ) → FindsText n steps bytes outcome.Ordered text
+legal_text : LegalSummary → (n steps : ℕ) (bytes text : List ℕ) →
+    FindsText level.Linearizable n steps bytes outcome.Ordered text
     → (calls : List Call) × IsJudgedLegal n text calls × IsOrderOfText bytes calls
 legal_text summary n steps bytes text f = go f.found f.is f.answered f.text_is
   where
-    go : (found : FoundOfText) → IsFound n steps bytes found → outcome.Ordered ≡ outcome_of found →
+    go : (found : FoundOfText) → IsFound level.Linearizable n steps bytes found → outcome.Ordered ≡ outcome_of found →
         text ≡ found_text bytes found
         → (calls : List Call) × IsJudgedLegal n text calls × IsOrderOfText bytes calls
     go (Wrong verdict) is a t = absurd (illegal_not a)
-    go (Order numbers) is a t =
-        let calls = calls_numbered is.calls numbers in
-        let listed : Lists text calls =
-        subst (λ x. Lists x calls) (sym t) (order_listed bytes is.calls numbers is.listed is.numbers_are.first
-        is.numbers_are.last) in (
-          calls,
-          record {
-            listed = listed;
-            linearization = is.linearization;
-            verdict = summary n text calls listed is.linearization;
-          },
-          record { calls = is.calls; listed = is.listed; orders = is.orders },
-        )
+    go (Order numbers) is a t = legal_order summary n bytes text numbers
+        (subst (λ shown. IsOrdered shown n bytes numbers) (strongest is.shown is.keeps) is.ordered) t
     go (NoOrder most stuck) is a t = absurd (illegal_not a)
     go (IllegalPart customers items stuck) is a t = absurd (illegal_not a)
     go (Undecided most) is a t = absurd (undecided_not a)
 
 -- a text that was read
 some_text : (n steps : ℕ) (left : Option (List ℕ)) (bytes text : List ℕ) (result : Outcome)
-    → (IsAtEnd left × FindsText n steps bytes result text) ⊎ ((x : List ℕ) → FindsText n steps (bytes ++ x) result text)
-    → (of : List ℕ) × FindsText n steps of result text
+    → (IsAtEnd left × FindsText level.Linearizable n steps bytes result text)
+    ⊎ ((x : List ℕ) → FindsText level.Linearizable n steps (bytes ++ x) result text)
+    → (of : List ℕ) × FindsText level.Linearizable n steps of result text
 some_text n steps left bytes text result (inl h) = (bytes, h.1)
 some_text n steps left bytes text result (inr h) = (bytes ++ [], h [])
 
@@ -138,7 +154,7 @@ order_is_judged_legal summary n steps unread left held holds h =
     }
   where
     of_input : (calls : List Call) → Lists h.text calls → (u : Option (List ℕ))
-        → IfSome u (λ input. FindsText n steps input outcome.Ordered h.text) →
+        → IfSome u (λ input. FindsText level.Linearizable n steps input outcome.Ordered h.text) →
         IfSome u (λ input. IsOrderOfText input calls)
     of_input calls listed None f = tt
     of_input calls listed (Some input) f =

@@ -6,7 +6,7 @@ use Rattle.std.specs.List.{list_any}
 use Rattle.std.proofs.Math.Seq.{drop-append_seam}
 use Rattle.vac_lines.specs.Lines.{lines_of}
 use Rattle.judge_calls.specs.declared.fault.CallFault.{CallFault}
-use Rattle.judge_calls.specs.declared.verdict.Wrong.TheVariants.{Client, Time, Reply}
+use Rattle.judge_calls.specs.declared.verdict.CallViolation.TheVariants.{Client, Time, Reply}
 use Rattle.judge_calls.specs.declared.verdict.Verdict.{Verdict}
 use Rattle.judge_calls.specs.declared.verdict.Verdict.TheVariants.{Legal, Fault, Illegal}
 use Rattle.judge_calls.specs.Call.{Call, line_call}
@@ -179,7 +179,7 @@ none_wrong calls (Ok c ∷ rest) t h =
           turn = subst InTurn (append_assoc calls (c ∷ []) all.more) all.turn;
         }
 
-first_of : (bytes : List ℕ) (verdict : Verdict) → first_wrong bytes ≡ Some verdict → IsFirstWrongLine bytes verdict
+pub first_of : (bytes : List ℕ) (verdict : Verdict) → first_wrong bytes ≡ Some verdict → IsFirstWrongLine bytes verdict
 first_of bytes verdict h =
     let at = find [] (map line_call (lines_of bytes)) verdict tt h in
     go at.before at.rest at.one at.listed at.turn at.brings
@@ -223,22 +223,22 @@ of_first bytes (Illegal line (Reply expected)) f = absurd f
 of_first bytes (Legal found) f = absurd f
 
 pub wrong_is_first : WrongIsFirst
-wrong_is_first n steps bytes verdict = (first_of bytes verdict, of_first bytes verdict)
+wrong_is_first kept n steps bytes verdict = (first_of bytes verdict, of_first bytes verdict)
 
 pub first_wrong_is_written : FirstWrongIsWritten
-first_wrong_is_written n steps bytes result text verdict finds first =
+first_wrong_is_written kept n steps bytes result text verdict finds first =
     go finds.found finds.is finds.answered finds.text_is
   where
     wrong : first_wrong bytes ≡ Some verdict
     wrong = of_first bytes verdict first
 
-    go : (found : FoundOfText) → IsFound n steps bytes found → result ≡ outcome_of found → text ≡ found_text bytes found
-        → (result ≡ outcome.Illegal) × (text ≡ verdict_text verdict)
+    go : (found : FoundOfText) → IsFound kept n steps bytes found → result ≡ outcome_of found →
+        text ≡ found_text bytes found → (result ≡ outcome.Illegal) × (text ≡ verdict_text verdict)
     go (Wrong other) is a t = (a, t ∙ ap verdict_text (some_same other verdict (sym is ∙ wrong)))
-    go (Order numbers) is a t = absurd (none_some verdict (sym is.right ∙ wrong))
-    go (NoOrder most stuck) is a t = absurd (none_some verdict (sym is.kept.right ∙ wrong))
-    go (IllegalPart customers items stuck) is a t = absurd (none_some verdict (sym is.kept.right ∙ wrong))
-    go (Undecided most) is a t = absurd (none_some verdict (sym is.kept.right ∙ wrong))
+    go (Order numbers) is a t = absurd (none_some verdict (sym is.ordered.right ∙ wrong))
+    go (NoOrder most stuck) is a t = absurd (none_some verdict (sym is.are_kept.right ∙ wrong))
+    go (IllegalPart customers items stuck) is a t = absurd (none_some verdict (sym is.are_kept.right ∙ wrong))
+    go (Undecided most) is a t = absurd (none_some verdict (sym is.are_kept.right ∙ wrong))
 
 pub wrong_or_in_turn : WrongOrInTurn
 wrong_or_in_turn bytes = go (first_wrong bytes) refl

@@ -1,6 +1,6 @@
 -- The result for a history of which only each client's own order is known, and the text of the
 -- result.
-use Rattle.std.specs.Prelude.{◌≡◌, ◌≤◌, ◌-◌, ⊤, ℕ, Bool, Some, None, All, List, [], ◌∷◌, ◌++◌, map, flat_map, length, get_or, codes, decimal}
+use Rattle.std.specs.Prelude.{◌≡◌, ◌≤◌, ◌+◌, ◌-◌, ⊤, ℕ, Bool, true, Some, None, All, List, [], ◌∷◌, ◌++◌, map, flat_map, length, get_or, codes, decimal}
 use Rattle.vac_model.specs.declared.items.Kind.{Kind}
 use Rattle.vac_model.specs.declared.items.Kind.TheVariants.{Car, Flight, Room}
 use Rattle.vac_model.specs.declared.limits.TheConstants.{MOST_BLOCKS}
@@ -14,6 +14,10 @@ use Rattle.judge_calls.specs.Verdict.{verdict_text}
 use Rattle.judge_calls.specs.Call.{Call}
 use Rattle.judge_calls.specs.Laws.{Lists, IsLinearization}
 use Rattle.judge_object.specs.Orders.{IsMerge, IsOrderOf, IsLinearizable}
+use Rattle.judge_levels.specs.declared.level.Level.{Level}
+use Rattle.judge_levels.specs.declared.level.Level.TheVariants as level
+use Rattle.judge_levels.specs.Levels.{IsAt, keeps_all_of}
+use Rattle.judge_levels.specs.Relaxed.{relax, PendingAreLast}
 use Rattle.judge_reservations.specs.Reserving.{reserving}
 use Rattle.judge_part.specs.declared.scope.Scope.{Scope}
 use Rattle.judge_part.specs.Histories.{part_of_call, part_of_history}
@@ -26,11 +30,10 @@ use Rattle.judge_search.specs.Walking.{AreDistinct}
 use Rattle.judge_search.specs.Stuck.{AreStuck}
 use Rattle.judge_linear.specs.Reading.{first_wrong, call_at}
 
--- the result for a history: a wrong line; the numbers of the lines in an order that is a
--- linearization; no order, with the largest number of completed calls that can be placed and the
--- lines of the calls that are then blocked, each with the expected reply; a part without an order,
--- on a scope of some customers and items, with the lines of the calls whose parts are then blocked;
--- or undecided
+-- the result for a history at a level: a wrong line; the numbers of the lines in an order; no
+-- order, with the largest number of completed calls that can be placed and the lines of the calls
+-- that are then blocked, each with the expected reply; a part without an order, on a scope of some
+-- customers and items, with the lines of the calls whose parts are then blocked; or undecided
 pub data FoundOfText : Type 0 where
   Wrong : (verdict : Verdict) → FoundOfText
   Order : (numbers : List ℕ) → FoundOfText
@@ -43,52 +46,68 @@ pub data FoundOfText : Type 0 where
 abbrev pub calls_numbered : List Call → List ℕ → List Call
 calls_numbered calls numbers = map (call_at calls) numbers
 
+-- the calls of the lines with these numbers, without the order that the level does not keep
+abbrev pub relaxed_numbered : Level → List Call → List ℕ → List Call
+relaxed_numbered kept calls numbers = calls_numbered (relax kept calls) numbers
+
 -- the numbers are numbers of lines, and no number occurs twice
 pub record AreNumbers (calls : List Call) (numbers : List ℕ) : Type 0 where
   pub distinct : AreDistinct numbers
   pub first : All (λ number. 1 ≤ number) numbers
   pub last : All (λ number. number ≤ length calls) numbers
 
--- the lines of a text are calls, the calls of each client are in turn, and the calls of the lines
--- with these numbers are an order of all calls that is a linearization, for a system of n blocks
-pub record IsOrdered (n : ℕ) (bytes : List ℕ) (numbers : List ℕ) : Type 0 where
+-- the lines of a text are calls, the calls of each client are in turn, and, without the order that
+-- the level does not keep, the calls of the lines with these numbers are an order of all calls that
+-- is a linearization, for a system of n blocks
+pub record IsOrdered (kept : Level) (n : ℕ) (bytes : List ℕ) (numbers : List ℕ) : Type 0 where
   pub calls : List Call
   pub listed : Lists bytes calls
   pub right : first_wrong bytes ≡ None
   pub numbers_are : AreNumbers calls numbers
-  pub orders : IsOrderOf calls (calls_numbered calls numbers)
-  pub linearization : IsLinearization n (calls_numbered calls numbers)
+  pub orders : IsOrderOf (relax kept calls) (relaxed_numbered kept calls numbers)
+  pub linearization : IsLinearization n (relaxed_numbered kept calls numbers)
 
--- the lines of a text are calls, the calls of each client are in turn, and a search keeps the
--- calls in the order of these numbers
-pub record AreKeptInOrder (bytes : List ℕ) (calls : List Call) (numbers : List ℕ) : Type 0 where
+-- the calls of the lines with these numbers are an order of all calls at the level, or at a level
+-- that keeps more order
+pub record IsOrderedAtLeast (kept : Level) (n : ℕ) (bytes : List ℕ) (numbers : List ℕ) : Type 0
+  where
+    pub shown : Level
+    pub keeps : keeps_all_of shown kept ≡ true
+    pub ordered : IsOrdered shown n bytes numbers
+
+-- the lines of a text are calls, the calls of each client are in turn and a pending call is the
+-- last one, and a search at a level keeps the calls in the order of these numbers
+pub record AreKeptInOrder (kept : Level) (bytes : List ℕ) (calls : List Call) (numbers : List ℕ) :
+    Type 0 where
   pub listed : Lists bytes calls
   pub right : first_wrong bytes ≡ None
+  pub last : PendingAreLast calls
   pub numbers_are : AreNumbers calls numbers
-  pub merges : IsMerge calls (calls_numbered calls numbers)
+  pub merges : IsMerge (relax kept calls) (relaxed_numbered kept calls numbers)
 
 -- the blocked calls with the numbers of their lines in the place of their positions
 abbrev pub told_by : List ℕ → List (Stuck Reply) → List (ℕ × Reply)
 told_by numbers stuck = map (λ one. (get_or numbers one.place 0, one.expected)) stuck
 
--- no order of the calls is a linearization. At most `most` completed calls can be placed, one
--- after the other, such that each may come next and gives its reply. In a state with that many
--- placed calls, the completed calls that may come next are given, each with the reply of the
--- manager
+-- the history is not at the level. Of the calls without the order that the level does not keep, at
+-- most `most` completed ones can be placed, one after the other, such that each may come next and
+-- gives its reply. In a state with that many placed calls, the completed calls that may come next
+-- are given, each with the reply of the manager
 -- Not said: in which order the blocked calls are given.
-pub record HasNone (n : ℕ) (bytes : List ℕ) (most : ℕ) (stuck : List (ℕ × Reply)) : Type 0 where
+pub record HasNone (kept : Level) (n : ℕ) (bytes : List ℕ) (most : ℕ) (stuck : List (ℕ × Reply)) :
+    Type 0 where
   pub calls : List Call
   pub numbers : List ℕ
-  pub kept : AreKeptInOrder bytes calls numbers
-  pub none : IsLinearizable reserving (empty_state n) calls → ⊥
+  pub are_kept : AreKeptInOrder kept bytes calls numbers
+  pub none : IsAt reserving kept (empty_state n) calls → ⊥
   pub made : ℕ → Bool
   pub state : State
-  pub deepest : Deepest reserving (start (empty_state n) (calls_numbered calls numbers)) most
-      (record { rest = rest_of made 0 (calls_numbered calls numbers); state = state })
-  pub bound : PlacesAtMost reserving (answered (calls_numbered calls numbers)) most
-      (start (empty_state n) (calls_numbered calls numbers))
+  pub deepest : Deepest reserving (start (empty_state n) (relaxed_numbered kept calls numbers)) most
+      (record { rest = rest_of made 0 (relaxed_numbered kept calls numbers); state = state })
+  pub bound : PlacesAtMost reserving (answered (relaxed_numbered kept calls numbers)) most
+      (start (empty_state n) (relaxed_numbered kept calls numbers))
   pub found : List (Stuck Reply)
-  pub are : AreStuck reserving state made (calls_numbered calls numbers) found
+  pub are : AreStuck reserving state made (relaxed_numbered kept calls numbers) found
   pub told : stuck ≡ told_by numbers found
 
 -- a call is the part on a scope of the call of the line with a number
@@ -104,26 +123,27 @@ ArePartsAt scope calls (number ∷ numbers) (part ∷ parts) =
     IsPartAt scope calls number part × ArePartsAt scope calls numbers parts
 ArePartsAt scope calls _ _ = ⊥
 
--- all calls of a history have parts on a scope of these customers and items, and no order of the
--- parts is a linearization, for a system of the greatest number of blocks. In a state of that
--- system after as many completed parts as can be placed, the completed parts that may come next are
--- given, at least one, each by the number of its line with the reply of the manager
+-- without the order that the level does not keep, all calls of a history have parts on a scope of
+-- these customers and items, and no order of the parts is a linearization, for a system of the
+-- greatest number of blocks. In a state of that system after as many completed parts as can be
+-- placed, the completed parts that may come next are given, at least one, each by the number of its
+-- line with the reply of the manager
 -- Not said: in which order the blocked calls are given; which items of the scope only its customers
 -- book, and which of its customers only book its items.
-pub record HasIllegalPart (n : ℕ) (bytes customers : List ℕ) (items : List Place)
+pub record HasIllegalPart (kept : Level) (n : ℕ) (bytes customers : List ℕ) (items : List Place)
     (stuck : List (ℕ × Reply)) : Type 0 where
   pub blocks : n ≤ MOST_BLOCKS
   pub calls : List Call
   pub numbers : List ℕ
-  pub kept : AreKeptInOrder bytes calls numbers
+  pub are_kept : AreKeptInOrder kept bytes calls numbers
   pub scope : Scope
-  pub is_scope : IsScopeOf customers items (calls_numbered calls numbers) scope
+  pub is_scope : IsScopeOf customers items (relaxed_numbered kept calls numbers) scope
   pub none : IsLinearizable reserving (empty_state MOST_BLOCKS)
-      (part_of_history scope (calls_numbered calls numbers)) → ⊥
+      (part_of_history scope (relaxed_numbered kept calls numbers)) → ⊥
   pub parts : List Call
   pub part_numbers : List ℕ
-  pub merges : IsMerge (part_of_history scope (calls_numbered calls numbers)) parts
-  pub are_parts : ArePartsAt scope calls part_numbers parts
+  pub merges : IsMerge (part_of_history scope (relaxed_numbered kept calls numbers)) parts
+  pub are_parts : ArePartsAt scope (relax kept calls) part_numbers parts
   pub most : ℕ
   pub made : ℕ → Bool
   pub state : State
@@ -135,14 +155,32 @@ pub record HasIllegalPart (n : ℕ) (bytes customers : List ℕ) (items : List P
   pub told : stuck ≡ told_by part_numbers found
   pub some : 1 ≤ length stuck
 
--- after `steps` steps neither an order is found nor the absence of one is shown. In the orders
--- that were tried, at most `most` completed calls were placed
-pub record IsLeftOpen (n : ℕ) (bytes : List ℕ) (steps most : ℕ) : Type 0 where
+-- an exact search of the calls of a text as they are given, for a system of n blocks, can make this
+-- number of steps
+pub record RunsGiven (n : ℕ) (bytes : List ℕ) (calls : List Call) (steps : ℕ) : Type 0 where
+  pub numbers : List ℕ
+  pub are_kept : AreKeptInOrder level.Linearizable bytes calls numbers
+  pub run : HasRun reserving steps (start (empty_state n) (calls_numbered calls numbers))
+
+-- a level below linearizability is searched after the history as it is given, with the steps that
+-- the first search has left
+abbrev pub RunsBefore : Level → ℕ → List ℕ → List Call → ℕ → Type 0
+RunsBefore level.Linearizable n bytes calls steps = steps ≡ 0
+RunsBefore kept n bytes calls steps = RunsGiven n bytes calls steps
+
+-- after `steps` steps, of a search of the history as it is given and of a search at the level,
+-- neither an order is found nor the absence of one is shown. In the orders that were tried at the
+-- level, at most `most` completed calls were placed
+pub record IsLeftOpen (kept : Level) (n : ℕ) (bytes : List ℕ) (steps most : ℕ) : Type 0 where
   pub calls : List Call
   pub numbers : List ℕ
-  pub kept : AreKeptInOrder bytes calls numbers
-  pub undecided : IsUndecided reserving (start (empty_state n) (calls_numbered calls numbers))
-      steps most
+  pub are_kept : AreKeptInOrder kept bytes calls numbers
+  pub given : ℕ
+  pub left : ℕ
+  pub together : given + left ≡ steps
+  pub before : RunsBefore kept n bytes calls given
+  pub undecided : IsUndecided reserving
+      (start (empty_state n) (relaxed_numbered kept calls numbers)) left most
 
 -- an exact search of the calls from a state on can make a number of steps, at most `steps`
 -- Not said: that the search whose result is given made this number. A search can always make no
@@ -152,28 +190,33 @@ pub record RunsWithin (s : State) (calls : List Call) (steps : ℕ) : Type 0 whe
   pub within : made ≤ steps
   pub run : HasRun reserving made (start s calls)
 
--- an exact search of the calls of a text, for a system of n blocks, can make a number of steps, at
--- most `steps`
-pub record TextRunsWithin (n : ℕ) (bytes : List ℕ) (steps : ℕ) : Type 0 where
+-- an exact search of the calls of a text as they are given, and an exact search of the calls
+-- without the order that the level does not keep, can make a number of steps, together at most
+-- `steps`
+pub record TextRunsWithin (kept : Level) (n : ℕ) (bytes : List ℕ) (steps : ℕ) : Type 0 where
   pub calls : List Call
   pub numbers : List ℕ
-  pub kept : AreKeptInOrder bytes calls numbers
-  pub runs : RunsWithin (empty_state n) (calls_numbered calls numbers) steps
+  pub are_kept : AreKeptInOrder kept bytes calls numbers
+  pub given : ℕ
+  pub left : ℕ
+  pub together : given + left ≤ steps
+  pub before : RunsBefore kept n bytes calls given
+  pub runs : RunsWithin (empty_state n) (relaxed_numbered kept calls numbers) left
 
 -- for a result of a search there is such a number; a wrong line is found without a search
-abbrev pub TakesWithin : ℕ → List ℕ → ℕ → FoundOfText → Type 0
-TakesWithin n bytes steps (Wrong verdict) = ⊤
-TakesWithin n bytes steps found = TextRunsWithin n bytes steps
+abbrev pub TakesWithin : Level → ℕ → List ℕ → ℕ → FoundOfText → Type 0
+TakesWithin kept n bytes steps (Wrong verdict) = ⊤
+TakesWithin kept n bytes steps found = TextRunsWithin kept n bytes steps
 
--- the value is a result for the text, for a system of n blocks, of a search that may make this many
--- steps
-abbrev pub IsFound : ℕ → ℕ → List ℕ → FoundOfText → Type 0
-IsFound n steps bytes (Wrong verdict) = first_wrong bytes ≡ Some verdict
-IsFound n steps bytes (Order numbers) = IsOrdered n bytes numbers
-IsFound n steps bytes (NoOrder most stuck) = HasNone n bytes most stuck
-IsFound n steps bytes (IllegalPart customers items stuck) =
-    HasIllegalPart n bytes customers items stuck
-IsFound n steps bytes (Undecided most) = IsLeftOpen n bytes steps most
+-- the value is a result for the text at the level, for a system of n blocks, of searches that may
+-- make this many steps
+abbrev pub IsFound : Level → ℕ → ℕ → List ℕ → FoundOfText → Type 0
+IsFound kept n steps bytes (Wrong verdict) = first_wrong bytes ≡ Some verdict
+IsFound kept n steps bytes (Order numbers) = IsOrderedAtLeast kept n bytes numbers
+IsFound kept n steps bytes (NoOrder most stuck) = HasNone kept n bytes most stuck
+IsFound kept n steps bytes (IllegalPart customers items stuck) =
+    HasIllegalPart kept n bytes customers items stuck
+IsFound kept n steps bytes (Undecided most) = IsLeftOpen kept n bytes steps most
 
 -- the text of the line with this number, the first line having number 1
 abbrev pub line_at : List ℕ → ℕ → List ℕ

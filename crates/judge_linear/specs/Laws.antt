@@ -1,39 +1,59 @@
--- The result is correct, in terms of linearizability (Herlihy and Wing, TOPLAS 1990): some order
--- of the calls of a history, with each client's calls in their order, is a linearization, or no
--- order is. The text that is written for an order is legal for a judge that trusts the order of
--- the lines.
-use Rattle.std.specs.Prelude.{◌≡◌, ℕ, true, Option, IfSome, List, reverse}
+-- The result is correct: the history is at the level, or it is not. The text that is written for a
+-- linearization (Herlihy and Wing, TOPLAS 1990) is legal for a judge that trusts the order of the
+-- lines.
+use Rattle.std.specs.Prelude.{◌≡◌, ◌⊎◌, ⊤, ℕ, true, Option, IfSome, List, reverse}
 use Rattle.std.specs.Io.KnownBytes.{Appends}
 use Rattle.vac_model.specs.State.{Place, empty_state}
 use Rattle.vac_model.specs.declared.replies.Reply.{Reply}
+use Rattle.judge_calls.specs.declared.verdict.Verdict.{Verdict}
 use Rattle.judge_calls.specs.declared.verdict.Verdict.TheVariants.{Legal}
 use Rattle.judge_calls.specs.Call.{Call}
 use Rattle.judge_calls.specs.Verdict.{verdict_on, summary_of}
 use Rattle.judge_calls.specs.Laws.{Lists, IsLinearization, state_after}
 use Rattle.judge_calls.specs.AnyOrder.{IsReordered, IsWholeOrder, order_verdict, is_covered}
+use Rattle.judge_linear.specs.declared.ordering.Outcome.{Outcome}
 use Rattle.judge_linear.specs.declared.ordering.Outcome.TheVariants as outcome
-use Rattle.judge_object.specs.Orders.{IsOrderOf, IsLinearizable}
+use Rattle.judge_levels.specs.declared.level.Level.{Level}
+use Rattle.judge_levels.specs.declared.level.Level.TheVariants as level
+use Rattle.judge_levels.specs.Levels.{IsAt}
+use Rattle.judge_object.specs.Orders.{IsOrderOf}
 use Rattle.judge_reservations.specs.Reserving.{reserving}
 use Rattle.judge_linear.specs.Found.{Order, NoOrder, IllegalPart, IsFound}
 use Rattle.judge_linear.specs.Ordering.{FindsText, HasOrdered}
+use Rattle.judge_linear.specs.Wrongs.{IsFirstWrongLine}
 
--- if an order is found, some order of the calls of the text is a linearization
-abbrev pub OrderIsLinearization : Type 0
-OrderIsLinearization = (n steps : ℕ) (bytes : List ℕ) (numbers : List ℕ) →
-    IsFound n steps bytes (Order numbers) →
-    (calls : List Call) → Lists bytes calls → IsLinearizable reserving (empty_state n) calls
+-- if an order is found, the history is at the level
+abbrev pub OrderIsAtLevel : Type 0
+OrderIsAtLevel = (kept : Level) (n steps : ℕ) (bytes : List ℕ) (numbers : List ℕ) →
+    IsFound kept n steps bytes (Order numbers) →
+    (calls : List Call) → Lists bytes calls → IsAt reserving kept (empty_state n) calls
 
--- if the result is that there is no order, no order of the calls of the text is a linearization
+-- if the result is that there is no order, the history is not at the level
 abbrev pub NoOrderMeansNone : Type 0
-NoOrderMeansNone = (n steps : ℕ) (bytes : List ℕ) (most : ℕ) (stuck : List (ℕ × Reply)) →
-    IsFound n steps bytes (NoOrder most stuck) →
-    (calls : List Call) → Lists bytes calls → IsLinearizable reserving (empty_state n) calls → ⊥
+NoOrderMeansNone = (kept : Level) (n steps : ℕ) (bytes : List ℕ) (most : ℕ)
+    (stuck : List (ℕ × Reply)) → IsFound kept n steps bytes (NoOrder most stuck) →
+    (calls : List Call) → Lists bytes calls → IsAt reserving kept (empty_state n) calls → ⊥
 
--- if the result is that a part has no order, no order of the calls of the text is a linearization
+-- if the result is that a part has no order, the history is not at the level
 abbrev pub IllegalPartMeansNone : Type 0
-IllegalPartMeansNone = (n steps : ℕ) (bytes customers : List ℕ) (items : List Place)
-    (stuck : List (ℕ × Reply)) → IsFound n steps bytes (IllegalPart customers items stuck) →
-    (calls : List Call) → Lists bytes calls → IsLinearizable reserving (empty_state n) calls → ⊥
+IllegalPartMeansNone = (kept : Level) (n steps : ℕ) (bytes customers : List ℕ) (items : List Place)
+    (stuck : List (ℕ × Reply)) → IsFound kept n steps bytes (IllegalPart customers items stuck) →
+    (calls : List Call) → Lists bytes calls → IsAt reserving kept (empty_state n) calls → ⊥
+
+-- the history of these calls, with this text, is as an outcome says of a level: at the level; or
+-- not at the level, unless a line is wrong
+abbrev pub IsDecided : Level → ℕ → List ℕ → List Call → Outcome → Type 0
+IsDecided kept n bytes calls outcome.Ordered = IsAt reserving kept (empty_state n) calls
+IsDecided kept n bytes calls outcome.Illegal =
+    (IsAt reserving kept (empty_state n) calls → ⊥)
+    ⊎ ((verdict : Verdict) × IsFirstWrongLine bytes verdict)
+IsDecided kept n bytes calls outcome.Undecided = ⊤
+
+-- the outcome of a search at a level says whether the history is at the level
+abbrev pub OutcomeDecides : Type 0
+OutcomeDecides = (kept : Level) (n steps : ℕ) (bytes : List ℕ) (result : Outcome) (text : List ℕ) →
+    FindsText kept n steps bytes result text →
+    (calls : List Call) → Lists bytes calls → IsDecided kept n bytes calls result
 
 -- a text is a history of these calls, and their order is a linearization, for a system of n
 -- blocks. The verdict on the text is legal, with the number of calls and clients and the report of
@@ -59,23 +79,24 @@ pub record WroteLegal (n : ℕ) (unread held holds : Option (List ℕ)) : Type 0
   pub judged : IsJudgedLegal n text calls
   pub of_input : IfSome unread (λ input. IsOrderOfText input calls)
 
--- if a history is ordered, a text is written whose verdict is legal
+-- if a linearization of a history is found, a text is written whose verdict is legal
 abbrev pub OrderIsJudgedLegal : Type 0
 OrderIsJudgedLegal = (n steps : ℕ) (unread left held holds : Option (List ℕ)) →
-    HasOrdered n steps outcome.Ordered unread left held holds → WroteLegal n unread held holds
+    HasOrdered level.Linearizable n steps outcome.Ordered unread left held holds →
+    WroteLegal n unread held holds
 
--- the text that is written for an order that is found has the calls of the input, in an order that
--- is a linearization
+-- the text that is written for a linearization that is found has the calls of the input, in an
+-- order that is a linearization
 pub record IsFoundOrder (n : ℕ) (bytes text : List ℕ) : Type 0 where
   pub calls : List Call
   pub order : List Call
   pub reordered : IsReordered bytes text calls order
   pub linearization : IsLinearization n order
 
--- if an order is found, the text that is written has the calls of the input in this order
+-- if a linearization is found, the text that is written has the calls of the input in this order
 abbrev pub FoundIsReordered : Type 0
 FoundIsReordered = (n steps : ℕ) (bytes text : List ℕ) →
-    FindsText n steps bytes outcome.Ordered text → IsFoundOrder n bytes text
+    FindsText level.Linearizable n steps bytes outcome.Ordered text → IsFoundOrder n bytes text
 
 -- some order of the calls of a text is a linearization, and its calls are the whole workload
 pub record IsWholeInSomeOrder (n : ℕ) (tasks bytes : List ℕ) : Type 0 where
@@ -85,9 +106,9 @@ pub record IsWholeInSomeOrder (n : ℕ) (tasks bytes : List ℕ) : Type 0 where
   pub orders : IsOrderOf calls order
   pub whole : IsWholeOrder n tasks calls order
 
--- if an order is found that covers a workload, some order of the calls of the input is a
+-- if a linearization is found that covers a workload, some order of the calls of the input is a
 -- linearization whose calls are the whole workload
 abbrev pub CoveredMeansWhole : Type 0
 CoveredMeansWhole = (n steps : ℕ) (tasks bytes text : List ℕ) →
-    FindsText n steps bytes outcome.Ordered text →
+    FindsText level.Linearizable n steps bytes outcome.Ordered text →
     is_covered (order_verdict n tasks bytes text) ≡ true → IsWholeInSomeOrder n tasks bytes

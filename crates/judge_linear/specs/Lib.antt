@@ -4,3 +4,4 @@ pub mod Ordering
 pub mod Laws
 pub mod Wrongs
 pub mod Judged
+pub mod Relaxed

@@ -4,6 +4,7 @@ use Rattle.std.specs.Io.KnownBytes.{Appends, Consumes, IsAtEnd}
 use Rattle.vac_lines.specs.Writing.{AppendsPrefix}
 use Rattle.vac_streams.specs.declared.fault.StreamFault.{StreamFault}
 use Rattle.vac_streams.specs.declared.fault.StreamFault.TheVariants as fault
+use Rattle.judge_levels.specs.declared.level.Level.{Level}
 use Rattle.judge_linear.specs.declared.ordering.Outcome.{Outcome}
 use Rattle.judge_linear.specs.declared.ordering.Outcome.TheVariants as outcome
 use Rattle.judge_linear.specs.Found.{FoundOfText, Wrong, Order, NoOrder, IllegalPart, Undecided, IsFound}
@@ -17,13 +18,13 @@ outcome_of (NoOrder most stuck) = outcome.Illegal
 outcome_of (IllegalPart customers items stuck) = outcome.Illegal
 outcome_of (Undecided most) = outcome.Undecided
 
--- the text has some result of a search that may make `steps` steps; its output is this
+-- the text has some result at a level, of searches that may make `steps` steps; its output is this
 -- text, and its outcome is the returned one
-pub record FindsText (n steps : ℕ) (bytes : List ℕ) (result : Outcome) (text : List ℕ) :
-    Type 0 where
+pub record FindsText (kept : Level) (n steps : ℕ) (bytes : List ℕ) (result : Outcome)
+    (text : List ℕ) : Type 0 where
   pub found : FoundOfText
-  pub is : IsFound n steps bytes found
-  pub takes : TakesWithin n bytes steps found
+  pub is : IsFound kept n steps bytes found
+  pub takes : TakesWithin kept n bytes steps found
   pub answered : result ≡ outcome_of found
   pub text_is : text ≡ found_text bytes found
 
@@ -31,35 +32,35 @@ pub record FindsText (n steps : ℕ) (bytes : List ℕ) (result : Outcome) (text
 -- result holds whatever follows
 -- Not said: anything of streams whose bytes no contract describes; that no byte is read after the
 -- chunk with the first wrong line, which is read in the code.
-pub record HasText (n steps : ℕ) (unread left : Option (List ℕ)) (result : Outcome)
+pub record HasText (kept : Level) (n steps : ℕ) (unread left : Option (List ℕ)) (result : Outcome)
     (text : List ℕ) : Type 0 where
   pub bytes : List ℕ
   pub consumed : Consumes unread left bytes
-  pub of_read : (IsAtEnd left × FindsText n steps bytes result text)
-      ⊎ ((x : List ℕ) → FindsText n steps (bytes ++ x) result text)
-  pub of_input : IfSome unread (λ input. FindsText n steps input result text)
+  pub of_read : (IsAtEnd left × FindsText kept n steps bytes result text)
+      ⊎ ((x : List ℕ) → FindsText kept n steps (bytes ++ x) result text)
+  pub of_input : IfSome unread (λ input. FindsText kept n steps input result text)
 
 -- exactly the output for the result was written, and the outcome of the result was returned
-pub record HasOrdered (n steps : ℕ) (result : Outcome)
+pub record HasOrdered (kept : Level) (n steps : ℕ) (result : Outcome)
     (unread left held holds : Option (List ℕ)) : Type 0 where
   pub text : List ℕ
-  pub is : HasText n steps unread left result text
+  pub is : HasText kept n steps unread left result text
   pub written : Appends held holds text
 
 -- a prefix of the output for the result was written
-pub record HasOrderedInPart (n steps : ℕ) (unread left held holds : Option (List ℕ)) :
-    Type 0 where
+pub record HasOrderedInPart (kept : Level) (n steps : ℕ)
+    (unread left held holds : Option (List ℕ)) : Type 0 where
   pub result : Outcome
   pub text : List ℕ
-  pub is : HasText n steps unread left result text
+  pub is : HasText kept n steps unread left result text
   pub written : AppendsPrefix held holds text
 
 -- a fault ended the ordering. After a fault of the output a prefix of the text was written, after
 -- any other fault nothing
 -- Not said: which of Read, Memory and Bound ends the ordering; that the output failed if Write is
 -- returned.
-abbrev pub HasStoppedOrdering : ℕ → ℕ → StreamFault → Option (List ℕ) → Option (List ℕ)
+abbrev pub HasStoppedOrdering : Level → ℕ → ℕ → StreamFault → Option (List ℕ) → Option (List ℕ)
     → Option (List ℕ) → Option (List ℕ) → Type 0
-HasStoppedOrdering n steps fault.Write unread left held holds =
-    HasOrderedInPart n steps unread left held holds
-HasStoppedOrdering n steps fault unread left held holds = Appends held holds []
+HasStoppedOrdering kept n steps fault.Write unread left held holds =
+    HasOrderedInPart kept n steps unread left held holds
+HasStoppedOrdering kept n steps fault unread left held holds = Appends held holds []

@@ -15,10 +15,11 @@ use Rattle.judge_calls.specs.declared.fault.CallFault.{CallFault}
 use Rattle.judge_calls.specs.declared.fault.CallFault.TheVariants as fault
 use Rattle.judge_calls.specs.declared.verdict.Verdict.{Verdict}
 use Rattle.judge_calls.specs.declared.verdict.Verdict.TheVariants.{Fault, Illegal}
-use Rattle.judge_calls.specs.declared.verdict.Wrong.TheVariants.{Client}
+use Rattle.judge_calls.specs.declared.verdict.CallViolation.TheVariants.{Client}
 use Rattle.judge_calls.specs.Call.{Call, line_call}
 use Rattle.judge_calls.specs.Order.{call_breaks_client}
-use Rattle.judge_object.specs.Call.{EachCall}
+use Rattle.judge_time.specs.declared.span.TheConstants.{NEVER}
+use Rattle.judge_object.specs.Call.{EachCall, is_answered}
 use Rattle.judge_calls.specs.Laws.{Lists}
 use Rattle.vac_model.specs.declared.tasks.Task.{Task}
 use Rattle.judge_object.specs.Orders.{IsMerge}
@@ -76,11 +77,16 @@ abbrev pub KeepsEnds : FinMap nat_cmp ℕ → List Call → Type 0
 KeepsEnds ends calls = (call : Call) →
     list_any (calls_overlap call) calls ≡ began_before (get ends call.client) call.begin
 
+-- a pending call ends later than all times
+abbrev pub EndsNever : Call → Type 0
+EndsNever call = is_answered call ≡ false → NEVER ≤ call.end
+
 -- the calls that were read are in turn for each client, and their lines are numbered from 1
 pub record IsHeld (history : History) : Type 0 where
   pub ends : KeepsEnds history.ends (calls_of history.lines.items)
   pub turn : InTurn (calls_of history.lines.items)
   pub timed : EachCall (IsTimed (2 ^ 64 - 1)) (calls_of history.lines.items)
+  pub never : EachCall EndsNever (calls_of history.lines.items)
   pub numbered : AreNumbered 1 history.lines.items
 
 -- the numbers of the lines, in their order
@@ -131,7 +137,7 @@ abbrev pub next_line : HistoryText → ℕ
 next_line text = length text.history.lines.items + 1
 
 -- the effect of a reported line on a text that is read
-abbrev pub HistoryHearsLine : HistoryText → told.Told → Result Next StreamFault
+abbrev pub HistoryHearsLine : HistoryText → told.Message → Result Next StreamFault
     → HistoryText → Type 0
 HistoryHearsLine x told (Err fault) y = fault ≢ Write
 HistoryHearsLine x (told.Line text) (Ok GoOn) y = IsHeld x.history → TookLine x y text

@@ -6,7 +6,7 @@ use Rattle.std.specs.Prelude.{◌∷◌, ◌++◌, map, length, take, drop}
 use Rattle.vac_model.specs.State.{empty_state}
 use Rattle.vac_lines.specs.Lines.{lines_of}
 use Rattle.judge_calls.specs.declared.fault.CallFault.{CallFault}
-use Rattle.judge_calls.specs.declared.verdict.Wrong.TheVariants.{Client}
+use Rattle.judge_calls.specs.declared.verdict.CallViolation.TheVariants.{Client}
 use Rattle.judge_calls.specs.declared.verdict.Verdict.{Verdict}
 use Rattle.judge_calls.specs.declared.verdict.Verdict.TheVariants.{Fault, Illegal}
 use Rattle.judge_calls.specs.Call.{Call, line_call}
@@ -16,6 +16,7 @@ use Rattle.judge_calls.specs.Wrongs.{CallsTakeTurns}
 use Rattle.judge_object.specs.Call.{EachCall, is_answered}
 use Rattle.judge_object.specs.Orders.{of_client, IsOrderOf, IsLinearizable}
 use Rattle.judge_reservations.specs.Reserving.{reserving}
+use Rattle.judge_levels.specs.declared.level.Level.{Level}
 use Rattle.judge_linear.specs.declared.ordering.Outcome.{Outcome}
 use Rattle.judge_linear.specs.declared.ordering.Outcome.TheVariants as outcome
 use Rattle.judge_linear.specs.Found.{Wrong, IsFound}
@@ -54,14 +55,15 @@ pub record IsInTurn (bytes : List ℕ) : Type 0 where
 
 -- the result for a text is a wrong line if and only if that line is the first wrong line
 abbrev pub WrongIsFirst : Type 0
-WrongIsFirst = (n steps : ℕ) (bytes : List ℕ) (verdict : Verdict) →
-    IsFound n steps bytes (Wrong verdict) ↔ IsFirstWrongLine bytes verdict
+WrongIsFirst = (kept : Level) (n steps : ℕ) (bytes : List ℕ) (verdict : Verdict) →
+    IsFound kept n steps bytes (Wrong verdict) ↔ IsFirstWrongLine bytes verdict
 
 -- if a text has a first wrong line, what is written for the text is the verdict that names the
 -- line, and the outcome says that the text is illegal
 abbrev pub FirstWrongIsWritten : Type 0
-FirstWrongIsWritten = (n steps : ℕ) (bytes : List ℕ) (result : Outcome) (text : List ℕ)
-    (verdict : Verdict) → FindsText n steps bytes result text → IsFirstWrongLine bytes verdict →
+FirstWrongIsWritten = (kept : Level) (n steps : ℕ) (bytes : List ℕ) (result : Outcome)
+    (text : List ℕ) (verdict : Verdict) → FindsText kept n steps bytes result text →
+    IsFirstWrongLine bytes verdict →
     (result ≡ outcome.Illegal) × (text ≡ verdict_text verdict)
 
 -- each text has a first wrong line, or is in turn

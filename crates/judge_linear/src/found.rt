@@ -8,7 +8,7 @@ ghost use Rattle.judge_linear.specs.Reading.{texts_of, numbers_of};
 
 use crate::part::IllegalPart;
 use judge_object::Line;
-use judge_reservations::Asked;
+use judge_reservations::ValidTask;
 use judge_search::Stuck;
 use std::alloc::AllocError;
 use vac_lines::{append_field, print_reply};
@@ -33,7 +33,7 @@ fn append_line(out: &mut Vec<u8>, text: &[u8]) -> Result<(), AllocError>
 
 /// Appends the lines at these positions.
 pub(crate) fn print_order(
-    lines: &[Line<Asked>],
+    lines: &[Line<ValidTask>],
     places: &[usize],
     out: &mut Vec<u8>,
 ) -> Result<(), AllocError>
@@ -62,7 +62,7 @@ fn print_stuck(number: u64, expected: &Reply, out: &mut Vec<u8>) -> Result<(), A
 
 /// Appends the lines of the blocked calls.
 fn print_all_stuck(
-    lines: &[Line<Asked>],
+    lines: &[Line<ValidTask>],
     stuck: &[Stuck<Reply>],
     out: &mut Vec<u8>,
 ) -> Result<(), AllocError>
@@ -83,7 +83,7 @@ fn print_all_stuck(
 /// can be placed, and the calls that are then blocked.
 pub(crate) fn print_no_order(
     most: u64,
-    lines: &[Line<Asked>],
+    lines: &[Line<ValidTask>],
     stuck: &[Stuck<Reply>],
     out: &mut Vec<u8>,
 ) -> Result<(), AllocError>
@@ -129,7 +129,7 @@ fn print_items(items: &[(Kind, u32)], out: &mut Vec<u8>) -> Result<(), AllocErro
 }
 
 /// Returns the number of the line of the first blocked call, or 0 if there is none.
-fn first_of(lines: &[Line<Asked>], stuck: &[Stuck<Reply>]) -> u64
+fn first_of(lines: &[Line<ValidTask>], stuck: &[Stuck<Reply>]) -> u64
     ensures { All (λ one. one.place < length lines.now) stuck.now →
         result ≡ first_number (told_by (numbers_of lines.now) stuck.now) }
 {

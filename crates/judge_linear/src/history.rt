@@ -10,7 +10,7 @@ ghost use Rattle.judge_linear.specs.Reading.{IsHeld, IsLineOf, Took};
 
 use judge_calls::{Answer, CallLine};
 use judge_object::Line;
-use judge_reservations::Asked;
+use judge_reservations::ValidTask;
 use judge_time::{Ends, NEVER};
 use std::alloc::{AllocError, Global};
 
@@ -18,7 +18,7 @@ use std::alloc::{AllocError, Global};
 /// client.
 #[derive(Drop)]
 pub(crate) struct History {
-    pub(crate) lines: Vec<Line<Asked>>,
+    pub(crate) lines: Vec<Line<ValidTask>>,
     pub(crate) ends: Ends,
 }
 
@@ -48,7 +48,7 @@ fn line_of(
     number: u64,
     text: &[u8],
     call: CallLine<'_>,
-) -> Result<Line<Asked>, AllocError>
+) -> Result<Line<ValidTask>, AllocError>
     requires { is_task call.task ≡ true }
     ensures line { IfOk result (λ line.
         IsLineOf number text.now (shown_call call.entry) line) }
@@ -62,7 +62,7 @@ fn line_of(
         client: call.client,
         begin: call.begin,
         end,
-        op: Asked::new(call.task),
+        op: ValidTask::new(call.task),
         reply,
         soonest: call.begin,
     })

@@ -1,7 +1,7 @@
 //! Laws on the results. Each law is the contract of a function that does nothing.
 
-ghost use Rattle.judge_linear.specs.Laws.{OrderIsLinearization, NoOrderMeansNone, OrderIsJudgedLegal};
-ghost use Rattle.judge_linear.specs.Laws.{IllegalPartMeansNone};
+ghost use Rattle.judge_linear.specs.Laws.{OrderIsAtLevel, NoOrderMeansNone, OrderIsJudgedLegal};
+ghost use Rattle.judge_linear.specs.Laws.{IllegalPartMeansNone, OutcomeDecides};
 ghost use Rattle.judge_linear.specs.Laws.{FoundIsReordered, CoveredMeansWhole};
 ghost use Rattle.judge_linear.specs.Wrongs.{WrongIsFirst, FirstWrongIsWritten, WrongOrInTurn};
 ghost use Rattle.judge_linear.specs.Wrongs.{OutOfTurnIsLeftOut, OutOfTurnMeansNone};
@@ -9,30 +9,38 @@ ghost use Rattle.judge_linear.specs.Wrongs.{OutOfTurnIsLeftOut, OutOfTurnMeansNo
 use judge_calls::{a_covered_order_is_the_whole_workload, a_legal_history_has_this_summary};
 use judge_part::illegal_parts_show_illegal_histories;
 
-/// States that, if an order is found, some order of the calls of the history is a linearization.
-/// In such an order the calls of each client are in their order, and only pending calls are left
-/// out.
-pub fn an_order_that_is_found_is_a_linearization()
-    ensures { OrderIsLinearization }
+/// States that, if an order is found at a level, the history is at the level: linearizable,
+/// sequentially consistent or serializable.
+pub fn an_order_that_is_found_shows_the_level()
+    ensures { OrderIsAtLevel }
 {}
 
-/// States that, if the result is that there is no order, no order of the calls of the history is a
-/// linearization.
+/// States that, if the result at a level is that there is no order, the history is not at the
+/// level.
 pub fn where_none_is_found_there_is_none()
     ensures { NoOrderMeansNone }
 {}
 
-/// States that, if the result is that a part of the history has no order, no order of the calls of
-/// the history is a linearization.
+/// States that, if the result at a level is that a part of the history has no order, the history is
+/// not at the level.
 pub fn an_illegal_part_means_no_order()
     ensures { IllegalPartMeansNone }
 {
     illegal_parts_show_illegal_histories();
 }
 
-/// States that the text written for a history with a found order is a history that the judge calls
-/// legal, with the number of its calls and of its clients and the report of the state that they
-/// leave. The calls of the written text are an order of the calls of the input.
+/// States that the outcome of a search at a level says whether the history is at the level: it is
+/// if an order is found, and it is not if the outcome is that the history is illegal, unless a line
+/// is wrong.
+pub fn an_outcome_decides_the_level()
+    ensures { OutcomeDecides }
+{
+    illegal_parts_show_illegal_histories();
+}
+
+/// States that the text written for a history with a found linearization is a history that the
+/// judge calls legal, with the number of its calls and of its clients and the report of the state
+/// that they leave. The calls of the written text are an order of the calls of the input.
 pub fn an_order_that_is_written_is_judged_legal()
     ensures { OrderIsJudgedLegal }
 {
@@ -70,17 +78,17 @@ pub fn a_completed_call_out_of_turn_means_no_order()
     ensures { OutOfTurnMeansNone }
 {}
 
-/// States that the text which is written for an order that is found has the calls of the history,
-/// in an order that is a linearization. So the laws on verdicts of judge_calls that speak of such a
-/// text hold for it.
+/// States that the text which is written for a linearization that is found has the calls of the
+/// history, in an order that is a linearization. So the laws on verdicts of judge_calls that speak
+/// of such a text hold for it.
 pub fn an_order_that_is_found_is_written()
     ensures { FoundIsReordered }
 {
     a_legal_history_has_this_summary();
 }
 
-/// States that, if an order is found that covers a workload, some order of the calls of the history
-/// is a linearization whose calls are the whole workload.
+/// States that, if a linearization is found that covers a workload, some order of the calls of the
+/// history is a linearization whose calls are the whole workload.
 pub fn a_covered_workload_is_whole_in_some_order()
     ensures { CoveredMeansWhole }
 {

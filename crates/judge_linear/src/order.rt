@@ -1,20 +1,27 @@
 //! Searches for a linearization of the calls of a history.
 
-ghost use Rattle.std.specs.Prelude.{◌≡◌, IfOk, IfSome};
+ghost use Rattle.std.specs.Prelude.{◌≡◌, ◌≢◌, ◌≤◌, IfOk, IfSome};
+ghost use Rattle.vac_model.specs.State.{empty_state};
+ghost use Rattle.judge_levels.specs.declared.level.Level.TheVariants.{Linearizable};
 ghost use Rattle.judge_reservations.specs.Reserving.{reserving};
 ghost use Rattle.judge_search.specs.Calls.{calls_of};
-ghost use Rattle.judge_search.specs.Judging.{IsLinearizedBy};
+ghost use Rattle.judge_search.specs.Judging.{IsLinearizedBy, IsFoundIn};
+ghost use Rattle.judge_search.specs.Point.{point_at};
 ghost use Rattle.judge_search.specs.Walk.{IsWhole};
-ghost use Rattle.judge_linear.specs.Judged.{IsJudged};
-ghost use Rattle.judge_linear.specs.Reading.{IsHeld, AreKeptLines};
+ghost use Rattle.judge_linear.specs.Judged.{IsJudged, IsJudgedAs, IsJudgedAt};
+ghost use Rattle.judge_linear.specs.Reading.{IsHeld};
 
 use crate::history::History;
-use crate::part::{IllegalPart, find_illegal_part};
+use crate::part::{IllegalPart, find_illegal_part, open};
+use crate::relaxed::relaxed_calls;
+use crate::settings::Settings;
 use judge_heuristic::find_quickly;
+use judge_levels::Level;
 use judge_object::{Object, Watcher};
-use judge_reservations::{Asked, Reservations};
+use judge_reservations::{Reservations, ValidTask};
 use judge_search::{Calls, Finding, Found, Point, find_linearization, is_linearization};
 use std::alloc::{AllocError, Global};
+use vac_model::limits::MOST_BLOCKS;
 
 /// Returns the proposed positions if they are an order of the calls that is a linearization from a
 /// state on. The check runs each call, one after the other.
@@ -23,7 +30,7 @@ use std::alloc::{AllocError, Global};
 fn checked_order(
     alloc: Global,
     machine: Reservations,
-    calls: &Calls<Asked>,
+    calls: &Calls<ValidTask>,
     proposed: Option<Vec<usize>>,
 ) -> Result<Option<Vec<usize>>, AllocError>
     requires whole { IsWhole (calls_of calls.now.lines.items) }
@@ -48,12 +55,32 @@ pub(crate) enum Judged {
     Part(IllegalPart),
 }
 
-/// Searches for a linearization of the calls from a state on. The quick search proposes an order,
-/// which is checked; if the proposal fails, parts of the history are searched, and then the exact
-/// search follows. Each search of all calls or of a checked part makes at most `steps` steps.
+/// Searches quickly for a linearization of the calls from a state on. The quick search proposes an
+/// order, which is checked.
+///
+/// Not said: that an order is found if there is one.
+fn find_fast<P: Watcher>(
+    alloc: Global,
+    calls: &Calls<ValidTask>,
+    machine: &Reservations,
+    steps: u64,
+    watcher: &mut P,
+) -> Result<Option<Vec<usize>>, AllocError>
+    requires whole { IsWhole (calls_of calls.now.lines.items) }
+    ensures { IfOk result (λ found. IfSome found (λ places.
+        IsLinearizedBy reserving machine.now (calls_of calls.now.lines.items) places.items)) }
+{
+    let proposed = find_quickly(alloc, calls.as_slice(), machine.copy()?, steps, watcher)?;
+    let first = machine.copy()?;
+    checked_order(alloc, first, calls, proposed)
+}
+
+/// Searches for a linearization of the calls from a state on: quickly, then in parts of the
+/// history, and then exactly. Each search of all calls or of a checked part makes at most `steps`
+/// steps.
 fn judge_order<P: Watcher>(
     alloc: Global,
-    calls: &Calls<Asked>,
+    calls: &Calls<ValidTask>,
     machine: Reservations,
     steps: u64,
     watcher: &mut P,
@@ -61,9 +88,7 @@ fn judge_order<P: Watcher>(
     requires whole { IsWhole (calls_of calls.now.lines.items) }
     ensures { IfOk result (IsJudged machine calls.now steps) }
 {
-    let proposed = find_quickly(alloc, calls.as_slice(), machine.copy()?, steps, watcher)?;
-    let first = machine.copy()?;
-    if let Some(places) = checked_order(alloc, first, calls, proposed)? {
+    if let Some(places) = find_fast(alloc, calls, &machine, steps, watcher)? {
         return Ok(Judged::Whole(Found {
             finding: Finding::Order(places),
             steps: 0,
@@ -76,32 +101,104 @@ fn judge_order<P: Watcher>(
     Ok(Judged::Whole(found))
 }
 
+/// Searches for a linearization of all calls from a state on, quickly and then exactly, in at most
+/// `steps` steps each.
+fn find_whole<P: Watcher>(
+    alloc: Global,
+    calls: &Calls<ValidTask>,
+    machine: Reservations,
+    steps: u64,
+    watcher: &mut P,
+) -> Result<Found<Point<Reservations>>, AllocError>
+    requires whole { IsWhole (calls_of calls.now.lines.items) }
+    ensures { IfOk result (λ found. IsFoundIn reserving (point_at reserving calls.now) machine
+        (calls_of calls.now.lines.items) steps found) }
+{
+    match find_fast(alloc, calls, &machine, steps, watcher)? {
+        Some(places) => Ok(Found {
+            finding: Finding::Order(places),
+            steps: 0,
+        }),
+        None => find_linearization(alloc, calls, machine, steps, watcher),
+    }
+}
+
 /// The calls of a history as the search keeps them, and the finding of the search, which names
 /// positions in them.
 #[derive(Drop)]
 pub(crate) struct Ordered {
     /// The calls in the order in which they ended.
-    pub calls: Calls<Asked>,
+    pub calls: Calls<ValidTask>,
     /// The finding of the searches.
     pub judged: Judged,
 }
 
-/// Searches for a linearization of the calls of a history from a state on, in at most `steps`
-/// steps of each search.
+/// Searches for an order of the calls of a history at a level below linearizability. Since a
+/// linearization is an order at each level, and since a search is harder without the times, the
+/// history is searched first as it is given, in half of the steps.
+fn judge_below<P: Watcher>(
+    alloc: Global,
+    history: History,
+    how: Settings,
+    watcher: &mut P,
+) -> Result<Ordered, AllocError>
+    requires some { 1 ≤ how.blocks }
+    requires most { how.blocks ≤ MOST_BLOCKS }
+    requires held { IsHeld history }
+    requires below { how.level ≢ Linearizable }
+    ensures { IfOk result
+        (IsJudgedAt how.level (empty_state how.blocks) history.lines.items how.steps) }
+{
+    let machine = open(alloc, how.blocks)?;
+    let calls = Calls::new(alloc, history.lines)?;
+    let found = find_whole(alloc, &calls, machine.copy()?, how.steps / 2, watcher)?;
+    if let Finding::Order(_) = &found.finding {
+        let judged = Judged::Whole(found);
+        return Ok(Ordered { calls, judged });
+    }
+    let relaxed = relaxed_calls(alloc, how.level, calls.as_slice())?;
+    let left = how.steps - found.steps;
+    let judged = judge_order(alloc, &relaxed, machine, left, watcher)?;
+    Ok(Ordered {
+        calls: relaxed,
+        judged,
+    })
+}
+
+/// Searches for a linearization of the calls of a history.
+fn judge_given<P: Watcher>(
+    alloc: Global,
+    history: History,
+    how: Settings,
+    watcher: &mut P,
+) -> Result<Ordered, AllocError>
+    requires some { 1 ≤ how.blocks }
+    requires most { how.blocks ≤ MOST_BLOCKS }
+    requires held { IsHeld history }
+    ensures { IfOk result
+        (IsJudgedAs Linearizable (empty_state how.blocks) history.lines.items how.steps) }
+{
+    let machine = open(alloc, how.blocks)?;
+    let calls = Calls::new(alloc, history.lines)?;
+    let judged = judge_order(alloc, &calls, machine, how.steps, watcher)?;
+    Ok(Ordered { calls, judged })
+}
+
+/// Searches for an order of the calls of a history at a level.
 pub(crate) fn judge_lines<P: Watcher>(
     alloc: Global,
     history: History,
-    machine: Reservations,
-    steps: u64,
+    how: Settings,
     watcher: &mut P,
 ) -> Result<Ordered, AllocError>
+    requires some { 1 ≤ how.blocks }
+    requires most { how.blocks ≤ MOST_BLOCKS }
     requires held { IsHeld history }
-    ensures kept { IfOk result (λ ordered.
-        AreKeptLines history.lines.items ordered.calls.lines.items) }
-    ensures judged { IfOk result (λ ordered.
-        IsJudged machine ordered.calls steps ordered.judged) }
+    ensures { IfOk result
+        (IsJudgedAt how.level (empty_state how.blocks) history.lines.items how.steps) }
 {
-    let calls = Calls::new(alloc, history.lines)?;
-    let judged = judge_order(alloc, &calls, machine, steps, watcher)?;
-    Ok(Ordered { calls, judged })
+    match how.level {
+        Level::Linearizable => judge_given(alloc, history, how, watcher),
+        Level::Sequential | Level::Serializable => judge_below(alloc, history, how, watcher),
+    }
 }

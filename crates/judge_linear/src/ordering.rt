@@ -1,6 +1,7 @@
 //! Ordering a history: reading, searching and writing the result.
 
-ghost use Rattle.std.specs.Prelude.{◌≡◌, ◌≤◌, ◌≢◌, ℕ, None, List, [], IfOk, IfErr};
+ghost use Rattle.std.specs.Prelude.{◌≡◌, ◌≤◌, ◌≢◌, ◌+◌, ℕ, None, List, [], IfOk, IfErr};
+ghost use Rattle.judge_levels.specs.declared.level.Level.{Level};
 ghost use Rattle.judge_object.specs.declared.line.Line.{Line};
 ghost use Rattle.judge_reservations.specs.Reserving.{reserving};
 ghost use Rattle.vac_model.specs.State.{empty_state};
@@ -12,17 +13,18 @@ ghost use Rattle.judge_search.specs.Calls.{calls_of};
 ghost use Rattle.judge_search.specs.Judging.{IsFoundIn};
 ghost use Rattle.judge_search.specs.Point.{point_at};
 ghost use Rattle.judge_linear.specs.Reading.{IsHeld, AreKeptLines, texts_of, first_wrong};
-ghost use Rattle.judge_linear.specs.Judged.{IsJudged};
+ghost use Rattle.judge_linear.specs.Found.{RunsBefore};
+ghost use Rattle.judge_linear.specs.Judged.{IsJudged, IsOrder, HasFoundOrder, IsReadAt};
 ghost use Rattle.judge_linear.specs.Ordering.{FindsText, HasText, HasOrdered, HasStoppedOrdering};
 
 use crate::found::{print_illegal_part, print_no_order, print_order, print_undecided};
 use crate::history::History;
 use crate::order::{Judged, Ordered, judge_lines};
-use crate::part::open;
 use crate::reading::{Reading, read_history};
+use crate::settings::Settings;
 use judge_calls::print_verdict;
 use judge_object::Watcher;
-use judge_reservations::{Asked, Reservations};
+use judge_reservations::{Reservations, ValidTask};
 use judge_search::{Calls, Finding, Found, Point, stuck_calls};
 use std::alloc::{AllocError, Global};
 use std::io::{Read, Write};
@@ -36,10 +38,10 @@ pub const STEPS: u64 = 10_000_000;
 /// The kind of result that was written for a history.
 #[derive(Clone, Copy, Debug, PartialEq, Eq)]
 pub enum Outcome {
-    /// The lines of the history, in an order that is a linearization.
+    /// The lines of the history, in an order of the level.
     Ordered,
-    /// The statement that there is no such order, or the first line that is no call or not in
-    /// turn.
+    /// The statement that there is no order of the level, or the first line that is no call or not
+    /// in turn.
     Illegal,
     /// The statement that neither is known after the allowed steps.
     Undecided,
@@ -48,17 +50,17 @@ pub enum Outcome {
 /// Writes the text of the finding of a search of all calls into `text`, which is empty before.
 fn print_whole(
     alloc: Global,
-    calls: &Calls<Asked>,
+    calls: &Calls<ValidTask>,
     found: &Found<Point<Reservations>>,
     text: &mut Vec<u8>,
 ) -> Result<Outcome, AllocError>
-    ensures { IfOk result (λ outcome. (lines : List (Line Task)) (n steps : ℕ) (bytes : List ℕ) →
-        AreKeptLines lines calls.now.lines.items →
+    ensures order { IfOk result (λ outcome. IsOrder found.now.finding → outcome ≡ Outcome.Ordered) }
+    ensures text { IfOk result (λ outcome. (kept : Level) (lines : List (Line Task)) (n : ℕ)
+        (given left : ℕ) (bytes : List ℕ) → AreKeptLines lines calls.now.lines.items →
         IsFoundIn reserving (point_at reserving calls.now) (empty_state n)
-        (calls_of calls.now.lines.items) steps found.now →
-        texts_of lines ≡ lines_of bytes →
-        Lists bytes (calls_of lines) → first_wrong bytes ≡ None → text.old.items ≡ [] →
-        FindsText n steps bytes outcome text.new.items) }
+        (calls_of calls.now.lines.items) left found.now →
+        (read : IsReadAt kept bytes lines) → RunsBefore kept n bytes read.calls given →
+        text.old.items ≡ [] → FindsText kept n (given + left) bytes outcome text.new.items) }
 {
     let lines = calls.as_slice();
     match &found.finding {
@@ -84,12 +86,14 @@ fn print_finding(
     ordered: &Ordered,
     text: &mut Vec<u8>,
 ) -> Result<Outcome, AllocError>
-    ensures { IfOk result (λ outcome. (lines : List (Line Task)) (n steps : ℕ) (bytes : List ℕ) →
-        n ≤ MOST_BLOCKS → AreKeptLines lines ordered.now.calls.lines.items →
-        IsJudged (empty_state n) ordered.now.calls steps ordered.now.judged →
-        texts_of lines ≡ lines_of bytes →
-        Lists bytes (calls_of lines) → first_wrong bytes ≡ None → text.old.items ≡ [] →
-        FindsText n steps bytes outcome text.new.items) }
+    ensures order { IfOk result (λ outcome. HasFoundOrder ordered.now.judged →
+        outcome ≡ Outcome.Ordered) }
+    ensures text { IfOk result (λ outcome. (kept : Level) (lines : List (Line Task)) (n : ℕ)
+        (given left : ℕ) (bytes : List ℕ) → n ≤ MOST_BLOCKS →
+        AreKeptLines lines ordered.now.calls.lines.items →
+        IsJudged (empty_state n) ordered.now.calls left ordered.now.judged →
+        (read : IsReadAt kept bytes lines) → RunsBefore kept n bytes read.calls given →
+        text.old.items ≡ [] → FindsText kept n (given + left) bytes outcome text.new.items) }
 {
     match &ordered.judged {
         Judged::Whole(found) => print_whole(alloc, &ordered.calls, found, text),
@@ -103,21 +107,19 @@ fn print_finding(
 /// Searches for an order of a history that was read, and returns the outcome with its text.
 fn order_calls<P: Watcher>(
     alloc: Global,
-    blocks: u32,
-    steps: u64,
+    how: Settings,
     history: History,
     watcher: &mut P,
 ) -> Result<(Outcome, Vec<u8>), AllocError>
-    requires some { 1 ≤ blocks }
-    requires most { blocks ≤ MOST_BLOCKS }
+    requires some { 1 ≤ how.blocks }
+    requires most { how.blocks ≤ MOST_BLOCKS }
     requires held { IsHeld history }
     ensures { IfOk result (λ found. (bytes : List ℕ) →
         texts_of history.lines.items ≡ lines_of bytes →
         Lists bytes (calls_of history.lines.items) → first_wrong bytes ≡ None →
-        FindsText blocks steps bytes found.0 found.1.items) }
+        FindsText how.level how.blocks how.steps bytes found.0 found.1.items) }
 {
-    let machine = open(alloc, blocks)?;
-    let ordered = judge_lines(alloc, history, machine, steps, watcher)?;
+    let ordered = judge_lines(alloc, history, how, watcher)?;
     let mut text = Vec::new(alloc);
     let outcome = print_finding(alloc, &ordered, &mut text)?;
     Ok((outcome, text))
@@ -126,19 +128,18 @@ fn order_calls<P: Watcher>(
 /// Reads a history, and returns the outcome with the text to be written.
 fn find_text<R: Read, P: Watcher>(
     alloc: Global,
-    blocks: u32,
-    steps: u64,
+    how: Settings,
     input: &mut R,
     watcher: &mut P,
 ) -> Result<(Outcome, Vec<u8>), StreamFault>
-    requires some { 1 ≤ blocks }
-    requires most { blocks ≤ MOST_BLOCKS }
-    ensures found { IfOk result (λ found. HasText blocks steps
+    requires some { 1 ≤ how.blocks }
+    requires most { how.blocks ≤ MOST_BLOCKS }
+    ensures found { IfOk result (λ found. HasText how.level how.blocks how.steps
         (R.remaining input.old) (R.remaining input.new) found.0 found.1.items) }
     ensures refused { IfErr result (λ fault. fault ≢ Write) }
 {
     match read_history(alloc, input)? {
-        Reading::Whole(history) => Ok(order_calls(alloc, blocks, steps, history, watcher)?),
+        Reading::Whole(history) => Ok(order_calls(alloc, how, history, watcher)?),
         Reading::Wrong(verdict) => {
             let mut text = Vec::new(alloc);
             print_verdict(&verdict, &mut text)?;
@@ -147,32 +148,32 @@ fn find_text<R: Read, P: Watcher>(
     }
 }
 
-/// Orders a history of a system of `blocks` blocks, of which only each client's own order is
-/// known. Reads the lines to the end of the input, or to the first line that is no call or not in
-/// turn; searches for an order that is a linearization, quickly and then exactly, in at most
-/// `steps` steps each; and writes the result.
+/// Orders a history, of which only each client's own order is known, at a level of consistency.
+/// Reads the lines to the end of the input, or to the first line that is no call or not in turn;
+/// searches for an order of the level, quickly and then exactly; and writes the result. At a level
+/// below linearizability the lines are written as they were read, and their order may break the
+/// times.
 ///
 /// After a fault of the output a prefix of the text was written, after any other fault nothing.
 ///
 /// Not said: the reports to the watcher.
 pub fn order_history<R: Read, W: Write, P: Watcher>(
     alloc: Global,
-    blocks: u32,
-    steps: u64,
+    how: Settings,
     input: &mut R,
     output: &mut W,
     watcher: &mut P,
 ) -> Result<Outcome, StreamFault>
-    requires some { 1 ≤ blocks }
-    requires most { blocks ≤ MOST_BLOCKS }
-    ensures ok { IfOk result (λ outcome. HasOrdered blocks steps outcome
+    requires some { 1 ≤ how.blocks }
+    requires most { how.blocks ≤ MOST_BLOCKS }
+    ensures ok { IfOk result (λ outcome. HasOrdered how.level how.blocks how.steps outcome
         (R.remaining input.old) (R.remaining input.new)
         (W.contents output.old) (W.contents output.new)) }
-    ensures err { IfErr result (λ fault. HasStoppedOrdering blocks steps fault
+    ensures err { IfErr result (λ fault. HasStoppedOrdering how.level how.blocks how.steps fault
         (R.remaining input.old) (R.remaining input.new)
         (W.contents output.old) (W.contents output.new)) }
 {
-    let (outcome, text) = find_text(alloc, blocks, steps, input, watcher)?;
+    let (outcome, text) = find_text(alloc, how, input, watcher)?;
     write_and_flush(output, text.as_slice())?;
     Ok(outcome)
 }

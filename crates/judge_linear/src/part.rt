@@ -10,7 +10,7 @@ ghost use Rattle.judge_linear.specs.Judged.{HasNoOrderOf};
 
 use judge_object::Watcher;
 use judge_part::{Scope, part_of_history, scope_of};
-use judge_reservations::{Asked, Reservations};
+use judge_reservations::{Reservations, ValidTask};
 use judge_scopes::{Names, Proposals};
 use judge_search::{Calls, Finding, Stuck, find_linearization, stuck_calls};
 use std::alloc::{AllocError, Global};
@@ -28,7 +28,7 @@ pub(crate) struct IllegalPart {
     /// The scope of the part.
     pub scope: Scope,
     /// The calls of the part in the order in which they ended.
-    pub calls: Calls<Asked>,
+    pub calls: Calls<ValidTask>,
     /// The calls that are blocked after as many calls as can be placed.
     pub stuck: Vec<Stuck<Reply>>,
 }
@@ -50,7 +50,7 @@ pub(crate) fn open(alloc: Global, blocks: u32) -> Result<Reservations, AllocErro
 /// Returns the part if there is none.
 fn part_without_order<P: Watcher>(
     alloc: Global,
-    calls: &Calls<Asked>,
+    calls: &Calls<ValidTask>,
     scope: Scope,
     steps: u64,
     watcher: &mut P,
@@ -81,7 +81,7 @@ fn part_without_order<P: Watcher>(
 /// most `steps` steps shows that the part has no order.
 fn checked_part<P: Watcher>(
     alloc: Global,
-    calls: &Calls<Asked>,
+    calls: &Calls<ValidTask>,
     names: &Names,
     steps: u64,
     watcher: &mut P,
@@ -102,7 +102,7 @@ fn checked_part<P: Watcher>(
 /// Not said: that a part is found if there is one.
 pub(crate) fn find_illegal_part<P: Watcher>(
     alloc: Global,
-    calls: &Calls<Asked>,
+    calls: &Calls<ValidTask>,
     steps: u64,
     watcher: &mut P,
 ) -> Result<Option<IllegalPart>, AllocError>
@@ -112,7 +112,7 @@ pub(crate) fn find_illegal_part<P: Watcher>(
     let few = steps.min(MOST_STEPS);
     let empty = open(alloc, MOST_BLOCKS)?;
     let mut proposals = Proposals::new(alloc, calls.as_slice())?;
-    'checks: for _ in 0..MOST_CHECKS {
+    for _ in 0..MOST_CHECKS {
         let Some(names) = proposals.next_names(alloc, calls.as_slice(), &empty)? else {
             return Ok(None);
         };

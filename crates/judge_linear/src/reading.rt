@@ -8,7 +8,7 @@ ghost use Rattle.vac_streams.specs.declared.fault.StreamFault.TheVariants.{Write
 ghost use Rattle.judge_linear.specs.Reading.{WasReadAs, HistoryHearsLine, next_line};
 
 use crate::history::History;
-use judge_calls::{CALL_BYTES, CallFault, Verdict, Wrong, read_call};
+use judge_calls::{CALL_BYTES, CallFault, CallViolation, Verdict, read_call};
 use std::alloc::Global;
 use std::io::Read;
 use vac_lines::LineFault;
@@ -67,7 +67,7 @@ impl HistoryText {
         }
         self.wrong = Some(Verdict::Illegal {
             line: number,
-            wrong: Wrong::Client,
+            wrong: CallViolation::Client,
         });
         Ok(Next::Stop)
     }

@@ -15,7 +15,7 @@ use Rattle.judge_many.specs.Many.{changed}
 use Rattle.judge_many.proofs.OfOne.{named, changed_here, changed_not}
 
 -- names are told apart by their bytes
-abbrev vec_cmp : Vec ℕ → Vec ℕ → Ordering
+abbrev pub vec_cmp : Vec ℕ → Vec ℕ → Ordering
 vec_cmp a b = slice_cmp nat_cmp a.items b.items
 
 -- the state of a name in a map, or that of all others
@@ -40,6 +40,20 @@ apart_names a b k n y =
           let same : a ≡ k = (bytes_eq-Decides a k).0 (sym (is_eq-slice_cmp a k) ∙ y) in
           absurd (false_true (sym n ∙ (bytes_eq-Decides a b).1 (same ∙ sym e.1)))
       | inr e ↦ is_eq-slice_cmp b k ∙ e.0
+    ]
+
+-- what names find in a map after one was set
+pub set_finds : {S : Type 0} (old new : BTreeMap (Vec ℕ) S) (name : Vec ℕ) (state : S) →
+    Updates vec_cmp old new name (Some state) → (other : List ℕ) → (other ≡ name.items → ⊥) →
+    get_by (λ (key : Vec ℕ). slice_cmp nat_cmp other key.items) new
+    ≡ get_by (λ (key : Vec ℕ). slice_cmp nat_cmp other key.items) old
+set_finds old new name state h other n =
+    elim (named name.items other) [
+      | inl e ↦ absurd (n (sym e.1))
+      | inr e ↦
+          kept old.entries new.entries name h.3 (is_at (λ (key : Vec ℕ). slice_cmp nat_cmp other key.items))
+          (λ x y. (eq_by_cmp_equiv nat_list_cmp_total).congr other x.items y.items)
+          (λ k t. apart_names name.items other k.items e.0 t)
     ]
 
 pub set_updates : {S : Type 0} (old new : BTreeMap (Vec ℕ) S) (name : Vec ℕ) (state others : S) (other : List ℕ) →

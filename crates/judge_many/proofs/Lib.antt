@@ -5,3 +5,4 @@ pub mod Ends
 pub mod One
 pub mod Blocking
 pub mod Beginnings
+pub mod Classing

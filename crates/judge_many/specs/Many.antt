@@ -1,5 +1,6 @@
 -- Many objects of one kind, each with a name. A history of them is linearizable exactly where that
--- of each object is (Herlihy and Wing, TOPLAS 1990: linearizability is local).
+-- of each object is (Herlihy and Wing, TOPLAS 1990: linearizability is local), if no client begins
+-- a call at the very time at which its last one ended.
 use Rattle.std.specs.Prelude.{◌≡◌, ◌<◌, ⊤, ℕ, Bool, List, [], ◌∷◌, if◌then◌else◌}
 use Rattle.std.specs.Str.{bytes_eq}
 use Rattle.judge_object.specs.Rules.{Rules}

@@ -1,10 +1,12 @@
 //! Judging a history of many objects.
 
 ghost use Rattle.std.specs.Prelude.{◌≡◌, IfOk};
+ghost use Rattle.judge_many.specs.Naming.{object_of, for_object};
 ghost use Rattle.judge_many.specs.Starts.{start_of};
 ghost use Rattle.judge_many.specs.Verdict.{IsVerdictOn};
 
 use crate::named::Named;
+use crate::names::Names;
 use crate::parts::{Blocked, Judged, Undecided, judge_parts};
 use crate::runs::is_of_one;
 use crate::starts::Starts;
@@ -31,24 +33,26 @@ pub enum Verdict<O, M> {
     Touching,
 }
 
-/// Judges a history of many objects, each of which begins in the state that is given for its name,
-/// in at most `steps` steps for all objects together.
+/// Judges a history of the objects that these names stand for, each of which begins in the state
+/// that is given for its name, in at most `steps` steps for all objects together.
 pub fn judge_many<M: Named + Drop, P: Watcher>(
     alloc: Global,
+    names: &Names,
     lines: Vec<Line<M::Op>>,
     starts: &Starts<M>,
     steps: u64,
     watcher: &mut P,
 ) -> Result<Verdict<M::Op, M>, AllocError>
     ensures { IfOk result (λ verdict.
-        IsVerdictOn M.rules M.name (start_of starts.now) steps lines.items verdict) }
+        IsVerdictOn M.rules (for_object (object_of names.now) M.name) (start_of starts.now) steps
+        lines.items verdict) }
 {
     let is_strict = match find_turns(alloc, lines.as_slice())? {
         Turns::Broken(place) => return Ok(Verdict::OutOfTurn(place)),
         Turns::Held(is_strict) => is_strict,
     };
-    let is_one = is_of_one::<M>(lines.as_slice());
-    match judge_parts(alloc, lines, starts, steps, watcher)? {
+    let is_one = is_of_one::<M>(names, lines.as_slice());
+    match judge_parts(alloc, names, lines, starts, steps, watcher)? {
         Judged::Linearizable => {
             if is_strict {
                 Ok(Verdict::Linearizable)

@@ -4,10 +4,12 @@ ghost use Rattle.std.specs.Prelude.{◌≡◌, ◌<◌, ℕ, List, IfOk, length}
 ghost use Rattle.judge_search.specs.Calls.{calls_of};
 ghost use Rattle.judge_search.specs.Walk.{IsWhole};
 ghost use Rattle.judge_many.specs.Judging.{SearchesRun, JudgesParts};
+ghost use Rattle.judge_many.specs.Naming.{object_of, for_object};
 ghost use Rattle.judge_many.specs.Runs.{lines_for};
 ghost use Rattle.judge_many.specs.Starts.{start_of};
 
 use crate::named::Named;
+use crate::names::Names;
 use crate::runs::{sorted_by_name, take_run};
 use crate::starts::Starts;
 use judge_object::{Line, Watcher};
@@ -85,20 +87,26 @@ fn judge_run<M: Named + Drop, P: Watcher>(
 }
 
 /// Returns the state in which the object begins that the first line is for.
-fn first_state<M: Named>(starts: &Starts<M>, run: &[Line<M::Op>]) -> Result<M, AllocError>
+fn first_state<M: Named>(
+    names: &Names,
+    starts: &Starts<M>,
+    run: &[Line<M::Op>],
+) -> Result<M, AllocError>
     requires { 0 < length run.now }
-    ensures { IfOk result (λ state. (for : List ℕ) → lines_for M.name for run.now ≡ run.now →
+    ensures { IfOk result (λ state. (for : List ℕ) →
+        lines_for (for_object (object_of names.now) M.name) for run.now ≡ run.now →
         state ≡ start_of starts.now for) }
 {
-    starts.get(M::name(&run[0].op))
+    starts.get(names.name::<M>(&run[0].op))
 }
 
-/// Judges the calls of many objects, each from the state on that is given for its name, one object
-/// after the other in the order of their names, in at most `steps` steps of all searches together.
-/// Stops at the first object whose calls have no linearization, or of which neither is known when
-/// all steps are made.
+/// Judges the calls of the objects that these names stand for, each from the state on that is given
+/// for its name, one object after the other in the order of their names, in at most `steps` steps
+/// of all searches together. Stops at the first object whose calls have no linearization, or of
+/// which neither is known when all steps are made.
 pub fn judge_parts<M: Named + Drop, P: Watcher>(
     alloc: Global,
+    names: &Names,
     lines: Vec<Line<M::Op>>,
     starts: &Starts<M>,
     steps: u64,
@@ -106,13 +114,14 @@ pub fn judge_parts<M: Named + Drop, P: Watcher>(
 ) -> Result<Judged<M::Op, M>, AllocError>
     requires whole { IsWhole (calls_of lines.items) }
     ensures { IfOk result (λ judged.
-        JudgesParts M.rules M.name (start_of starts.now) steps lines.items judged) }
+        JudgesParts M.rules (for_object (object_of names.now) M.name) (start_of starts.now)
+        steps lines.items judged) }
 {
-    let mut left = sorted_by_name::<M>(lines)?;
+    let mut left = sorted_by_name::<M>(names, lines)?;
     let mut rest = steps;
     'runs: while 0 < left.len() {
-        let run = take_run::<M>(&mut left)?;
-        let machine = first_state(starts, run.as_slice())?;
+        let run = take_run::<M>(names, &mut left)?;
+        let machine = first_state(names, starts, run.as_slice())?;
         let Searched {
             judged,
             steps: made,

@@ -6,7 +6,7 @@ use Rattle.std.proofs.lemmas.List.{set-get_or, get_or-set_same, get_or-set_other
 use Rattle.judge_time.proofs.Tests.{test}
 use Rattle.judge_opacity.specs.declared.attempt.Access.{Access}
 use Rattle.judge_opacity.specs.declared.attempt.Access.TheVariants.{Read, Write}
-use Rattle.judge_opacity.specs.declared.finding.Breach.TheVariants as breach
+use Rattle.judge_opacity.specs.declared.finding.AttemptViolation.TheVariants as violation
 use Rattle.judge_opacity.specs.declared.memory.Covered.{Covered}
 use Rattle.judge_opacity.specs.Words.{image_with, words_after, wrong_read}
 use Rattle.judge_opacity.specs.Covered.{image_of, uncovered}
@@ -71,11 +71,11 @@ run_read first words all rest behind x word value r e is same =
 pub run_wrong : (first words : List ℕ) (all rest behind : List Access) (x : Access) (word value expected : ℕ) →
     RunTo first words all rest → rest ≡ x ∷ behind → x ≡ Read word value
     → expected ≡ image_of words word → value ≢ expected → wrong_read (image_of first) all ≡ Some
-    (breach.Read word expected)
+    (violation.Read word expected)
 run_wrong first words all rest behind x word value expected r e is at other =
     r.found ∙ ap (wrong_read (image_of words)) (e ∙ ap (λ t. t ∷ behind) is)
     ∙ unless_wrong word value (image_of words word) (wrong_read (image_of words) behind) (λ same. other (same ∙ sym at))
-    ∙ ap (λ v. Some (breach.Read word v)) (sym at)
+    ∙ ap (λ v. Some (violation.Read word v)) (sym at)
 
 -- a write
 pub run_write : (first words words' : List ℕ) (all rest behind : List Access) (x : Access) (word value : ℕ) →

@@ -12,11 +12,11 @@ use Rattle.judge_time.proofs.Tests.{both_false, false_both}
 use Rattle.judge_time.proofs.Order.{none_found, fails}
 use Rattle.judge_opacity.specs.declared.attempt.Access.{Access}
 use Rattle.judge_opacity.specs.declared.attempt.Access.TheVariants.{Read, Write}
-use Rattle.judge_opacity.specs.declared.finding.Breach.{Breach}
-use Rattle.judge_opacity.specs.declared.finding.Breach.TheVariants as breach
+use Rattle.judge_opacity.specs.declared.finding.AttemptViolation.{AttemptViolation}
+use Rattle.judge_opacity.specs.declared.finding.AttemptViolation.TheVariants as violation
 use Rattle.judge_opacity.specs.Attempt.{Attempt, span_of_attempt}
 use Rattle.judge_opacity.specs.Words.{Image, words_after, left_by, wrong_read}
-use Rattle.judge_opacity.specs.Verdict.{place_first, breach_of}
+use Rattle.judge_opacity.specs.Verdict.{place_first, violation_of}
 use Rattle.judge_opacity.specs.Laws.{IsOpaqueOrder}
 use Rattle.judge_opacity.specs.Placing.{is_write, is_writer, NoWriter, IsPlacement, IsPlaceable, may_follow, Goes}
 use Rattle.judge_opacity.specs.Placing.{Completes}
@@ -114,7 +114,7 @@ same_more x earlier other s = record {
 }
 
 -- what is found, by the tests and by the words
-abbrev found_by : Bool → Bool → Image → Attempt → Option Breach
+abbrev found_by : Bool → Bool → Image → Attempt → Option AttemptViolation
 found_by client time words a =
     place_first (cond (nat_lt a.span.end a.span.begin || client) (Some Client) (cond time (Some Time) None))
     (wrong_read words a.accesses)
@@ -122,14 +122,14 @@ found_by client time words a =
 breach_by : (a : Attempt) (earlier : List Attempt) (client time : Bool) (words : Image) →
     list_any (overlaps span_of_attempt a) earlier ≡ client →
     list_any (ended_before span_of_attempt a) earlier ≡ time →
-    left_by earlier ≡ words → breach_of earlier a ≡ found_by client time words a
+    left_by earlier ≡ words → violation_of earlier a ≡ found_by client time words a
 breach_by a earlier client time words e f g =
     ap (λ b. found_by b (list_any (ended_before span_of_attempt a) earlier) (left_by earlier) a) e
     ∙ ap (λ b. found_by client b (left_by earlier) a) f
     ∙ ap (λ (m : Image). found_by client time m a) g
 
 breach_same : (a : Attempt) (earlier other : List Attempt) → Same earlier other →
-    breach_of earlier a ≡ breach_of other a
+    violation_of earlier a ≡ violation_of other a
 breach_same a earlier other s =
     breach_by a earlier (list_any (overlaps span_of_attempt a) other)
     (list_any (ended_before span_of_attempt a) other) (left_by other)
@@ -152,7 +152,7 @@ both_not : (a b : Bool) → a ≡ false → b ≡ false → not (a || b) ≡ tru
 both_not a b h g = ap (λ x. not (x || b)) h ∙ ap not g
 
 breach_with : (a f : Attempt) (earlier more : List Attempt) → With f earlier more → may_follow f a ≡ true →
-    breach_of more a ≡ breach_of earlier a
+    violation_of more a ≡ violation_of earlier a
 breach_with a f earlier more w may =
     let none = not_both (overlaps span_of_attempt a f) (ended_before span_of_attempt a f) may in
     breach_by a more (list_any (overlaps span_of_attempt a) earlier)
@@ -329,18 +329,18 @@ true_or : (a b : Bool) → a ≡ true → (a || b) ≡ true
 true_or true b h = refl
 true_or false b h = absurd (false_true h)
 
-place_none : (place : Option Misplaced) (rest : Option Breach) → place_first place rest ≡ None → place ≡ None
+place_none : (place : Option Misplaced) (rest : Option AttemptViolation) → place_first place rest ≡ None → place ≡ None
 place_none None rest h = refl
-place_none (Some wrong) rest h = absurd (some_none (breach.Place wrong) h)
+place_none (Some wrong) rest h = absurd (some_none (violation.Place wrong) h)
   where
-    some_none : (b : Breach) → Some b ≡ None → ⊥
+    some_none : (b : AttemptViolation) → Some b ≡ None → ⊥
     some_none b e = cc
 
 absent : (x : Attempt) (earlier : List Attempt) (p : Attempt → Bool) → Has x earlier → list_any p earlier ≡ false →
     p x ≡ false
 absent x earlier p h none = fails (p x) (λ e. false_true (sym none ∙ h p e))
 
-follows_it : (x y : Attempt) (earlier : List Attempt) → Has x earlier → breach_of earlier y ≡ None →
+follows_it : (x y : Attempt) (earlier : List Attempt) → Has x earlier → violation_of earlier y ≡ None →
     may_follow x y ≡ true
 follows_it x y earlier h e =
     let place = place_none (misplaced span_of_attempt earlier y) (wrong_read (left_by earlier) y.accesses) e in
@@ -361,7 +361,7 @@ follow_it x earlier (y ∷ order) h g = (
 -- no attempt that is no writer may come at once
 abbrev pub NoFree : List Attempt → List Attempt → Type 0
 NoFree earlier attempts = (b a : List Attempt) (f : Attempt) → attempts ≡ b ++ f ∷ a → is_writer f ≡ false →
-    AllFollow f (b ++ a) → breach_of earlier f ≡ None → ⊥
+    AllFollow f (b ++ a) → violation_of earlier f ≡ None → ⊥
 
 -- a writer comes next
 pub record WritesNext (earlier attempts : List Attempt) : Type 0 where
@@ -371,7 +371,7 @@ pub record WritesNext (earlier attempts : List Attempt) : Type 0 where
   pub split : attempts ≡ before ++ writer ∷ after
   pub writes : is_writer writer ≡ true
   pub first : NoWriter before
-  pub fits : breach_of earlier writer ≡ None
+  pub fits : violation_of earlier writer ≡ None
   pub completes : Completes (writer ∷ earlier) (before ++ after)
 
 is_true : (b : Bool) → (b ≡ false → ⊥) → b ≡ true
@@ -398,13 +398,13 @@ writes_next earlier attempts (x ∷ order) p g none =
 
 -- if no free attempt may come at once, the first writer has to
 pub writer_next : (earlier b a : List Attempt) (w : Attempt) → Completes earlier (b ++ w ∷ a) → is_writer w ≡ true →
-    NoWriter b → NoFree earlier (b ++ w ∷ a) → (breach_of earlier w ≡ None) × Completes (w ∷ earlier) (b ++ a)
+    NoWriter b → NoFree earlier (b ++ w ∷ a) → (violation_of earlier w ≡ None) × Completes (w ∷ earlier) (b ++ a)
 writer_next earlier b a w c writes first none =
     elim (writes_next earlier (b ++ w ∷ a) c.order c.placement c.goes none) [
       | inl e ↦ absurd (none_split w b a (sym e))
       | inr n ↦ elim (splits b a n.before n.after w n.writer n.split) [
         | same_place e g h ↦ (
-          ap (breach_of earlier) g ∙ n.fits,
+          ap (violation_of earlier) g ∙ n.fits,
           subst (λ t. Completes (t ∷ earlier) (b ++ a)) (sym g)
               (subst (Completes (n.writer ∷ earlier)) (ap (λ t. t ++ n.after) (sym e) ∙ ap (λ t. b ++ t) (sym h))
               n.completes),

@@ -7,22 +7,22 @@ use Rattle.judge_time.specs.declared.span.Misplaced.{Misplaced}
 use Rattle.judge_time.specs.Order.{itself, misplaced}
 use Rattle.judge_time.specs.Keeping.{Keeps}
 use Rattle.judge_time.proofs.Order.{misplaced_mapped}
-use Rattle.judge_opacity.specs.declared.finding.Breach.{Breach}
-use Rattle.judge_opacity.specs.declared.finding.Breach.TheVariants as breach
+use Rattle.judge_opacity.specs.declared.finding.AttemptViolation.{AttemptViolation}
+use Rattle.judge_opacity.specs.declared.finding.AttemptViolation.TheVariants as violation
 use Rattle.judge_opacity.specs.declared.finding.Finding.TheVariants.{Fault, Illegal}
 use Rattle.judge_opacity.specs.declared.judge.Judge.{Judge}
 use Rattle.judge_opacity.specs.Attempt.{Attempt, span_of_attempt}
 use Rattle.judge_opacity.specs.Words.{words_after, left_by, wrong_read}
 use Rattle.judge_opacity.specs.Covered.{image_of}
-use Rattle.judge_opacity.specs.Verdict.{place_first, breach_of, unless_breach, judged_attempts}
+use Rattle.judge_opacity.specs.Verdict.{place_first, violation_of, unless_violation, judged_attempts}
 use Rattle.judge_opacity.specs.Judging.{FollowsAttempts, JudgesAttempt, TakesAttempt, DecidesFinding}
 
-some_none : (b : Breach) → Some b ≡ None → ⊥
+some_none : (b : AttemptViolation) → Some b ≡ None → ⊥
 some_none b e = cc
 
 pub by_place : (earlier : List Attempt) (attempt : Attempt) (place : Option Misplaced) →
     misplaced itself (map span_of_attempt earlier) attempt.span ≡ place
-    → breach_of earlier attempt ≡ place_first place (wrong_read (left_by earlier) attempt.accesses)
+    → violation_of earlier attempt ≡ place_first place (wrong_read (left_by earlier) attempt.accesses)
 by_place earlier attempt place h =
     ap (λ p. place_first p (wrong_read (left_by earlier) attempt.accesses))
     (sym (misplaced_mapped span_of_attempt earlier attempt) ∙ h)
@@ -30,21 +30,23 @@ by_place earlier attempt place h =
 -- it does not stand in its place
 pub judges_place : (words : ℕ) (after : Judge) (earlier : List Attempt) (attempt : Attempt) (wrong : Misplaced) →
     misplaced itself (map span_of_attempt earlier) attempt.span ≡ Some wrong
-    → JudgesAttempt words after earlier attempt (Some (breach.Place wrong))
+    → JudgesAttempt words after earlier attempt (Some (violation.Place wrong))
 judges_place words after earlier attempt wrong h = record {
   found_is = by_place earlier attempt (Some wrong) h;
-  taken = λ e. absurd (some_none (breach.Place wrong) e);
+  taken = λ e. absurd (some_none (violation.Place wrong) e);
 }
 
-pub by_reads : (words : ℕ) (judge : Judge) (earlier : List Attempt) (attempt : Attempt) (found : Option Breach) →
+pub by_reads : (words : ℕ) (judge : Judge) (earlier : List Attempt) (attempt : Attempt)
+    (found : Option AttemptViolation) →
     FollowsAttempts words judge earlier
     → misplaced itself (map span_of_attempt earlier) attempt.span ≡ None →
-    wrong_read (image_of judge.memory.words.items) attempt.accesses ≡ found → breach_of earlier attempt ≡ found
+    wrong_read (image_of judge.memory.words.items) attempt.accesses ≡ found → violation_of earlier attempt ≡ found
 by_reads words judge earlier attempt found f p h =
     by_place earlier attempt None p ∙ ap (λ m. wrong_read m attempt.accesses) (sym f.left) ∙ h
 
 -- a read of it is wrong
-pub judges_read : (words : ℕ) (judge after : Judge) (earlier : List Attempt) (attempt : Attempt) (found : Breach) →
+pub judges_read : (words : ℕ) (judge after : Judge) (earlier : List Attempt) (attempt : Attempt)
+    (found : AttemptViolation) →
     FollowsAttempts words judge earlier
     → misplaced itself (map span_of_attempt earlier) attempt.span ≡ None →
     wrong_read (image_of judge.memory.words.items) attempt.accesses ≡ Some found
@@ -92,18 +94,18 @@ ends_fault judge read line fault e n = record {
 }
 
 -- an attempt was judged
-abbrev pub JudgesLine : Judge → Judge → (ℕ → Result Attempt LineFault) → Option Breach → Type 0
+abbrev pub JudgesLine : Judge → Judge → (ℕ → Result Attempt LineFault) → Option AttemptViolation → Type 0
 JudgesLine judge next read found = (words : ℕ) (earlier : List Attempt) → FollowsAttempts words judge earlier →
     (attempt : Attempt) × (read words ≡ Ok attempt) × JudgesAttempt words next earlier attempt found
 
-pub ends_wrong : (judge next : Judge) (read : ℕ → Result Attempt LineFault) (line : ℕ) (found : Breach) →
+pub ends_wrong : (judge next : Judge) (read : ℕ → Result Attempt LineFault) (line : ℕ) (found : AttemptViolation) →
     JudgesLine judge next read (Some found)
     → line ≡ judge.spans.count + 1 → DecidesFinding judge read (Illegal line found)
 ends_wrong judge next read line found h n = record {
   on = λ words earlier f more.
       let j = h words earlier f in
       ap (λ l. judged_attempts earlier (l ∷ more)) j.1
-      ∙ ap (λ b. unless_breach b (length earlier + 1) (judged_attempts (j.0 ∷ earlier) more)) j.2.found_is
+      ∙ ap (λ b. unless_violation b (length earlier + 1) (judged_attempts (j.0 ∷ earlier) more)) j.2.found_is
       ∙ ap (λ k. Illegal k found) (number_is words judge line earlier n f);
 }
 
@@ -115,6 +117,6 @@ takes_attempt judge next read h = record {
         j.0 ∷ earlier,
         j.2.taken refl,
         λ more. ap (λ l. judged_attempts earlier (l ∷ more)) j.1
-            ∙ ap (λ b. unless_breach b (length earlier + 1) (judged_attempts (j.0 ∷ earlier) more)) j.2.found_is,
+            ∙ ap (λ b. unless_violation b (length earlier + 1) (judged_attempts (j.0 ∷ earlier) more)) j.2.found_is,
       );
 }

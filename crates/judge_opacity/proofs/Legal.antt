@@ -4,8 +4,8 @@ use Rattle.std.proofs.Common.{subst, inl, inr}
 use Rattle.judge_time.proofs.Tests.{test}
 use Rattle.judge_opacity.specs.declared.attempt.Access.{Access}
 use Rattle.judge_opacity.specs.declared.attempt.Access.TheVariants.{Read, Write}
-use Rattle.judge_opacity.specs.declared.finding.Breach.{Breach}
-use Rattle.judge_opacity.specs.declared.finding.Breach.TheVariants as breach
+use Rattle.judge_opacity.specs.declared.finding.AttemptViolation.{AttemptViolation}
+use Rattle.judge_opacity.specs.declared.finding.AttemptViolation.TheVariants as violation
 use Rattle.judge_opacity.specs.Words.{Image, zeros, image_with, after_access, words_after, unless_same, wrong_read}
 use Rattle.judge_opacity.specs.Laws.{AllLeave, IsLastWritten, HasWord, ReadsAreLegal}
 
@@ -84,32 +84,34 @@ word_is xs word value (inl h) =
     changed_here (words_after zeros h.before) word word value refl
 word_is xs word value (inr h) = after_left zeros xs word h.0 ∙ sym h.1
 
-some_none : (b : Breach) → Some b ≡ None → ⊥
+some_none : (b : AttemptViolation) → Some b ≡ None → ⊥
 some_none b e = cc
 
 -- a read that is right, and one that is not
-unless_none : (word value is : ℕ) (rest : Option Breach) → unless_same word value is rest ≡ None →
+unless_none : (word value is : ℕ) (rest : Option AttemptViolation) → unless_same word value is rest ≡ None →
     (value ≡ is) × (rest ≡ None)
 unless_none word value is rest h =
     elim (test value is) [
-      | inl t ↦ (t.1, sym (ap (λ b. cond b rest (Some (breach.Read word is))) t.0) ∙ h)
-      | inr t ↦ absurd (some_none (breach.Read word is) (sym (ap (λ b. cond b rest (Some (breach.Read word is))) t.0) ∙
+      | inl t ↦ (t.1, sym (ap (λ b. cond b rest (Some (violation.Read word is))) t.0) ∙ h)
+      | inr t ↦ absurd (some_none (violation.Read word is) (sym
+          (ap (λ b. cond b rest (Some (violation.Read word is))) t.0) ∙
           h))
     ]
 
-pub unless_right : (word value is : ℕ) (rest : Option Breach) → value ≡ is → unless_same word value is rest ≡ rest
+pub unless_right : (word value is : ℕ) (rest : Option AttemptViolation) → value ≡ is →
+    unless_same word value is rest ≡ rest
 unless_right word value is rest e =
     elim (test value is) [
-      | inl t ↦ ap (λ b. cond b rest (Some (breach.Read word is))) t.0
+      | inl t ↦ ap (λ b. cond b rest (Some (violation.Read word is))) t.0
       | inr t ↦ absurd (t.1 e)
     ]
 
-pub unless_wrong : (word value is : ℕ) (rest : Option Breach) → value ≢ is →
-    unless_same word value is rest ≡ Some (breach.Read word is)
+pub unless_wrong : (word value is : ℕ) (rest : Option AttemptViolation) → value ≢ is →
+    unless_same word value is rest ≡ Some (violation.Read word is)
 unless_wrong word value is rest n =
     elim (test value is) [
       | inl t ↦ absurd (n t.1)
-      | inr t ↦ ap (λ b. cond b rest (Some (breach.Read word is))) t.0
+      | inr t ↦ ap (λ b. cond b rest (Some (violation.Read word is))) t.0
     ]
 
 -- where no read is wrong, each gives what its word has there
@@ -156,23 +158,24 @@ first_right m (Read at v ∷ xs) ys h =
 first_right m (Write at v ∷ xs) ys h = first_right (image_with m at v) xs ys h
 
 -- the first read that is wrong
-pub record WrongAt (m : Image) (xs : List Access) (found : Breach) : Type 0 where
+pub record WrongAt (m : Image) (xs : List Access) (found : AttemptViolation) : Type 0 where
   pub own : List Access
   pub word : ℕ
   pub value : ℕ
   pub later : List Access
   pub split : xs ≡ own ++ Read word value ∷ later
   pub first : wrong_read m own ≡ None
-  pub is : found ≡ breach.Read word (words_after m own word)
+  pub is : found ≡ violation.Read word (words_after m own word)
   pub other : value ≢ words_after m own word
 
-none_some : (b : Breach) → None ≡ Some b → ⊥
+none_some : (b : AttemptViolation) → None ≡ Some b → ⊥
 none_some b e = cc
 
-same_some : (b c : Breach) → Some b ≡ Some c → c ≡ b
+same_some : (b c : AttemptViolation) → Some b ≡ Some c → c ≡ b
 same_some b c e = cc
 
-pub wrong_at : (m : Image) (xs : List Access) (found : Breach) → wrong_read m xs ≡ Some found → WrongAt m xs found
+pub wrong_at : (m : Image) (xs : List Access) (found : AttemptViolation) → wrong_read m xs ≡ Some found →
+    WrongAt m xs found
 wrong_at m [] found h = absurd (none_some found h)
 wrong_at m (Read at v ∷ xs) found h =
     elim (test v (m at)) [
@@ -195,7 +198,7 @@ wrong_at m (Read at v ∷ xs) found h =
         later = xs;
         split = refl;
         first = refl;
-        is = same_some (breach.Read at (m at)) found (sym (unless_wrong at v (m at) (wrong_read m xs) t.1) ∙ h);
+        is = same_some (violation.Read at (m at)) found (sym (unless_wrong at v (m at) (wrong_read m xs) t.1) ∙ h);
         other = t.1;
       }
     ]
@@ -214,7 +217,7 @@ wrong_at m (Write at v ∷ xs) found h =
 
 pub at_wrong : (m : Image) (own later : List Access) (word value : ℕ) → wrong_read m own ≡ None →
     value ≢ words_after m own word
-    → wrong_read m (own ++ Read word value ∷ later) ≡ Some (breach.Read word (words_after m own word))
+    → wrong_read m (own ++ Read word value ∷ later) ≡ Some (violation.Read word (words_after m own word))
 at_wrong m own later word value h n =
     wrong_both m own (Read word value ∷ later) h ∙ unless_wrong word value (words_after m own word)
     (wrong_read (words_after m own) later) n

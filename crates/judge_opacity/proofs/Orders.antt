@@ -7,13 +7,13 @@ use Rattle.judge_time.specs.Order.{misplaced}
 use Rattle.judge_time.specs.Laws.{TakeTurns, KeepPrecedence}
 use Rattle.judge_time.proofs.Order.{goes_on, last_placed, front_turns, front_precedence, turns_none, precedence_none}
 use Rattle.judge_time.proofs.Order.{cause_of, of_cause}
-use Rattle.judge_opacity.specs.declared.finding.Breach.{Breach}
-use Rattle.judge_opacity.specs.declared.finding.Breach.TheVariants as breach
+use Rattle.judge_opacity.specs.declared.finding.AttemptViolation.{AttemptViolation}
+use Rattle.judge_opacity.specs.declared.finding.AttemptViolation.TheVariants as violation
 use Rattle.judge_opacity.specs.Attempt.{Attempt, span_of_attempt}
 use Rattle.judge_opacity.specs.Words.{Image, zeros, words_after, left_by, wrong_read}
-use Rattle.judge_opacity.specs.Verdict.{place_first, breach_of}
+use Rattle.judge_opacity.specs.Verdict.{place_first, violation_of}
 use Rattle.judge_opacity.specs.Laws.{HasWord, ReadsAreLegal, committed, visible, EachIsLegal, IsOpaqueOrder}
-use Rattle.judge_opacity.specs.Wrongs.{IsBreach}
+use Rattle.judge_opacity.specs.Wrongs.{IsViolation}
 use Rattle.judge_opacity.proofs.Legal.{after_both, has_word, word_is, legal_of, of_legal, wrong_both, first_right}
 use Rattle.judge_opacity.proofs.Legal.{WrongAt}
 use Rattle.judge_opacity.proofs.Legal.{wrong_at, at_wrong}
@@ -114,12 +114,12 @@ front_legal xs ys l before later a e = l before (later ++ ys) a
 
 -- ---- orders of opaque attempts
 
-place_none : (place : Option Misplaced) (rest : Option Breach) → place_first place rest ≡ None →
+place_none : (place : Option Misplaced) (rest : Option AttemptViolation) → place_first place rest ≡ None →
     (place ≡ None) × (rest ≡ None)
 place_none None rest h = (refl, h)
-place_none (Some wrong) rest h = absurd (some_none (breach.Place wrong) h)
+place_none (Some wrong) rest h = absurd (some_none (violation.Place wrong) h)
   where
-    some_none : (b : Breach) → Some b ≡ None → ⊥
+    some_none : (b : AttemptViolation) → Some b ≡ None → ⊥
     some_none b e = cc
 
 pub opaque_none : IsOpaqueOrder []
@@ -129,7 +129,7 @@ opaque_none = record {
   precedence = precedence_none span_of_attempt;
 }
 
-pub opaque_more : (xs : List Attempt) (a : Attempt) → IsOpaqueOrder xs → breach_of (reverse_aux xs []) a ≡ None →
+pub opaque_more : (xs : List Attempt) (a : Attempt) → IsOpaqueOrder xs → violation_of (reverse_aux xs []) a ≡ None →
     IsOpaqueOrder (xs ++ a ∷ [])
 opaque_more xs a o h =
     let both = place_none (misplaced span_of_attempt (reverse_aux xs []) a)
@@ -142,7 +142,7 @@ opaque_more xs a o h =
     }
 
 pub opaque_last : (xs : List Attempt) (a : Attempt) → IsOpaqueOrder (xs ++ a ∷ []) →
-    breach_of (reverse_aux xs []) a ≡ None
+    violation_of (reverse_aux xs []) a ≡ None
 opaque_last xs a o =
     ap (λ p. place_first p (wrong_read (left_by (reverse_aux xs [])) a.accesses))
     (last_placed span_of_attempt xs a o.turns o.precedence)
@@ -158,21 +158,22 @@ opaque_front xs ys o = record {
 -- ---- why an order does not go on
 
 -- what was found, by the place and by the reads
-data FoundBy (place : Option Misplaced) (rest : Option Breach) (found : Breach) : Type 0 where
-  by_place : (wrong : Misplaced) → place ≡ Some wrong → found ≡ breach.Place wrong → FoundBy place rest found
+data FoundBy (place : Option Misplaced) (rest : Option AttemptViolation) (found : AttemptViolation) : Type 0 where
+  by_place : (wrong : Misplaced) → place ≡ Some wrong → found ≡ violation.Place wrong → FoundBy place rest found
   by_read : place ≡ None → rest ≡ Some found → FoundBy place rest found
 
-same_some : (b c : Breach) → Some b ≡ Some c → c ≡ b
+same_some : (b c : AttemptViolation) → Some b ≡ Some c → c ≡ b
 same_some b c e = cc
 
-found_by : (place : Option Misplaced) (rest : Option Breach) (found : Breach) → place_first place rest ≡ Some found →
+found_by : (place : Option Misplaced) (rest : Option AttemptViolation) (found : AttemptViolation) →
+    place_first place rest ≡ Some found →
     FoundBy place rest found
 found_by None rest found h = by_read refl h
-found_by (Some wrong) rest found h = by_place wrong refl (same_some (breach.Place wrong) found h)
+found_by (Some wrong) rest found h = by_place wrong refl (same_some (violation.Place wrong) found h)
 
-wrong_of : (xs : List Attempt) (a : Attempt) (found : Breach) → IsOpaqueOrder xs →
+wrong_of : (xs : List Attempt) (a : Attempt) (found : AttemptViolation) → IsOpaqueOrder xs →
     WrongAt (left_by (reverse_aux xs [])) a.accesses found
-    → TakeTurns span_of_attempt (xs ++ a ∷ []) × KeepPrecedence span_of_attempt (xs ++ a ∷ []) → IsBreach xs a found
+    → TakeTurns span_of_attempt (xs ++ a ∷ []) × KeepPrecedence span_of_attempt (xs ++ a ∷ []) → IsViolation xs a found
 wrong_of xs a found o w order =
     let first : wrong_read zeros (committed xs ++ w.own) ≡ None =
     wrong_both zeros (committed xs) w.own (committed_right xs o.legal) ∙ ap (λ m. wrong_read m w.own) (sym (left_is xs))
@@ -181,7 +182,7 @@ wrong_of xs a found o w order =
     after_both zeros (committed xs) w.own ∙ ap (λ m. words_after m w.own) (sym (left_is xs)) in
     let expected = words_after (left_by (reverse_aux xs [])) w.own w.word in
     let at : words_after zeros (committed xs ++ w.own) w.word ≡ expected = ap (λ (m : Image). m w.word) leaves in
-    subst (IsBreach xs a) (sym w.is) (
+    subst (IsViolation xs a) (sym w.is) (
       order.0,
       order.1,
       record {
@@ -195,22 +196,23 @@ wrong_of xs a found o w order =
       },
     )
 
-pub breach_is : (xs : List Attempt) (a : Attempt) (found : Breach) → IsOpaqueOrder xs →
-    breach_of (reverse_aux xs []) a ≡ Some found → IsBreach xs a found
+pub breach_is : (xs : List Attempt) (a : Attempt) (found : AttemptViolation) → IsOpaqueOrder xs →
+    violation_of (reverse_aux xs []) a ≡ Some found → IsViolation xs a found
 breach_is xs a found o h =
     elim (found_by (misplaced span_of_attempt (reverse_aux xs []) a)
     (wrong_read (left_by (reverse_aux xs [])) a.accesses) found h) [
-      | by_place wrong p e ↦ subst (IsBreach xs a) (sym e) (cause_of span_of_attempt xs a wrong o.turns p)
+      | by_place wrong p e ↦ subst (IsViolation xs a) (sym e) (cause_of span_of_attempt xs a wrong o.turns p)
       | by_read p r ↦ wrong_of xs a found o (wrong_at (left_by (reverse_aux xs [])) a.accesses found r)
           (goes_on span_of_attempt xs a o.turns o.precedence p)
     ]
 
-pub is_breach : (xs : List Attempt) (a : Attempt) (found : Breach) → IsOpaqueOrder xs → IsBreach xs a found →
-    breach_of (reverse_aux xs []) a ≡ Some found
-is_breach xs a (breach.Place wrong) o c =
+pub is_breach : (xs : List Attempt) (a : Attempt) (found : AttemptViolation) → IsOpaqueOrder xs →
+    IsViolation xs a found →
+    violation_of (reverse_aux xs []) a ≡ Some found
+is_breach xs a (violation.Place wrong) o c =
     ap (λ p. place_first p (wrong_read (left_by (reverse_aux xs [])) a.accesses))
     (of_cause span_of_attempt xs a wrong o.turns o.precedence c)
-is_breach xs a (breach.Read word expected) o c =
+is_breach xs a (violation.Read word expected) o c =
     let w = c.2 in
     let m = left_by (reverse_aux xs []) in
     let all = of_legal (committed xs ++ w.own) w.first in
@@ -222,4 +224,4 @@ is_breach xs a (breach.Read word expected) o c =
     (sym (after_both zeros (committed xs) w.own)) ∙ word_is (committed xs ++ w.own) word expected w.has in
     ap (λ p. place_first p (wrong_read m a.accesses)) (last_placed span_of_attempt xs a c.0 c.1)
     ∙ ap (wrong_read m) w.split ∙ at_wrong m w.own w.later word w.value own (λ e. w.other (e ∙ at)) ∙
-    ap (λ v. Some (breach.Read word v)) at
+    ap (λ v. Some (violation.Read word v)) at

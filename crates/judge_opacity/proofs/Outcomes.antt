@@ -5,12 +5,13 @@ use mathlib.Core.List.{reverse_aux}
 use Rattle.std.proofs.Math.ListN.{length-reverse_aux}
 use Rattle.vac_lines.specs.declared.fault.LineFault.{LineFault}
 use Rattle.vac_lines.specs.Lines.{lines_of}
-use Rattle.judge_opacity.specs.declared.finding.Breach.{Breach}
+use Rattle.judge_opacity.specs.declared.finding.AttemptViolation.{AttemptViolation}
 use Rattle.judge_opacity.specs.declared.finding.Counts.{Counts}
 use Rattle.judge_opacity.specs.declared.finding.Finding.{Finding}
 use Rattle.judge_opacity.specs.declared.finding.Finding.TheVariants.{Opaque, Fault, Illegal}
 use Rattle.judge_opacity.specs.Attempt.{Attempt, line_attempt}
-use Rattle.judge_opacity.specs.Verdict.{breach_of, counts_of, unless_breach, judged_attempts, finding_on, is_opaque}
+use Rattle.judge_opacity.specs.Verdict.{violation_of, counts_of, unless_violation, judged_attempts, finding_on}
+use Rattle.judge_opacity.specs.Verdict.{is_opaque}
 use Rattle.judge_opacity.specs.Laws.{IsOpaqueOrder, IsOpaqueText, OpaqueIsOpacity, OpaqueCounts}
 use Rattle.judge_opacity.specs.Wrongs.{IsFirstWrongAttempt, IsFirstNoAttempt, IllegalIsFirstWrongAttempt}
 use Rattle.judge_opacity.specs.Wrongs.{FaultIsFirstNoAttempt}
@@ -34,9 +35,10 @@ data Outcome (before : List Attempt) (lines : Lines) (finding : Finding) : Type 
   faulty : (more : List Attempt) (fault : LineFault) (rest : Lines) → lines ≡ map Ok more ++ Err fault ∷ rest →
       IsOpaqueOrder (before ++ more)
       → finding ≡ Fault (length (before ++ more) + 1) fault → Outcome before lines finding
-  wrong : (more : List Attempt) (a : Attempt) (found : Breach) (rest : Lines) → lines ≡ map Ok more ++ Ok a ∷ rest →
+  wrong : (more : List Attempt) (a : Attempt) (found : AttemptViolation) (rest : Lines) →
+      lines ≡ map Ok more ++ Ok a ∷ rest →
       IsOpaqueOrder (before ++ more)
-      → breach_of (reverse_aux (before ++ more) []) a ≡ Some found →
+      → violation_of (reverse_aux (before ++ more) []) a ≡ Some found →
       finding ≡ Illegal (length (before ++ more) + 1) found → Outcome before lines finding
 
 -- one attempt more in front
@@ -53,7 +55,7 @@ outcome_later before a lines finding (faulty more fault rest e o f) =
 outcome_later before a lines finding (wrong more x found rest e o b f) =
     let same = append_assoc before (a ∷ []) more in
     wrong (a ∷ more) x found rest (ap (λ t. Ok a ∷ t) e) (subst IsOpaqueOrder same o)
-    (ap (λ t. breach_of (reverse_aux t []) x) (sym same) ∙ b)
+    (ap (λ t. violation_of (reverse_aux t []) x) (sym same) ∙ b)
     (f ∙ ap (λ t. Illegal (length t + 1) found) same)
 
 outcome : (before : List Attempt) (lines : Lines) → IsOpaqueOrder before →
@@ -66,19 +68,21 @@ outcome before (Err fault ∷ rest) o =
     faulty [] fault rest refl (subst IsOpaqueOrder same o) (ap (λ n. Fault (n + 1) fault) (back_long before) ∙
     ap (λ t. Fault (length t + 1) fault) same)
 outcome before (Ok a ∷ rest) o =
-    decide (λ e. outcome (before ++ a ∷ []) rest (opaque_more before a o e)) (breach_of (reverse_aux before []) a) refl
+    decide (λ e. outcome (before ++ a ∷ []) rest (opaque_more before a o e))
+    (violation_of (reverse_aux before []) a) refl
   where
-    decide : (breach_of (reverse_aux before []) a ≡ None → Outcome (before ++ a ∷ []) rest
+    decide : (violation_of (reverse_aux before []) a ≡ None → Outcome (before ++ a ∷ []) rest
         (judged_attempts (reverse_aux (before ++ a ∷ []) []) rest))
-        → (found : Option Breach) → breach_of (reverse_aux before []) a ≡ found →
-        Outcome before (Ok a ∷ rest) (unless_breach found (length (reverse_aux before []) + 1)
+        → (found : Option AttemptViolation) → violation_of (reverse_aux before []) a ≡ found →
+        Outcome before (Ok a ∷ rest) (unless_violation found (length (reverse_aux before []) + 1)
         (judged_attempts (a ∷ reverse_aux before []) rest))
     decide next None e =
         outcome_later before a rest (judged_attempts (a ∷ reverse_aux before []) rest)
         (subst (λ t. Outcome (before ++ a ∷ []) rest (judged_attempts t rest)) (back_more before [] a) (next e))
     decide next (Some found) e =
         let same = sym (append-nil before) in
-        wrong [] a found rest refl (subst IsOpaqueOrder same o) (ap (λ t. breach_of (reverse_aux t []) a) (sym same) ∙
+        wrong [] a found rest refl (subst IsOpaqueOrder same o)
+        (ap (λ t. violation_of (reverse_aux t []) a) (sym same) ∙
         e)
         (ap (λ n. Illegal (n + 1) found) (back_long before) ∙ ap (λ t. Illegal (length t + 1) found) same)
 
@@ -91,7 +95,7 @@ taken before (a ∷ more) rest o =
     let same = append_assoc before (a ∷ []) more in
     let all : IsOpaqueOrder ((before ++ a ∷ []) ++ more) = subst IsOpaqueOrder (sym same) o in
     let right = opaque_last before a (opaque_front (before ++ a ∷ []) more all) in
-    ap (λ b. unless_breach b (length (reverse_aux before []) + 1)
+    ap (λ b. unless_violation b (length (reverse_aux before []) + 1)
     (judged_attempts (a ∷ reverse_aux before []) (map Ok more ++ rest))) right
     ∙ ap (λ t. judged_attempts t (map Ok more ++ rest)) (sym (back_more before [] a)) ∙
     taken (before ++ a ∷ []) more rest all ∙
@@ -105,16 +109,16 @@ false_true e = cc
 fault_opaque : (line : ℕ) (fault : LineFault) (counts : Counts) → Opaque counts ≡ Fault line fault → ⊥
 fault_opaque line fault counts e = cc
 
-wrong_opaque : (line : ℕ) (found : Breach) (counts : Counts) → Opaque counts ≡ Illegal line found → ⊥
+wrong_opaque : (line : ℕ) (found : AttemptViolation) (counts : Counts) → Opaque counts ≡ Illegal line found → ⊥
 wrong_opaque line found counts e = cc
 
-wrong_fault : (line k : ℕ) (found : Breach) (fault : LineFault) → Fault k fault ≡ Illegal line found → ⊥
+wrong_fault : (line k : ℕ) (found : AttemptViolation) (fault : LineFault) → Fault k fault ≡ Illegal line found → ⊥
 wrong_fault line k found fault e = cc
 
 same_fault : (k line : ℕ) (f g : LineFault) → Fault k f ≡ Fault line g → (k ≡ line) × (f ≡ g)
 same_fault k line f g e = (cc, cc)
 
-same_wrong : (k line : ℕ) (f g : Breach) → Illegal k f ≡ Illegal line g → (k ≡ line) × (f ≡ g)
+same_wrong : (k line : ℕ) (f g : AttemptViolation) → Illegal k f ≡ Illegal line g → (k ≡ line) × (f ≡ g)
 same_wrong k line f g e = (cc, cc)
 
 opaque_text : (words : ℕ) (bytes : List ℕ) → is_opaque (finding_on words bytes) ≡ true → IsOpaqueText words bytes
@@ -135,10 +139,11 @@ text_opaque words bytes t = ap is_opaque (opaque_counts words bytes t.attempts t
 pub opaque_is_opacity : OpaqueIsOpacity
 opaque_is_opacity words bytes = (opaque_text words bytes, text_opaque words bytes)
 
-none_some : (found : Breach) → None ≡ Some found → ⊥
+none_some : (found : AttemptViolation) → None ≡ Some found → ⊥
 none_some found e = cc
 
-first_wrong : (words : ℕ) (bytes : List ℕ) (line : ℕ) (found : Breach) → finding_on words bytes ≡ Illegal line found →
+first_wrong : (words : ℕ) (bytes : List ℕ) (line : ℕ) (found : AttemptViolation) →
+    finding_on words bytes ≡ Illegal line found →
     IsFirstWrongAttempt words bytes line found
 first_wrong words bytes line found h =
     elim (outcome [] (map (line_attempt words) (lines_of bytes)) opaque_none) [
@@ -146,7 +151,7 @@ first_wrong words bytes line found h =
       | faulty more fault rest e o f ↦ absurd (wrong_fault line (length more + 1) found fault (sym f ∙ h))
       | wrong more a other rest e o b f ↦
           let same = same_wrong (length more + 1) line other found (sym f ∙ h) in
-          let is : breach_of (reverse_aux more []) a ≡ Some found = b ∙ ap Some same.1 in
+          let is : violation_of (reverse_aux more []) a ≡ Some found = b ∙ ap Some same.1 in
           record {
             before = more;
             attempt = a;
@@ -159,11 +164,12 @@ first_wrong words bytes line found h =
           }
     ]
 
-wrong_first : (words : ℕ) (bytes : List ℕ) (line : ℕ) (found : Breach) → IsFirstWrongAttempt words bytes line found →
+wrong_first : (words : ℕ) (bytes : List ℕ) (line : ℕ) (found : AttemptViolation) →
+    IsFirstWrongAttempt words bytes line found →
     finding_on words bytes ≡ Illegal line found
 wrong_first words bytes line found w =
     ap (judged_attempts []) w.listed ∙ taken [] w.before (Ok w.attempt ∷ w.rest) w.opaque
-    ∙ ap (λ b. unless_breach b (length (reverse_aux w.before []) + 1)
+    ∙ ap (λ b. unless_violation b (length (reverse_aux w.before []) + 1)
     (judged_attempts (w.attempt ∷ reverse_aux w.before []) w.rest))
     (is_breach w.before w.attempt found w.opaque w.cause)
     ∙ ap (λ n. Illegal (n + 1) found) (back_long w.before) ∙ ap (λ n. Illegal n found) (sym w.number)

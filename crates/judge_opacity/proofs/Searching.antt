@@ -16,15 +16,15 @@ use Rattle.judge_time.specs.declared.span.Misplaced.{Misplaced}
 use Rattle.judge_time.specs.Keeping.{Keeps}
 use Rattle.judge_time.specs.Order.{itself, misplaced}
 use Rattle.judge_time.proofs.Order.{misplaced_mapped}
-use Rattle.judge_opacity.specs.declared.finding.Breach.{Breach}
-use Rattle.judge_opacity.specs.declared.finding.Breach.TheVariants as breach
+use Rattle.judge_opacity.specs.declared.finding.AttemptViolation.{AttemptViolation}
+use Rattle.judge_opacity.specs.declared.finding.AttemptViolation.TheVariants as violation
 use Rattle.judge_opacity.specs.declared.finding.Counts.{Counts}
 use Rattle.judge_opacity.specs.declared.judge.Judge.{Judge}
 use Rattle.judge_opacity.specs.declared.logged.Logged.{Logged}
 use Rattle.judge_opacity.specs.Attempt.{Attempt, span_of_attempt}
 use Rattle.judge_opacity.specs.Covered.{image_of}
 use Rattle.judge_opacity.specs.Words.{left_by, wrong_read}
-use Rattle.judge_opacity.specs.Verdict.{place_first, breach_of, counts_of}
+use Rattle.judge_opacity.specs.Verdict.{place_first, violation_of, counts_of}
 use Rattle.judge_opacity.specs.Judging.{FollowsAttempts}
 use Rattle.judge_opacity.specs.Placing.{is_writer, NoWriter, IsPlacement, IsPlaceable, may_follow, Goes, Completes}
 use Rattle.judge_opacity.specs.Logs.{logged_attempt, attempts_in, spans_follow, blocks, blocked_by, own_block, is_free}
@@ -55,7 +55,7 @@ same_then judge other third s t = record {
 -- an attempt that is not in its place
 pub misplaced_fails : (earlier : List Attempt) (a : Attempt) (place : Option Misplaced) →
     misplaced itself (map span_of_attempt earlier) a.span ≡ place → is_some place ≡ true →
-    false ≡ is_none (breach_of earlier a)
+    false ≡ is_none (violation_of earlier a)
 misplaced_fails earlier a None h e = absurd (no_yes e)
   where
     no_yes : false ≡ true → ⊥
@@ -64,9 +64,9 @@ misplaced_fails earlier a (Some wrong) h e = sym (ap is_none (by_place earlier a
 
 -- an attempt in its place, of which this was found
 pub placed_breach : (words : ℕ) (judge : Judge) (earlier : List Attempt) (a : Attempt) (place : Option Misplaced)
-    (found : Option Breach) → FollowsAttempts words judge earlier →
+    (found : Option AttemptViolation) → FollowsAttempts words judge earlier →
     misplaced itself (map span_of_attempt earlier) a.span ≡ place → is_some place ≡ false →
-    wrong_read (image_of judge.memory.words.items) a.accesses ≡ found → breach_of earlier a ≡ found
+    wrong_read (image_of judge.memory.words.items) a.accesses ≡ found → violation_of earlier a ≡ found
 placed_breach words judge earlier a None found f h e r = by_reads words judge earlier a found f h r
 placed_breach words judge earlier a (Some wrong) found f h e r = absurd (yes_no e)
   where
@@ -74,22 +74,22 @@ placed_breach words judge earlier a (Some wrong) found f h e r = absurd (yes_no 
     yes_no e = cc
 
 -- an attempt without a fault is in its place, and its reads are right
-both_parts : (place : Option Misplaced) (rest : Option Breach) → place_first place rest ≡ None →
+both_parts : (place : Option Misplaced) (rest : Option AttemptViolation) → place_first place rest ≡ None →
     (place ≡ None) × (rest ≡ None)
 both_parts None rest h = (refl, h)
-both_parts (Some wrong) rest h = absurd (some_none (breach.Place wrong) h)
+both_parts (Some wrong) rest h = absurd (some_none (violation.Place wrong) h)
   where
-    some_none : (b : Breach) → Some b ≡ None → ⊥
+    some_none : (b : AttemptViolation) → Some b ≡ None → ⊥
     some_none b e = cc
 
-pub fit_place : (earlier : List Attempt) (a : Attempt) → breach_of earlier a ≡ None →
+pub fit_place : (earlier : List Attempt) (a : Attempt) → violation_of earlier a ≡ None →
     misplaced itself (map span_of_attempt earlier) a.span ≡ None
 fit_place earlier a h =
     misplaced_mapped span_of_attempt earlier a
     ∙ (both_parts (misplaced span_of_attempt earlier a) (wrong_read (left_by earlier) a.accesses) h).0
 
 pub fit_reads : (words : ℕ) (judge : Judge) (earlier : List Attempt) (a : Attempt) →
-    FollowsAttempts words judge earlier → breach_of earlier a ≡ None →
+    FollowsAttempts words judge earlier → violation_of earlier a ≡ None →
     wrong_read (image_of judge.memory.words.items) a.accesses ≡ None
 fit_reads words judge earlier a f h =
     ap (λ m. wrong_read m a.accesses) f.left
@@ -247,7 +247,7 @@ same_number a b h = grind (arith, nat_tests)
 number_same : (a b : ℕ) → a ≡ b → (a == b) ≡ true
 number_same a b h = grind (arith, nat_tests)
 
-pub none_is : (o : Option Breach) → is_none o ≡ true → o ≡ None
+pub none_is : (o : Option AttemptViolation) → is_none o ≡ true → o ≡ None
 none_is None h = refl
 none_is (Some b) h = absurd (false_true h)
 
@@ -281,10 +281,10 @@ free_comes earlier left place free = record {
         same_number (blocked_by l.head.span left) (own_block l.head.span)
         (and_first (blocked_by l.head.span left == own_block l.head.span) _ (and_second (not l.writer) _ (tests d)))
 
-    fits : (d : Logged) → breach_of earlier (logged_attempt (get_or left place d)) ≡ None
+    fits : (d : Logged) → violation_of earlier (logged_attempt (get_or left place d)) ≡ None
     fits d =
         let l = get_or left place d in
-        none_is (breach_of earlier (logged_attempt l))
+        none_is (violation_of earlier (logged_attempt l))
         (and_second (blocked_by l.head.span left == own_block l.head.span) _ (and_second (not l.writer) _ (tests d)))
 
 three : (a b c : Bool) → a ≡ false → b ≡ true → c ≡ true → (not a && (b && c)) ≡ true
@@ -295,15 +295,15 @@ three false true false e f g = absurd (false_true g)
 
 free_test : (earlier : List Attempt) (left : List Logged) (l : Logged) (f : Attempt) (b a : List Attempt) →
     attempts_in left ≡ b ++ f ∷ a → f ≡ logged_attempt l → is_writer f ≡ false → AllFollow f (b ++ a) →
-    breach_of earlier f ≡ None → is_free earlier left l ≡ true
+    violation_of earlier f ≡ None → is_free earlier left l ≡ true
 free_test earlier left l f b a e is free all fits =
     let first : blocked_by l.head.span left ≡ own_block l.head.span =
     subst (λ (g : Attempt). blocked_by g.span left ≡ own_block g.span) is (follows_first f left b a e all) in
     three l.writer (blocked_by l.head.span left == own_block l.head.span)
-    (is_none (breach_of earlier (logged_attempt l)))
+    (is_none (violation_of earlier (logged_attempt l)))
     (l.known ∙ ap is_writer (sym is) ∙ free)
     (number_same (blocked_by l.head.span left) (own_block l.head.span) first)
-    (ap (λ (g : Attempt). is_none (breach_of earlier g)) (sym is) ∙ ap is_none fits)
+    (ap (λ (g : Attempt). is_none (violation_of earlier g)) (sym is) ∙ ap is_none fits)
 
 pub no_free : (earlier : List Attempt) (left : List Logged) → All (λ l. is_free earlier left l ≡ false) left →
     NoFree earlier (attempts_in left)
@@ -331,7 +331,7 @@ no_writers_front (x ∷ xs) (suc i) l h =
 -- what the first writer leads to
 writer_leads : (earlier : List Attempt) (left : List Logged) (place : ℕ) (d : Logged) →
     All (λ l. is_free earlier left l ≡ false) left → IsFirstWriter left place → Completes earlier (attempts_in left) →
-    (breach_of earlier (logged_attempt (get_or left place d)) ≡ None)
+    (violation_of earlier (logged_attempt (get_or left place d)) ≡ None)
     × Completes (logged_attempt (get_or left place d) ∷ earlier) (attempts_in (remove left place))
 writer_leads earlier left place d none w c =
     let l = get_or left place d in
@@ -346,7 +346,7 @@ writer_leads earlier left place d none w c =
 
 pub writer_comes : (earlier : List Attempt) (left : List Logged) (place : ℕ) →
     All (λ l. is_free earlier left l ≡ false) left → IsFirstWriter left place →
-    ((d : Logged) → breach_of earlier (logged_attempt (get_or left place d)) ≡ None) → MayComeNext earlier left place
+    ((d : Logged) → violation_of earlier (logged_attempt (get_or left place d)) ≡ None) → MayComeNext earlier left place
 writer_comes earlier left place none w fits = record {
   within = w.within;
   fits = fits;
@@ -356,7 +356,7 @@ writer_comes earlier left place none w fits = record {
 
 pub writer_stuck : (earlier : List Attempt) (left : List Logged) (place : ℕ) (d : Logged) →
     All (λ l. is_free earlier left l ≡ false) left → IsFirstWriter left place →
-    is_none (breach_of earlier (logged_attempt (get_or left place d))) ≡ false →
+    is_none (violation_of earlier (logged_attempt (get_or left place d))) ≡ false →
     Completes earlier (attempts_in left) → attempts_in left ≡ []
 writer_stuck earlier left place d none w h c =
     absurd (false_true (sym h ∙ ap is_none (writer_leads earlier left place d none w c).0))

@@ -10,8 +10,8 @@ use Rattle.vac_lines.specs.Lines.{lines_of}
 use Rattle.vac_streams.specs.declared.fault.StreamFault.{StreamFault}
 use Rattle.vac_streams.specs.declared.next.Next.{Next}
 use Rattle.vac_streams.specs.declared.next.Next.TheVariants.{GoOn, Stop}
-use Rattle.vac_streams.specs.Told.{Told, Line, LongLine, Pause, told_of, told_lines, lines_in}
-use Rattle.vac_streams.specs.Heard.{ToldAll, ToldLast, AreFirst, AreFirstOf, HeardAll, HeardLast, Heard}
+use Rattle.vac_streams.specs.Told.{Message, Line, LongLine, Pause, message_of, line_messages, lines_in}
+use Rattle.vac_streams.specs.Heard.{ReceivedAll, ReceivedLast, AreFirst, AreFirstOf, HeardAll, HeardLast, Heard}
 use Rattle.vac_streams.proofs.Telling.{lines_both}
 use Rattle.judge_opacity.specs.declared.finding.Counts.{Counts}
 use Rattle.judge_opacity.specs.declared.finding.Finding.{Finding}
@@ -24,31 +24,31 @@ use Rattle.judge_opacity.specs.Hearing.{told_attempt, AttemptsHear}
 use Rattle.judge_opacity.specs.Reading.{HasFinding}
 
 -- a line that was told
-abbrev read : ℕ → Told → Result Attempt LineFault
+abbrev read : ℕ → Message → Result Attempt LineFault
 read words told = told_attempt told words
 
-line_is : (words : ℕ) (line : List ℕ) → read words (told_of 67108864 line) ≡ line_attempt words line
+line_is : (words : ℕ) (line : List ℕ) → read words (message_of 67108864 line) ≡ line_attempt words line
 line_is words line = elim (nat_lt 67108864 (length line)) as (λ b. read words (cond b LongLine (Line line)) ≡ cond b
     (Err fault.LongLine) (text_attempt words line)) [ true ↦ refl | false ↦ refl ]
 
-lines_are : (words : ℕ) (lines : List (List ℕ)) → map (read words) (map (told_of 67108864) lines) ≡ map
+lines_are : (words : ℕ) (lines : List (List ℕ)) → map (read words) (map (message_of 67108864) lines) ≡ map
     (line_attempt words) lines
 lines_are words [] = refl
-lines_are words (line ∷ more) = ap (λ r. r ∷ map (read words) (map (told_of 67108864) more)) (line_is words line) ∙
+lines_are words (line ∷ more) = ap (λ r. r ∷ map (read words) (map (message_of 67108864) more)) (line_is words line) ∙
     ap (λ t. line_attempt words line ∷ t) (lines_are words more)
 
 -- the verdict on a text is that on what is told of it
 finding_is : (words : ℕ) (bytes : List ℕ) → finding_on words bytes ≡ judged_attempts []
-    (map (read words) (told_lines 67108864 bytes))
+    (map (read words) (line_messages 67108864 bytes))
 finding_is words bytes = ap (judged_attempts []) (sym (lines_are words (lines_of bytes)))
 
 -- these were taken: whatever follows, the verdict is the same
-abbrev Taken : ℕ → Attempts → List Attempt → List Told → Attempts → Type 0
+abbrev Taken : ℕ → Attempts → List Attempt → List Message → Attempts → Type 0
 Taken words x earlier lines y = (attempts : List Attempt) × FollowsAttempts words y.judge attempts
     × ((more : List (Result Attempt LineFault)) → judged_attempts earlier
     (map (read words) lines ++ more) ≡ judged_attempts attempts more)
 
-taken_line : (words : ℕ) (x u y : Attempts) (earlier : List Attempt) (told : Told) (lines : List Told) →
+taken_line : (words : ℕ) (x u y : Attempts) (earlier : List Attempt) (told : Message) (lines : List Message) →
     TakesAttempt x.judge u.judge (told_attempt told) → FollowsAttempts words x.judge earlier
     → ((attempts : List Attempt) → FollowsAttempts words u.judge attempts → Taken words u attempts lines y) →
     Taken words x earlier (told ∷ lines) y
@@ -64,7 +64,7 @@ same_found : (a b : Finding) → Some a ≡ Some b → a ≡ b
 same_found a b e = cc
 
 -- the last line that was told brought the verdict, whatever follows
-stopped : (words : ℕ) (u : Attempts) (last : Told) (y : Attempts) (finding : Finding) (earlier : List Attempt)
+stopped : (words : ℕ) (u : Attempts) (last : Message) (y : Attempts) (finding : Finding) (earlier : List Attempt)
     (more : List (Result Attempt LineFault)) → AttemptsHear u last (Ok Stop) y
     → y.found ≡ Some finding → FollowsAttempts words u.judge earlier →
     judged_attempts earlier (map (read words) (lines_in (last ∷ [])) ++ more) ≡ finding
@@ -83,10 +83,10 @@ of_whole words (Some xs) None bytes finding c h = absurd c
 of_whole words (Some xs) (Some ys) bytes finding c h = ap (finding_on words) c ∙ h ys
 
 module _ {O : Type 0} where
-  abbrev hears : Attempts → O → Told → Result Next StreamFault → Attempts → O → Type 0
+  abbrev hears : Attempts → O → Message → Result Next StreamFault → Attempts → O → Type 0
   hears x o told answer y p = AttemptsHear x told answer y
 
-  taken_told : (x : Attempts) (o : O) (told : List Told) (y : Attempts) (p : O) → ToldAll hears x o told y p →
+  taken_told : (x : Attempts) (o : O) (told : List Message) (y : Attempts) (p : O) → ReceivedAll hears x o told y p →
       (words : ℕ) (earlier : List Attempt) → FollowsAttempts words x.judge earlier
       → Taken words x earlier (lines_in told) y
   taken_told x o [] y p h words earlier f = (
@@ -126,9 +126,9 @@ module _ {O : Type 0} where
             h.ended same;
       }
 
-  of_told : (words : ℕ) (x : Attempts) (o : O) (told : List Told) (y : Attempts) (p : O) (finding : Finding)
-      (more : List Told) → FollowsAttempts words x.judge []
-      → ToldLast hears x o told (Ok Stop) y p → y.found ≡ Some finding →
+  of_told : (words : ℕ) (x : Attempts) (o : O) (told : List Message) (y : Attempts) (p : O) (finding : Finding)
+      (more : List Message) → FollowsAttempts words x.judge []
+      → ReceivedLast hears x o told (Ok Stop) y p → y.found ≡ Some finding →
       judged_attempts [] (map (read words) (lines_in told ++ more)) ≡ finding
   of_told words x o told y p finding more f h e =
       let t = taken_told x o h.before h.sink h.output h.first words [] f in
@@ -142,17 +142,17 @@ module _ {O : Type 0} where
       ap (judged_attempts []) lines ∙ t.2 (map (read words) (lines_in (h.last ∷ [])) ++ map (read words) more)
       ∙ stopped words h.sink h.last y finding t.0 (map (read words) more) h.then e t.1
 
-  of_first : (words : ℕ) (x : Attempts) (o : O) (told : List Told) (y : Attempts) (p : O) (finding : Finding)
+  of_first : (words : ℕ) (x : Attempts) (o : O) (told : List Message) (y : Attempts) (p : O) (finding : Finding)
       (text : List ℕ) → FollowsAttempts words x.judge []
-      → ToldLast hears x o told (Ok Stop) y p → y.found ≡ Some finding → AreFirst 67108864 (lines_in told) text →
+      → ReceivedLast hears x o told (Ok Stop) y p → y.found ≡ Some finding → AreFirst 67108864 (lines_in told) text →
       finding_on words text ≡ finding
   of_first words x o told y p finding text f h e first =
       finding_is words text ∙ ap (λ l. judged_attempts [] (map (read words) l)) first.1 ∙
       of_told words x o told y p finding first.0 f h e
 
-  by_first : (words : ℕ) (unread left : Option (List ℕ)) (x : Attempts) (o : O) (told : List Told) (y : Attempts)
+  by_first : (words : ℕ) (unread left : Option (List ℕ)) (x : Attempts) (o : O) (told : List Message) (y : Attempts)
       (p : O) (finding : Finding) (bytes : List ℕ) → FollowsAttempts words x.judge []
-      → ToldLast hears x o told (Ok Stop) y p → y.found ≡ Some finding → Consumes unread left bytes →
+      → ReceivedLast hears x o told (Ok Stop) y p → y.found ≡ Some finding → Consumes unread left bytes →
       AreFirstOf 67108864 (lines_in told) bytes left → HasFinding words unread left finding
   by_first words unread left x o told y p finding bytes f h e c (inl first) =
       let same = of_first words x o told y p finding bytes f h e first.1 in

@@ -2,13 +2,13 @@
 use Rattle.std.specs.Prelude.{◌≡◌, ℕ, Option, None, Result, List, ◌∷◌, map, length}
 use Rattle.vac_lines.specs.declared.fault.LineFault.{LineFault}
 use Rattle.judge_time.specs.Keeping.{Keeps}
-use Rattle.judge_opacity.specs.declared.finding.Breach.{Breach}
+use Rattle.judge_opacity.specs.declared.finding.AttemptViolation.{AttemptViolation}
 use Rattle.judge_opacity.specs.declared.finding.Finding.{Finding}
 use Rattle.judge_opacity.specs.declared.judge.Judge.{Judge}
 use Rattle.judge_opacity.specs.Attempt.{Attempt, span_of_attempt}
 use Rattle.judge_opacity.specs.Words.{left_by}
 use Rattle.judge_opacity.specs.Covered.{image_of}
-use Rattle.judge_opacity.specs.Verdict.{breach_of, committed_of, judged_attempts}
+use Rattle.judge_opacity.specs.Verdict.{violation_of, committed_of, judged_attempts}
 
 -- the judge has judged these attempts, at this many words
 pub record FollowsAttempts (words : ℕ) (judge : Judge) (earlier : List Attempt) : Type 0 where
@@ -19,8 +19,8 @@ pub record FollowsAttempts (words : ℕ) (judge : Judge) (earlier : List Attempt
 
 -- the first fault of an attempt, or none; an attempt without a fault was taken by the judge
 pub record JudgesAttempt (words : ℕ) (after : Judge) (earlier : List Attempt) (attempt : Attempt)
-    (found : Option Breach) : Type 0 where
-  pub found_is : breach_of earlier attempt ≡ found
+    (found : Option AttemptViolation) : Type 0 where
+  pub found_is : violation_of earlier attempt ≡ found
   pub taken : found ≡ None → FollowsAttempts words after (attempt ∷ earlier)
 
 -- the judge has taken a line: the verdict on this line and the following lines is the verdict on

@@ -12,7 +12,7 @@ use Rattle.judge_opacity.specs.declared.log_reading.Log.{Log}
 use Rattle.judge_opacity.specs.declared.log_reading.Log.TheVariants.{Attempts, Fault}
 use Rattle.judge_opacity.specs.Attempt.{Attempt, line_attempt}
 use Rattle.judge_opacity.specs.Parts.{attempt_of, AllAmong}
-use Rattle.judge_opacity.specs.Verdict.{breach_of, counts_of}
+use Rattle.judge_opacity.specs.Verdict.{violation_of, counts_of}
 use Rattle.judge_opacity.specs.Laws.{IsOpaqueOrder, ListsAttempts}
 use Rattle.judge_opacity.specs.Judging.{FollowsAttempts}
 use Rattle.judge_opacity.specs.Placing.{is_writer, NoWriter, IsPlacement, Completes}
@@ -63,7 +63,7 @@ own_block span = if spans_follow span span then 0 else 1
 abbrev pub is_free : List Attempt → List Logged → Logged → Bool
 is_free earlier left logged =
     not logged.writer && ((blocked_by logged.head.span left == own_block logged.head.span)
-    && is_none (breach_of earlier (logged_attempt logged)))
+    && is_none (violation_of earlier (logged_attempt logged)))
 
 -- the attempt at this position is free
 pub record IsFreeAt (earlier : List Attempt) (left : List Logged) (place : ℕ) : Type 0 where
@@ -86,7 +86,8 @@ pub record IsSameJudge (judge other : Judge) : Type 0 where
 -- left is lost by it
 pub record MayComeNext (earlier : List Attempt) (left : List Logged) (place : ℕ) : Type 0 where
   pub within : place < length left
-  pub fits : (d : Logged) → breach_of earlier (logged_attempt (slice_index_or left place d)) ≡ None
+  pub fits : (d : Logged) → violation_of earlier
+      (logged_attempt (slice_index_or left place d)) ≡ None
   pub writers : (d : Logged) → is_writer (logged_attempt (slice_index_or left place d)) ≡ true →
       NoWriter (attempts_in (take place left))
   pub completes : (d : Logged) → Completes earlier (attempts_in left) →
@@ -102,7 +103,7 @@ pub record IsNextPlaced (words : ℕ) (judge : Judge) (earlier left after : List
     pub split : left ≡ before ++ next ∷ behind
     pub rest : after ≡ before ++ behind
     pub writers : is_writer next ≡ true → NoWriter before
-    pub fits : breach_of earlier next ≡ None
+    pub fits : violation_of earlier next ≡ None
     pub follows : FollowsAttempts words judge (next ∷ earlier)
     pub completes : Completes earlier left → Completes (next ∷ earlier) after
 

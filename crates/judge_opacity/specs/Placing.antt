@@ -6,7 +6,7 @@ use Rattle.judge_time.specs.Order.{overlaps, ended_before}
 use Rattle.judge_opacity.specs.declared.attempt.Access.{Access}
 use Rattle.judge_opacity.specs.declared.attempt.Access.TheVariants.{Read, Write}
 use Rattle.judge_opacity.specs.Attempt.{Attempt, span_of_attempt}
-use Rattle.judge_opacity.specs.Verdict.{breach_of}
+use Rattle.judge_opacity.specs.Verdict.{violation_of}
 use Rattle.judge_opacity.specs.Laws.{IsOpaqueOrder, ListsAttempts}
 
 -- the access is a write
@@ -66,7 +66,8 @@ may_follow first later =
 -- newest on
 abbrev pub Goes : List Attempt → List Attempt → Type 0
 Goes earlier [] = ⊤
-Goes earlier (attempt ∷ more) = (breach_of earlier attempt ≡ None) × Goes (attempt ∷ earlier) more
+Goes earlier (attempt ∷ more) = (violation_of earlier attempt ≡ None) ×
+    Goes (attempt ∷ earlier) more
 
 -- the attempts that are left can follow the earlier ones in some order
 pub record Completes (earlier left : List Attempt) : Type 0 where

@@ -8,8 +8,8 @@ use Rattle.vac_lines.specs.Script.{as_line}
 use Rattle.judge_time.specs.declared.span.Misplaced.{Misplaced}
 use Rattle.judge_time.specs.declared.span.Misplaced.TheVariants.{Client, Time}
 use Rattle.judge_time.specs.Order.{misplaced, clients_of}
-use Rattle.judge_opacity.specs.declared.finding.Breach.{Breach}
-use Rattle.judge_opacity.specs.declared.finding.Breach.TheVariants as breach
+use Rattle.judge_opacity.specs.declared.finding.AttemptViolation.{AttemptViolation}
+use Rattle.judge_opacity.specs.declared.finding.AttemptViolation.TheVariants as violation
 use Rattle.judge_opacity.specs.declared.finding.Counts.{Counts}
 use Rattle.judge_opacity.specs.declared.finding.Finding.{Finding}
 use Rattle.judge_opacity.specs.declared.finding.Finding.TheVariants.{Opaque, Fault, Illegal}
@@ -17,13 +17,13 @@ use Rattle.judge_opacity.specs.Attempt.{Attempt, span_of_attempt, line_attempt}
 use Rattle.judge_opacity.specs.Words.{left_by, wrong_read}
 
 -- the fault of an attempt: a wrong position comes before a wrong read
-abbrev pub place_first : Option Misplaced → Option Breach → Option Breach
+abbrev pub place_first : Option Misplaced → Option AttemptViolation → Option AttemptViolation
 place_first None rest = rest
-place_first (Some wrong) rest = Some (breach.Place wrong)
+place_first (Some wrong) rest = Some (violation.Place wrong)
 
 -- the first fault of an attempt after these earlier attempts, or none
-abbrev pub breach_of : List Attempt → Attempt → Option Breach
-breach_of earlier attempt =
+abbrev pub violation_of : List Attempt → Attempt → Option AttemptViolation
+violation_of earlier attempt =
     place_first (misplaced span_of_attempt earlier attempt)
     (wrong_read (left_by earlier) attempt.accesses)
 
@@ -42,16 +42,16 @@ counts_of attempts = record {
 }
 
 -- a wrong attempt decides the verdict; otherwise the rest of the lines decides
-abbrev pub unless_breach : Option Breach → ℕ → Finding → Finding
-unless_breach None line rest = rest
-unless_breach (Some breach) line rest = Illegal line breach
+abbrev pub unless_violation : Option AttemptViolation → ℕ → Finding → Finding
+unless_violation None line rest = rest
+unless_violation (Some violation) line rest = Illegal line violation
 
 -- the verdict on these lines after earlier attempts, newest first
 abbrev pub judged_attempts : List Attempt → List (Result Attempt LineFault) → Finding
 judged_attempts earlier [] = Opaque (counts_of earlier)
 judged_attempts earlier (Err fault ∷ rest) = Fault (length earlier + 1) fault
 judged_attempts earlier (Ok attempt ∷ rest) =
-    unless_breach (breach_of earlier attempt) (length earlier + 1)
+    unless_violation (violation_of earlier attempt) (length earlier + 1)
     (judged_attempts (attempt ∷ earlier) rest)
 
 -- the verdict on a text of attempts at this many words
@@ -62,7 +62,7 @@ finding_on words bytes = judged_attempts [] (map (line_attempt words) (lines_of 
 abbrev pub is_opaque : Finding → Bool
 is_opaque (Opaque counts) = true
 is_opaque (Fault line fault) = false
-is_opaque (Illegal line breach) = false
+is_opaque (Illegal line violation) = false
 
 -- the text of the counts of opaque attempts
 abbrev pub attempts_counts_text : Counts → List ℕ
@@ -78,13 +78,13 @@ read_text line word expected =
     ++ field_text (codes " ") expected
 
 -- the text of a wrong attempt
-abbrev pub breach_text : Breach → ℕ → List ℕ
-breach_text (breach.Place Client) line = field_text (codes "illegal client ") line
-breach_text (breach.Place Time) line = field_text (codes "illegal time ") line
-breach_text (breach.Read word expected) line = read_text line word expected
+abbrev pub violation_text : AttemptViolation → ℕ → List ℕ
+violation_text (violation.Place Client) line = field_text (codes "illegal client ") line
+violation_text (violation.Place Time) line = field_text (codes "illegal time ") line
+violation_text (violation.Read word expected) line = read_text line word expected
 
 -- the output for a verdict
 abbrev pub finding_text : Finding → List ℕ
 finding_text (Opaque counts) = as_line (attempts_counts_text counts)
 finding_text (Fault line fault) = as_line (fault_text fault ++ field_text (codes " ") line)
-finding_text (Illegal line breach) = as_line (breach_text breach line)
+finding_text (Illegal line violation) = as_line (violation_text violation line)

@@ -3,8 +3,8 @@
 use Rattle.std.specs.Prelude.{ℕ, ◌==◌, Option, Some, None, List, [], ◌∷◌, if◌then◌else◌}
 use Rattle.judge_opacity.specs.declared.attempt.Access.{Access}
 use Rattle.judge_opacity.specs.declared.attempt.Access.TheVariants.{Read, Write}
-use Rattle.judge_opacity.specs.declared.finding.Breach.{Breach}
-use Rattle.judge_opacity.specs.declared.finding.Breach.TheVariants as breach
+use Rattle.judge_opacity.specs.declared.finding.AttemptViolation.{AttemptViolation}
+use Rattle.judge_opacity.specs.declared.finding.AttemptViolation.TheVariants as violation
 use Rattle.judge_opacity.specs.Attempt.{Attempt}
 
 -- the value of each word
@@ -35,13 +35,14 @@ left_by [] = zeros
 left_by (attempt ∷ earlier) =
     if attempt.commits then words_after (left_by earlier) attempt.accesses else left_by earlier
 
--- the breach of a read of this value at a word that has another value; otherwise the rest decides
-abbrev pub unless_same : ℕ → ℕ → ℕ → Option Breach → Option Breach
+-- the violation of a read of this value at a word that has another value; otherwise the rest
+-- decides
+abbrev pub unless_same : ℕ → ℕ → ℕ → Option AttemptViolation → Option AttemptViolation
 unless_same word value is rest =
-    if value == is then rest else Some (breach.Read word is)
+    if value == is then rest else Some (violation.Read word is)
 
 -- the first read among the accesses that gives another value than its word has at that point
-abbrev pub wrong_read : Image → List Access → Option Breach
+abbrev pub wrong_read : Image → List Access → Option AttemptViolation
 wrong_read image [] = None
 wrong_read image (Read word value ∷ more) =
     unless_same word value (image word) (wrong_read image more)

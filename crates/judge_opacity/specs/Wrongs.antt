@@ -7,8 +7,8 @@ use Rattle.vac_lines.specs.Lines.{lines_of}
 use Rattle.judge_time.specs.Laws.{TakeTurns, KeepPrecedence, IsMisplaced}
 use Rattle.judge_opacity.specs.declared.attempt.Access.{Access}
 use Rattle.judge_opacity.specs.declared.attempt.Access.TheVariants.{Read}
-use Rattle.judge_opacity.specs.declared.finding.Breach.{Breach}
-use Rattle.judge_opacity.specs.declared.finding.Breach.TheVariants as breach
+use Rattle.judge_opacity.specs.declared.finding.AttemptViolation.{AttemptViolation}
+use Rattle.judge_opacity.specs.declared.finding.AttemptViolation.TheVariants as violation
 use Rattle.judge_opacity.specs.declared.finding.Finding.TheVariants.{Fault, Illegal}
 use Rattle.judge_opacity.specs.Attempt.{Attempt, span_of_attempt, line_attempt}
 use Rattle.judge_opacity.specs.Verdict.{finding_on}
@@ -28,15 +28,17 @@ pub record IsWrongRead (attempts : List Attempt) (attempt : Attempt) (word expec
 
 -- the reason why no opaque order goes on from these attempts with this attempt. The turns of
 -- clients are checked first, then the times, then the reads
-abbrev pub IsBreach : List Attempt → Attempt → Breach → Type 0
-IsBreach attempts attempt (breach.Place wrong) = IsMisplaced span_of_attempt attempts attempt wrong
-IsBreach attempts attempt (breach.Read word expected) =
+abbrev pub IsViolation : List Attempt → Attempt → AttemptViolation → Type 0
+IsViolation attempts attempt (violation.Place wrong) =
+    IsMisplaced span_of_attempt attempts attempt wrong
+IsViolation attempts attempt (violation.Read word expected) =
     TakeTurns span_of_attempt (attempts ++ attempt ∷ [])
     × KeepPrecedence span_of_attempt (attempts ++ attempt ∷ [])
     × IsWrongRead attempts attempt word expected
 
 -- the line is the first wrong line, and its attempt is wrong for this reason
-pub record IsFirstWrongAttempt (words : ℕ) (bytes : List ℕ) (line : ℕ) (breach : Breach)
+pub record IsFirstWrongAttempt (words : ℕ) (bytes : List ℕ) (line : ℕ)
+    (violation : AttemptViolation)
     : Type 0 where
   pub before : List Attempt
   pub attempt : Attempt
@@ -45,12 +47,14 @@ pub record IsFirstWrongAttempt (words : ℕ) (bytes : List ℕ) (line : ℕ) (br
   pub number : line ≡ length before + 1
   pub opaque : IsOpaqueOrder before
   pub illegal : IsOpaqueOrder (before ++ attempt ∷ []) → ⊥
-  pub cause : IsBreach before attempt breach
+  pub cause : IsViolation before attempt violation
 
 -- the verdict calls a line illegal if and only if the line is the first wrong line
 abbrev pub IllegalIsFirstWrongAttempt : Type 0
-IllegalIsFirstWrongAttempt = (words : ℕ) (bytes : List ℕ) (line : ℕ) (breach : Breach) →
-    (finding_on words bytes ≡ Illegal line breach) ↔ IsFirstWrongAttempt words bytes line breach
+IllegalIsFirstWrongAttempt = (words : ℕ) (bytes : List ℕ) (line : ℕ)
+    (violation : AttemptViolation) →
+    (finding_on words bytes ≡ Illegal line violation) ↔ IsFirstWrongAttempt words bytes line
+    violation
 
 -- the line is no attempt, and the order of the lines before it shows that the attempts are opaque
 pub record IsFirstNoAttempt (words : ℕ) (bytes : List ℕ) (line : ℕ) (fault : LineFault)

@@ -11,7 +11,7 @@ use vac_lines::{LineFault, append_field, keep_whole, print_fault};
 
 /// The fault of an attempt, after the attempts that come before it.
 #[derive(Clone, Copy, Debug, PartialEq, Eq)]
-pub enum Breach {
+pub enum AttemptViolation {
     /// The position of the attempt in the order is wrong.
     Place(Misplaced),
     /// A read of this word should give this value: the last value that the attempt itself wrote to
@@ -37,9 +37,15 @@ pub enum Finding {
     /// Each line is an attempt, and the order of the lines shows that the attempts are opaque.
     Opaque(Counts),
     /// The line is no attempt.
-    Fault { line: u64, fault: LineFault },
+    Fault {
+        line: u64,
+        fault: LineFault,
+    },
     /// The attempt of the line is wrong after the attempts before it.
-    Illegal { line: u64, breach: Breach },
+    Illegal {
+        line: u64,
+        violation: AttemptViolation,
+    },
 }
 
 /// Appends the counts of opaque attempts.
@@ -76,15 +82,19 @@ fn append_read(out: &mut Vec<u8>, line: u64, word: u32, expected: u64) -> Result
 }
 
 /// Appends the fault of the attempt of a line.
-fn append_breach(out: &mut Vec<u8>, breach: &Breach, line: u64) -> Result<(), AllocError>
+fn append_violation(
+    out: &mut Vec<u8>,
+    violation: &AttemptViolation,
+    line: u64,
+) -> Result<(), AllocError>
     ensures ok { OnOk result
-        (out.new.items ≡ out.old.items ++ finding_text (Finding.Illegal line breach.now)) }
+        (out.new.items ≡ out.old.items ++ finding_text (Finding.Illegal line violation.now)) }
     ensures err { OnErr result (Extends out.old.items out.new.items) }
 {
-    match breach {
-        Breach::Place(Misplaced::Client) => append_field(out, b"illegal client ", line)?,
-        Breach::Place(Misplaced::Time) => append_field(out, b"illegal time ", line)?,
-        Breach::Read { word, expected } => append_read(out, line, *word, *expected)?,
+    match violation {
+        AttemptViolation::Place(Misplaced::Client) => append_field(out, b"illegal client ", line)?,
+        AttemptViolation::Place(Misplaced::Time) => append_field(out, b"illegal time ", line)?,
+        AttemptViolation::Read { word, expected } => append_read(out, line, *word, *expected)?,
     }
     out.extend_from_slice(b"\n")
 }
@@ -98,7 +108,7 @@ pub fn print_finding(finding: &Finding, out: &mut Vec<u8>) -> Result<(), AllocEr
     let printed = match finding {
         Finding::Opaque(counts) => append_counts(out, counts),
         Finding::Fault { line, fault } => append_fault(out, *fault, *line),
-        Finding::Illegal { line, breach } => append_breach(out, breach, *line),
+        Finding::Illegal { line, violation } => append_violation(out, violation, *line),
     };
     keep_whole(out, start, printed)
 }

@@ -4,12 +4,12 @@ ghost use Rattle.std.specs.Prelude.{◌≡◌, ◌≢◌, ℕ, ◌+◌, ◌<◌,
 ghost use Rattle.vac_streams.specs.declared.fault.StreamFault.TheVariants.{Write};
 ghost use Rattle.judge_opacity.specs.Attempt.{Attempt, text_attempt};
 ghost use Rattle.judge_opacity.specs.Parts.{AllAmong, attempt_of};
-ghost use Rattle.judge_opacity.specs.Verdict.{counts_of, breach_of};
+ghost use Rattle.judge_opacity.specs.Verdict.{counts_of, violation_of};
 ghost use Rattle.judge_opacity.specs.Logs.{IsSameJudge};
 ghost use Rattle.judge_opacity.specs.Judging.{FollowsAttempts, JudgesAttempt, TakesAttempt, DecidesFinding};
 
 use crate::attempt::{Access, Head, read_attempt};
-use crate::finding::{Breach, Counts, Finding};
+use crate::finding::{AttemptViolation, Counts, Finding};
 use crate::memory::Memory;
 use judge_time::Spans;
 use std::alloc::{AllocError, Global};
@@ -64,7 +64,7 @@ impl Judge {
 
     /// Judges the attempt with this head and the accesses just read, and takes the attempt if it
     /// has no fault.
-    fn judge_attempt(&mut self, head: &Head) -> Result<Option<Breach>, StreamFault>
+    fn judge_attempt(&mut self, head: &Head) -> Result<Option<AttemptViolation>, StreamFault>
         requires among { AllAmong (length self.old.memory.words.items) self.old.accesses.items }
         requires room { self.old.spans.count + 1 < 2 ^ 64 }
         ensures judged { IfOk result (λ found. (words : ℕ) (earlier : List Attempt) →
@@ -73,12 +73,12 @@ impl Judge {
         ensures refused { IfErr result (λ fault. fault ≢ Write) }
     {
         if let Some(wrong) = self.spans.find(&head.span) {
-            return Ok(Some(Breach::Place(wrong)));
+            return Ok(Some(AttemptViolation::Place(wrong)));
         }
         let committed = count_commit(self.committed, head.commits)?;
         self.memory.keep();
-        if let Some(breach) = self.memory.run(self.accesses.as_slice())? {
-            return Ok(Some(breach));
+        if let Some(violation) = self.memory.run(self.accesses.as_slice())? {
+            return Ok(Some(violation));
         }
         self.spans.push(&head.span)?;
         self.committed = committed;
@@ -94,7 +94,7 @@ impl Judge {
         ensures same { OnOk result (IsSameJudge self.old self.new) }
         ensures fits { IfOk result (λ fits. (words : ℕ) (earlier : List Attempt) →
             FollowsAttempts words self.old earlier →
-            fits ≡ is_none (breach_of earlier (attempt_of head.now accesses.now))) }
+            fits ≡ is_none (violation_of earlier (attempt_of head.now accesses.now))) }
     {
         if self.spans.find(&head.span).is_some() {
             return Ok(false);
@@ -112,7 +112,7 @@ impl Judge {
             ≡ length self.old.memory.words.items) }
         ensures taken { OnOk result ((words : ℕ) (earlier : List Attempt) →
             FollowsAttempts words self.old earlier →
-            breach_of earlier (attempt_of head.now accesses.now) ≡ None →
+            violation_of earlier (attempt_of head.now accesses.now) ≡ None →
             FollowsAttempts words self.new (attempt_of head.now accesses.now ∷ earlier)) }
         ensures refused { IfErr result (λ fault. fault ≢ Write) }
     {
@@ -140,7 +140,7 @@ impl Judge {
         let line = self.next_line()?;
         match read_attempt(self.memory.size(), text, &mut self.accesses)? {
             Ok(head) => match self.judge_attempt(&head)? {
-                Some(breach) => Ok(Some(Finding::Illegal { line, breach })),
+                Some(violation) => Ok(Some(Finding::Illegal { line, violation })),
                 None => Ok(None),
             },
             Err(fault) => Ok(Some(Finding::Fault { line, fault })),

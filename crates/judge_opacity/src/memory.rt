@@ -6,7 +6,7 @@ ghost use Rattle.judge_opacity.specs.Parts.{AllAmong};
 ghost use Rattle.judge_opacity.specs.Covered.{image_of, uncovered};
 
 use crate::attempt::Access;
-use crate::finding::Breach;
+use crate::finding::AttemptViolation;
 use std::alloc::{AllocError, Global};
 
 /// Number of words if the command line gives none.
@@ -100,7 +100,10 @@ impl Memory {
 
     /// Applies the accesses of an attempt, and returns the first wrong read, if there is one.
     /// Nothing is applied after a wrong read.
-    pub(crate) fn run(&mut self, accesses: &[Access]) -> Result<Option<Breach>, AllocError>
+    pub(crate) fn run(
+        &mut self,
+        accesses: &[Access],
+    ) -> Result<Option<AttemptViolation>, AllocError>
         requires among { AllAmong (length self.old.words.items) accesses.now }
         ensures found { IfOk result (λ found.
             wrong_read (image_of self.old.words.items) accesses.now ≡ found) }
@@ -117,7 +120,7 @@ impl Memory {
                 Access::Read { word, value } => {
                     let expected = word_of(self.words.as_slice(), word);
                     if value != expected {
-                        return Ok(Some(Breach::Read { word, expected }));
+                        return Ok(Some(AttemptViolation::Read { word, expected }));
                     }
                 }
                 Access::Write { word, value } => self.write(word, value)?,

@@ -9,7 +9,7 @@ ghost use Rattle.std.specs.Prelude.{◌≡◌, ◌≢◌, ◌<◌, ◌==◌, ◌
 ghost use Rattle.vac_streams.specs.declared.fault.StreamFault.TheVariants.{Write};
 ghost use Rattle.judge_opacity.specs.Attempt.{Attempt};
 ghost use Rattle.judge_opacity.specs.Parts.{AllAmong};
-ghost use Rattle.judge_opacity.specs.Verdict.{breach_of};
+ghost use Rattle.judge_opacity.specs.Verdict.{violation_of};
 ghost use Rattle.judge_opacity.specs.declared.logged.Logged.{Logged};
 ghost use Rattle.judge_opacity.specs.Placing.{IsPlaceable, Completes};
 ghost use Rattle.judge_opacity.specs.Judging.{FollowsAttempts};
@@ -114,7 +114,7 @@ fn take_at(judge: &mut Judge, left: &mut Vec<Logged>, place: usize) -> Result<()
         ≡ length judge.old.memory.words.items) }
     ensures taken { OnOk result ((words : ℕ) (earlier : List Attempt) (d : Logged) →
         FollowsAttempts words judge.old earlier →
-        breach_of earlier (spec.logged_attempt (slice_index_or left.old.items place d)) ≡ None →
+        violation_of earlier (spec.logged_attempt (slice_index_or left.old.items place d)) ≡ None →
         FollowsAttempts words judge.new
         (spec.logged_attempt (slice_index_or left.old.items place d) ∷ earlier)) }
     ensures refused { IfErr result (λ fault. fault ≢ Write) }

@@ -9,8 +9,8 @@ use Rattle.vac_model.specs.declared.items.Kind.TheVariants.{Flight}
 use Rattle.vac_model.specs.declared.items.Item.{Item}
 use Rattle.vac_model.specs.declared.commands.Command.{Command}
 use Rattle.vac_model.specs.declared.commands.Command.TheVariants as command
-use Rattle.vac_model.specs.declared.commands.Why.TheVariants.{Full, NoItem}
-use Rattle.vac_model.specs.declared.commands.Why.TheVariants.{NoCustomer, SoldOut, NotBooked, UnitLimit}
+use Rattle.vac_model.specs.declared.commands.Refusal.TheVariants.{Full, NoItem}
+use Rattle.vac_model.specs.declared.commands.Refusal.TheVariants.{NoCustomer, SoldOut, NotBooked, UnitLimit}
 use Rattle.vac_model.specs.declared.items.Booking.{Booking}
 use Rattle.vac_model.specs.State.{State, Bookings, item_of, with_item}
 use Rattle.vac_model.specs.State.{bookings_of, with_bookings, without_customer, is_full, units_of}

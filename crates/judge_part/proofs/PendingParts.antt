@@ -13,8 +13,8 @@ use Rattle.vac_model.specs.declared.items.Kind.TheVariants.{Car, Flight, Room}
 use Rattle.vac_model.specs.declared.commands.Command.{Command}
 use Rattle.vac_model.specs.declared.commands.Command.TheVariants as command
 use Rattle.vac_model.specs.declared.replies.Reply.TheVariants as reply
-use Rattle.vac_model.specs.declared.replies.Joined.TheVariants as joined
-use Rattle.vac_model.specs.declared.commands.Why.TheVariants.{NoCustomer}
+use Rattle.vac_model.specs.declared.replies.CustomerOutcome.TheVariants as joined
+use Rattle.vac_model.specs.declared.commands.Refusal.TheVariants.{NoCustomer}
 use Rattle.vac_model.specs.declared.tasks.Task.{Task}
 use Rattle.vac_model.specs.declared.tasks.Task.TheVariants as task
 use Rattle.vac_model.specs.Amounts.{is_id, is_list_length}

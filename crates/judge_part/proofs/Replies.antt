@@ -15,13 +15,14 @@ use Rattle.vac_model.specs.declared.limits.TheConstants.{MOST_PARTS}
 use Rattle.vac_model.specs.declared.items.Kind.{Kind}
 use Rattle.vac_model.specs.declared.items.Kind.TheVariants.{Car, Flight, Room}
 use Rattle.vac_model.specs.declared.commands.Command.{Command}
-use Rattle.vac_model.specs.declared.commands.Why.{Why}
-use Rattle.vac_model.specs.declared.commands.Why.TheVariants.{NeedsCountAndPrice, TotalLimit, Full, NoItem, NotFree}
-use Rattle.vac_model.specs.declared.commands.Why.TheVariants.{InUse, Exists, NoCustomer, SoldOut, NotBooked, UnitLimit}
+use Rattle.vac_model.specs.declared.commands.Refusal.{Refusal}
+use Rattle.vac_model.specs.declared.commands.Refusal.TheVariants.{NeedsCountAndPrice, TotalLimit, Full, NoItem, NotFree}
+use Rattle.vac_model.specs.declared.commands.Refusal.TheVariants.{InUse, Exists, NoCustomer, SoldOut, NotBooked}
+use Rattle.vac_model.specs.declared.commands.Refusal.TheVariants.{UnitLimit}
 use Rattle.vac_model.specs.declared.replies.Reply.{Reply}
 use Rattle.vac_model.specs.declared.replies.Reply.TheVariants as reply
-use Rattle.vac_model.specs.declared.replies.Joined.{Joined}
-use Rattle.vac_model.specs.declared.replies.Joined.TheVariants as joined
+use Rattle.vac_model.specs.declared.replies.CustomerOutcome.{CustomerOutcome}
+use Rattle.vac_model.specs.declared.replies.CustomerOutcome.TheVariants as joined
 use Rattle.vac_model.specs.declared.replies.Pick.{Pick}
 use Rattle.vac_model.specs.State.{State}
 use Rattle.vac_model.specs.Amounts.{is_id}
@@ -110,7 +111,7 @@ tests (reply.Update r) h = absurd h
 pub plain_both : (xs ys : List ℕ) → IsPlain xs → IsPlain ys → IsPlain (xs ++ ys)
 plain_both xs ys p q = list_all-append is_word_byte xs ys ∙ rw (p, q) refl
 
-why_plain : (why : Why) → IsPlain (why_name why)
+why_plain : (why : Refusal) → IsPlain (why_name why)
 why_plain NeedsCountAndPrice = refl
 why_plain TotalLimit = refl
 why_plain Full = refl
@@ -123,21 +124,21 @@ why_plain SoldOut = refl
 why_plain NotBooked = refl
 why_plain UnitLimit = refl
 
-pub done_plain : (o : Option Why) → IsPlain (done_text o)
+pub done_plain : (o : Option Refusal) → IsPlain (done_text o)
 done_plain None = refl
 done_plain (Some why) = why_plain why
 
-pub joined_plain : (j : Joined) → IsPlain (joined_text j)
+pub joined_plain : (j : CustomerOutcome) → IsPlain (joined_text j)
 joined_plain joined.NotAsked = refl
 joined_plain joined.Added = refl
 joined_plain (joined.Refused why) = why_plain why
 
 -- updates
-all_plain : (whys : List (Option Why)) → Each IsPlain (map done_text whys)
+all_plain : (whys : List (Option Refusal)) → Each IsPlain (map done_text whys)
 all_plain [] = tt
 all_plain (w ∷ ws) = (done_plain w, all_plain ws)
 
-spaced_changes : (whys : List (Option Why)) → flat_map change_text whys ≡ spaced (map done_text whys)
+spaced_changes : (whys : List (Option Refusal)) → flat_map change_text whys ≡ spaced (map done_text whys)
 spaced_changes [] = refl
 spaced_changes (w ∷ ws) = ap (λ t. (codes " " ++ done_text w) ++ t) (spaced_changes ws)
 
@@ -167,7 +168,7 @@ abbrev pub pick_word : Kind → Option Pick → List ℕ
 pick_word kind pick = prefix kind ++ pick_text pick
 
 -- the word for the customer
-abbrev pub joined_word : Joined → List ℕ
+abbrev pub joined_word : CustomerOutcome → List ℕ
 joined_word j = codes "cust=" ++ joined_text j
 
 pub no_pick_word : (kind : Kind) → pick_word kind None ≡ no_pick kind
@@ -179,7 +180,7 @@ no_pick_word Room = refl
 abbrev pub words_joined : List ℕ → List ℕ → List ℕ → List ℕ → List ℕ
 words_joined customer car flight room = words_text (codes "trip" ∷ customer ∷ car ∷ flight ∷ room ∷ [])
 
-pub trip_reads : (j : Joined) (a b d : Option Pick) →
+pub trip_reads : (j : CustomerOutcome) (a b d : Option Pick) →
     reply_text (reply.Trip (record { joined = j; picks = a ∷ b ∷ d ∷ [] }))
     ≡ words_joined (joined_word j) (pick_word Car a) (pick_word Flight b) (pick_word Room d)
 trip_reads j a b d = refl
@@ -207,7 +208,7 @@ prefix_plain Room = refl
 word_plain : (kind : Kind) (o : Option Pick) → HasId o → IsPlain (pick_word kind o)
 word_plain kind o h = plain_both (prefix kind) (pick_text o) (prefix_plain kind) (pick_plain o h)
 
-pub reply_words : (j : Joined) (a b d : Option Pick) → HasId a → HasId b → HasId d →
+pub reply_words : (j : CustomerOutcome) (a b d : Option Pick) → HasId a → HasId b → HasId d →
     trip_words (reply_text (reply.Trip (record { joined = j; picks = a ∷ b ∷ d ∷ [] })))
     ≡ Some (joined_word j, pick_word Car a, pick_word Flight b, pick_word Room d)
 reply_words j a b d ha hb hd =

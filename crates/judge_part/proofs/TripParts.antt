@@ -11,11 +11,12 @@ use Rattle.vac_model.specs.declared.limits.TheConstants.{MOST_PARTS}
 use Rattle.vac_model.specs.declared.items.Kind.{Kind}
 use Rattle.vac_model.specs.declared.items.Kind.TheVariants.{Car, Flight, Room}
 use Rattle.vac_model.specs.declared.commands.Command.TheVariants as command
-use Rattle.vac_model.specs.declared.commands.Why.TheVariants.{NeedsCountAndPrice, TotalLimit, Full, NoItem, NotFree}
-use Rattle.vac_model.specs.declared.commands.Why.TheVariants.{InUse, Exists, NoCustomer, SoldOut, NotBooked, UnitLimit}
+use Rattle.vac_model.specs.declared.commands.Refusal.TheVariants.{NeedsCountAndPrice, TotalLimit, Full, NoItem, NotFree}
+use Rattle.vac_model.specs.declared.commands.Refusal.TheVariants.{InUse, Exists, NoCustomer, SoldOut, NotBooked}
+use Rattle.vac_model.specs.declared.commands.Refusal.TheVariants.{UnitLimit}
 use Rattle.vac_model.specs.declared.replies.Reply.{Reply}
 use Rattle.vac_model.specs.declared.replies.Reply.TheVariants as reply
-use Rattle.vac_model.specs.declared.replies.Joined.TheVariants as joined
+use Rattle.vac_model.specs.declared.replies.CustomerOutcome.TheVariants as joined
 use Rattle.vac_model.specs.declared.replies.Pick.{Pick}
 use Rattle.vac_model.specs.declared.tasks.Task.{Task}
 use Rattle.vac_model.specs.declared.tasks.Task.TheVariants as task

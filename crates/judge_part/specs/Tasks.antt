@@ -8,8 +8,8 @@ use Rattle.vac_model.specs.declared.items.Kind.{Kind}
 use Rattle.vac_model.specs.declared.items.Kind.TheVariants.{Flight}
 use Rattle.vac_model.specs.declared.commands.Command.{Command}
 use Rattle.vac_model.specs.declared.commands.Command.TheVariants as command
-use Rattle.vac_model.specs.declared.commands.Why.{Why}
-use Rattle.vac_model.specs.declared.commands.Why.TheVariants.{NeedsCountAndPrice, Full, NoItem, NotFree, InUse, Exists, NoCustomer, SoldOut}
+use Rattle.vac_model.specs.declared.commands.Refusal.{Refusal}
+use Rattle.vac_model.specs.declared.commands.Refusal.TheVariants.{NeedsCountAndPrice, Full, NoItem, NotFree, InUse, Exists, NoCustomer, SoldOut}
 use Rattle.vac_model.specs.declared.replies.Reply.{Reply}
 use Rattle.vac_model.specs.declared.replies.Reply.TheVariants as reply
 use Rattle.vac_model.specs.declared.tasks.Task.{Task}
@@ -59,7 +59,7 @@ add_part scope kind id num price text =
 
 -- a task on the units of an item that was refused for such a reason shows only that the item
 -- exists, unless all customers who book the item belong to the scope
-abbrev pub units_part : Scope → Place → Task → List ℕ → Why → Option Answered
+abbrev pub units_part : Scope → Place → Task → List ℕ → Refusal → Option Answered
 units_part scope place t text why =
     if has_item scope place then (
     if is_reply (reply.No why) text && not (is_closed scope place)

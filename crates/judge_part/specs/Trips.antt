@@ -8,7 +8,7 @@ use Rattle.vac_model.specs.declared.limits.TheConstants.{MOST_ID}
 use Rattle.vac_model.specs.declared.items.Kind.{Kind}
 use Rattle.vac_model.specs.declared.items.Kind.TheVariants.{Car, Flight, Room}
 use Rattle.vac_model.specs.declared.commands.Command.TheVariants as command
-use Rattle.vac_model.specs.declared.commands.Why.TheVariants.{Full, SoldOut}
+use Rattle.vac_model.specs.declared.commands.Refusal.TheVariants.{Full, SoldOut}
 use Rattle.vac_model.specs.declared.replies.Reply.TheVariants as reply
 use Rattle.vac_model.specs.declared.tasks.Task.TheVariants as task
 use Rattle.vac_model.specs.State.{Place}

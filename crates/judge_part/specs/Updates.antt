@@ -9,8 +9,8 @@ use Rattle.vac_model.specs.declared.items.Kind.{Kind}
 use Rattle.vac_model.specs.declared.items.Kind.TheVariants.{Flight}
 use Rattle.vac_model.specs.declared.commands.Command.{Command}
 use Rattle.vac_model.specs.declared.commands.Command.TheVariants as command
-use Rattle.vac_model.specs.declared.commands.Why.{Why}
-use Rattle.vac_model.specs.declared.commands.Why.TheVariants.{Full, NotFree, InUse}
+use Rattle.vac_model.specs.declared.commands.Refusal.{Refusal}
+use Rattle.vac_model.specs.declared.commands.Refusal.TheVariants.{Full, NotFree, InUse}
 use Rattle.vac_model.specs.declared.tasks.Task.TheVariants as task
 use Rattle.vac_model.specs.State.{Place}
 use Rattle.vac_lines.specs.Lines.{words_of}
@@ -29,12 +29,12 @@ abbrev pub changed : Option (Command × Bor (List ℕ)) → Option Changed
 changed c = option_map (λ x. (x.0, x.1.now)) c
 
 -- tests if a word is the name of a refusal
-abbrev pub is_why : Why → List ℕ → Bool
+abbrev pub is_why : Refusal → List ℕ → Bool
 is_why why word = bytes_eq word (why_name why)
 
 -- a change of the units of an item that was refused for such a reason shows only that the item
 -- exists, unless all customers who book the item belong to the scope
-abbrev pub units_change : Scope → Place → Command → List ℕ → Why → Option Changed
+abbrev pub units_change : Scope → Place → Command → List ℕ → Refusal → Option Changed
 units_change scope place c word why =
     if has_item scope place then (
     if is_why why word && not (is_closed scope place)

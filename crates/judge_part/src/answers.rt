@@ -2,7 +2,7 @@
 
 ghost use Rattle.std.specs.Prelude.{◌≡◌, ◌&&◌, not, Some, None, if◌then◌else◌, IfOk};
 ghost use Rattle.vac_model.specs.declared.commands.Command.TheVariants as command;
-ghost use Rattle.vac_model.specs.declared.commands.Why.TheVariants.{SoldOut};
+ghost use Rattle.vac_model.specs.declared.commands.Refusal.TheVariants.{SoldOut};
 ghost use Rattle.vac_model.specs.declared.replies.Reply.TheVariants as reply;
 ghost use Rattle.vac_model.specs.declared.tasks.Task.TheVariants as task;
 ghost use Rattle.vac_lines.specs.Text.{reply_text};
@@ -15,7 +15,7 @@ use crate::scope::Scope;
 use crate::trips::trip_part;
 use crate::updates::update_part;
 use std::alloc::{AllocError, Global};
-use vac_model::{Command, Kind, Task, Why};
+use vac_model::{Command, Kind, Refusal, Task};
 
 /// A task with the text of its reply.
 #[derive(Drop)]
@@ -106,10 +106,10 @@ fn command_part<'a>(scope: &Scope, command: Command, text: &'a [u8]) -> Option<S
             (kind, id),
             command,
             text,
-            Why::NotFree,
+            Refusal::NotFree,
         ),
         Command::DropFlight { id } => {
-            units_part(scope, (Kind::Flight, id), command, text, Why::InUse)
+            units_part(scope, (Kind::Flight, id), command, text, Refusal::InUse)
         }
         Command::NewCustomer { id } => {
             if scope.has_customer(id) {
@@ -139,26 +139,26 @@ fn command_part<'a>(scope: &Scope, command: Command, text: &'a [u8]) -> Option<S
 }
 
 /// The text of a refusal.
-fn refusal_text(why: Why) -> &'static [u8]
+fn refusal_text(why: Refusal) -> &'static [u8]
     ensures { result.now ≡ reply_text (reply.No why) }
 {
     match why {
-        Why::NeedsCountAndPrice => b"false needs-count-and-price",
-        Why::TotalLimit => b"false total-limit",
-        Why::Full => b"false full",
-        Why::NoItem => b"false no-item",
-        Why::NotFree => b"false not-free",
-        Why::InUse => b"false in-use",
-        Why::Exists => b"false exists",
-        Why::NoCustomer => b"false no-customer",
-        Why::SoldOut => b"false sold-out",
-        Why::NotBooked => b"false not-booked",
-        Why::UnitLimit => b"false unit-limit",
+        Refusal::NeedsCountAndPrice => b"false needs-count-and-price",
+        Refusal::TotalLimit => b"false total-limit",
+        Refusal::Full => b"false full",
+        Refusal::NoItem => b"false no-item",
+        Refusal::NotFree => b"false not-free",
+        Refusal::InUse => b"false in-use",
+        Refusal::Exists => b"false exists",
+        Refusal::NoCustomer => b"false no-customer",
+        Refusal::SoldOut => b"false sold-out",
+        Refusal::NotBooked => b"false not-booked",
+        Refusal::UnitLimit => b"false unit-limit",
     }
 }
 
 /// Returns whether a reply is this refusal.
-fn is_refused(text: &[u8], why: Why) -> bool
+fn is_refused(text: &[u8], why: Refusal) -> bool
     ensures { result ≡ spec.is_reply (reply.No why) text.now }
 {
     text == refusal_text(why)
@@ -176,7 +176,7 @@ fn kept_if(holds: bool, command: Command, text: &[u8]) -> Option<Seen<'_>>
 fn kept(command: Command, text: &[u8]) -> Option<Seen<'_>>
     ensures { spec.answered result ≡ spec.kept (task.One command) text.now }
 {
-    kept_if(!is_refused(text, Why::Full), command, text)
+    kept_if(!is_refused(text, Refusal::Full), command, text)
 }
 
 /// Returns a command that shows that a customer exists, and changes nothing.
@@ -185,7 +185,7 @@ pub(crate) fn customer_exists<'a>(customer: u32) -> Option<Seen<'a>>
 {
     Some((
         Command::NewCustomer { id: customer },
-        refusal_text(Why::Exists),
+        refusal_text(Refusal::Exists),
     ))
 }
 
@@ -219,7 +219,7 @@ fn item_exists<'a>(item: (Kind, u32)) -> Option<Seen<'a>>
 fn item_missing<'a>(item: (Kind, u32)) -> Option<Seen<'a>>
     ensures { spec.answered result ≡ spec.item_missing item.0 item.1 }
 {
-    Some((probe(item), refusal_text(Why::NeedsCountAndPrice)))
+    Some((probe(item), refusal_text(Refusal::NeedsCountAndPrice)))
 }
 
 /// Returns a command on the units of an item as it is, if it was not refused for this reason or the
@@ -229,7 +229,7 @@ fn units_part<'a>(
     item: (Kind, u32),
     command: Command,
     text: &'a [u8],
-    why: Why,
+    why: Refusal,
 ) -> Option<Seen<'a>>
     ensures { spec.answered result
         ≡ spec.units_part scope.now item (task.One command) text.now why }
@@ -249,7 +249,7 @@ fn customer_seen<'a>(customer: u32, text: &[u8]) -> Option<Seen<'a>>
     ensures { spec.answered result
         ≡ spec.customer_seen customer text.now }
 {
-    if is_refused(text, Why::NoCustomer) {
+    if is_refused(text, Refusal::NoCustomer) {
         customer_missing(customer)
     } else {
         customer_exists(customer)
@@ -262,9 +262,9 @@ fn item_seen<'a>(item: (Kind, u32), text: &[u8]) -> Option<Seen<'a>>
     ensures { spec.answered result
         ≡ spec.item_seen item.0 item.1 text.now }
 {
-    if is_refused(text, Why::NoCustomer) {
+    if is_refused(text, Refusal::NoCustomer) {
         None
-    } else if is_refused(text, Why::NoItem) {
+    } else if is_refused(text, Refusal::NoItem) {
         item_missing(item)
     } else {
         item_exists(item)
@@ -304,7 +304,7 @@ fn reserve_part<'a>(
         ≡ (if spec.is_reply (reply.No SoldOut) text.now && not (is_closed scope.now item)
         then spec.customer_exists customer else spec.kept (task.One command) text.now) }
 {
-    if is_refused(text, Why::SoldOut) && !scope.is_closed(item.0, item.1) {
+    if is_refused(text, Refusal::SoldOut) && !scope.is_closed(item.0, item.1) {
         customer_exists(customer)
     } else {
         kept(command, text)

@@ -10,7 +10,7 @@ ghost use Rattle.judge_part.specs.Lines as spec;
 use crate::calls::fits;
 use crate::scope::Scope;
 use judge_object::Line;
-use judge_reservations::Asked;
+use judge_reservations::ValidTask;
 use judge_time::NEVER;
 use std::alloc::{AllocError, Global};
 use vac_model::Kind;
@@ -24,7 +24,7 @@ pub fn scope_of(
     alloc: Global,
     customers: &[u32],
     items: &[(Kind, u32)],
-    lines: &[Line<Asked>],
+    lines: &[Line<ValidTask>],
 ) -> Result<Option<Scope>, AllocError>
     ensures scope { IfOk result (λ found. IfSome found (λ scope.
         largest.IsScopeOf customers.now items.now (spec.calls_of lines.now) scope)) }
@@ -57,7 +57,7 @@ fn closed_items(
     alloc: Global,
     customers: &[u32],
     items: &[(Kind, u32)],
-    lines: &[Line<Asked>],
+    lines: &[Line<ValidTask>],
 ) -> Result<Vec<(Kind, u32)>, AllocError>
     ensures all { IfOk result (λ closed.
         largest.HasAllClosed customers.now items.now (spec.calls_of lines.now) closed.items) }
@@ -78,7 +78,7 @@ fn whole_customers(
     alloc: Global,
     customers: &[u32],
     items: &[(Kind, u32)],
-    lines: &[Line<Asked>],
+    lines: &[Line<ValidTask>],
 ) -> Result<Vec<u32>, AllocError>
     ensures all { IfOk result (λ whole.
         largest.HasAllWhole customers.now items.now (spec.calls_of lines.now) whole.items) }
@@ -111,7 +111,7 @@ fn is_shut(
     customers: &[u32],
     items: &[(Kind, u32)],
     item: (Kind, u32),
-    lines: &[Line<Asked>],
+    lines: &[Line<ValidTask>],
 ) -> Result<bool, AllocError>
     ensures all { IfOk result (λ shut. (other : Scope) →
         largest.IsScopeOf customers.now items.now (spec.calls_of lines.now) other →
@@ -134,7 +134,7 @@ fn is_own(
     customers: &[u32],
     items: &[(Kind, u32)],
     customer: u32,
-    lines: &[Line<Asked>],
+    lines: &[Line<ValidTask>],
 ) -> Result<bool, AllocError>
     ensures all { IfOk result (λ own. (other : Scope) →
         largest.IsScopeOf customers.now items.now (spec.calls_of lines.now) other →
@@ -152,7 +152,7 @@ fn is_own(
 }
 
 /// Returns whether the calls of all lines have parts.
-fn all_have_parts(scope: &Scope, lines: &[Line<Asked>]) -> bool
+fn all_have_parts(scope: &Scope, lines: &[Line<ValidTask>]) -> bool
     ensures { result ≡ list_all (λ line. spec.has_part scope.now (spec.call_of line)) lines.now }
 {
     lines.iter().all(|line| has_part(scope, line))
@@ -160,7 +160,7 @@ fn all_have_parts(scope: &Scope, lines: &[Line<Asked>]) -> bool
 
 /// Returns whether the call of a line has a part, books nothing that the scope does not allow, and
 /// is timed.
-fn has_part(scope: &Scope, line: &Line<Asked>) -> bool
+fn has_part(scope: &Scope, line: &Line<ValidTask>) -> bool
     ensures { result ≡ spec.has_part scope.now (spec.call_of line.now) }
 {
     u128::from(line.begin) < NEVER

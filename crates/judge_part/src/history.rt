@@ -12,7 +12,7 @@ use crate::answers::task_part;
 use crate::pending::pending_part;
 use crate::scope::Scope;
 use judge_object::Line;
-use judge_reservations::Asked;
+use judge_reservations::ValidTask;
 use std::alloc::{AllocError, Global};
 use vac_model::Task;
 
@@ -22,8 +22,8 @@ use vac_model::Task;
 pub fn part_of_history(
     alloc: Global,
     scope: &Scope,
-    lines: &[Line<Asked>],
-) -> Result<Vec<Line<Asked>>, AllocError>
+    lines: &[Line<ValidTask>],
+) -> Result<Vec<Line<ValidTask>>, AllocError>
     ensures lines { IfOk result (λ part.
         map spec.numbered part.items ≡ filter_map (spec.line_part scope.now) lines.now) }
     ensures calls { IfOk result (λ part.
@@ -37,7 +37,10 @@ pub fn part_of_history(
 }
 
 /// Takes one more line, if there is one.
-fn take_line(part: &mut Vec<Line<Asked>>, line: Option<Line<Asked>>) -> Result<(), AllocError>
+fn take_line(
+    part: &mut Vec<Line<ValidTask>>,
+    line: Option<Line<ValidTask>>,
+) -> Result<(), AllocError>
     ensures { OnOk result (map spec.numbered part.new.items
         ≡ map spec.numbered part.old.items ++ cons_option (option_map spec.numbered line) []) }
 {
@@ -51,8 +54,8 @@ fn take_line(part: &mut Vec<Line<Asked>>, line: Option<Line<Asked>>) -> Result<(
 fn line_part(
     alloc: Global,
     scope: &Scope,
-    line: &Line<Asked>,
-) -> Result<Option<Line<Asked>>, AllocError>
+    line: &Line<ValidTask>,
+) -> Result<Option<Line<ValidTask>>, AllocError>
     ensures { IfOk result (λ part.
         option_map spec.numbered part ≡ spec.line_part scope.now line.now) }
 {
@@ -69,7 +72,12 @@ fn line_part(
 }
 
 /// Returns the call of a line with another task and another reply.
-fn with_task(alloc: Global, line: &Line<Asked>, task: Task, reply: Option<Vec<u8>>) -> Line<Asked>
+fn with_task(
+    alloc: Global,
+    line: &Line<ValidTask>,
+    task: Task,
+    reply: Option<Vec<u8>>,
+) -> Line<ValidTask>
     requires task { is_task task ≡ true }
     requires reply { is_some reply ≡ is_some line.now.reply }
     ensures number { result.number ≡ line.now.number }
@@ -85,7 +93,7 @@ fn with_task(alloc: Global, line: &Line<Asked>, task: Task, reply: Option<Vec<u8
         client: line.client,
         begin: line.begin,
         end: line.end,
-        op: Asked::new(task),
+        op: ValidTask::new(task),
         reply,
         soonest: line.begin,
     }

@@ -11,7 +11,7 @@ use crate::scope::Scope;
 use crate::words::{join_words, split_words};
 use std::alloc::{AllocError, Global};
 use vac_lines::refusal_name;
-use vac_model::{Command, Kind, Task, Why};
+use vac_model::{Command, Kind, Refusal, Task};
 
 /// A change of the tables with the word for its result.
 type Changed<'a> = (Command, &'a [u8]);
@@ -116,17 +116,17 @@ fn change_part<'a>(scope: &Scope, change: Command, word: &'a [u8]) -> Option<Cha
 {
     match change {
         Command::Add { kind, id, .. } => {
-            if !scope.has_item(kind, id) || word == refusal_name(Why::Full) {
+            if !scope.has_item(kind, id) || word == refusal_name(Refusal::Full) {
                 None
             } else {
                 Some((change, word))
             }
         }
         Command::Delete { kind, id, .. } => {
-            units_change(scope, (kind, id), change, word, Why::NotFree)
+            units_change(scope, (kind, id), change, word, Refusal::NotFree)
         }
         Command::DropFlight { id } => {
-            units_change(scope, (Kind::Flight, id), change, word, Why::InUse)
+            units_change(scope, (Kind::Flight, id), change, word, Refusal::InUse)
         }
         _ => None,
     }
@@ -139,7 +139,7 @@ fn units_change<'a>(
     item: (Kind, u32),
     change: Command,
     word: &'a [u8],
-    why: Why,
+    why: Refusal,
 ) -> Option<Changed<'a>>
     ensures { spec.changed result ≡ spec.units_change scope.now item change word.now why }
 {

@@ -4,8 +4,8 @@ ghost use Rattle.std.specs.Prelude.{◌≡◌, ◌++◌, OnOk, IfOk, [], true};
 ghost use Rattle.judge_queue.specs.Rules.{queue, put, taken, reply_text};
 
 use crate::op::{Op, Reply};
-use judge_many::Named;
-use judge_object::Object;
+use judge_many::{Named, Names};
+use judge_object::{Line, Object};
 use std::alloc::{AllocError, Global};
 use std::marker::Model;
 use vac_lines::append_field;
@@ -110,9 +110,17 @@ impl Object for Queue {
 }
 
 impl Named for Queue {
+    ghost use Rattle.judge_many.specs.Naming.{AreOwn};
+
     ghost name = { λ op. [] };
+
+    ghost naming = { λ calls objects. AreOwn objects };
 
     fn name(_op: &Op) -> &[u8] {
         b""
+    }
+
+    fn names(_alloc: Global, _lines: &[Line<Op>]) -> Result<Names, AllocError> {
+        Ok(Names::Alone)
     }
 }

@@ -6,7 +6,7 @@ ghost use Rattle.judge_queue.specs.Words.{enqueue, word_op};
 
 use crate::op::{Op, Reply};
 use crate::queue::Queue;
-use judge_text::Worded;
+use judge_text::TextObject;
 use std::alloc::{AllocError, Global};
 use vac_lines::read_memory_word;
 
@@ -41,7 +41,7 @@ fn word_op(name: &[u8]) -> Option<Op>
     }
 }
 
-impl Worded for Queue {
+impl TextObject for Queue {
     ghost use Rattle.judge_queue.specs.Words.{queue_language};
 
     ghost language = { queue_language };

@@ -8,12 +8,12 @@ use vac_model::Task;
 
 /// A task that can be submitted: its numbers are in their ranges. Contracts see the task.
 #[derive(Drop)]
-pub struct Asked {
+pub struct ValidTask {
     task: Task,
     ghost asked: { is_task task ≡ true },
 }
 
-impl Model for Asked {
+impl Model for ValidTask {
     ghost use Rattle.vac_model.specs.declared.tasks.Task.{Task};
 
     ghost Value = { Task };
@@ -21,13 +21,13 @@ impl Model for Asked {
     ghost view = { λ a. a.task };
 }
 
-impl Asked {
+impl ValidTask {
     /// Wraps a task whose numbers are in their ranges.
-    pub fn new(task: Task) -> Asked
+    pub fn new(task: Task) -> ValidTask
         requires { is_task task ≡ true }
         ensures { result ≡ task }
     {
-        Asked { task }
+        ValidTask { task }
     }
 
     /// Returns the task.

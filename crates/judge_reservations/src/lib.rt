@@ -4,5 +4,5 @@
 mod asked;
 mod reservations;
 
-pub use asked::Asked;
+pub use asked::ValidTask;
 pub use reservations::Reservations;

@@ -4,7 +4,7 @@ ghost use Rattle.std.specs.Prelude.{◌≡◌, ◌≤◌, true, IfOk};
 ghost use Rattle.vac_model.specs.State.{empty_state};
 ghost use Rattle.judge_reservations.specs.Reserving.{reserving};
 
-use crate::asked::Asked;
+use crate::asked::ValidTask;
 use judge_object::Object;
 use std::alloc::{AllocError, Global};
 use std::marker::Model;
@@ -41,7 +41,7 @@ impl Reservations {
 }
 
 impl Object for Reservations {
-    type Op = Asked;
+    type Op = ValidTask;
 
     type Reply = Reply;
 
@@ -53,7 +53,7 @@ impl Object for Reservations {
         })
     }
 
-    fn made(self, op: &Asked) -> Result<(Reservations, Reply), AllocError> {
+    fn made(self, op: &ValidTask) -> Result<(Reservations, Reply), AllocError> {
         match self.manager.after(op.task()) {
             Ok((manager, reply)) => Ok((Reservations { manager }, reply)),
             Err(SequentialFault::Memory) => Err(AllocError),

@@ -1,7 +1,7 @@
 //! The lines of a history that name an item or a customer.
 
 use judge_object::Line;
-use judge_reservations::Asked;
+use judge_reservations::ValidTask;
 use std::alloc::{AllocError, Global};
 use std::collections::BTreeMap;
 use vac_model::{Command, Kind, Task};
@@ -92,7 +92,7 @@ fn append_from(
 
 impl Index {
     /// Creates the index of the lines of a history.
-    pub(crate) fn new(alloc: Global, lines: &[Line<Asked>]) -> Result<Index, AllocError> {
+    pub(crate) fn new(alloc: Global, lines: &[Line<ValidTask>]) -> Result<Index, AllocError> {
         let mut index = Index {
             customers: Vec::new(alloc),
             items: Vec::new(alloc),
@@ -101,7 +101,7 @@ impl Index {
             of_flights: BTreeMap::new(alloc),
             of_rooms: BTreeMap::new(alloc),
         };
-        'lines: for place in 0..lines.len() {
+        for place in 0..lines.len() {
             index.add_task(alloc, lines[place].op.task(), place)?;
         }
         Ok(index)

@@ -7,7 +7,7 @@
 use crate::index::Index;
 use crate::trials::Trial;
 use judge_object::Line;
-use judge_reservations::{Asked, Reservations};
+use judge_reservations::{Reservations, ValidTask};
 use std::alloc::{AllocError, Global};
 use vac_model::Kind;
 
@@ -31,7 +31,7 @@ pub struct Proposals {
 /// Returns a list without the value at a position.
 fn without<T: Copy>(alloc: Global, values: &[T], left_out: usize) -> Result<Vec<T>, AllocError> {
     let mut rest = Vec::new(alloc);
-    'values: for at in 0..values.len() {
+    for at in 0..values.len() {
         if at != left_out {
             rest.push(values[at])?;
         }
@@ -44,7 +44,7 @@ fn without<T: Copy>(alloc: Global, values: &[T], left_out: usize) -> Result<Vec<
 fn with_few_items(alloc: Global, trial: Trial<'_>, names: Names) -> Result<Names, AllocError> {
     let mut names = names;
     let mut at = 0;
-    'items: for _ in 0..names.items.len() {
+    for _ in 0..names.items.len() {
         let fewer = Names {
             customers: Vec::from_slice(alloc, names.customers.as_slice())?,
             items: without(alloc, names.items.as_slice(), at)?,
@@ -62,7 +62,7 @@ fn with_few_items(alloc: Global, trial: Trial<'_>, names: Names) -> Result<Names
 fn with_few_customers(alloc: Global, trial: Trial<'_>, names: Names) -> Result<Names, AllocError> {
     let mut names = names;
     let mut at = 0;
-    'customers: for _ in 0..names.customers.len() {
+    for _ in 0..names.customers.len() {
         let fewer = Names {
             customers: without(alloc, names.customers.as_slice(), at)?,
             items: Vec::from_slice(alloc, names.items.as_slice())?,
@@ -78,7 +78,7 @@ fn with_few_customers(alloc: Global, trial: Trial<'_>, names: Names) -> Result<N
 
 impl Proposals {
     /// Creates the proposals for a history, whose lines are given.
-    pub fn new(alloc: Global, lines: &[Line<Asked>]) -> Result<Proposals, AllocError> {
+    pub fn new(alloc: Global, lines: &[Line<ValidTask>]) -> Result<Proposals, AllocError> {
         Ok(Proposals {
             index: Index::new(alloc, lines)?,
             tried: 0,
@@ -125,7 +125,7 @@ impl Proposals {
     pub fn next_names(
         &mut self,
         alloc: Global,
-        lines: &[Line<Asked>],
+        lines: &[Line<ValidTask>],
         empty: &Reservations,
     ) -> Result<Option<Names>, AllocError> {
         let trial = Trial {
@@ -133,7 +133,7 @@ impl Proposals {
             index: &self.index,
             empty,
         };
-        'scopes: for number in self.tried..self.index.scopes() {
+        for number in self.tried..self.index.scopes() {
             let Some(names) = self.names(alloc, trial, number)? else {
                 return Ok(None);
             };

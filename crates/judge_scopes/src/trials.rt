@@ -6,7 +6,7 @@ use crate::proposals::Names;
 use judge_heuristic::find_quickly;
 use judge_object::{Line, Object};
 use judge_part::{Scope, fits, part_of_history};
-use judge_reservations::{Asked, Reservations};
+use judge_reservations::{Reservations, ValidTask};
 use std::alloc::{AllocError, Global};
 use vac_model::{Command, Kind, Task};
 
@@ -19,7 +19,7 @@ const MORE_STEPS: u64 = 4_096;
 /// customer and each item, and the state in which a history begins.
 #[derive(Clone, Copy)]
 pub(crate) struct Trial<'a> {
-    pub(crate) lines: &'a [Line<Asked>],
+    pub(crate) lines: &'a [Line<ValidTask>],
     pub(crate) index: &'a Index,
     pub(crate) empty: &'a Reservations,
 }
@@ -83,7 +83,7 @@ impl Trial<'_> {
 
     /// Returns whether the calls of all these lines have parts on a scope.
     fn all_have_parts(&self, scope: &Scope, places: &[usize]) -> bool {
-        'places: for at in 0..places.len() {
+        for at in 0..places.len() {
             if !self.has_part(scope, places[at]) {
                 return false;
             }
@@ -102,7 +102,7 @@ impl Trial<'_> {
         let mut places = Vec::new(alloc);
         self.index.append_item(item, true, &mut places)?;
         let mut customers = Vec::new(alloc);
-        'places: for at in 0..places.len() {
+        for at in 0..places.len() {
             let place = places[at];
             if place < self.lines.len() && !self.has_part(&shut, place) {
                 push_customer(self.lines[place].op.task(), &mut customers)?;
@@ -120,7 +120,7 @@ impl Trial<'_> {
         let mut places = Vec::new(alloc);
         self.index.append_customer(customer, &mut places)?;
         let mut items = Vec::new(alloc);
-        'places: for at in 0..places.len() {
+        for at in 0..places.len() {
             let place = places[at];
             if place < self.lines.len() && self.lines[place].reply.is_some() {
                 push_items(self.lines[place].op.task(), &mut items)?;
@@ -134,7 +134,7 @@ impl Trial<'_> {
         let mut scope = open_scope(alloc, names)?;
         let mut closed = Vec::new(alloc);
         let mut places = Vec::new(alloc);
-        'items: for at in 0..names.items.len() {
+        for at in 0..names.items.len() {
             let item = names.items[at];
             places.clear();
             self.index.append_item(item, true, &mut places)?;
@@ -152,7 +152,7 @@ impl Trial<'_> {
         let mut scope = open_scope(alloc, names)?;
         let mut whole = Vec::new(alloc);
         let mut places = Vec::new(alloc);
-        'customers: for at in 0..names.customers.len() {
+        for at in 0..names.customers.len() {
             let customer = names.customers[at];
             places.clear();
             self.index.append_customer(customer, &mut places)?;
@@ -169,11 +169,11 @@ impl Trial<'_> {
     /// customer is among the names.
     fn places_of(&self, alloc: Global, names: &Names) -> Result<Vec<usize>, AllocError> {
         let mut places = Vec::new(alloc);
-        'customers: for at in 0..names.customers.len() {
+        for at in 0..names.customers.len() {
             self.index
                 .append_customer(names.customers[at], &mut places)?;
         }
-        'items: for at in 0..names.items.len() {
+        for at in 0..names.items.len() {
             self.index.append_item(names.items[at], false, &mut places)?;
         }
         places.sort_unstable();
@@ -187,9 +187,9 @@ impl Trial<'_> {
         alloc: Global,
         scope: &Scope,
         places: &[usize],
-    ) -> Result<Option<Vec<Line<Asked>>>, AllocError> {
+    ) -> Result<Option<Vec<Line<ValidTask>>>, AllocError> {
         let mut part = Vec::new(alloc);
-        'places: for at in 0..places.len() {
+        for at in 0..places.len() {
             let place = places[at];
             if self.lines.len() <= place || !self.has_part(scope, place) {
                 return Ok(None);
@@ -203,7 +203,7 @@ impl Trial<'_> {
     }
 
     /// Returns whether a quick search finds an order of a part.
-    fn has_order(&self, alloc: Global, part: &[Line<Asked>]) -> Result<bool, AllocError> {
+    fn has_order(&self, alloc: Global, part: &[Line<ValidTask>]) -> Result<bool, AllocError> {
         if !part.iter().any(|line| line.reply.is_some()) {
             return Ok(true);
         }

@@ -1,31 +1,28 @@
 //! The dead worlds of a search: those from which nothing is left to try.
 
-ghost use Rattle.std.specs.Prelude.{◌≡◌, ◌<◌, ◌++◌, ◌∷◌, [], OnOk, map, true, Some, slice_get, vec_len};
+ghost use Rattle.std.specs.Prelude.{◌≡◌, ◌++◌, ◌∷◌, [], ◌<◌, OnOk, map, true, Some, slice_get, vec_len};
 ghost use Rattle.std.specs.List.{Contains};
 
+use crate::index::Index;
 use crate::world::World;
 use std::alloc::{AllocError, Global};
-use std::collections::BTreeMap;
 
 /// Dead worlds, and an index by their hashes. Nothing is promised of the index: the worlds that it
 /// names are compared.
 #[derive(Drop)]
 pub(crate) struct Known<W> {
     pub(crate) worlds: Vec<W>,
-    index: BTreeMap<u64, Vec<usize>>,
+    index: Index,
 }
 
-/// Returns true only if an equal world is at one of these places.
-fn is_at<W: World>(ground: &W::Ground, worlds: &[W], places: &[usize], world: &W) -> bool
+/// Returns true only if an equal world is at this place.
+fn is_at<W: World>(ground: &W::Ground, worlds: &[W], place: usize, world: &W) -> bool
     ensures { result ≡ true → Contains
         (map (W.view ground.now).at worlds.now) ((W.view ground.now).at world.now) }
 {
-    'places: for number in 0..places.len() {
-        let place = places[number];
-        if place < worlds.len() {
-            if worlds[place].is_same(ground, world) {
-                return true;
-            }
+    if place < worlds.len() {
+        if worlds[place].is_same(ground, world) {
+            return true;
         }
     }
     false
@@ -38,7 +35,7 @@ impl<W: World + Drop> Known<W> {
     {
         Known {
             worlds: Vec::new(alloc),
-            index: BTreeMap::new(alloc),
+            index: Index::new(alloc),
         }
     }
 
@@ -66,32 +63,26 @@ impl<W: World + Drop> Known<W> {
         if self.worlds.is_empty() {
             return false;
         }
-        let Some(places) = self.index.get(&world.hash(ground)) else {
-            return false;
-        };
-        is_at(ground, self.worlds.as_slice(), places.as_slice(), world)
+        let hash = world.hash(ground);
+        let mut after = self.index.last(hash);
+        'chain: while 0 < after {
+            let place = after - 1;
+            if self.index.has_hash(place, hash) {
+                if is_at(ground, self.worlds.as_slice(), place, world) {
+                    return true;
+                }
+            }
+            after = self.index.before(place);
+        }
+        false
     }
 
     /// Adds a world.
-    pub(crate) fn add(
-        &mut self,
-        alloc: Global,
-        ground: &W::Ground,
-        world: W,
-    ) -> Result<(), AllocError>
+    pub(crate) fn add(&mut self, ground: &W::Ground, world: W) -> Result<(), AllocError>
         ensures { OnOk result (self.new.worlds.items ≡ self.old.worlds.items ++ world ∷ []) }
     {
-        let hash = world.hash(ground);
-        let place = self.worlds.len();
+        self.index.push(world.hash(ground))?;
         self.worlds.push(world)?;
-        match self.index.get_mut(&hash) {
-            Some(places) => places.push(place)?,
-            None => {
-                let mut places = Vec::new(alloc);
-                places.push(place)?;
-                self.index.insert(hash, places)?;
-            }
-        }
         Ok(())
     }
 }

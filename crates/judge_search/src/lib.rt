@@ -4,6 +4,7 @@
 
 mod calls;
 mod checking;
+mod index;
 mod known;
 mod lasts;
 mod links;

@@ -154,6 +154,17 @@ pub(crate) fn next_call<M: Object>(
     }
 }
 
+/// Returns the most marks beyond the first place without one, after one more place is marked.
+///
+/// Not said: anything about the number.
+fn room_for(low: usize, beyond: &[usize], place: usize) -> usize {
+    if place == low {
+        beyond.len()
+    } else {
+        beyond.len().saturating_add(1)
+    }
+}
+
 /// Returns the point after the call at a place, which may come next and led to this state and
 /// reply, if the reply is the correct one.
 fn point_after<M: Object + Drop>(
@@ -176,7 +187,9 @@ fn point_after<M: Object + Drop>(
     if !is_right::<M>(&mut Vec::new(alloc), &line.reply, &reply)? {
         return Ok(None);
     }
-    let (low, beyond) = mark(low, Vec::from_slice(alloc, beyond)?, place)?;
+    let mut marks = Vec::with_capacity(alloc, room_for(low, beyond, place))?;
+    marks.extend_from_slice(beyond)?;
+    let (low, beyond) = mark(low, marks, place)?;
     Ok(Some(Point {
         low,
         beyond,

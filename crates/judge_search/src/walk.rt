@@ -66,11 +66,7 @@ fn best_of(number: usize, placed: u64, best: usize, most: u64) -> (usize, u64)
 }
 
 /// Goes back from a dead world.
-fn go_back<W: World + Drop>(
-    alloc: Global,
-    ground: &W::Ground,
-    walk: Walk<W>,
-) -> Result<Step<W>, AllocError>
+fn go_back<W: World + Drop>(ground: &W::Ground, walk: Walk<W>) -> Result<Step<W>, AllocError>
     requires { BestIsWithin walk }
     ensures within { IfOk result StaysWithin }
     ensures steps { IfOk result (λ step. (start : Configuration W.Of W.Of.Op) (steps : ℕ)
@@ -87,7 +83,7 @@ fn go_back<W: World + Drop>(
         most,
     } = walk;
     let number = known.len();
-    known.add(alloc, ground, world)?;
+    known.add(ground, world)?;
     let (best, most) = best_of(number, placed, best, most);
     let Some(frame) = path.pop() else {
         return Ok(Step::NoOrder(most, known.take(best)));
@@ -179,7 +175,7 @@ impl<W: World + Drop> Walk<W> {
     {
         let mut walk = self;
         let Some(place) = walk.world.next_try(ground, walk.next) else {
-            return go_back(alloc, ground, walk);
+            return go_back(ground, walk);
         };
         walk.next = place + 1;
         match walk.world.after(alloc, ground, place)? {

@@ -1,6 +1,6 @@
 -- Lookups in a store after one of its keys was set.
-use Rattle.std.proofs.Common.{◌≡◌, ◌≢◌, ℕ, Bool, true, false, cond, Some, None, List, [], ◌∷◌, refl, sym, ap, ◌∙◌, inl}
-use Rattle.std.proofs.Common.{inr, arith}
+use Rattle.std.proofs.Common.{◌≡◌, ℕ, Bool, true, false, cond, Some, None, List, [], ◌∷◌, refl, sym, ap, ◌∙◌, inl}
+use Rattle.std.proofs.Common.{inr}
 use Rattle.std.specs.Prelude.{◌⊎◌}
 use Rattle.std.specs.Str.{bytes_eq}
 use Rattle.std.proofs.lemmas.Slice.Eq.{bytes_eq-Decides}
@@ -110,6 +110,20 @@ set_held key value pairs other =
           among_other key other value (without key pairs) (λ e. t.1 (sym e))
           ∙ without_other key other pairs (λ e. t.1 (sym e))
           ∙ sym (changed_not (λ k. held_at k pairs) key other (Some value) t.1)
+    ]
+
+-- and if a key was given a value or none
+pub held_set : (key : List ℕ) (held : Held) (pairs : Pairs) (other : List ℕ) →
+    held_at other (with_held key held pairs) ≡ changed (λ k. held_at k pairs) key held other
+held_set key (Some value) pairs other = set_held key value pairs other
+held_set key None pairs other =
+    elim (named other key) [
+      | inl t ↦
+          ap (λ k. held_at k (without key pairs)) t.1 ∙ without_same key pairs
+          ∙ sym (changed_here (λ k. held_at k pairs) key other None t.1)
+      | inr t ↦
+          without_other key other pairs (λ e. t.1 (sym e))
+          ∙ sym (changed_not (λ k. held_at k pairs) key other None t.1)
     ]
 
 pub set_value_held : (old new : Pairs) (key word value bytes : List ℕ) → new ≡ with_held word (Some bytes) old →

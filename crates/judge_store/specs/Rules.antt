@@ -6,7 +6,7 @@ use Rattle.std.specs.Prelude.{Bool, true, false, List, [], ◌∷◌, if◌then�
 use Rattle.judge_object.specs.Rules.{Rules}
 use Rattle.judge_kv.specs.Operations.{Asked, Get as GetOne}
 use Rattle.judge_kv.specs.Replies.{Answered, Truth, Missing, answer_text}
-use Rattle.judge_kv.specs.Rules.{Held, is_held, held_after}
+use Rattle.judge_kv.specs.Rules.{is_held, held_after}
 use Rattle.judge_store.specs.declared.clause.Role.{Role}
 use Rattle.judge_store.specs.declared.clause.Role.TheVariants.{If, Get, Then, Else}
 use Rattle.judge_store.specs.Stores.{Pairs, held_at, with_held}

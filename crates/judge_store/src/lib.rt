@@ -4,10 +4,13 @@
 
 mod clause;
 mod entries;
+mod laws;
+mod objects;
 mod request;
 mod store;
 mod words;
 
 pub use clause::{Clause, Role};
+pub use laws::{objects_make_the_store, verdicts_decide_the_store};
 pub use request::Request;
 pub use store::Store;

@@ -2,6 +2,7 @@
 
 ghost use Rattle.std.specs.Prelude.{◌≡◌};
 ghost use Rattle.judge_store.specs.Requests as spec;
+ghost use Rattle.judge_store.specs.Classes.{name_of};
 ghost use Rattle.judge_store.specs.Wishes.{request_in};
 
 use crate::clause::Clause;
@@ -10,7 +11,7 @@ use std::marker::Model;
 
 /// An operation or a transaction that a client submits to a store.
 #[derive(Drop)]
-pub(crate) enum Wish {
+pub(crate) enum RequestKind {
     /// An operation on one key.
     One(Operation),
     /// The transaction of these clauses.
@@ -20,7 +21,7 @@ pub(crate) enum Wish {
 /// An operation of a whole store: one on a single key, or a transaction.
 #[derive(Drop)]
 pub struct Request {
-    wish: Wish,
+    kind: RequestKind,
 }
 
 impl Model for Request {
@@ -30,7 +31,7 @@ impl Model for Request {
 
     ghost use Rattle.judge_store.specs.Wishes.{request_in};
 
-    ghost view = { λ r. request_in r.wish };
+    ghost view = { λ r. request_in r.kind };
 }
 
 impl Request {
@@ -39,7 +40,7 @@ impl Request {
         ensures { result ≡ spec.One op }
     {
         Request {
-            wish: Wish::One(op),
+            kind: RequestKind::One(op),
         }
     }
 
@@ -48,14 +49,27 @@ impl Request {
         ensures { result ≡ spec.Transact clauses.items }
     {
         Request {
-            wish: Wish::Transact(clauses),
+            kind: RequestKind::Transact(clauses),
+        }
+    }
+
+    /// Returns the first key that the operation touches, or no bytes if there is none.
+    pub(crate) fn first_key(&self) -> &[u8]
+        ensures { result.now ≡ name_of self.now }
+    {
+        match &self.kind {
+            RequestKind::One(op) => op.key(),
+            RequestKind::Transact(clauses) => match clauses.as_slice() {
+                [first, ..] => first.key(),
+                [] => b"",
+            },
         }
     }
 
     /// Returns the operation or transaction of the request.
-    pub(crate) fn wish(&self) -> &Wish
+    pub(crate) fn kind(&self) -> &RequestKind
         ensures { request_in result.now ≡ self.now }
     {
-        &self.wish
+        &self.kind
     }
 }

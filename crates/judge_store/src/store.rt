@@ -9,10 +9,11 @@ ghost use Rattle.judge_store.specs.Rules.{whole, one_after};
 
 use crate::clause::{Clause, Role};
 use crate::entries::{Entry, are_same, place_among, place_of, shared, take_out};
-use crate::request::{Request, Wish};
-use judge_kv::{Answer, Beginnings, Cell, Operation, Value};
-use judge_many::Named;
-use judge_object::Object;
+use crate::objects::store_objects;
+use crate::request::{Request, RequestKind};
+use judge_kv::{Answer, Cell, Operation, StartValues, Value};
+use judge_many::{Named, Names};
+use judge_object::{Line, Object};
 use std::alloc::{AllocError, Global};
 use std::marker::Model;
 use std::rc::Rc;
@@ -181,9 +182,9 @@ impl Object for Store {
     }
 
     fn made(self, op: &Request) -> Result<(Store, Answer), AllocError> {
-        match op.wish() {
-            Wish::One(op) => self.after_one(op),
-            Wish::Transact(clauses) => self.transacted(clauses.as_slice()),
+        match op.kind() {
+            RequestKind::One(op) => self.after_one(op),
+            RequestKind::Transact(clauses) => self.transacted(clauses.as_slice()),
         }
     }
 
@@ -204,7 +205,7 @@ impl Object for Store {
     }
 }
 
-impl Beginnings for Store {
+impl StartValues for Store {
     ghost held = { λ pairs key. stores.held_at key pairs };
 
     fn has_value(&self, key: &[u8]) -> Result<bool, AllocError> {
@@ -220,9 +221,17 @@ impl Beginnings for Store {
 }
 
 impl Named for Store {
-    ghost name = { λ op. [] };
+    ghost use Rattle.judge_store.specs.Classes.{name_of, AreStoreObjects};
 
-    fn name(_op: &Request) -> &[u8] {
-        b""
+    ghost name = { name_of };
+
+    ghost naming = { AreStoreObjects };
+
+    fn name(op: &Request) -> &[u8] {
+        op.first_key()
+    }
+
+    fn names(alloc: Global, lines: &[Line<Request>]) -> Result<Names, AllocError> {
+        store_objects(alloc, lines)
     }
 }

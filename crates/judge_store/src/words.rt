@@ -10,7 +10,7 @@ use crate::clause::{Clause, Role};
 use crate::request::Request;
 use crate::store::Store;
 use judge_kv::{Answer, Cell, read_held};
-use judge_text::{Worded, read_quoted};
+use judge_text::{TextObject, read_quoted};
 use std::alloc::{AllocError, Global};
 
 /// Returns whether a word is this name.
@@ -109,7 +109,7 @@ fn read_one(alloc: Global, words: &[&[u8]]) -> Result<Option<Request>, AllocErro
     }
 }
 
-impl Worded for Store {
+impl TextObject for Store {
     ghost use Rattle.judge_store.specs.Words.{whole_language};
 
     ghost language = { whole_language };

@@ -14,10 +14,9 @@ use Rattle.judge_many.specs.Turns.{call_breaks_client, calls_overlap, IsFirstOut
 use Rattle.judge_many.specs.declared.judging.Verdict.{Verdict}
 use Rattle.judge_many.specs.declared.judging.Verdict.TheVariants as verdict
 use Rattle.judge_text.specs.declared.counting.Counts.{Counts}
-use Rattle.judge_text.specs.declared.judging.TextVerdict.TheVariants.{Judged}
 use Rattle.judge_text.specs.Language.{Language}
 use Rattle.judge_text.specs.Reading.{LineFault, text_calls}
-use Rattle.judge_text.specs.Judging.{IsJudgedText, DecidesLegal}
+use Rattle.judge_text.specs.Judging.{IsJudgedText, DecidesBy}
 
 not_less : (x y : ℕ) → y ≤ x → nat_lt x y ≡ false
 not_less x y l = grind (arith, nat_tests)
@@ -53,7 +52,7 @@ module _ {O : Type 0} where
       (each_at (λ later. IsBehind later x) xs place d (omega arith) h.1))
 
   -- calls of which one is out of turn are not in turn
-  out_of_turn : (calls : List (Call O)) (place : ℕ) → IsFirstOutOfTurn calls place → InTurn calls → ⊥
+  pub out_of_turn : (calls : List (Call O)) (place : ℕ) → IsFirstOutOfTurn calls place → InTurn calls → ⊥
   out_of_turn [] place h turn = absurd (let w = h.within in omega arith)
   out_of_turn (x ∷ xs) place h turn =
       none (sym (h.breaks x) ∙ turn_at (x ∷ xs) place x h.within turn)
@@ -66,11 +65,12 @@ module _ {S O R : Type 0} (X : Rules S O R) (name : O → List ℕ) (L : Languag
   calls_in (Ok calls) = calls
   calls_in (Err fault) = []
 
-  same : (text : List ℕ) (a b : List (Call O)) → text_calls X L text ≡ Ok a → text_calls X L text ≡ Ok b → a ≡ b
+  -- a text has one list of calls
+  pub same : (text : List ℕ) (a b : List (Call O)) → text_calls X L text ≡ Ok a → text_calls X L text ≡ Ok b → a ≡ b
   same text a b e f = ap calls_in (sym e ∙ f)
 
   pub judged_decides : (s : List ℕ → S) (text : List ℕ) (steps : ℕ) (counts : Counts) (v : Verdict O S) →
-      IsJudgedText X name L s text steps counts v → DecidesLegal X name L s text (Judged counts v)
+      IsJudgedText X name L s text steps counts v → DecidesBy X name L s text v
   judged_decides s text steps counts (verdict.OutOfTurn place) j = λ legal.
       out_of_turn (calls_of j.lines) place j.judged (subst InTurn
       (same text legal.calls (calls_of j.lines) legal.are j.are) legal.turn)

@@ -23,7 +23,9 @@ use Rattle.judge_search.proofs.Tries.{at, all_choices, may_begin}
 use Rattle.judge_many.specs.Judging.{AreBlocked}
 use Rattle.judge_many.specs.Runs.{name_of, lines_for}
 use Rattle.judge_many.specs.declared.parts.Blocked.{Blocked}
+use Rattle.judge_many.specs.declared.judging.Verdict.{Verdict}
 use Rattle.judge_many.specs.declared.judging.Verdict.TheVariants as verdict
+use Rattle.judge_many.specs.Naming.{object_of, for_object}
 use Rattle.judge_many.proofs.Blocking.{line_at}
 use Rattle.judge_many.proofs.ByNames.{part_lines}
 use Rattle.judge_object.specs.Orders.{IsLinearizable}
@@ -34,8 +36,8 @@ use Rattle.judge_text.specs.Language.{Language}
 use Rattle.judge_text.specs.Reading.{AreNumbered}
 use Rattle.judge_text.specs.Judging.{IsVerdictOnText, IsJudgedText}
 use Rattle.judge_text.specs.Texts.{number_at, object_at, named_text, stuck_line, stuck_text, part_text}
-use Rattle.judge_text.specs.Texts.{IsBlockedText, IsTextOf}
-use Rattle.judge_text.specs.Naming.{NamesBlocked, NamesIfBlocked}
+use Rattle.judge_text.specs.Texts.{IsBlockedText, IsTextOn, IsTextOf}
+use Rattle.judge_text.specs.Naming.{NamesBlocked, NamesBy, NamesIfBlocked}
 
 true_false : true ≡ false → ⊥
 true_false e = cc
@@ -246,7 +248,8 @@ module _ {S O R : Type 0} (X : Rules S O R) (name : O → List ℕ) where
               calls = calls_of j.lines;
               are = j.are;
               for = for;
-              none = λ order. j.judged.1.is.none (subst (IsLinearizable X (s for)) (part_lines name for j.lines) order);
+              none = λ order. j.judged.1.is.none (subst (IsLinearizable X (s for))
+                  (part_lines name for j.lines) order);
               place = here.number.place;
               call = call_of here.line;
               is = here.number.is;
@@ -260,12 +263,19 @@ module _ {S O R : Type 0} (X : Rules S O R) (name : O → List ℕ) where
                   (here.number_is ∙ here.number.number) here.name_is;
             }
 
-    pub names_if_blocked : (s : List ℕ → S) (bytes : List ℕ) (steps : ℕ) (v : TextVerdict O S) (text : List ℕ) →
-        IsVerdictOnText X name L s bytes steps v → IsTextOf X name v text → NamesIfBlocked X name L s bytes v text
-    names_if_blocked s bytes steps (Judged counts (verdict.NotLinearizable blocked)) text j b =
+    names_by : (s : List ℕ → S) (bytes : List ℕ) (steps : ℕ) (counts : Counts) (v : Verdict O S) (text : List ℕ) →
+        IsJudgedText X name L s bytes steps counts v → IsTextOn X name counts v text → NamesBy X name L s bytes v text
+    names_by s bytes steps counts (verdict.NotLinearizable blocked) text j b =
         names_blocked s bytes steps counts blocked text j b
-    names_if_blocked s bytes steps (Judged counts verdict.Linearizable) text j b = tt
-    names_if_blocked s bytes steps (Judged counts (verdict.OutOfTurn place)) text j b = tt
-    names_if_blocked s bytes steps (Judged counts (verdict.Unknown open_)) text j b = tt
-    names_if_blocked s bytes steps (Judged counts verdict.Touching) text j b = tt
-    names_if_blocked s bytes steps (Fault number fault) text j b = tt
+    names_by s bytes steps counts verdict.Linearizable text j b = tt
+    names_by s bytes steps counts (verdict.OutOfTurn place) text j b = tt
+    names_by s bytes steps counts (verdict.Unknown open_) text j b = tt
+    names_by s bytes steps counts verdict.Touching text j b = tt
+
+module _ {S O R : Type 0} (X : Rules S O R) (name : O → List ℕ)
+    (naming : List (Call O) → (List ℕ → List ℕ) → Type 0) (L : Language O R) where
+  pub names_if_blocked : (s : List ℕ → S) (bytes : List ℕ) (steps : ℕ) (v : TextVerdict O S) (text : List ℕ) →
+      IsVerdictOnText X name naming L s bytes steps v → IsTextOf X name v text → NamesIfBlocked X name L s bytes v text
+  names_if_blocked s bytes steps (Judged names counts v) text j b =
+      names_by X (for_object (object_of names) name) L s bytes steps counts v text j.1 b
+  names_if_blocked s bytes steps (Fault number fault) text j b = tt

@@ -5,6 +5,7 @@ use Rattle.std.specs.Prelude.{All, Result, Ok, Err, OnOk, IfOk}
 use Rattle.std.specs.Global.{Vec}
 use Rattle.std.proofs.lemmas.List.{length-map}
 use Rattle.judge_object.specs.Rules.{Rules}
+use Rattle.judge_object.specs.Call.{Call}
 use Rattle.judge_object.specs.declared.line.Line.{Line}
 use Rattle.judge_search.specs.declared.stuck.Stuck.{Stuck}
 use Rattle.judge_search.specs.Calls.{call_of, calls_of}
@@ -61,18 +62,20 @@ module _ {S O R : Type 0} (X : Rules S O R) (name : O → List ℕ) where
         fact = record { stuck = found; are = are; is = refl };
       }
 
+module _ {S O R : Type 0} (X : Rules S O R) (name : O → List ℕ)
+    (naming : List (Call O) → (List ℕ → List ℕ) → Type 0) where
   -- a verdict holds, and its text was printed
   pub judged : {E : Type 0} (L : Language O R) (s : List ℕ → S) (steps : ℕ) (bytes : List ℕ) (v : TextVerdict O S) →
-      IsVerdictOnText X name L s bytes steps v → DecidesLegal X name L s bytes v →
+      IsVerdictOnText X name naming L s bytes steps v → DecidesLegal X name naming L s bytes v →
       (r : Result (Outcome × Vec ℕ) E) → IfOk r (λ p. p.0 ≡ outcome_of v) →
       IfOk r (λ p. IsTextOf X name v p.1.items) →
-      IfOk r (λ p. JudgesText X name L s steps bytes p.0 p.1.items)
+      IfOk r (λ p. JudgesText X name naming L s steps bytes p.0 p.1.items)
   judged L s steps bytes v is decides (Ok p) k t = record {
     verdict = v;
     is = is;
     decides = decides;
     kind = k;
     text_is = t;
-    names = names_if_blocked X name L s bytes steps v p.1.items is t;
+    names = names_if_blocked X name naming L s bytes steps v p.1.items is t;
   }
   judged L s steps bytes v is decides (Err e) k t = tt

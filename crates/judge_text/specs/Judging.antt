@@ -9,6 +9,7 @@ use Rattle.judge_search.specs.Walk.{InTurn}
 use Rattle.judge_many.specs.declared.judging.Verdict.{Verdict}
 use Rattle.judge_many.specs.declared.judging.Verdict.TheVariants as verdict
 use Rattle.judge_many.specs.Many.{many}
+use Rattle.judge_many.specs.Naming.{object_of, for_object}
 use Rattle.judge_many.specs.Verdict.{IsVerdictOn}
 use Rattle.judge_text.specs.declared.counting.Counts.{Counts}
 use Rattle.judge_text.specs.declared.judging.TextVerdict.{TextVerdict}
@@ -35,16 +36,31 @@ module _ {S O R : Type 0} (X : Rules S O R) (name : O → List ℕ) (L : Languag
     pub counted : counts ≡ counts_of name (calls_of lines)
     pub judged : IsVerdictOn X name s steps lines v
 
+  -- a text is legal, or not, if the verdict on its calls says so
+  abbrev pub DecidesBy : (List ℕ → S) → List ℕ → Verdict O S → Type 0
+  DecidesBy s text verdict.Linearizable = IsLegalText s text
+  DecidesBy s text (verdict.NotLinearizable blocked) = IsLegalText s text → ⊥
+  DecidesBy s text (verdict.OutOfTurn place) = IsLegalText s text → ⊥
+  DecidesBy s text (verdict.Unknown open_) = ⊤
+  DecidesBy s text verdict.Touching = ⊤
+
+module _ {S O R : Type 0} (X : Rules S O R) (name : O → List ℕ)
+    (naming : List (Call O) → (List ℕ → List ℕ) → Type 0) (L : Language O R) where
+  -- the names of the operations of a text's calls stand for these objects
+  abbrev pub HasNaming : List ℕ → (List ℕ → List ℕ) → Type 0
+  HasNaming text objects = (calls : List (Call O)) → text_calls X L text ≡ Ok calls →
+      naming calls objects
+
   -- what a verdict says of a text
   abbrev pub IsVerdictOnText : (List ℕ → S) → List ℕ → ℕ → TextVerdict O S → Type 0
   IsVerdictOnText s text steps (Fault number fault) = text_calls X L text ≡ Err (number, fault)
-  IsVerdictOnText s text steps (Judged counts v) = IsJudgedText s text steps counts v
+  IsVerdictOnText s text steps (Judged names counts v) =
+      HasNaming text (object_of names)
+      × IsJudgedText X (for_object (object_of names) name) L s text steps counts v
 
-  -- a text is legal, or not, if the verdict says so
+  -- a text is legal, or not, if the verdict says so. A text with a fault is not, whatever objects
+  -- its names stand for
   abbrev pub DecidesLegal : (List ℕ → S) → List ℕ → TextVerdict O S → Type 0
-  DecidesLegal s text (Fault number fault) = IsLegalText s text → ⊥
-  DecidesLegal s text (Judged counts verdict.Linearizable) = IsLegalText s text
-  DecidesLegal s text (Judged counts (verdict.NotLinearizable blocked)) = IsLegalText s text → ⊥
-  DecidesLegal s text (Judged counts (verdict.OutOfTurn place)) = IsLegalText s text → ⊥
-  DecidesLegal s text (Judged counts (verdict.Unknown open_)) = ⊤
-  DecidesLegal s text (Judged counts verdict.Touching) = ⊤
+  DecidesLegal s text (Fault number fault) = (for : O → List ℕ) → IsLegalText X for L s text → ⊥
+  DecidesLegal s text (Judged names counts v) =
+      DecidesBy X (for_object (object_of names) name) L s text v

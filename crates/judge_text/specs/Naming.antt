@@ -5,7 +5,9 @@ use Rattle.judge_object.specs.Call.{Call, is_answered}
 use Rattle.judge_object.specs.Linear.{IsCallAt}
 use Rattle.judge_object.specs.Orders.{IsLinearizable}
 use Rattle.judge_many.specs.Many.{part}
+use Rattle.judge_many.specs.declared.judging.Verdict.{Verdict}
 use Rattle.judge_many.specs.declared.judging.Verdict.TheVariants as verdict
+use Rattle.judge_many.specs.Naming.{object_of, for_object}
 use Rattle.judge_text.specs.declared.judging.TextVerdict.{TextVerdict}
 use Rattle.judge_text.specs.declared.judging.TextVerdict.TheVariants.{Fault, Judged}
 use Rattle.judge_text.specs.Language.{Language}
@@ -34,11 +36,16 @@ module _ {S O R : Type 0} (X : Rules S O R) (name : O → List ℕ) (L : Languag
 
   -- if a verdict is that the calls of an object have no linearization, its text names a blocked
   -- call
+  abbrev pub NamesBy : (List ℕ → S) → List ℕ → Verdict O S → List ℕ → Type 0
+  NamesBy s bytes (verdict.NotLinearizable blocked) text = NamesBlocked s bytes text
+  NamesBy s bytes verdict.Linearizable text = ⊤
+  NamesBy s bytes (verdict.OutOfTurn place) text = ⊤
+  NamesBy s bytes (verdict.Unknown open_) text = ⊤
+  NamesBy s bytes verdict.Touching text = ⊤
+
+module _ {S O R : Type 0} (X : Rules S O R) (name : O → List ℕ) (L : Language O R) where
+  -- and if the verdict on a text is
   abbrev pub NamesIfBlocked : (List ℕ → S) → List ℕ → TextVerdict O S → List ℕ → Type 0
-  NamesIfBlocked s bytes (Judged counts (verdict.NotLinearizable blocked)) text =
-      NamesBlocked s bytes text
-  NamesIfBlocked s bytes (Judged counts verdict.Linearizable) text = ⊤
-  NamesIfBlocked s bytes (Judged counts (verdict.OutOfTurn place)) text = ⊤
-  NamesIfBlocked s bytes (Judged counts (verdict.Unknown open_)) text = ⊤
-  NamesIfBlocked s bytes (Judged counts verdict.Touching) text = ⊤
+  NamesIfBlocked s bytes (Judged names counts v) text =
+      NamesBy X (for_object (object_of names) name) L s bytes v text
   NamesIfBlocked s bytes (Fault number fault) text = ⊤

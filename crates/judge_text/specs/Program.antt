@@ -6,6 +6,7 @@ use Rattle.vac_lines.specs.Writing.{AppendsPrefix}
 use Rattle.vac_streams.specs.declared.fault.StreamFault.{StreamFault}
 use Rattle.vac_streams.specs.declared.fault.StreamFault.TheVariants as fault
 use Rattle.judge_object.specs.Rules.{Rules}
+use Rattle.judge_object.specs.Call.{Call}
 use Rattle.judge_text.specs.declared.judging.TextVerdict.{TextVerdict}
 use Rattle.judge_text.specs.declared.verdict.Outcome.{Outcome}
 use Rattle.judge_text.specs.declared.verdict.Outcome.TheVariants as outcome
@@ -33,14 +34,15 @@ fault_line fault.Write = []
 fault_line fault.Memory = as_line (codes "fault memory")
 fault_line fault.Bound = as_line (codes "fault bound")
 
-module _ {S O R : Type 0} (X : Rules S O R) (name : O → List ℕ) (L : Language O R)
+module _ {S O R : Type 0} (X : Rules S O R) (name : O → List ℕ)
+    (naming : List (Call O) → (List ℕ → List ℕ) → Type 0) (L : Language O R)
     (s : List ℕ → S) (steps : ℕ) where
   -- some verdict holds of the bytes; this is its kind, and this its text, which names a blocked
   -- call if the calls of an object have no linearization
   pub record JudgesText (bytes : List ℕ) (result : Outcome) (text : List ℕ) : Type 0 where
     pub verdict : TextVerdict O S
-    pub is : IsVerdictOnText X name L s bytes steps verdict
-    pub decides : DecidesLegal X name L s bytes verdict
+    pub is : IsVerdictOnText X name naming L s bytes steps verdict
+    pub decides : DecidesLegal X name naming L s bytes verdict
     pub kind : result ≡ outcome_of verdict
     pub text_is : IsTextOf X name verdict text
     pub names : NamesIfBlocked X name L s bytes verdict text

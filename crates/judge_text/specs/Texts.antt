@@ -11,6 +11,7 @@ use Rattle.judge_search.specs.Stuck.{AreStuck}
 use Rattle.judge_many.specs.declared.parts.Blocked.{Blocked}
 use Rattle.judge_many.specs.declared.judging.Verdict.{Verdict}
 use Rattle.judge_many.specs.declared.judging.Verdict.TheVariants as verdict
+use Rattle.judge_many.specs.Naming.{object_of, for_object}
 use Rattle.judge_text.specs.declared.counting.Counts.{Counts}
 use Rattle.judge_text.specs.declared.fault.CallFault.{CallFault}
 use Rattle.judge_text.specs.declared.judging.TextVerdict.{TextVerdict}
@@ -107,10 +108,12 @@ module _ {S O R : Type 0} (X : Rules S O R) (name : O → List ℕ) where
   IsTextOn counts (verdict.Unknown open_) text = text ≡ open_text open_.most
   IsTextOn counts verdict.Touching text = text ≡ touching_text
 
+module _ {S O R : Type 0} (X : Rules S O R) (name : O → List ℕ) where
   -- the text of a verdict on a text
   abbrev pub IsTextOf : TextVerdict O S → List ℕ → Type 0
   IsTextOf (Fault number fault) text = text ≡ fault_text number fault
-  IsTextOf (Judged counts v) text = IsTextOn counts v text
+  IsTextOf (Judged names counts v) text =
+      IsTextOn X (for_object (object_of names) name) counts v text
 
 module _ {S O : Type 0} where
   -- a call that is out of turn is one of the calls that are counted
@@ -123,7 +126,7 @@ module _ {S O : Type 0} where
 
   abbrev pub HasPlaceIn : TextVerdict O S → Type 0
   HasPlaceIn (Fault number fault) = ⊤
-  HasPlaceIn (Judged counts v) = HasPlace counts v
+  HasPlaceIn (Judged names counts v) = HasPlace counts v
 
   -- the kind of a verdict on calls
   abbrev pub kind_of : Verdict O S → Outcome
@@ -136,4 +139,4 @@ module _ {S O : Type 0} where
   -- the kind of a verdict on a text
   abbrev pub outcome_of : TextVerdict O S → Outcome
   outcome_of (Fault number fault) = outcome.Illegal
-  outcome_of (Judged counts v) = kind_of v
+  outcome_of (Judged names counts v) = kind_of v

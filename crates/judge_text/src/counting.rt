@@ -1,10 +1,11 @@
 //! Counting the calls, clients and objects of a history.
 
 ghost use Rattle.std.specs.Prelude.{◌≡◌, IfOk};
+ghost use Rattle.judge_many.specs.Naming.{object_of, for_object};
 ghost use Rattle.judge_search.specs.Calls.{calls_of};
 ghost use Rattle.judge_text.specs.Counting.{clients_in, objects_in, counts_of};
 
-use judge_many::Named;
+use judge_many::{Named, Names};
 use judge_object::Line;
 use std::alloc::{AllocError, Global};
 use std::collections::BTreeSet;
@@ -32,25 +33,35 @@ fn count_clients<O>(alloc: Global, lines: &[Line<O>]) -> Result<u64, AllocError>
 }
 
 /// Returns the number of objects that the calls of these lines are for.
-fn count_objects<M: Named>(alloc: Global, lines: &[Line<M::Op>]) -> Result<u64, AllocError>
-    ensures { IfOk result (λ count. count ≡ objects_in M.name (calls_of lines.now)) }
+fn count_objects<M: Named>(
+    alloc: Global,
+    names: &Names,
+    lines: &[Line<M::Op>],
+) -> Result<u64, AllocError>
+    ensures { IfOk result (λ count.
+        count ≡ objects_in (for_object (object_of names.now) M.name) (calls_of lines.now)) }
 {
-    let mut names = BTreeSet::new(alloc);
+    let mut objects = BTreeSet::new(alloc);
     'lines: for place in 0..lines.len() {
-        names.insert(M::name(&lines[place].op))?;
+        objects.insert(names.name::<M>(&lines[place].op))?;
     }
-    Ok(names.len() as u64)
+    Ok(objects.len() as u64)
 }
 
 impl Counts {
     /// Counts the calls, clients and objects of lines.
-    pub(crate) fn of<M: Named>(alloc: Global, lines: &[Line<M::Op>]) -> Result<Counts, AllocError>
-        ensures { IfOk result (λ counts. counts ≡ counts_of M.name (calls_of lines.now)) }
+    pub(crate) fn of<M: Named>(
+        alloc: Global,
+        names: &Names,
+        lines: &[Line<M::Op>],
+    ) -> Result<Counts, AllocError>
+        ensures { IfOk result (λ counts.
+            counts ≡ counts_of (for_object (object_of names.now) M.name) (calls_of lines.now)) }
     {
         Ok(Counts {
             calls: lines.len() as u64,
             clients: count_clients(alloc, lines)?,
-            objects: count_objects::<M>(alloc, lines)?,
+            objects: count_objects::<M>(alloc, names, lines)?,
         })
     }
 }

@@ -5,7 +5,7 @@ ghost use Rattle.judge_text.specs.Reading.{IsReadingOf};
 
 use crate::fault::CallFault;
 use crate::line::read_call;
-use crate::worded::Worded;
+use crate::worded::TextObject;
 use judge_object::Line;
 use std::alloc::{AllocError, Global};
 use vac_lines::cut_at;
@@ -21,7 +21,7 @@ pub enum Reading<O> {
 
 /// Reads a text as a history: a line ends at the byte 10, and what follows the last of them is a
 /// line if it has a byte.
-pub fn read_history<M: Worded>(alloc: Global, text: &[u8]) -> Result<Reading<M::Op>, AllocError>
+pub fn read_history<M: TextObject>(alloc: Global, text: &[u8]) -> Result<Reading<M::Op>, AllocError>
     ensures { IfOk result (λ reading. IsReadingOf M.rules M.language text.now reading) }
 {
     let mut lines = Vec::new(alloc);

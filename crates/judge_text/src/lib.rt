@@ -22,5 +22,5 @@ pub use laws::quotes_are_read;
 pub use program::{STEPS, end_by_fault, judge_history, judge_input, read_all};
 pub use quoting::{print_quoted, read_quoted};
 pub use verdict::Outcome;
-pub use worded::Worded;
+pub use worded::TextObject;
 pub use words::split_words;

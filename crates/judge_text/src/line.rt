@@ -7,7 +7,7 @@ ghost use Rattle.judge_text.specs.Reading.{IsReadLine};
 ghost use Rattle.judge_object.specs.Rules.{given_text};
 
 use crate::fault::CallFault;
-use crate::worded::Worded;
+use crate::worded::TextObject;
 use crate::words::{is_word, read_reply, read_span, split_words};
 use judge_object::{Line, Object};
 use judge_time::{NEVER, Span};
@@ -87,7 +87,7 @@ fn operation_words<'a, 'b>(words: &'b [&'a [u8]]) -> &'b [&'a [u8]]
 }
 
 /// Reads the call of words in which the arrow is the last but one.
-fn read_arrow_call<M: Worded>(
+fn read_arrow_call<M: TextObject>(
     alloc: Global,
     number: u64,
     words: &[&[u8]],
@@ -103,7 +103,7 @@ fn read_arrow_call<M: Worded>(
 }
 
 /// Reads the call that these words stand for.
-fn read_words<M: Worded>(
+fn read_words<M: TextObject>(
     alloc: Global,
     number: u64,
     words: &[&[u8]],
@@ -122,7 +122,7 @@ fn read_words<M: Worded>(
 }
 
 /// Reads the call that a line stands for, which is given without its end.
-pub(crate) fn read_call<M: Worded>(
+pub(crate) fn read_call<M: TextObject>(
     alloc: Global,
     number: u64,
     line: &[u8],

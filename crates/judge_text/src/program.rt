@@ -8,7 +8,7 @@ ghost use Rattle.judge_text.specs.Program.{HasRead, JudgesText, HasJudged, HasSt
 
 use crate::judging::judge_text;
 use crate::verdict::{Outcome, print_verdict};
-use crate::worded::Worded;
+use crate::worded::TextObject;
 use judge_many::Starts;
 use std::alloc::{AllocError, Global};
 use std::io::{ErrorKind, Read, Write};
@@ -60,13 +60,14 @@ pub fn read_all<R: Read>(alloc: Global, input: &mut R) -> Result<Vec<u8>, Stream
 }
 
 /// Judges a text, and returns the kind and the text of the verdict.
-fn find_text<M: Worded + Drop>(
+fn find_text<M: TextObject + Drop>(
     alloc: Global,
     starts: &Starts<M>,
     steps: u64,
     text: &[u8],
 ) -> Result<(Outcome, Vec<u8>), AllocError>
-    ensures { IfOk result (λ found. JudgesText M.rules M.name M.language (start_of starts.now) steps
+    ensures { IfOk result (λ found.
+        JudgesText M.rules M.name M.naming M.language (start_of starts.now) steps
         text.now found.0 found.1.items) }
 {
     let verdict = judge_text(alloc, text, starts, steps, &mut ())?;
@@ -78,7 +79,7 @@ fn find_text<M: Worded + Drop>(
 /// Returns its kind.
 ///
 /// After a fault of the output a prefix of the text was written, after any other fault nothing.
-pub fn judge_history<M: Worded + Drop, R: Read, W: Write>(
+pub fn judge_history<M: TextObject + Drop, R: Read, W: Write>(
     alloc: Global,
     starts: &Starts<M>,
     steps: u64,
@@ -86,11 +87,11 @@ pub fn judge_history<M: Worded + Drop, R: Read, W: Write>(
     output: &mut W,
 ) -> Result<Outcome, StreamFault>
     ensures ok { IfOk result (λ outcome.
-        HasJudged M.rules M.name M.language (start_of starts.now) steps outcome
+        HasJudged M.rules M.name M.naming M.language (start_of starts.now) steps outcome
         (R.remaining input.old) (R.remaining input.new)
         (W.contents output.old) (W.contents output.new)) }
     ensures err { IfErr result (λ fault.
-        HasStopped M.rules M.name M.language (start_of starts.now) steps fault
+        HasStopped M.rules M.name M.naming M.language (start_of starts.now) steps fault
         (R.remaining input.old) (R.remaining input.new)
         (W.contents output.old) (W.contents output.new)) }
 {
@@ -147,13 +148,13 @@ pub fn end_by_fault<W: Write>(fault: StreamFault, output: &mut W) -> u8
 /// its name, in at most [`STEPS`] steps, and writes the text of the verdict, or after a fault its
 /// line. Returns the status of a program: 0 if the history is legal, 1 if it is not, 2 after a
 /// fault, 3 if neither is known.
-pub fn judge_input<M: Worded + Drop, R: Read, W: Write>(
+pub fn judge_input<M: TextObject + Drop, R: Read, W: Write>(
     alloc: Global,
     starts: &Starts<M>,
     input: &mut R,
     output: &mut W,
 ) -> u8
-    ensures { HasEnded M.rules M.name M.language (start_of starts.now) STEPS result
+    ensures { HasEnded M.rules M.name M.naming M.language (start_of starts.now) STEPS result
         (R.remaining input.old) (R.remaining input.new)
         (W.contents output.old) (W.contents output.new) }
 {

@@ -54,6 +54,7 @@ fn push_escaped(byte: u8, out: &mut Vec<u8>) -> Result<(), AllocError>
 pub fn print_quoted(bytes: &[u8], out: &mut Vec<u8>) -> Result<(), AllocError>
     ensures { OnOk result (out.new.items ≡ out.old.items ++ quoted bytes.now) }
 {
+    out.reserve(bytes.len().saturating_add(2))?;
     out.push(b'"')?;
     'bytes: for at in 0..bytes.len() {
         push_escaped(bytes[at], out)?;
@@ -75,7 +76,7 @@ fn hex_pair(high: u8, low: u8) -> Option<u8>
 fn read_escaped(alloc: Global, text: &[u8]) -> Result<Option<Vec<u8>>, AllocError>
     ensures { IfOk result (λ read. unescaped text.now ≡ spec.bytes_of read) }
 {
-    let mut bytes = Vec::new(alloc);
+    let mut bytes = Vec::with_capacity(alloc, text.len())?;
     let mut at = 0;
     'bytes: while at < text.len() {
         let byte = text[at];

@@ -2,6 +2,7 @@
 
 ghost use Rattle.std.specs.Prelude.{◌≡◌, ◌++◌, ◌<◌, All, IfOk, OnOk, decimal, flat_map, length};
 ghost use Rattle.vac_lines.specs.Script.{as_line};
+ghost use Rattle.judge_many.specs.Naming.{object_of, for_object};
 ghost use Rattle.judge_text.specs.Texts.{fault_text, legal_text, named_text, stuck_text, first_text, part_text};
 ghost use Rattle.judge_text.specs.Texts.{kind_of, outcome_of, AreWithin, HasPlace, HasPlaceIn};
 ghost use Rattle.judge_text.specs.Texts.{IsPrinted, IsBlockedText, IsTextOn, IsTextOf};
@@ -10,7 +11,7 @@ use crate::counting::Counts;
 use crate::fault::CallFault;
 use crate::judging::TextVerdict;
 use crate::quoting::print_quoted;
-use judge_many::{Blocked, Named, Verdict};
+use judge_many::{Blocked, Named, Names, Verdict};
 use judge_object::{Line, Object};
 use judge_search::{Stuck, stuck_calls};
 use std::alloc::{AllocError, Global};
@@ -66,30 +67,34 @@ fn print_named(number: u64, name: &[u8], out: &mut Vec<u8>) -> Result<(), AllocE
 
 /// Appends the line of the first blocked call.
 fn print_first<M: Named>(
+    names: &Names,
     lines: &[Line<M::Op>],
     first: &Stuck<M::Reply>,
     out: &mut Vec<u8>,
 ) -> Result<(), AllocError>
     requires { first.now.place < length lines.now }
     ensures { OnOk result
-        (out.new.items ≡ out.old.items ++ first_text M.name lines.now first.now) }
+        (out.new.items ≡ out.old.items
+        ++ first_text (for_object (object_of names.now) M.name) lines.now first.now) }
 {
     let line = &lines[first.place];
-    print_named(line.number, M::name(&line.op), out)
+    print_named(line.number, names.name::<M>(&line.op), out)
 }
 
 /// Appends the line of the first blocked call, if a call is blocked.
 fn print_part<M: Named>(
+    names: &Names,
     lines: &[Line<M::Op>],
     stuck: &[Stuck<M::Reply>],
     out: &mut Vec<u8>,
 ) -> Result<(), AllocError>
     requires { AreWithin lines.now stuck.now }
     ensures { OnOk result
-        (out.new.items ≡ out.old.items ++ part_text M.name lines.now stuck.now) }
+        (out.new.items ≡ out.old.items
+        ++ part_text (for_object (object_of names.now) M.name) lines.now stuck.now) }
 {
     match stuck {
-        [first, ..] => print_first::<M>(lines, first, out),
+        [first, ..] => print_first::<M>(names, lines, first, out),
         [] => Ok(()),
     }
 }
@@ -130,21 +135,24 @@ fn print_all_stuck<M: Object>(
 /// line of the blocked call that ended first, the object's name, and all blocked calls.
 fn print_blocked<M: Named + Drop>(
     alloc: Global,
+    names: &Names,
     blocked: &Blocked<M::Op, M>,
     out: &mut Vec<u8>,
 ) -> Result<(), AllocError>
     ensures { OnOk result
-        (IsPrinted (IsBlockedText M.rules M.name blocked.now) out.old.items out.new.items) }
+        (IsPrinted (IsBlockedText M.rules (for_object (object_of names.now) M.name) blocked.now)
+        out.old.items out.new.items) }
 {
     let lines = blocked.calls.as_slice();
     let stuck = stuck_calls(alloc, &blocked.calls, &blocked.point)?;
-    print_part::<M>(lines, stuck.as_slice(), out)?;
+    print_part::<M>(names, lines, stuck.as_slice(), out)?;
     print_all_stuck::<M>(lines, stuck.as_slice(), out)
 }
 
 /// Appends the text of a verdict on calls, and returns its kind.
 fn print_judged<M: Named + Drop>(
     alloc: Global,
+    names: &Names,
     counts: Counts,
     verdict: &Verdict<M::Op, M>,
     out: &mut Vec<u8>,
@@ -152,7 +160,8 @@ fn print_judged<M: Named + Drop>(
     requires { HasPlace counts verdict.now }
     ensures kind { IfOk result (λ outcome. outcome ≡ kind_of verdict.now) }
     ensures text { OnOk result
-        (IsPrinted (IsTextOn M.rules M.name counts verdict.now) out.old.items out.new.items) }
+        (IsPrinted (IsTextOn M.rules (for_object (object_of names.now) M.name) counts verdict.now)
+        out.old.items out.new.items) }
 {
     match verdict {
         Verdict::Linearizable => {
@@ -164,7 +173,7 @@ fn print_judged<M: Named + Drop>(
             Ok(Outcome::Illegal)
         }
         Verdict::NotLinearizable(blocked) => {
-            print_blocked::<M>(alloc, blocked, out)?;
+            print_blocked::<M>(alloc, names, blocked, out)?;
             Ok(Outcome::Illegal)
         }
         Verdict::Unknown(undecided) => {
@@ -194,8 +203,8 @@ pub(crate) fn print_verdict<M: Named + Drop>(
             print_fault(*number, *fault, &mut out)?;
             Outcome::Illegal
         }
-        TextVerdict::Judged(counts, verdict) => {
-            print_judged::<M>(alloc, *counts, verdict, &mut out)?
+        TextVerdict::Judged(names, counts, verdict) => {
+            print_judged::<M>(alloc, names, *counts, verdict, &mut out)?
         }
     };
     Ok((outcome, out))

@@ -8,7 +8,7 @@ use judge_many::Named;
 use std::alloc::{AllocError, Global};
 
 /// An object whose operations and replies are words of a line.
-pub trait Worded: Named {
+pub trait TextObject: Named {
     ghost language: { Language Self.Op Self.Reply };
 
     /// Returns the operation that these words write.

@@ -5,17 +5,20 @@ ghost use Rattle.std.specs.Str.{bytes_eq};
 ghost use Rattle.vac_lines.specs.Lines.{words_of, texts};
 ghost use Rattle.judge_text.specs.Lines.{end_number, words_span, word_reply};
 
-use crate::worded::Worded;
+use crate::worded::TextObject;
 use judge_clients::read_client;
 use judge_time::{NEVER, Span};
 use std::alloc::{AllocError, Global};
 use vac_lines::{cut_at, read_memory_word};
 
+/// Number of words for which a line's cutting takes memory at first.
+const FIRST_WORDS: usize = 8;
+
 /// Cuts a line at every space.
 pub fn split_words(alloc: Global, line: &[u8]) -> Result<Vec<&[u8]>, AllocError>
     ensures { IfOk result (λ words. texts words.items ≡ words_of line.now) }
 {
-    let mut words = Vec::new(alloc);
+    let mut words = Vec::with_capacity(alloc, FIRST_WORDS)?;
     let mut rest = line;
     'words: while let Some((word, behind)) = cut_at(b' ', rest) {
         words.push(word)?;
@@ -56,7 +59,7 @@ pub(crate) fn read_span(client: &[u8], begin: &[u8], end: &[u8]) -> Option<Span>
 }
 
 /// Returns the reply that a word writes, which a pending call has not.
-pub(crate) fn read_reply<M: Worded>(
+pub(crate) fn read_reply<M: TextObject>(
     alloc: Global,
     word: &[u8],
 ) -> Result<Option<Option<M::Reply>>, AllocError>

@@ -1,5 +1,5 @@
 -- Lemmas on the steps of the program: opening the start file, judging, ending by a fault.
-use Rattle.std.proofs.Common.{◌≡◌, ◌∙◌, ℕ, List, [], Option, None, subst, inl, inr}
+use Rattle.std.proofs.Common.{◌≡◌, ◌∙◌, ℕ, List, Option, None, subst, inl, inr}
 use Rattle.vac_lines.specs.Writing.{AppendsPrefix}
 use Rattle.vac_streams.specs.declared.fault.StreamFault.{StreamFault}
 use Rattle.vac_streams.specs.declared.fault.StreamFault.TheVariants.{Memory}
@@ -15,6 +15,7 @@ use Rattle.judge_kv.specs.Starting.{value_at_first, IsStartOf, AreFirstValues}
 use Rattle.judge_store.specs.Stores.{Pairs, held_at}
 use Rattle.judge_store.specs.Rules.{whole}
 use Rattle.judge_store.specs.Words.{whole_language}
+use Rattle.judge_store.specs.Classes.{name_of, AreStoreObjects}
 use Rattle.kv_judge.specs.declared.options.Scope.{Scope}
 use Rattle.kv_judge.specs.declared.options.Scope.TheVariants.{EachKey, Whole}
 use Rattle.kv_judge.specs.Serving.{Judges, JudgesStore, JudgesFromFile, ReadsFile, EndsWith, EndsAtFault}
@@ -41,10 +42,10 @@ module _ {status : ℕ} {unread left held holds : Option (List ℕ)} where
       judges_alike (start_of starts) (λ key. None) (λ key. same key ∙ none) h
 
   pub judges_store : (starts : Starts Pairs) (pairs : Pairs) → ((name : List ℕ) → start_of starts name ≡ pairs) →
-      HasEnded whole (λ op. []) whole_language (start_of starts) STEPS status unread left held holds →
+      HasEnded whole name_of AreStoreObjects whole_language (start_of starts) STEPS status unread left held holds →
       JudgesStore pairs status unread left held holds
   judges_store starts pairs same h =
-      subst (λ r. HasEnded whole (λ op. []) whole_language r STEPS status unread left held holds)
+      subst (λ r. HasEnded whole name_of AreStoreObjects whole_language r STEPS status unread left held holds)
       (same_at_each (start_of starts) (λ name. pairs) same) h
 
   -- the ends of a start file's reading

@@ -5,6 +5,7 @@ use Rattle.vac_lines.specs.Script.{as_line}
 use Rattle.vac_lines.specs.Writing.{AppendsPrefix}
 use Rattle.vac_streams.specs.declared.fault.StreamFault.{StreamFault}
 use Rattle.vac_streams.specs.declared.fault.StreamFault.TheVariants.{Memory}
+use Rattle.judge_many.specs.Naming.{AreOwn}
 use Rattle.judge_text.specs.Program.{HasRead, HasEnded, fault_line}
 use Rattle.judge_text.specs.declared.program.TheConstants.{STEPS}
 use Rattle.judge_kv.specs.declared.starting.StartFault.{StartFault}
@@ -14,6 +15,7 @@ use Rattle.judge_kv.specs.Words.{store_language}
 use Rattle.judge_store.specs.Stores.{Pairs, held_at}
 use Rattle.judge_store.specs.Rules.{whole}
 use Rattle.judge_store.specs.Words.{whole_language}
+use Rattle.judge_store.specs.Classes.{name_of, AreStoreObjects}
 use Rattle.kv_judge.specs.declared.options.Scope.{Scope}
 use Rattle.kv_judge.specs.declared.options.Scope.TheVariants.{EachKey, Whole}
 use Rattle.kv_judge.specs.Options.{Request, Judge, JudgeFrom, Help, Refused}
@@ -28,13 +30,16 @@ start_fault_text number fault =
 abbrev pub Judges : (List ℕ → Held) → ℕ → Option (List ℕ) → Option (List ℕ) → Option (List ℕ)
     → Option (List ℕ) → Type 0
 Judges s status unread left held holds =
-    HasEnded cell (λ op. op.key) store_language s STEPS status unread left held holds
+    HasEnded cell (λ op. op.key) (λ calls objects. AreOwn objects) store_language s STEPS
+    status unread left held holds
 
--- the input is judged as the history of a whole store, which begins with these keys and values
+-- the input is judged as the history of a whole store, which begins with these keys and values:
+-- classes of its keys are judged by themselves
 abbrev pub JudgesStore : Pairs → ℕ → Option (List ℕ) → Option (List ℕ) → Option (List ℕ)
     → Option (List ℕ) → Type 0
 JudgesStore pairs status unread left held holds =
-    HasEnded whole (λ op. []) whole_language (λ name. pairs) STEPS status unread left held holds
+    HasEnded whole name_of AreStoreObjects whole_language (λ name. pairs) STEPS
+    status unread left held holds
 
 -- the whole store begins with keys and values: each key has its value at first, and the others none
 pub record JudgesStoreFrom (firsts : List First) (status : ℕ)

@@ -12,7 +12,7 @@ ghost use Rattle.kv_judge.specs.declared.options.Scope.TheVariants.{EachKey, Who
 
 use crate::files::Open;
 use crate::options::{Asked, Scope, read_asked};
-use judge_kv::{Beginnings, Cell, FirstValues, StartFault, read_first_values};
+use judge_kv::{Cell, FirstValues, StartFault, StartValues, read_first_values};
 use judge_many::Starts;
 use judge_store::Store;
 use judge_text::{end_by_fault, judge_input, read_all};
@@ -46,7 +46,7 @@ const FAULT: u8 = 1;
 const REFUSED: u8 = 2;
 
 /// Reads a start file to its end. The values go into a place in which no key has one.
-fn read_start<F: Beginnings, S: Read>(
+fn read_start<F: StartValues, S: Read>(
     alloc: Global,
     empty: F,
     file: &mut S,

@@ -7,3 +7,5 @@ mod attempts;
 mod calls;
 #[cfg(test)]
 mod places;
+#[cfg(test)]
+mod watching;

@@ -2,7 +2,7 @@
 
 use judge_object::Line;
 use judge_part::{part_of_history, scope_of};
-use judge_reservations::Asked;
+use judge_reservations::ValidTask;
 use judge_time::NEVER;
 use std::alloc::Global;
 use std::process::Abort;
@@ -53,8 +53,8 @@ const TWO_CARS: &[Row] = &[
 ];
 
 /// Makes the line of a row.
-fn line_of(rt: &impl Abort, alloc: Global, number: u64, row: &Row) -> Line<Asked> {
-    let op = Asked::new(read_line(alloc, row.3.as_bytes()).expect(rt, "the line is a task"));
+fn line_of(rt: &impl Abort, alloc: Global, number: u64, row: &Row) -> Line<ValidTask> {
+    let op = ValidTask::new(read_line(alloc, row.3.as_bytes()).expect(rt, "the line is a task"));
     let text = row.4.as_bytes();
     if text == b"?".as_slice() {
         Line {
@@ -82,7 +82,7 @@ fn line_of(rt: &impl Abort, alloc: Global, number: u64, row: &Row) -> Line<Asked
 }
 
 /// Makes the lines of rows.
-fn lines_of(rt: &impl Abort, alloc: Global, rows: &[Row]) -> Vec<Line<Asked>> {
+fn lines_of(rt: &impl Abort, alloc: Global, rows: &[Row]) -> Vec<Line<ValidTask>> {
     let mut lines = Vec::new(alloc);
     let mut number = 0;
     for row in rows {
@@ -97,7 +97,7 @@ fn lines_of(rt: &impl Abort, alloc: Global, rows: &[Row]) -> Vec<Line<Asked>> {
 }
 
 /// Returns the task and the reply of a line as a text.
-fn text_of(rt: &impl Abort, alloc: Global, line: &Line<Asked>) -> Vec<u8> {
+fn text_of(rt: &impl Abort, alloc: Global, line: &Line<ValidTask>) -> Vec<u8> {
     let mut text = Vec::new(alloc);
     print_task(line.op.task(), &mut text).expect(rt, "there is memory");
     text.extend_from_slice(b" -> ")

@@ -7,5 +7,6 @@ mod commands;
 mod fitting;
 #[cfg(test)]
 mod history;
+mod levels;
 #[cfg(test)]
 mod parts_first;

@@ -1,6 +1,7 @@
 //! Histories of a few lines that claim no order, of which parts are searched before the whole.
 
-use judge_linear::{Outcome, order_history};
+use judge_levels::Level;
+use judge_linear::{Outcome, Settings, order_history};
 use std::test::Fail;
 
 /// A history, the kind of its result, and the output.
@@ -54,9 +55,14 @@ const ROWS: &[Row] = &[
 #[test]
 fn parts_are_searched_before_the_whole(rt: HostRuntime) -> Result<(), Fail> {
     for (history, outcome, wanted) in ROWS {
+        let how = Settings {
+            blocks: 9,
+            level: Level::Linearizable,
+            steps: 100,
+        };
         let mut history = history.as_bytes();
         let mut text = Vec::new(rt.alloc());
-        let found = order_history(rt.alloc(), 9, 100, &mut history, &mut text, &mut ())?;
+        let found = order_history(rt.alloc(), how, &mut history, &mut text, &mut ())?;
         assert_eq!(rt; text.as_slice(), wanted.as_bytes());
         assert_eq!(rt; found, *outcome);
     }

@@ -8,7 +8,7 @@ returns-in-Err g c =
     let h = c.lines.invariant in
     let line = c.first_line.result.0.now in
     let fault = subst (IsFirstRead (line_first h.firsts line)) c.in-Err.is (c.in_ok-key.ensures h.firsts h.begin) in
-    first_fault c.args.text.now (g.F.Beginnings.held c.lines.firsts) c.lines.number c.lines.rest.now line
+    first_fault c.args.text.now (g.F.StartValues.held c.lines.firsts) c.lines.number c.lines.rest.now line
     c.first_line.result.1.now c.in-Err.fault h c.first_line.ensures.lines fault
 
 pub lines-preserved : goal.lines-preserved
@@ -16,7 +16,7 @@ lines-preserved g c =
     let h = c.lines.invariant in
     let line = c.first_line.result.0.now in
     let first = subst (IsFirstRead (line_first h.firsts line)) c.in-Ok.is (c.in_ok-key.ensures h.firsts h.begin) in
-    first_more c.args.text.now (g.F.Beginnings.held c.lines.firsts)
-    (g.F.Beginnings.held c.set_value.new.self) c.lines.number
+    first_more c.args.text.now (g.F.StartValues.held c.lines.firsts)
+    (g.F.StartValues.held c.set_value.new.self) c.lines.number
     c.lines.rest.now line c.first_line.result.1.now (c.in-Ok.key.items, c.in-Ok.value.items) h
     c.first_line.ensures.lines c.first_line.ensures.less first c.in_ok-set_value-in-Ok.ensures

@@ -1,18 +1,10 @@
-use Rattle.std.proofs.Common.{◌^◌, ◌-◌}
-use Rattle.judge_reservations.specs.Reserving.{reserving}
-use Rattle.judge_search.specs.Calls.{calls_of}
-use Rattle.judge_search.proofs.Judged.{whole_kept}
-use Rattle.judge_linear.proofs.Kept.{kept_lines}
+use Rattle.std.proofs.Common.{sym, subst}
+use Rattle.std.specs.Prelude.{IfOk}
+use Rattle.vac_model.specs.State.{empty_state}
+use Rattle.judge_linear.specs.Judged.{IsJudgedAt}
 use Rattle.judge_linear.proofs.order.judge_lines.Goals as goal
 
-pub judge_order-requires : goal.judge_order-requires
-judge_order-requires g c = record {
-  whole = whole_kept reserving (calls_of c.args.history.lines.items) (calls_of c.in_ok-calls.calls.lines.items)
-      (c.in_ok-calls.ensures.merges c.requires.held.turn)
-      (record { turn = c.requires.held.turn; last = 2 ^ 64 - 1; timed = c.requires.held.timed });
-}
-
-pub returns-clause-kept : goal.returns-clause-kept
-returns-clause-kept g c =
-    kept_lines c.args.history.lines.items _ c.requires.held.numbered
-    (c.in_ok-calls.ensures.merges c.requires.held.turn) c.in_ok-calls.ensures.same
+pub returns-in-Linearizable : goal.returns-in-Linearizable
+returns-in-Linearizable g c =
+    subst (λ kept. IfOk c.judge_given.result (IsJudgedAt kept (empty_state c.args.how.blocks)
+    c.args.history.lines.items c.args.how.steps)) (sym c.in-Linearizable.is) c.judge_given.ensures

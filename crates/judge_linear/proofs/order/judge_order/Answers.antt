@@ -11,8 +11,7 @@ returns-in-Some g c =
     record {
       within = omega arith;
       run = tt;
-      finds = subst (λ s. IsLinearizedBy reserving s calls c.in-Some.places.items) c.in_ok-first.ensures
-          (subst (λ found. IfSome found (λ places. IsLinearizedBy reserving c.in_ok-first.first calls places.items))
-          c.in-Some.is c.in_ok-places.ensures);
+      finds = subst (λ found. IfSome found (λ places. IsLinearizedBy reserving c.args.machine calls places.items))
+          c.in-Some.is c.in_ok-places.ensures;
       spent = λ never. absurd never;
     }

@@ -6,7 +6,7 @@ use Rattle.judge_linear.proofs.ordering.find_text.Goals as goal
 
 pub returns-in_ok-print_verdict-in-Wrong-clause-found : goal.returns-in_ok-print_verdict-in-Wrong-clause-found
 returns-in_ok-print_verdict-in-Wrong-clause-found g c =
-    text_wrong c.args.blocks c.args.steps (g.R.Read.remaining c.args.input.now)
+    text_wrong c.args.how.level c.args.how.blocks c.args.how.steps (g.R.Read.remaining c.args.input.now)
     (g.R.Read.remaining c.read_history.new.input) c.in-Wrong.verdict c.print_verdict.new.out.items
     (subst (WasReadAs (g.R.Read.remaining c.args.input.now) (g.R.Read.remaining c.read_history.new.input)) c.in-Wrong.is
     c.in_ok-history.ensures.read)

@@ -1,12 +1,10 @@
-use Rattle.std.proofs.Common.{subst}
-use Rattle.judge_linear.specs.Judged.{IsJudged}
+use Rattle.judge_linear.proofs.Below.{told_at}
 use Rattle.judge_linear.proofs.ordering.order_calls.Goals as goal
 
 pub returns : goal.returns
 returns g c = λ bytes texts listed right.
-    let ordered = c.in_ok-ordered.ordered in
-    c.in_ok-outcome.ensures c.args.history.lines.items c.args.blocks c.args.steps bytes c.requires.most
-    c.in_ok-ordered.ensures.kept
-    (subst (λ s. IsJudged s ordered.calls c.args.steps ordered.judged) c.in_ok-machine.ensures
-    c.in_ok-ordered.ensures.judged)
-    texts listed right c.new-text.ensures.items
+    told_at c.args.how.blocks c.args.how.steps c.args.history c.requires.held c.requires.most bytes texts listed right
+    c.in_ok-ordered.ordered _ _
+    (λ kept lines n given left bytes few k j read before.
+    c.in_ok-outcome.ensures.text kept lines n given left bytes few k j read before c.new-text.ensures.items)
+    c.in_ok-outcome.ensures.order c.args.how.level c.in_ok-ordered.ensures

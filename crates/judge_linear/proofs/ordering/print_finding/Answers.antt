@@ -3,7 +3,7 @@ use Rattle.std.specs.Prelude.{All, IfOk}
 use Rattle.std.proofs.lemmas.List.{length-map}
 use Rattle.judge_search.specs.declared.stuck.Stuck.{Stuck}
 use Rattle.judge_search.specs.Calls.{call_of}
-use Rattle.judge_linear.specs.Judged.{IsJudged}
+use Rattle.judge_linear.specs.Judged.{IsJudged, HasFoundOrder}
 use Rattle.judge_linear.specs.Reading.{numbers_of}
 use Rattle.judge_linear.specs.Found.{part_text, told_by}
 use Rattle.vac_model.specs.State.{empty_state}
@@ -15,21 +15,28 @@ if_ok : {A E : Type 0} {P Q : A → Type 0} → ((x : A) → P x → Q x) → (r
 if_ok f (Ok x) h = f x h
 if_ok f (Err e) h = tt
 
-pub returns-in-Whole : goal.returns-in-Whole
-returns-in-Whole c = if_ok (λ outcome h lines n steps bytes few k j texts listed right none.
-    h lines n steps bytes k
-    (subst (IsJudged (empty_state n) c.args.ordered.now.calls steps) c.in-Whole.is j) texts listed right none)
-    c.print_whole.result c.print_whole.ensures
+pub returns-in-Whole-clause-text : goal.returns-in-Whole-clause-text
+returns-in-Whole-clause-text c = if_ok (λ outcome h want lines n given left bytes few k j read before none.
+    h want lines n given left bytes k
+    (subst (IsJudged (empty_state n) c.args.ordered.now.calls left) c.in-Whole.is j) read before none)
+    c.print_whole.result c.print_whole.ensures.text
 
-pub returns-in_ok-print_illegal_part-in-Part : goal.returns-in_ok-print_illegal_part-in-Part
-returns-in_ok-print_illegal_part-in-Part c = λ lines n steps bytes few k j texts listed right none.
+pub returns-in_ok-print_illegal_part-in-Part-clause-text : goal.returns-in_ok-print_illegal_part-in-Part-clause-text
+returns-in_ok-print_illegal_part-in-Part-clause-text c = λ want lines n given left bytes few k j read before none.
     let part = c.in-Part.part in
     let sorted = part.calls.lines.items in
-    let h = subst (IsJudged (empty_state n) c.args.ordered.now.calls steps) c.in-Part.is j in
+    let h = subst (IsJudged (empty_state n) c.args.ordered.now.calls left) c.in-Part.is j in
     let within : All (λ (one : Stuck Reply). one.place < length sorted) part.stuck.items =
     subst (λ m. All (λ (one : Stuck Reply). one.place < m) part.stuck.items) (length-map sorted call_of) h.are.within in
-    finds_part lines c.args.ordered.now.calls.lines.items k bytes texts listed right n steps part
-    c.print_illegal_part.new.out.items few h
+    finds_part want lines c.args.ordered.now.calls.lines.items k bytes read n given left part
+    c.print_illegal_part.new.out.items few before h
     (c.in_ok-print_illegal_part-in-Part.ensures within
     ∙ ap (λ t. t ++ part_text part.scope.customers.items part.scope.items.items
     (told_by (numbers_of sorted) part.stuck.items)) none)
+
+pub returns-in-Whole-clause-order : goal.returns-in-Whole-clause-order
+returns-in-Whole-clause-order c = if_ok (λ outcome h f. h (subst HasFoundOrder c.in-Whole.is f)) c.print_whole.result
+    c.print_whole.ensures.order
+
+pub returns-in_ok-print_illegal_part-in-Part-clause-order : goal.returns-in_ok-print_illegal_part-in-Part-clause-order
+returns-in_ok-print_illegal_part-in-Part-clause-order c = λ f. absurd (subst HasFoundOrder c.in-Part.is f)

@@ -8,6 +8,7 @@ use Rattle.judge_search.specs.Point.{made_of, point_at}
 use Rattle.judge_search.specs.Judging.{IsFoundOfCalls}
 use Rattle.judge_linear.specs.Reading.{texts_of, numbers_of}
 use Rattle.judge_linear.specs.Found.{RunsWithin, placed_text, told_by, none_text, open_text}
+use Rattle.judge_linear.specs.Judged.{IsOrder}
 use Rattle.judge_search.proofs.Judged.{found_in}
 use Rattle.judge_reservations.specs.Reserving.{reserving}
 use Rattle.vac_model.specs.State.{empty_state}
@@ -16,38 +17,38 @@ use Rattle.judge_linear.proofs.ordering.print_whole.Goals as goal
 use Rattle.vac_model.specs.declared.tasks.Task.{Task}
 use Rattle.vac_model.specs.declared.replies.Reply.{Reply}
 
-pub returns-in_ok-print_order-in-Order : goal.returns-in_ok-print_order-in-Order
-returns-in_ok-print_order-in-Order c = λ lines n steps bytes k j texts listed right none.
+pub returns-in_ok-print_order-in-Order-clause-text : goal.returns-in_ok-print_order-in-Order-clause-text
+returns-in_ok-print_order-in-Order-clause-text c = λ want lines n given left bytes k j read before none.
     let calls = c.args.calls.now in
     let kept = calls.lines.items in
-    let all = found_in reserving (point_at reserving calls) (empty_state n) (calls_of kept) steps c.args.found.now j in
-    let runs : RunsWithin (empty_state n) (calls_of kept) steps =
+    let all = found_in reserving (point_at reserving calls) (empty_state n) (calls_of kept) left c.args.found.now j in
+    let runs : RunsWithin (empty_state n) (calls_of kept) left =
     record { made = c.args.found.now.steps; within = j.within; run = j.run } in
     let places = c.in-Order.places.items in
-    let found = subst (IsFoundOfCalls reserving (point_at reserving calls) (empty_state n) (calls_of kept) steps)
+    let found = subst (IsFoundOfCalls reserving (point_at reserving calls) (empty_state n) (calls_of kept) left)
     c.in-Order.is all in
     let within : All (λ p. p < length c.as_slice-lines.result.now) c.as_slice.result.now =
     subst (λ (s : List (Line Task)). All (λ p. p < length s) c.as_slice.result.now) (sym c.as_slice-lines.ensures)
     (subst (λ l. All (λ p. p < length kept) l) (sym c.as_slice.ensures.value)
     (subst (λ m. All (λ p. p < m) places) (length-map kept call_of) found.within)) in
-    finds_order lines kept k bytes texts listed right n steps places c.print_order.new.out.items runs found
+    finds_order want lines kept k bytes read n given left places c.print_order.new.out.items before runs found
     (c.in_ok-print_order-in-Order.ensures within
     ∙ ap (λ t. t ++ placed_text (texts_of c.as_slice-lines.result.now) c.as_slice.result.now) none
     ∙ ap (λ (s : List (Line Task)). placed_text (texts_of s) c.as_slice.result.now) c.as_slice-lines.ensures
     ∙ ap (placed_text (texts_of kept)) c.as_slice.ensures.value)
 
-pub returns-in_ok-print_no_order-in-NoOrder : goal.returns-in_ok-print_no_order-in-NoOrder
-returns-in_ok-print_no_order-in-NoOrder c = λ lines n steps bytes k j texts listed right none.
+pub returns-in_ok-print_no_order-in-NoOrder-clause-text : goal.returns-in_ok-print_no_order-in-NoOrder-clause-text
+returns-in_ok-print_no_order-in-NoOrder-clause-text c = λ want lines n given left bytes k j read before none.
     let calls = c.args.calls.now in
     let kept = calls.lines.items in
-    let all = found_in reserving (point_at reserving calls) (empty_state n) (calls_of kept) steps c.args.found.now j in
-    let runs : RunsWithin (empty_state n) (calls_of kept) steps =
+    let all = found_in reserving (point_at reserving calls) (empty_state n) (calls_of kept) left c.args.found.now j in
+    let runs : RunsWithin (empty_state n) (calls_of kept) left =
     record { made = c.args.found.now.steps; within = j.within; run = j.run } in
     let most = c.in-NoOrder.most in
     let point = c.in-NoOrder.point in
     let stuck = c.in_ok-stuck-in-NoOrder.stuck.items in
     let are = c.in_ok-stuck-in-NoOrder.ensures in
-    let found = subst (IsFoundOfCalls reserving (point_at reserving calls) (empty_state n) (calls_of kept) steps)
+    let found = subst (IsFoundOfCalls reserving (point_at reserving calls) (empty_state n) (calls_of kept) left)
     c.in-NoOrder.is all in
     let within : All (λ (one : Stuck Reply). one.place < length c.as_slice-lines.result.now)
     c.as_slice-in-NoOrder.result.now
@@ -56,8 +57,8 @@ returns-in_ok-print_no_order-in-NoOrder c = λ lines n steps bytes k j texts lis
     (sym c.as_slice-lines.ensures)
     (subst (λ l. All (λ (one : Stuck Reply). one.place < length kept) l) (sym c.as_slice-in-NoOrder.ensures.value)
     (subst (λ m. All (λ (one : Stuck Reply). one.place < m) stuck) (length-map kept call_of) are.within)) in
-    finds_none lines kept k bytes texts listed right n steps most (made_of point)
-    point.machine stuck c.print_no_order.new.out.items runs found are
+    finds_none want lines kept k bytes read n given left most (made_of point)
+    point.machine stuck c.print_no_order.new.out.items before runs found are
     (c.in_ok-print_no_order-in-NoOrder.ensures within
     ∙ ap (λ t. t ++ none_text most (told_by (numbers_of c.as_slice-lines.result.now) c.as_slice-in-NoOrder.result.now))
     none
@@ -65,15 +66,21 @@ returns-in_ok-print_no_order-in-NoOrder c = λ lines n steps bytes k j texts lis
     c.as_slice-lines.ensures
     ∙ ap (λ l. none_text most (told_by (numbers_of kept) l)) c.as_slice-in-NoOrder.ensures.value)
 
-pub returns-in_ok-print_undecided-in-Unknown : goal.returns-in_ok-print_undecided-in-Unknown
-returns-in_ok-print_undecided-in-Unknown c = λ lines n steps bytes k j texts listed right none.
+pub returns-in_ok-print_undecided-in-Unknown-clause-text : goal.returns-in_ok-print_undecided-in-Unknown-clause-text
+returns-in_ok-print_undecided-in-Unknown-clause-text c = λ want lines n given left bytes k j read before none.
     let calls = c.args.calls.now in
     let kept = calls.lines.items in
-    let all = found_in reserving (point_at reserving calls) (empty_state n) (calls_of kept) steps c.args.found.now j in
-    let runs : RunsWithin (empty_state n) (calls_of kept) steps =
+    let all = found_in reserving (point_at reserving calls) (empty_state n) (calls_of kept) left c.args.found.now j in
+    let runs : RunsWithin (empty_state n) (calls_of kept) left =
     record { made = c.args.found.now.steps; within = j.within; run = j.run } in
-    let found = subst (IsFoundOfCalls reserving (point_at reserving calls) (empty_state n) (calls_of kept) steps)
+    let found = subst (IsFoundOfCalls reserving (point_at reserving calls) (empty_state n) (calls_of kept) left)
     c.in-Unknown.is all in
-    finds_nothing lines kept k bytes texts listed right n steps c.in-Unknown.most c.print_undecided.new.out.items runs
-    found
+    finds_nothing want lines kept k bytes read n given left c.in-Unknown.most c.print_undecided.new.out.items before
+    runs found
     (c.in_ok-print_undecided-in-Unknown.ensures ∙ ap (λ t. t ++ open_text c.in-Unknown.most) none)
+
+pub returns-in_ok-print_no_order-in-NoOrder-clause-order : goal.returns-in_ok-print_no_order-in-NoOrder-clause-order
+returns-in_ok-print_no_order-in-NoOrder-clause-order c = λ f. absurd (subst IsOrder c.in-NoOrder.is f)
+
+pub returns-in_ok-print_undecided-in-Unknown-clause-order : goal.returns-in_ok-print_undecided-in-Unknown-clause-order
+returns-in_ok-print_undecided-in-Unknown-clause-order c = λ f. absurd (subst IsOrder c.in-Unknown.is f)

@@ -1,6 +1,7 @@
 use Rattle.std.proofs.Common.{sym, subst}
 use Rattle.judge_object.specs.Orders.{IsLinearizable}
 use Rattle.judge_search.specs.Calls.{calls_of}
+use Rattle.judge_many.specs.Naming.{object_of, for_object}
 use Rattle.judge_many.specs.Turns.{AreTurns}
 use Rattle.judge_many.specs.Judging.{JudgesParts}
 use Rattle.judge_many.proofs.OfOne.{parts}
@@ -14,7 +15,7 @@ use Rattle.judge_many.proofs.judging.judge_many.Goals as goal
 pub returns-then-is_strict : goal.returns-then-is_strict
 returns-then-is_strict g c =
     let rules = g.M.Object.rules in
-    let name = g.M.Named.name in
+    let name = (for_object (object_of c.args.names.now) (g.M.Named.name)) in
     let lines = c.args.lines.items in
     let turns = subst (AreTurns (calls_of lines)) c.in-Held.is
     (subst (λ ls. AreTurns (calls_of ls) c.in_ok-place.field-0)
@@ -28,7 +29,7 @@ returns-then-is_strict g c =
 pub returns-then-is_one : goal.returns-then-is_one
 returns-then-is_one g c =
     let rules = g.M.Object.rules in
-    let name = g.M.Named.name in
+    let name = (for_object (object_of c.args.names.now) (g.M.Named.name)) in
     let lines = c.args.lines.items in
     let turns = subst (AreTurns (calls_of lines)) c.in-Held.is
     (subst (λ ls. AreTurns (calls_of ls) c.in_ok-place.field-0)
@@ -43,7 +44,7 @@ returns-then-is_one g c =
 pub returns-else-is_one : goal.returns-else-is_one
 returns-else-is_one g c =
     let rules = g.M.Object.rules in
-    let name = g.M.Named.name in
+    let name = (for_object (object_of c.args.names.now) (g.M.Named.name)) in
     let lines = c.args.lines.items in
     let turns = subst (AreTurns (calls_of lines)) c.in-Held.is
     (subst (λ ls. AreTurns (calls_of ls) c.in_ok-place.field-0)
@@ -61,7 +62,7 @@ returns-else-is_one g c =
 pub returns-in-NotLinearizable : goal.returns-in-NotLinearizable
 returns-in-NotLinearizable g c =
     let rules = g.M.Object.rules in
-    let name = g.M.Named.name in
+    let name = (for_object (object_of c.args.names.now) (g.M.Named.name)) in
     let lines = c.args.lines.items in
     let turns = subst (AreTurns (calls_of lines)) c.in-Held.is
     (subst (λ ls. AreTurns (calls_of ls) c.in_ok-place.field-0)
@@ -78,7 +79,7 @@ returns-in-NotLinearizable g c =
 pub returns-in-Unknown : goal.returns-in-Unknown
 returns-in-Unknown g c =
     let rules = g.M.Object.rules in
-    let name = g.M.Named.name in
+    let name = (for_object (object_of c.args.names.now) (g.M.Named.name)) in
     let lines = c.args.lines.items in
     let turns = subst (AreTurns (calls_of lines)) c.in-Held.is
     (subst (λ ls. AreTurns (calls_of ls) c.in_ok-place.field-0)

@@ -3,6 +3,7 @@ use Rattle.std.specs.Str.{bytes_eq}
 use Rattle.std.proofs.lemmas.Bool.{cases_lt}
 use Rattle.std.proofs.lemmas.Slice.Eq.{bytes_eq-Decides}
 use Rattle.judge_search.proofs.Soonest.{same_default}
+use Rattle.judge_many.specs.Naming.{object_of, for_object}
 use Rattle.judge_many.specs.Runs.{name_of, name_at}
 use Rattle.judge_many.proofs.runs.is_of_one.Goals as goal
 
@@ -18,7 +19,7 @@ false_true e = cc
 
 pub returns-then-ne-clause-many : goal.returns-then-ne-clause-many
 returns-then-ne-clause-many g c = λ is one.
-    let name = g.M.Named.name in
+    let name = (for_object (object_of c.args.names.now) (g.M.Named.name)) in
     let lines = c.args.lines.now in
     let p = c.lines.place in
     let x = c.index-lines-place.result in
@@ -32,7 +33,7 @@ returns-then-ne-clause-many g c = λ is one.
 
 pub lines-preserved : goal.lines-preserved
 lines-preserved g c = λ j d low high.
-    let name = g.M.Named.name in
+    let name = (for_object (object_of c.args.names.now) (g.M.Named.name)) in
     let lines = c.args.lines.now in
     let p = c.lines.place in
     let x = c.index-lines-place.result in
@@ -59,5 +60,6 @@ returns-clause-one g c = λ is j d w.
     let end = c.lines-test.false in
     elim (cases_lt 0 j) [
       | inl l ↦ c.lines.invariant j d l (omega arith)
-      | inr l ↦ ap (λ i. name_at (g.M.Named.name) lines i d) (let e : j ≡ 0 = omega arith in e)
+      | inr l ↦ ap (λ i. name_at (for_object (object_of c.args.names.now) (g.M.Named.name)) lines i d)
+          (let e : j ≡ 0 = omega arith in e)
     ]

@@ -4,6 +4,7 @@ use Rattle.std.specs.Str.{bytes_eq}
 use Rattle.std.proofs.lemmas.Bool.{cases_lt}
 use Rattle.std.proofs.lemmas.Slice.Eq.{bytes_eq-Decides}
 use Rattle.judge_search.proofs.Soonest.{same_default}
+use Rattle.judge_many.specs.Naming.{object_of, for_object}
 use Rattle.judge_many.specs.Runs.{name_of, name_at}
 use Rattle.judge_many.proofs.runs.last_run.Goals as goal
 
@@ -13,7 +14,7 @@ not_false false e = cc
 
 pub lines-preserved : goal.lines-preserved
 lines-preserved g c =
-    let name = g.M.Named.name in
+    let name = (for_object (object_of c.args.names.now) (g.M.Named.name)) in
     let lines = c.args.lines.now in
     let first = c.lines.first in
     let end = length lines - 1 in

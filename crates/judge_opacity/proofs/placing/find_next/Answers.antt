@@ -1,6 +1,6 @@
 use Rattle.std.proofs.Common.{◌≡◌, true, sym, ap, ◌∙◌, is_none, get_or}
 use Rattle.judge_opacity.specs.Parts.{attempt_of}
-use Rattle.judge_opacity.specs.Verdict.{breach_of}
+use Rattle.judge_opacity.specs.Verdict.{violation_of}
 use Rattle.judge_opacity.specs.Logs.{logged_attempt}
 use Rattle.judge_opacity.proofs.Searching.{free_comes, none_next, writer_comes, writer_stuck, same_follows, at_any}
 use Rattle.judge_opacity.proofs.Searching.{none_is}
@@ -22,13 +22,13 @@ returns-then-branch-clause-found c = λ words earlier f.
     let l = c.index-left-place.result in
     let place = c.in-Some-first_writer.place in
     let now = same_follows words c.args.judge.now c.find_free.new.judge earlier c.in_ok-place.ensures.same f in
-    let fits : is_none (breach_of earlier (logged_attempt l)) ≡ true =
-    ap (λ t. is_none (breach_of earlier (attempt_of l.head t))) (sym c.as_slice.ensures.value)
+    let fits : is_none (violation_of earlier (logged_attempt l)) ≡ true =
+    ap (λ t. is_none (violation_of earlier (attempt_of l.head t))) (sym c.as_slice.ensures.value)
     ∙ sym (c.in_ok-fits.ensures.fits words earlier now) ∙ c.if-branch.true in
     let first = c.in-Some-first_writer.ensures in
     writer_comes earlier left place (rw c.in_default.is at (c.in_ok-place.ensures.found words earlier f)) first
-    (λ d. none_is (breach_of earlier (logged_attempt (get_or left place d)))
-    (ap (λ y. is_none (breach_of earlier (logged_attempt y)))
+    (λ d. none_is (violation_of earlier (logged_attempt (get_or left place d)))
+    (ap (λ y. is_none (violation_of earlier (logged_attempt y)))
     (at_any left place l d first.within c.index-left-place.is) ∙ fits))
 
 pub returns-clause-found : goal.returns-clause-found
@@ -39,6 +39,6 @@ returns-clause-found c = λ words earlier f.
     let now = same_follows words c.args.judge.now c.find_free.new.judge earlier c.in_ok-place.ensures.same f in
     let first = c.in-Some-first_writer.ensures in
     writer_stuck earlier left place l (rw c.in_default.is at (c.in_ok-place.ensures.found words earlier f)) first
-    (ap (λ y. is_none (breach_of earlier (logged_attempt y))) (sym c.index-left-place.is)
-    ∙ ap (λ t. is_none (breach_of earlier (attempt_of l.head t))) (sym c.as_slice.ensures.value)
+    (ap (λ y. is_none (violation_of earlier (logged_attempt y))) (sym c.index-left-place.is)
+    ∙ ap (λ t. is_none (violation_of earlier (attempt_of l.head t))) (sym c.as_slice.ensures.value)
     ∙ sym (c.in_ok-fits.ensures.fits words earlier now) ∙ c.if-branch.false)

@@ -1,4 +1,4 @@
-use Rattle.std.proofs.Common.{◌≡◌, sym, ap, ◌∙◌, get_or, subst}
+use Rattle.std.proofs.Common.{◌≡◌, ◌++◌, sym, ap, ◌∙◌, get_or, subst}
 use Rattle.judge_search.specs.Marks.{MarksOneMore}
 use Rattle.judge_search.proofs.Points.{point_not, point_on}
 use Rattle.judge_search.proofs.point.point_after.Goals as goal
@@ -24,4 +24,6 @@ returns g c = λ point low beyond ran.
     c.args.made.1 low beyond c.requires.within is ran (sym c.in_ok-is_right.ensures ∙ c.if-not-branch.false)
     c.requires.can
     (subst (λ b. MarksOneMore c.args.low b c.args.place (c.in_ok-low.low, c.in_ok-low.beyond.items))
-    c.in_ok-from_slice.ensures.items c.in_ok-low.ensures)
+    (c.in_ok-extend_from_slice.ensures.items
+    ∙ ap (λ marks. marks ++ c.args.beyond.now) c.in_ok-marks.ensures.items)
+    c.in_ok-low.ensures)

@@ -1,4 +1,4 @@
-use Rattle.std.proofs.Common.{◌≡◌, ◌≤◌, ◌+◌, ℕ, List, [], length, get_or, ◌∙◌, arith, Bor}
+use Rattle.std.proofs.Common.{◌≤◌, ◌+◌, ℕ, List, [], length, get_or, ◌∙◌, arith, Bor}
 use Rattle.std.proofs.lemmas.List.{get_or_default}
 use Rattle.judge_store.proofs.Clauses.{clause_more, clauses_cut}
 use Rattle.judge_store.proofs.words.read_clauses.Goals as goal

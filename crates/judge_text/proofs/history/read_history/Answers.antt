@@ -10,7 +10,7 @@ use Rattle.judge_text.proofs.history.read_history.Goals as goal
 pub returns-in-Err : goal.returns-in-Err
 returns-in-Err g c =
     let rules = g.M.Object.rules in
-    let language = g.M.Worded.language in
+    let language = g.M.TextObject.language in
     let bad = subst (IsReadLine (line_call rules language c.in-Some.line.now) (c.len.result + 1)) c.in-Err.is
     c.in_ok-call.ensures in
     let n = c.len.ensures in
@@ -22,7 +22,7 @@ returns-in-Err g c =
 pub lines-preserved : goal.lines-preserved
 lines-preserved g c =
     let rules = g.M.Object.rules in
-    let language = g.M.Worded.language in
+    let language = g.M.TextObject.language in
     let read = subst (IsReadLine (line_call rules language c.in-Some.line.now) (c.len.result + 1)) c.in-Ok.is
     c.in_ok-call.ensures in
     let n = c.len.ensures in
@@ -35,7 +35,7 @@ lines-preserved g c =
 pub returns-in_ok-push-in-Ok-2 : goal.returns-in_ok-push-in-Ok-2
 returns-in_ok-push-in-Ok-2 g c =
     let rules = g.M.Object.rules in
-    let language = g.M.Worded.language in
+    let language = g.M.TextObject.language in
     let read = subst (IsReadLine (line_call rules language c.lines.rest.now) (c.len-2.result + 1)) c.in-Ok-2.is
     c.in_ok-call-2.ensures
     in
@@ -52,7 +52,7 @@ returns-in_ok-push-in-Ok-2 g c =
 pub returns-in-Err-2 : goal.returns-in-Err-2
 returns-in-Err-2 g c =
     let rules = g.M.Object.rules in
-    let language = g.M.Worded.language in
+    let language = g.M.TextObject.language in
     let bad = subst (IsReadLine (line_call rules language c.lines.rest.now) (c.len-2.result + 1)) c.in-Err-2.is
     c.in_ok-call-2.ensures
     in

@@ -9,7 +9,7 @@ use Rattle.judge_text.proofs.line.read_arrow_call.Goals as goal
 pub returns : goal.returns
 returns g c =
     let rules = g.M.Object.rules in
-    let language = g.M.Worded.language in
+    let language = g.M.TextObject.language in
     let ws = c.args.words.now in
     let t = texts ws in
     let some = c.requires in

@@ -1,5 +1,6 @@
 use Rattle.std.proofs.Common.{◌++◌, [], ap, sym, ◌∙◌}
 use Rattle.judge_object.specs.declared.line.Line.{Line}
+use Rattle.judge_many.specs.Naming.{object_of, for_object}
 use Rattle.judge_text.specs.Texts.{number_at, named_text}
 use Rattle.judge_text.proofs.Printing.{at_get, on_ok}
 use Rattle.judge_text.proofs.verdict.print_first.Goals as goal
@@ -15,6 +16,8 @@ returns g c =
     (ap (λ (l : Line g.row.M-Op.Denot). l.number) c.index-lines-first.is
     ∙ sym (at_get (λ (l : Line g.row.M-Op.Denot). l.number) lines p 0 line c.requires))
     ∙ ap (λ k. old ++ named_text (number_at lines p) k)
-    (c.name.ensures ∙ ap (λ (l : Line g.row.M-Op.Denot). g.M.Named.name l.op) c.index-lines-first.is
-    ∙ sym (at_get (λ (l : Line g.row.M-Op.Denot). g.M.Named.name l.op) lines p [] line c.requires)))
+    (c.name.ensures ∙ ap (λ (l : Line g.row.M-Op.Denot). for_object (object_of
+    c.args.names.now) g.M.Named.name l.op) c.index-lines-first.is
+    ∙ sym (at_get (λ (l : Line g.row.M-Op.Denot). for_object (object_of
+    c.args.names.now) g.M.Named.name l.op) lines p [] line c.requires)))
     c.print_named.result c.print_named.ensures

@@ -1,6 +1,6 @@
 use Rattle.std.proofs.Common.{◌≡◌, true, false, Some, sym, ap, ◌∙◌, ◌∷◌, map, subst}
 use Rattle.vac_model.specs.Run.{run}
-use Rattle.judge_calls.specs.declared.verdict.Wrong.TheVariants.{Reply}
+use Rattle.judge_calls.specs.declared.verdict.CallViolation.TheVariants.{Reply}
 use Rattle.judge_calls.specs.Parts.{shown_call}
 use Rattle.judge_time.specs.Keeping.{Keeps}
 use Rattle.judge_object.specs.Call.{span_of}

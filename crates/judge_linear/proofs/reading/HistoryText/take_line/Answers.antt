@@ -2,7 +2,7 @@ use Rattle.std.proofs.Common.{◌≡◌, ◌+◌, ◌++◌, ◌∷◌, [], Some,
 use Rattle.std.proofs.lemmas.List.{length-map}
 use Rattle.std.specs.Bool.{MatchBool}
 use Rattle.judge_calls.specs.declared.verdict.Verdict.TheVariants.{Illegal}
-use Rattle.judge_calls.specs.declared.verdict.Wrong.TheVariants.{Client}
+use Rattle.judge_calls.specs.declared.verdict.CallViolation.TheVariants.{Client}
 use Rattle.judge_calls.specs.Parts.{shown_call}
 use Rattle.judge_calls.specs.Order.{call_breaks_client}
 use Rattle.judge_search.specs.Calls.{call_of, calls_of}

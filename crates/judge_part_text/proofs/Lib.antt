@@ -1,0 +1,5 @@
+pub mod Texts
+pub mod Named
+pub mod Histories
+pub mod Without
+pub mod Parts

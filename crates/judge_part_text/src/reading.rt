@@ -1,0 +1,113 @@
+//! Reading the calls of a history, in whatever order.
+
+ghost use Rattle.std.specs.Prelude.{◌≡◌, ◌∷◌, ◌<◌, [], true, IfOk, MatchOption, length};
+ghost use Rattle.vac_model.specs.Ranges.{is_task};
+ghost use Rattle.vac_lines.specs.Lines.{lines_of};
+ghost use Rattle.judge_object.specs.Rules.{given_text};
+ghost use Rattle.judge_calls.specs.Parts.{shown_call, shown_end, shown_reply};
+ghost use Rattle.judge_part.specs.Lines.{call_of};
+ghost use Rattle.judge_part_text.specs.Reading.{IsReadLine, IsReadingOf};
+
+use judge_calls::{Answer, CallFault, CallLine, read_call};
+use judge_object::Line;
+use judge_reservations::ValidTask;
+use judge_time::NEVER;
+use std::alloc::{AllocError, Global};
+use vac_lines::{LineFault, cut_at};
+
+/// A text that was read as a history.
+#[derive(Drop)]
+pub(crate) enum Reading {
+    /// The calls of all lines.
+    Whole(Vec<Line<ValidTask>>),
+    /// The number of the first line that is no call, and the fault of the line.
+    Damaged(u64, CallFault),
+}
+
+/// Returns the end of a call, [`NEVER`] for a pending call.
+fn end_of(answer: Option<Answer<'_>>) -> u128
+    ensures { result ≡ shown_end answer.entry }
+{
+    match answer {
+        Some(answer) => u128::from(answer.end),
+        None => NEVER,
+    }
+}
+
+/// Returns a copy of the text of the reply, or `None` for a pending call.
+fn reply_of(alloc: Global, answer: Option<Answer<'_>>) -> Result<Option<Vec<u8>>, AllocError>
+    ensures { IfOk result (λ reply. given_text reply ≡ shown_reply answer.entry) }
+{
+    match answer {
+        Some(answer) => Ok(Some(Vec::from_slice(alloc, answer.reply)?)),
+        None => Ok(None),
+    }
+}
+
+/// Makes the line with this number from its call, without a text.
+fn line_of(alloc: Global, number: u64, call: CallLine<'_>) -> Result<Line<ValidTask>, AllocError>
+    requires { is_task call.task ≡ true }
+    ensures { IfOk result (λ line. call_of line ≡ shown_call call.entry) }
+{
+    let end = end_of(call.answer);
+    let reply = reply_of(alloc, call.answer)?;
+    Ok(Line {
+        number,
+        text: Vec::new(alloc),
+        client: call.client,
+        begin: call.begin,
+        end,
+        op: ValidTask::new(call.task),
+        reply,
+        soonest: call.begin,
+    })
+}
+
+/// Reads the line with this number as a call, or finds its first fault.
+fn read_line(
+    alloc: Global,
+    number: u64,
+    text: &[u8],
+) -> Result<Result<Line<ValidTask>, CallFault>, AllocError>
+    ensures { IfOk result (λ read. IsReadLine text.now read) }
+{
+    match read_call(alloc, text) {
+        Ok(call) => Ok(Ok(line_of(alloc, number, call)?)),
+        Err(CallFault::Line(LineFault::Memory)) => Err(AllocError),
+        Err(fault) => Ok(Err(fault)),
+    }
+}
+
+/// Returns the first line of a text, without its end, and the text after the line. Returns `None`
+/// if there is no line.
+fn next_line(text: &[u8]) -> Option<(&[u8], &[u8])>
+    ensures lines { MatchOption result (lines_of text.now ≡ [])
+        (λ cut. lines_of text.now ≡ cut.0.now ∷ lines_of cut.1.now) }
+    ensures less { MatchOption result (length text.now ≡ 0)
+        (λ cut. length cut.1.now < length text.now) }
+{
+    if text.is_empty() {
+        return None;
+    }
+    if let Some((line, behind)) = cut_at(b'\n', text) {
+        return Some((line, behind));
+    }
+    Some((text, &[]))
+}
+
+/// Reads the calls of a text, or finds its first line that is no call.
+pub(crate) fn read_history(alloc: Global, text: &[u8]) -> Result<Reading, AllocError>
+    ensures { IfOk result (λ reading. IsReadingOf text.now reading) }
+{
+    let mut lines = Vec::new(alloc);
+    let mut rest = text;
+    'lines: while let Some((line, behind)) = next_line(rest) {
+        let number = lines.len() as u64 + 1;
+        match read_line(alloc, number, line)? {
+            Ok(line) => lines.push(line)?,
+            Err(fault) => return Ok(Reading::Damaged(number, fault)),
+        }
+        rest = behind;
+    }
+    Ok(Reading::Whole(lines))
+}
