@@ -10,9 +10,9 @@ use Rattle.stm_core.specs.History.{Serial}
 use Rattle.stm_core.specs.Invariant.{Sorted}
 use Rattle.stm_core.proofs.Lists.{nothing_in, by_bool}
 use Rattle.stm_core.proofs.Orders.{in_cons}
-use Rattle.stm_object.specs.declared.place.Place.{Place}
+use Rattle.stm_object.specs.declared.place.CommitPosition.{CommitPosition}
 use Rattle.vac_lines.proofs.Spacing.{Each}
-use Rattle.vac_manager.specs.declared.note.AttemptNote.{AttemptNote}
+use Rattle.vac_manager.specs.declared.note.TracedAttempt.{TracedAttempt}
 use Rattle.vac_manager.specs.Legal.{AreNoRivals, HaveOneWriter, AreVersioned}
 use Rattle.vac_manager.specs.Tracing.{trace_of, IsTraceOf}
 use Rattle.load_record.specs.Order.{rank_of}
@@ -35,18 +35,18 @@ below_chain : (a b k l x y : ℕ) → below a b k l ≡ false → below k l x y 
 below_chain a b k l x y p q = grind (arith, nat_tests, p, q)
 
 -- the attempt is not to be written before the other one
-abbrev IsLater : AttemptNote → AttemptNote → Type 0
+abbrev IsLater : TracedAttempt → TracedAttempt → Type 0
 IsLater a b = below a.place.renewal (rank_of a.place) b.place.renewal (rank_of b.place) ≡ false
 
-later_chain : (a b c : AttemptNote) → IsLater a b → IsLater b c → IsLater a c
+later_chain : (a b c : TracedAttempt) → IsLater a b → IsLater b c → IsLater a c
 later_chain a b c p q =
     below_chain a.place.renewal (rank_of a.place) b.place.renewal (rank_of b.place) c.place.renewal
     (rank_of c.place) p q
 
-later_of : (a b : AttemptNote) → is_lt (compare a b) ≡ false → IsLater a b
+later_of : (a b : TracedAttempt) → is_lt (compare a b) ≡ false → IsLater a b
 later_of a b h = grind (arith, nat_tests, h)
 
-abbrev Ordered : List AttemptNote → Type 0
+abbrev Ordered : List TracedAttempt → Type 0
 Ordered [] = Unit {0}
 Ordered (a ∷ notes) = Each (λ x. IsLater x a) notes × Ordered notes
 
@@ -68,10 +68,11 @@ follow_on (e ∷ f ∷ es) o = (
       next (o (suc k) d (omega arith) (omega (arith, low)))),
 )
 
-abbrev AllLater : AttemptNote → List AttemptEntry → Type 0
+abbrev AllLater : TracedAttempt → List AttemptEntry → Type 0
 AllLater a es = Each (λ (x : AttemptEntry). IsLater x.attempt a) es
 
-all_later : (a : AttemptNote) (es : List AttemptEntry) (b : AttemptNote) → IsLater b a → AllLater b es → AllLater a es
+all_later : (a : TracedAttempt) (es : List AttemptEntry) (b : TracedAttempt) → IsLater b a → AllLater b es →
+    AllLater a es
 all_later a [] b h k = tt
 all_later a (e ∷ es) b h k = (later_chain e.attempt b a k.0 h, all_later a es b h k.1)
 
@@ -86,7 +87,7 @@ entries_ordered (e ∷ f ∷ es) h =
     let rest = entries_ordered (f ∷ es) h.1 in
     ((h.0, all_later e.attempt es f.attempt h.0 rest.0), rest)
 
-committed_later : (a : AttemptNote) (es : List AttemptEntry) → AllLater a es →
+committed_later : (a : TracedAttempt) (es : List AttemptEntry) → AllLater a es →
     Each (λ x. IsLater x a) (committed_notes es)
 committed_later a [] h = tt
 committed_later a (e ∷ es) h =
@@ -104,7 +105,7 @@ committed_ordered (e ∷ es) h =
       | false ↦ committed_ordered es h.1
     ]
 
-ordered_rest : (first made : List AttemptNote) → Ordered (first ++ made) → Ordered made
+ordered_rest : (first made : List TracedAttempt) → Ordered (first ++ made) → Ordered made
 ordered_rest [] made h = h
 ordered_rest (a ∷ first) made h = ordered_rest first made h.1
 
@@ -150,10 +151,10 @@ no_rivals (y ∷ first) more r x o i = elim (in_cons y x first i) [
 -- ---- the attempt of a record
 
 -- some attempt after the first one made the record
-abbrev MadeLater : AttemptNote → Record → Type 0
-MadeLater a x = (b : AttemptNote) × IsTraceOf (trace_of b) x × IsLater b a
+abbrev MadeLater : TracedAttempt → Record → Type 0
+MadeLater a x = (b : TracedAttempt) × IsTraceOf (trace_of b) x × IsLater b a
 
-made_later : (a : AttemptNote) (notes : List AttemptNote) (records : List Record) (x : Record) →
+made_later : (a : TracedAttempt) (notes : List TracedAttempt) (records : List Record) (x : Record) →
     CorrespondTo notes records → Each (λ n. IsLater n a) notes → In x records → MadeLater a x
 made_later a [] records x h k i = absurd (nothing_in x (subst (λ (l : List Record). In x l) h i))
 made_later a (n ∷ notes) records x h k i =
@@ -179,12 +180,13 @@ record AtOnePlace (r x : Record) : Type 0 where
   version : x.version ≡ r.version
   writer : x.writer ≡ r.writer
 
-at_one_place : (r x : Record) (a b : AttemptNote) → IsTraceOf (trace_of a) r → IsTraceOf (trace_of b) x →
+at_one_place : (r x : Record) (a b : TracedAttempt) → IsTraceOf (trace_of a) r → IsTraceOf (trace_of b) x →
     before r x ≡ false → IsLater b a → AtOnePlace r x
 at_one_place r x a b h k behind later =
     let at : below x.renewal (rank x) r.renewal (rank r) ≡ false =
-    subst (λ (p : Place). below x.renewal (rank x) p.renewal (rank_of p) ≡ false) h.place
-    (subst (λ (p : Place). below p.renewal (rank_of p) a.place.renewal (rank_of a.place) ≡ false) k.place later) in
+    subst (λ (p : CommitPosition). below x.renewal (rank x) p.renewal (rank_of p) ≡ false) h.place
+    (subst (λ (p : CommitPosition). below p.renewal (rank_of p) a.place.renewal (rank_of a.place) ≡ false) k.place
+    later) in
     let same = level r.renewal (rank r) r.point x.renewal (rank x) x.point behind at in
     let parts = rank_parts x.version r.version x.writer r.writer same.1 in
     record { renewal = same.0; version = parts.0; writer = parts.1 }
@@ -217,10 +219,10 @@ taken image (x ∷ first) r more quiet s =
     )
 
 -- records in the order of their attempts
-abbrev InOrder : List ℕ → List AttemptNote → Type 0
+abbrev InOrder : List ℕ → List TracedAttempt → Type 0
 InOrder image notes = (records : List Record) × AreTracesOf notes records × Serial image records
 
-in_order : (image : List ℕ) (notes : List AttemptNote) (records : List Record) → CorrespondTo notes records →
+in_order : (image : List ℕ) (notes : List TracedAttempt) (records : List Record) → CorrespondTo notes records →
     Ordered notes → Sorted records → AreVersioned records → Serial image records → InOrder image notes
 in_order image [] records m o sorted v s = ([], refl, tt)
 in_order image (a ∷ notes) records m o sorted v s =
@@ -242,7 +244,7 @@ in_order image (a ∷ notes) records m o sorted v s =
 pub made_serially : OrderedAttemptsAreMadeSerially
 made_serially image first all sorted h =
     let ordered = committed_ordered all (entries_ordered all (follow_on all sorted)) in
-    let made = ordered_rest first h.made (subst (λ (l : List AttemptNote). Ordered l) h.committed ordered) in
+    let made = ordered_rest first h.made (subst (λ (l : List TracedAttempt). Ordered l) h.committed ordered) in
     let found = in_order image h.made h.history h.traced made h.sorted h.versioned h.serial in
     record {
       made = h.made;

@@ -12,7 +12,7 @@ use Rattle.vac_streams.specs.Sent.{Sent}
 use Rattle.vac_streams.proofs.Texts.{sent_both, part_second, prefix_longer, prefix_is, none_written, sent_end}
 use Rattle.vac_streams.proofs.Texts.{sent_end_in_part}
 use Rattle.load_record.specs.declared.lines.Line.{Line}
-use Rattle.vac_manager.specs.declared.note.AttemptNote.{AttemptNote}
+use Rattle.vac_manager.specs.declared.note.TracedAttempt.{TracedAttempt}
 use Rattle.load_record.specs.Laying.{Lays}
 use Rattle.load_record.specs.Lines.{AttemptEntry, line_entry, line_text, lines_text}
 use Rattle.load_record.specs.AttemptOrder.{EntriesAreOrdered}
@@ -66,7 +66,7 @@ line_in_part lines place line low at held holds grown hand p q =
 
 module _ (blocks : ℕ) (pages : List Page) where
   -- the attempts that were laid, and then those of the clients, and all of them put in order
-  pub attempts : (laid laid_now : List AttemptNote) (first all sorted now : List Line) → Lays blocks laid →
+  pub attempts : (laid laid_now : List TracedAttempt) (first all sorted now : List Line) → Lays blocks laid →
       laid_now ≡ laid → map line_entry first ≡ attempt_entries_of 0 laid_now
       → map line_entry all ≡ map line_entry first ++ attempt_entries_from 0 pages → are_told pages ≡ true →
       IsPermutation all sorted → AreStable all sorted → EntriesAreOrdered (map line_entry sorted) → now ≡ sorted →

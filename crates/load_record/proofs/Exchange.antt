@@ -17,8 +17,8 @@ use Rattle.vac_model.specs.Run.{run}
 use Rattle.vac_model.proofs.Codes.{code_determines}
 use Rattle.vac_lines.specs.Text.{reply_text}
 use Rattle.vac_manager.specs.Legal.{RecordRuns, IsLegal, AreNoRivals, HaveOneWriter, AreVersioned}
-use Rattle.vac_manager.specs.declared.note.Note.{Note}
-use Rattle.vac_manager.specs.Placed.{Place}
+use Rattle.vac_manager.specs.declared.note.CompletedCall.{CompletedCall}
+use Rattle.vac_manager.specs.Placed.{CommitPosition}
 use Rattle.vac_manager.specs.Keeping.{IsNoted}
 use Rattle.judge_calls.specs.Laws.{GiveReplies, state_after}
 use Rattle.load_record.specs.Order.{Entry, rank_of, precedes, AreOrdered}
@@ -87,8 +87,8 @@ no_rivals (y ∷ first) more r x o i = elim (in_cons y x first i) [
 -- ---- the calls of records
 
 -- each record has a call
-noted_by : (notes : List Note) (records : List Record) (x : Record) → AreCallsOf notes records → In x records →
-    (n : Note) × In n notes × IsNoted n x
+noted_by : (notes : List CompletedCall) (records : List Record) (x : Record) → AreCallsOf notes records → In x records →
+    (n : CompletedCall) × In n notes × IsNoted n x
 noted_by [] records x h i = absurd (nothing_in x (subst (λ (l : List Record). In x l) h i))
 noted_by (n ∷ notes) records x h i = elim (in_split h.0 h.2 h.1 x (subst (λ (l : List Record). In x l) h.3 i)) [
   | inl e ↦ (n, (0, refl), subst (λ (z : Record). IsNoted n z) e h.4)
@@ -96,18 +96,19 @@ noted_by (n ∷ notes) records x h i = elim (in_split h.0 h.2 h.1 x (subst (λ (
 ]
 
 -- the first call in order precedes no other, nor does another precede it
-at_place : (notes : List Note) (j : ℕ) (m : Note) → get_elem? notes j ≡ some m →
+at_place : (notes : List CompletedCall) (j : ℕ) (m : CompletedCall) → get_elem? notes j ≡ some m →
     (j < length notes) × (get_or notes j m ≡ m)
 at_place [] j m e = absurd (some-ne-none m (sym e))
 at_place (n ∷ notes) zero m e = (omega arith, some-injective n m e)
 at_place (n ∷ notes) (suc j) m e = let q = at_place notes j m e in (omega (arith, q.0), q.1)
 
-first_least : (n : Note) (notes : List Note) (m : Note) → AreOrdered (n ∷ notes) → In m notes → precedes m n ≡ false
+first_least : (n : CompletedCall) (notes : List CompletedCall) (m : CompletedCall) → AreOrdered (n ∷ notes) →
+    In m notes → precedes m n ≡ false
 first_least n notes m o i =
     let q = at_place notes i.0 m i.1 in
-    subst (λ (x : Note). precedes x n ≡ false) q.1 (o 0 (suc i.0) m (omega arith) (omega (arith, q.0)))
+    subst (λ (x : CompletedCall). precedes x n ≡ false) q.1 (o 0 (suc i.0) m (omega arith) (omega (arith, q.0)))
 
-ordered_rest : (n : Note) (notes : List Note) → AreOrdered (n ∷ notes) → AreOrdered notes
+ordered_rest : (n : CompletedCall) (notes : List CompletedCall) → AreOrdered (n ∷ notes) → AreOrdered notes
 ordered_rest n notes o i j d less low = o (suc i) (suc j) d (omega (arith, less)) (omega (arith, low))
 
 -- ---- records at one place
@@ -131,12 +132,14 @@ record AtOnePlace (r x : Record) : Type 0 where
   version : x.version ≡ r.version
   writer : x.writer ≡ r.writer
 
-at_one_place : (r x : Record) (n m : Note) → IsNoted n r → IsNoted m x → before r x ≡ false → precedes m n ≡ false →
+at_one_place : (r x : Record) (n m : CompletedCall) → IsNoted n r → IsNoted m x → before r x ≡ false →
+    precedes m n ≡ false →
     AtOnePlace r x
 at_one_place r x n m h k behind least =
     let at : below x.renewal (rank x) m.begin r.renewal (rank r) n.begin ≡ false =
-    subst (λ (p : Place). below x.renewal (rank x) m.begin p.renewal (rank_of p) n.begin ≡ false) h.place
-    (subst (λ (p : Place). below p.renewal (rank_of p) m.begin n.place.renewal (rank_of n.place) n.begin ≡ false)
+    subst (λ (p : CommitPosition). below x.renewal (rank x) m.begin p.renewal (rank_of p) n.begin ≡ false) h.place
+    (subst (λ (p : CommitPosition). below p.renewal (rank_of p) m.begin n.place.renewal
+    (rank_of n.place) n.begin ≡ false)
     k.place least) in
     let same = level r.renewal (rank r) r.point n.begin x.renewal (rank x) x.point m.begin behind at in
     let parts = rank_parts x.version r.version x.writer r.writer same.1 in
@@ -174,7 +177,8 @@ taken s last (x ∷ first) r more quiet l =
     )
 
 -- the record of a call runs its task to its reply
-ran : (n : Note) (r : Record) (s after : State) → IsNoted n r → RecordRuns r s after → run s n.task ≡ (after, n.reply)
+ran : (n : CompletedCall) (r : Record) (s after : State) → IsNoted n r → RecordRuns r s after →
+    run s n.task ≡ (after, n.reply)
 ran n r s after h p =
     let same = code_determines n.task p.task n.reply p.reply (sym h.tag ∙ p.told) in
     ap (λ (t : Task). run s t) same.0 ∙ (p.runs ∙ ap (λ (a : Reply). (after, a)) (sym same.1))
@@ -187,7 +191,7 @@ gives s last (e ∷ all) records m o sorted v l =
     let first = m.0 in
     let r = m.1 in
     let more = m.2 in
-    let notes : List Note = map (λ e. e.note) all in
+    let notes : List CompletedCall = map (λ e. e.note) all in
     let sorted' : Sorted (first ++ r ∷ more) = subst (λ (rs : List Record). Sorted rs) m.3 sorted in
     let v' : AreVersioned (first ++ r ∷ more) = subst (λ (rs : List Record). AreVersioned rs) m.3 v in
     let l' : IsLegal s (first ++ r ∷ more) last = subst (λ (rs : List Record). IsLegal s rs last) m.3 l in

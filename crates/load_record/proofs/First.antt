@@ -11,7 +11,7 @@ use Rattle.std.proofs.lemmas.Bool.Decides.{nat_tests}
 use Rattle.std.proofs.lemmas.List.Elements.{filter-append}
 use Rattle.std.proofs.lemmas.List.Sorted.{ranks_by, sorted_far}
 use Rattle.load_record.specs.Order.{rank_of}
-use Rattle.vac_manager.specs.declared.note.AttemptNote.{AttemptNote}
+use Rattle.vac_manager.specs.declared.note.TracedAttempt.{TracedAttempt}
 use Rattle.load_record.specs.declared.lines.Line.{Line}
 use Rattle.load_record.specs.Laying.{IsLaidFirst}
 use Rattle.load_record.specs.Lines.{AttemptEntry, line_entry}
@@ -84,15 +84,15 @@ entry_before x y = is_lt (compare x.attempt y.attempt)
 
 compare_total : IsTotalOrder compare
 compare_total =
-    then_total (then_total (then_total (on_total (λ (a : AttemptNote). a.place.renewal) nat_cmp_total)
-    (on_total (λ (a : AttemptNote). rank_of a.place) nat_cmp_total))
-    (on_total (λ (a : AttemptNote). a.begin) nat_cmp_total)) (on_total (λ (a : AttemptNote). a.end) nat_cmp_total)
+    then_total (then_total (then_total (on_total (λ (a : TracedAttempt). a.place.renewal) nat_cmp_total)
+    (on_total (λ (a : TracedAttempt). rank_of a.place) nat_cmp_total))
+    (on_total (λ (a : TracedAttempt). a.begin) nat_cmp_total)) (on_total (λ (a : TracedAttempt). a.end) nat_cmp_total)
 
 entry_order : IsStrictWeakOrder entry_before
 entry_order = ranks_by compare_total (λ (e : AttemptEntry). e.attempt)
 
 -- no attempt sorts before one that was committed before all others
-least : (a b : AttemptNote) → IsLaidFirst a → is_lt (compare b a) ≡ false
+least : (a b : TracedAttempt) → IsLaidFirst a → is_lt (compare b a) ≡ false
 least a b h =
     let renewal : a.place.renewal ≡ 0 = ap (λ p. p.renewal) h.place in
     let rank : rank_of a.place ≡ 0 = ap rank_of h.place in
@@ -101,7 +101,7 @@ least a b h =
     grind (arith, nat_tests, renewal, rank, begin, end)
 
 -- they tie with each other
-laid_tie : (m : AttemptEntry) → IsLaidFirst m.attempt → (laid : List AttemptNote) → All (λ a. IsLaidFirst a) laid →
+laid_tie : (m : AttemptEntry) → IsLaidFirst m.attempt → (laid : List TracedAttempt) → All (λ a. IsLaidFirst a) laid →
     filter (ties entry_before m) (attempt_entries_of 0 laid) ≡ attempt_entries_of 0 laid
 laid_tie m is [] h = refl
 laid_tie m is (a ∷ laid) h =
@@ -117,14 +117,14 @@ abbrev pub AreStable : List Line → List Line → Type 0
 AreStable before after = IsStableBy (λ x y. is_lt (compare x.attempt.now y.attempt.now)) before after
 
 -- the entries of the attempts that were laid, and others after them
-abbrev pub BeginWith : List AttemptNote → List AttemptEntry → Type 0
+abbrev pub BeginWith : List TracedAttempt → List AttemptEntry → Type 0
 BeginWith laid all = (rest : List AttemptEntry) × (all ≡ attempt_entries_of 0 laid ++ rest)
 
-module _ (laid : List AttemptNote) (others : List AttemptEntry) (all sorted : List Line)
+module _ (laid : List TracedAttempt) (others : List AttemptEntry) (all sorted : List Line)
     (before : All (λ a. IsLaidFirst a) laid)
     (parts : map line_entry all ≡ attempt_entries_of 0 laid ++ others) (stable : AreStable all sorted)
     (order : EntriesAreOrdered (map line_entry sorted)) where
-  behind_first : (l : Line) (a : AttemptNote) → line_entry l ≡ record { client = 0; attempt = a } → IsLaidFirst a →
+  behind_first : (l : Line) (a : TracedAttempt) → line_entry l ≡ record { client = 0; attempt = a } → IsLaidFirst a →
       BeginWith laid (map line_entry sorted)
   behind_first l a same is =
       let m = line_entry l in
@@ -145,7 +145,7 @@ module _ (laid : List AttemptNote) (others : List AttemptEntry) (all sorted : Li
       )
 
 -- the entries of sorted lines begin with the attempts that were laid
-pub laid_first : (laid : List AttemptNote) (others : List AttemptEntry) (all sorted : List Line) →
+pub laid_first : (laid : List TracedAttempt) (others : List AttemptEntry) (all sorted : List Line) →
     All (λ a. IsLaidFirst a) laid → map line_entry all ≡ attempt_entries_of 0 laid ++ others → AreStable all sorted →
     EntriesAreOrdered (map line_entry sorted) → BeginWith laid (map line_entry sorted)
 laid_first [] others all sorted before parts stable order = (map line_entry sorted, refl)

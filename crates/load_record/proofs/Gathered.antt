@@ -3,7 +3,7 @@ use Rattle.std.proofs.Common.{◌≡◌, ◌∙◌, ◌+◌, ◌<◌, ◌&&◌, 
 use Rattle.std.proofs.Common.{take, get_or, append_assoc, append-nil}
 use Rattle.std.proofs.lemmas.List.{map-append, take_more, length-map, length-take-le}
 use Rattle.std.proofs.lemmas.List.Folds.{list_all-append}
-use Rattle.load_record.specs.declared.ledger.Ledger.{Ledger}
+use Rattle.load_record.specs.declared.ledger.AttemptRecorder.{AttemptRecorder}
 use Rattle.load_record.specs.Lines.{AttemptEntry}
 use Rattle.load_record.specs.Pages.{Page, page_of, pages_of, is_told, are_told, entries_on, attempt_entries_from}
 
@@ -16,17 +16,19 @@ entries_both first n (x ∷ xs) ys e =
     ∙ sym (append_assoc (entries_on first x) (attempt_entries_from (suc first) xs) (attempt_entries_from n ys))
 
 -- the pages of one client more
-pages_more : {W : Type 0} (opening : Ledger W) (clients : List (Ledger W)) (place : ℕ) (ledger : Ledger W) →
+pages_more : {W : Type 0} (opening : AttemptRecorder W) (clients : List (AttemptRecorder W)) (place : ℕ)
+    (ledger : AttemptRecorder W) →
     place < length clients → ledger ≡ get_or clients place ledger
     → pages_of opening (take (place + 1) clients) ≡ pages_of opening (take place clients) ++ page_of ledger ∷ []
 pages_more {W} opening clients place ledger low at =
     let front = take place clients in
     let all : take (place + 1) clients ≡ front ++ ledger ∷ [] =
-    take_more clients place ledger low ∙ ap (λ (l : Ledger W). front ++ l ∷ []) (sym at) in
+    take_more clients place ledger low ∙ ap (λ (l : AttemptRecorder W). front ++ l ∷ []) (sym at) in
     ap (pages_of opening) all ∙ ap (λ (l : List Page). page_of opening ∷ l) (map-append page_of front (ledger ∷ []))
 
 -- one client more, of whom all is told
-pub told_more : {W : Type 0} (opening : Ledger W) (clients : List (Ledger W)) (place : ℕ) (ledger : Ledger W) →
+pub told_more : {W : Type 0} (opening : AttemptRecorder W) (clients : List (AttemptRecorder W)) (place : ℕ)
+    (ledger : AttemptRecorder W) →
     place < length clients → ledger ≡ get_or clients place ledger
     → are_told (pages_of opening (take place clients)) ≡ true → is_told (page_of ledger) ≡ true →
     are_told (pages_of opening (take (place + 1) clients)) ≡ true
@@ -36,7 +38,8 @@ told_more {W} opening clients place ledger low at before own =
     ∙ ap (λ (b : Bool). b && (is_told (page_of ledger) && true)) before ∙ ap (λ (b : Bool). b && true) own
 
 -- one client more
-pub client_more : {W : Type 0} (opening : Ledger W) (clients : List (Ledger W)) (place client : ℕ) (ledger : Ledger W)
+pub client_more : {W : Type 0} (opening : AttemptRecorder W) (clients : List (AttemptRecorder W)) (place client : ℕ)
+    (ledger : AttemptRecorder W)
     (entries entries' before : List AttemptEntry)
     → place < length clients → ledger ≡ get_or clients place ledger → client ≡ place + 1
     → entries ≡ before ++ attempt_entries_from 0 (pages_of opening (take place clients)) →

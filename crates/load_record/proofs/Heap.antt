@@ -1,7 +1,8 @@
 -- The words of a partitioned heap are small, and so are the writes of them.
 use Rattle.std.proofs.Common.{◌≡◌, ◌≢◌, ◌⊎◌, inl, inr, ◌+◌, ◌-◌, ◌*◌, ◌<◌, ◌≤◌, ◌^◌, ℕ, suc, zero, Bool, true}
 use Rattle.std.proofs.Common.{false, cond}
-use Rattle.std.proofs.Common.{List, [], ◌∷◌, length, refl, sym, ap, subst, arith, length-append}
+use Rattle.std.proofs.Common.{List, [], ◌∷◌, length, refl, sym, ap, subst, arith, length-append, ◌∙◌}
+use Rattle.std.proofs.lemmas.List.{ext_get_or}
 use Rattle.std.proofs.Common.{add-one}
 use Rattle.std.specs.Prelude.{eqb, nat_lt, slice_index, All}
 use Rattle.std.proofs.lemmas.Bool.Decides.{nat_tests}
@@ -130,6 +131,37 @@ module _ (xs : List ℕ) (n : ℕ) (h : IsSpreadHeap xs n) (few : n ≤ 262144) 
       go (inr ge) (inl less) =
           let at : 8 + (x - 8) ≡ x = omega (arith, ge) in
           subst (λ a. slice_index xs a < 2 ^ 64) at (head_small (x - 8) (omega (arith, ge, less)))
+
+-- ---- one heap has this number of blocks
+
+module _ (xs ys : List ℕ) (n : ℕ) (h : IsSpreadHeap xs n) (k : IsSpreadHeap ys n) where
+  same_head : (i : ℕ) → i < 8 → slice_index xs (8 + i) ≡ slice_index ys (8 + i)
+  same_head i l = h.heads i l ∙ sym (k.heads i l)
+
+  same_block : (b : ℕ) → b < n → slice_index xs (block_place b) ≡ slice_index ys (block_place b)
+  same_block b l =
+      let all = start_all n in
+      let o = in_list n b 8 (omega (arith, l, all)) in
+      h.nexts o.list b o.low o.from o.before ∙ sym (k.nexts o.list b o.low o.from o.before)
+
+  same_other : (x : ℕ) → ((i : ℕ) → i < 8 → x ≢ 8 + i) → slice_index xs x ≡ slice_index ys x
+  same_other x no_head = elim (first_of n x n (omega arith)) [
+    | inl is ↦ subst (λ a. slice_index xs a ≡ slice_index ys a) (sym is.at) (same_block is.b is.low)
+    | inr none ↦ h.others x no_head none ∙ sym (k.others x no_head none)
+  ]
+
+  same_word : (x : ℕ) → slice_index xs x ≡ slice_index ys x
+  same_word x = go (cases_lt x 8) (cases_lt x 16)
+    where
+      go : (x < 8) ⊎ (8 ≤ x) → (x < 16) ⊎ (16 ≤ x) → slice_index xs x ≡ slice_index ys x
+      go (inl less) two = same_other x (λ i l e. omega (arith, less, e))
+      go (inr ge) (inr above) = same_other x (λ i l e. omega (arith, l, above, e))
+      go (inr ge) (inl less) =
+          let at : 8 + (x - 8) ≡ x = omega (arith, ge) in
+          subst (λ a. slice_index xs a ≡ slice_index ys a) at (same_head (x - 8) (omega (arith, ge, less)))
+
+  pub one_heap : xs ≡ ys
+  one_heap = ext_get_or 0 xs ys (h.size ∙ sym k.size) (λ x low. same_word x)
 
 -- ---- the writes of words
 

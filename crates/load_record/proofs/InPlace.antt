@@ -4,7 +4,7 @@ use Rattle.std.proofs.lemmas.List.{map-append}
 use Rattle.std.specs.FinMap.{empty, entries}
 use Rattle.tx_memory.specs.Image.{laid}
 use Rattle.tx_observed.specs.Accesses.{writes_behind}
-use Rattle.vac_manager.specs.declared.note.AttemptNote.{AttemptNote}
+use Rattle.vac_manager.specs.declared.note.TracedAttempt.{TracedAttempt}
 use Rattle.judge_opacity.specs.Attempt.{Attempt}
 use Rattle.judge_opacity.specs.Words.{Image, zeros, words_after, wrong_read}
 use Rattle.judge_opacity.specs.Laws.{ReadsAreLegal, committed, visible}
@@ -58,7 +58,7 @@ split_entries (x ∷ xs) (b ∷ before) after attempt e =
     }
 
 -- the judge's words stand behind attempts
-made_stand : (m : Image) (image : List ℕ) (made : List AttemptNote) → Stands m image empty →
+made_stand : (m : Image) (image : List ℕ) (made : List TracedAttempt) → Stands m image empty →
     Stands (words_after m (judged (done_by made))) (image_left image made) empty
 made_stand m image [] s = s
 made_stand m image (a ∷ more) s =
@@ -69,7 +69,7 @@ made_stand m image (a ∷ more) s =
     (attempt_stands m image own s))
 
 -- the committed attempts of the first entries have no wrong read
-front_right : (image : List ℕ) (first : List AttemptNote) (all before rest : List AttemptEntry) →
+front_right : (image : List ℕ) (first : List TracedAttempt) (all before rest : List AttemptEntry) →
     AreMadeSerially image first all → all ≡ before ++ rest →
     wrong_read zeros (committed (map attempt_of before)) ≡ None
 front_right image first all before rest h e =
@@ -80,7 +80,7 @@ front_right image first all before rest h e =
     (sym (ap (wrong_read zeros) split) ∙ committed_right image first all h)
 
 -- an attempt that reads in place has no wrong read
-in_place_right : (image : List ℕ) (first : List AttemptNote) (before : List AttemptEntry) (e : AttemptEntry) →
+in_place_right : (image : List ℕ) (first : List TracedAttempt) (before : List AttemptEntry) (e : AttemptEntry) →
     done_by first ≡ writes_from 0 image → wrong_read zeros (committed (map attempt_of before)) ≡ None →
     ReadsInPlace image first before e.attempt → wrong_read zeros (visible (map attempt_of before) (attempt_of e)) ≡ None
 in_place_right image first before e writes right p =
@@ -95,7 +95,7 @@ in_place_right image first before e writes right p =
     ∙ reads_right (words_after (words_after zeros opening) made) (image_left image p.made) empty empty own stands
     p.reads.right p.reads.agrees
 
-aborted_legal : (image : List ℕ) (first : List AttemptNote) (all : List AttemptEntry) →
+aborted_legal : (image : List ℕ) (first : List TracedAttempt) (all : List AttemptEntry) →
     AreMadeSerially image first all → AbortedReadInPlace image first all → AbortedAreLegal (map attempt_of all)
 aborted_legal image first all h each before after attempt e c =
     let s = split_entries all before after attempt e in

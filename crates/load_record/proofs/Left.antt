@@ -3,25 +3,27 @@ use Rattle.std.proofs.Common.{◌≡◌, ◌∙◌, ◌<◌, ◌≤◌, inl, inr
 use Rattle.std.proofs.Common.{get_or, set, take, drop, length, ◌-◌, length-drop}
 use Rattle.std.proofs.lemmas.List.{get_or-map, length-map, map-set, get_or_past, take_all}
 use Rattle.std.proofs.lemmas.Bool.{cases_lt}
-use Rattle.vac_manager.specs.declared.note.Note.{Note}
-use Rattle.load_record.specs.declared.merging.Rest.{Rest}
+use Rattle.vac_manager.specs.declared.note.CompletedCall.{CompletedCall}
+use Rattle.load_record.specs.declared.merging.RemainingCalls.{RemainingCalls}
 use Rattle.load_record.specs.Order.{Entry, entries_of, list_at, precedes}
 use Rattle.load_record.specs.Picking.{Picks}
 use Rattle.load_record.specs.Rests.{left_of, BeginsWith, IsLeast}
 
-pub left_at : (rests : List Rest) (place : ℕ) (r : Rest) → place < length rests → r ≡ get_or rests place r →
+pub left_at : (rests : List RemainingCalls) (place : ℕ) (r : RemainingCalls) → place < length rests →
+    r ≡ get_or rests place r →
     list_at (left_of rests) place ≡ entries_of r.client r.notes.now
 left_at rests place r low is =
     get_or-map (λ x. entries_of x.client x.notes.now) rests place r [] low ∙ ap (λ x. entries_of x.client x.notes.now)
     (sym is)
 
 -- nothing stands past the end
-pub past_end : (rests : List Rest) (place : ℕ) → length rests ≤ place → list_at (left_of rests) place ≡ []
+pub past_end : (rests : List RemainingCalls) (place : ℕ) → length rests ≤ place → list_at (left_of rests) place ≡ []
 past_end rests place high = get_or_past (left_of rests) place []
     (subst (λ (n : ℕ). n ≤ place) (sym (length-map rests (λ x. entries_of x.client x.notes.now))) high)
 
 -- a call that is picked
-module _ (rests : List Rest) (place client : ℕ) (note : Note) (after : Rest) (same : after.client ≡ client)
+module _ (rests : List RemainingCalls) (place client : ℕ) (note : CompletedCall) (after : RemainingCalls)
+    (same : after.client ≡ client)
     (begins : BeginsWith (left_of rests) place note) (least : IsLeast (left_of rests) (length rests) note) where
   least_of_all : (k : ℕ) (first : Entry) (more : List Entry) → list_at (left_of rests) k ≡ first ∷ more →
       precedes first.note note ≡ false
@@ -35,7 +37,7 @@ module _ (rests : List Rest) (place client : ℕ) (note : Note) (after : Rest) (
       map-set (λ x. entries_of x.client x.notes.now) rests place after
       ∙ ap (λ (n : ℕ). set (left_of rests) place (entries_of n after.notes.now)) same
 
-  pub picked : (notes : List Note) → list_at (left_of rests) place ≡ entries_of client notes →
+  pub picked : (notes : List CompletedCall) → list_at (left_of rests) place ≡ entries_of client notes →
       after.notes.now ≡ drop 1 notes
       → Picks (record { client = client; note = note }) (left_of rests) (left_of (set rests place after))
   picked [] at tail = absurd (let h : begins.0 ∷ begins.1 ≡ [] = sym begins.2 ∙ at in cc)
@@ -47,8 +49,8 @@ module _ (rests : List Rest) (place client : ℕ) (note : Note) (after : Rest) (
         takes = record {
           place = place;
           rest = entries_of client notes;
-          first = at ∙ ap (λ (m : Note). entries_of client (m ∷ notes)) same_note;
-          left = left_after ∙ ap (λ (l : List Note). set (left_of rests) place (entries_of client l)) tail;
+          first = at ∙ ap (λ (m : CompletedCall). entries_of client (m ∷ notes)) same_note;
+          left = left_after ∙ ap (λ (l : List CompletedCall). set (left_of rests) place (entries_of client l)) tail;
         };
         least = least_of_all;
       }

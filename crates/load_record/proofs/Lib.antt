@@ -24,3 +24,5 @@ pub mod Lengths
 pub mod Worked
 pub mod Heap
 pub mod Loads
+pub mod Corresponding
+pub mod Made

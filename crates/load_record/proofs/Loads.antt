@@ -7,7 +7,7 @@ use Rattle.std.proofs.lemmas.Grind.{flat_map-append}
 use Rattle.std.proofs.lemmas.List.Elements.{All-nil, All-cons, All-head, All-tail}
 use Rattle.tx_alloc.specs.Pool.{heap_words}
 use Rattle.tx_observed.specs.declared.access.Access.{Access}
-use Rattle.vac_manager.specs.declared.note.AttemptNote.{AttemptNote}
+use Rattle.vac_manager.specs.declared.note.TracedAttempt.{TracedAttempt}
 use Rattle.load_record.specs.Laying.{IsLaidFirst, Lays, writes_from, done_by}
 use Rattle.load_record.specs.Lines.{AttemptEntry, line_text, lines_text}
 use Rattle.load_record.specs.Pages.{attempt_entries_of}
@@ -19,7 +19,7 @@ use Rattle.load_record.proofs.Heap.{word_small, writes_fit, writes_few}
 
 -- ---- the committed ones among the first
 
-committed_first : (laid : List AttemptNote) (rest : List AttemptEntry) → All (λ a. IsLaidFirst a) laid →
+pub committed_first : (laid : List TracedAttempt) (rest : List AttemptEntry) → All (λ a. IsLaidFirst a) laid →
     committed_notes (attempt_entries_of 0 laid ++ rest) ≡ laid ++ committed_notes rest
 committed_first [] rest h = refl
 committed_first (a ∷ laid) rest h =
@@ -41,7 +41,7 @@ back_all P [] ys h = h
 back_all P (x ∷ xs) ys h = back_all P xs ys (All-tail P x (xs ++ ys) h)
 
 module _ (words : ℕ) (most : words ≤ 2097168) where
-  one_fits : (a : AttemptNote) → IsLaidFirst a → All (λ x. FitsAccess words x) a.accesses.items →
+  one_fits : (a : TracedAttempt) → IsLaidFirst a → All (λ x. FitsAccess words x) a.accesses.items →
       length a.accesses.items ≤ words → Fits words (record { client = 0; attempt = a })
   one_fits a is accesses short =
       let few : words ≤ 4194304 = omega (arith, most) in
@@ -56,7 +56,7 @@ module _ (words : ℕ) (most : words ≤ 2097168) where
         accesses = accesses;
       }) fitting
 
-  all_fit : (laid : List AttemptNote) → All (λ a. IsLaidFirst a) laid →
+  all_fit : (laid : List TracedAttempt) → All (λ a. IsLaidFirst a) laid →
       All (λ x. FitsAccess words x) (done_by laid) → length (done_by laid) ≤ words →
       AllFit words (attempt_entries_of 0 laid)
   all_fit [] h accesses short = All-nil (λ e. Fits words e)
@@ -69,7 +69,7 @@ module _ (words : ℕ) (most : words ≤ 2097168) where
       (all_fit laid (λ k d l. h (suc k) d (omega (arith, l)))
       (back_all (λ x. FitsAccess words x) a.accesses.items (done_by laid) accesses) (omega (arith, size, both)))
 
-laid_fit : (blocks : ℕ) (laid : List AttemptNote) → blocks ≤ 262144 → Lays blocks laid →
+laid_fit : (blocks : ℕ) (laid : List TracedAttempt) → blocks ≤ 262144 → Lays blocks laid →
     AllFit (heap_words blocks) (attempt_entries_of 0 laid)
 laid_fit blocks laid few lays =
     let size : length lays.words ≡ 16 + 8 * blocks = lays.heap.size in

@@ -7,7 +7,7 @@ use Rattle.std.proofs.lemmas.List.Sums.{sum_by-set}
 use Rattle.std.proofs.lemmas.List.Kept.{AllPairs-cons}
 use Rattle.std.proofs.lemmas.List.Elements.{All-nil, All-cons, All-head, All-tail, All-weaker}
 use Rattle.std.proofs.lemmas.Bool.{cases_lt, cases_eq}
-use Rattle.vac_manager.specs.declared.note.Note.{Note}
+use Rattle.vac_manager.specs.declared.note.CompletedCall.{CompletedCall}
 use Rattle.load_record.specs.Order.{Entry, entries_of, entries_from, list_at, TakesFirst, Interleaves, precedes}
 use Rattle.load_record.specs.Order.{AreOrdered}
 use Rattle.load_record.specs.Order.{EachOrdered, IsMerged}
@@ -241,25 +241,28 @@ notes_in_order all pairs i j d less low =
     let low' : j < length all = subst (λ (n : ℕ). j < n) (length-map all (λ e. e.note)) low in
     let first = get_or-map (λ e. e.note) all i entry d (omega (arith, less, low')) in
     let second = get_or-map (λ e. e.note) all j entry d low' in
-    subst (λ (n : Note). precedes (get_or (map (λ e. e.note) all) j d) n ≡ false) (sym first)
-    (subst (λ (n : Note). precedes n (get_or all i entry).note ≡ false) (sym second) (pairs i j entry less low'))
+    subst (λ (n : CompletedCall). precedes (get_or (map (λ e. e.note) all) j d) n ≡ false) (sym first)
+    (subst (λ (n : CompletedCall). precedes n (get_or all i entry).note ≡ false) (sym second)
+    (pairs i j entry less low'))
 
-entries_in_order : (client : ℕ) (notes : List Note) → AreOrdered notes → AllPairs InOrder (entries_of client notes)
+entries_in_order : (client : ℕ) (notes : List CompletedCall) → AreOrdered notes →
+    AllPairs InOrder (entries_of client notes)
 entries_in_order client notes pairs i j d less low =
-    let make : Note → Entry = λ n. record { client = client; note = n } in
+    let make : CompletedCall → Entry = λ n. record { client = client; note = n } in
     let low' : j < length notes = subst (λ (n : ℕ). j < n) (length-map notes make) low in
     let first = get_or-map make notes i d.note d (omega (arith, less, low')) in
     let second = get_or-map make notes j d.note d low' in
     subst (λ (e : Entry). InOrder e (get_or (entries_of client notes) j d)) (sym first)
     (subst (λ (e : Entry). InOrder (make (get_or notes i d.note)) e) (sym second) (pairs i j d.note less low'))
 
-entries_each : (first : ℕ) (kept : List (List Note)) → EachOrdered kept →
+entries_each : (first : ℕ) (kept : List (List CompletedCall)) → EachOrdered kept →
     EachList (AllPairs InOrder) (entries_from first kept)
 entries_each first [] each k = λ i j d less low. absurd (omega (arith, low))
 entries_each first (notes ∷ kept) each zero = entries_in_order first notes (each 0)
 entries_each first (notes ∷ kept) each (suc k) = entries_each (suc first) kept (λ place. each (suc place)) k
 
-pub is_merged : (kept : List (List Note)) (all : List Entry) → Merges (entries_from 0 kept) all → IsMerged kept all
+pub is_merged : (kept : List (List CompletedCall)) (all : List Entry) → Merges (entries_from 0 kept) all →
+    IsMerged kept all
 is_merged kept all m = record {
   each_once = interleaves (entries_from 0 kept) m.left all m.picked m.empty;
   ordered = λ each. notes_in_order all (picked_in_order (entries_from 0 kept) m.left all m.picked

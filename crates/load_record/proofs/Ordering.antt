@@ -1,7 +1,7 @@
 -- The order of calls is one of three numbers, one after the other.
 use Rattle.std.proofs.Common.{◌≡◌, ◌&&◌, ◌||◌, arith, Bool, true, false, eqb, ltb, ℕ}
 use Rattle.std.proofs.lemmas.Bool.Decides.{nat_tests}
-use Rattle.vac_manager.specs.declared.note.Note.{Note}
+use Rattle.vac_manager.specs.declared.note.CompletedCall.{CompletedCall}
 use Rattle.load_record.specs.Order.{precedes, rank_of}
 
 -- by the first numbers, then by the second ones, then by the third ones
@@ -18,13 +18,13 @@ below_turns a b c x y z p = grind (arith, nat_tests, p)
 below_self : (a b c : ℕ) → below a b c a b c ≡ false
 below_self a b c = grind (arith, nat_tests)
 
-pub precedes_chain : (a b c : Note) → precedes a b ≡ false → precedes b c ≡ false → precedes a c ≡ false
+pub precedes_chain : (a b c : CompletedCall) → precedes a b ≡ false → precedes b c ≡ false → precedes a c ≡ false
 precedes_chain a b c p q =
     below_chain a.place.renewal (rank_of a.place) a.begin b.place.renewal (rank_of b.place) b.begin c.place.renewal
     (rank_of c.place) c.begin p q
 
-pub precedes_turns : (a b : Note) → precedes a b ≡ true → precedes b a ≡ false
+pub precedes_turns : (a b : CompletedCall) → precedes a b ≡ true → precedes b a ≡ false
 precedes_turns a b p = below_turns a.place.renewal (rank_of a.place) a.begin b.place.renewal (rank_of b.place) b.begin p
 
-pub precedes_self : (a : Note) → precedes a a ≡ false
+pub precedes_self : (a : CompletedCall) → precedes a a ≡ false
 precedes_self a = below_self a.place.renewal (rank_of a.place) a.begin

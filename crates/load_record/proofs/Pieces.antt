@@ -4,7 +4,7 @@ use Rattle.std.proofs.Common.{append_assoc, append-nil}
 use Rattle.std.proofs.lemmas.List.{take_more, length-take-le}
 use Rattle.std.proofs.lemmas.Grind.{flat_map-append}
 use Rattle.tx_observed.specs.declared.access.Access.{Access}
-use Rattle.vac_manager.specs.declared.note.AttemptNote.{AttemptNote}
+use Rattle.vac_manager.specs.declared.note.TracedAttempt.{TracedAttempt}
 use Rattle.load_record.specs.Laying.{write_of, writes_from, done_by}
 
 -- the writes of words in two parts
@@ -30,8 +30,8 @@ word_laid first place address word words items items' low at where_ before after
     ap (λ t. writes_from first (take place words) ++ t) (append-nil (write_of address word)))
 
 -- one piece more
-pub piece_laid : (first count : ℕ) (left piece rest : List ℕ) (whole : List Access) (laid : List AttemptNote)
-    (a : AttemptNote) → length piece ≡ count → left ≡ piece ++ rest
+pub piece_laid : (first count : ℕ) (left piece rest : List ℕ) (whole : List Access) (laid : List TracedAttempt)
+    (a : TracedAttempt) → length piece ≡ count → left ≡ piece ++ rest
     → done_by laid ++ writes_from first left ≡ whole → a.accesses.items ≡ writes_from first piece →
     done_by (laid ++ a ∷ []) ++ writes_from (first + count) rest ≡ whole
 piece_laid first count left piece rest whole laid a long cut before is =
@@ -45,7 +45,7 @@ piece_laid first count left piece rest whole laid a long cut before is =
     ∙ before
 
 -- nothing is left
-pub all_laid : (first : ℕ) (left : List ℕ) (whole : List Access) (laid : List AttemptNote) → left ≡ [] →
+pub all_laid : (first : ℕ) (left : List ℕ) (whole : List Access) (laid : List TracedAttempt) → left ≡ [] →
     done_by laid ++ writes_from first left ≡ whole → done_by laid ≡ whole
 all_laid first left whole laid none before = sym (append-nil (done_by laid)) ∙
     ap (λ (l : List ℕ). done_by laid ++ writes_from first l) (sym none) ∙ before

@@ -8,7 +8,7 @@ use lib.ListN.{get_elem?}
 use Rattle.tx_memory.specs.Image.{In}
 use Rattle.stm_core.proofs.Lists.{nothing_in}
 use Rattle.stm_core.proofs.Orders.{in_cons}
-use Rattle.vac_manager.specs.declared.note.Note.{Note}
+use Rattle.vac_manager.specs.declared.note.CompletedCall.{CompletedCall}
 use Rattle.judge_calls.specs.Call.{Call}
 use Rattle.judge_object.specs.Linear.{IsCallAt, CallsTakeTime as TheyTakeTime, CallsAreSequential}
 use Rattle.load_record.specs.Turns.{NotesTakeTime, AreInTurn, EachInTurn}
@@ -31,18 +31,18 @@ EachOwn lists = (place : ℕ) → AreOwn place (list_at lists place)
 
 -- ---- what each client kept
 
-end_before : (notes : List Note) (n : Note) (client : ℕ) → AreInTurn (n ∷ notes) → (x : Entry) →
+end_before : (notes : List CompletedCall) (n : CompletedCall) (client : ℕ) → AreInTurn (n ∷ notes) → (x : Entry) →
     In x (entries_of client notes) → n.end ≤ x.note.begin
 end_before notes n client h x i = go notes i.0 i.1 (λ j d low. h 0 (suc j) d (omega arith) (omega (arith, low)))
   where
-    go : (ms : List Note) (j : ℕ) → get_elem? (entries_of client ms) j ≡ some x →
-        ((j : ℕ) (d : Note) → j < length ms → n.end ≤ (get_or ms j d).begin) → n.end ≤ x.note.begin
+    go : (ms : List CompletedCall) (j : ℕ) → get_elem? (entries_of client ms) j ≡ some x →
+        ((j : ℕ) (d : CompletedCall) → j < length ms → n.end ≤ (get_or ms j d).begin) → n.end ≤ x.note.begin
     go [] j e f = absurd (some-ne-none x (sym e))
     go (m ∷ ms) zero e f = subst (λ (y : Entry). n.end ≤ y.note.begin)
         (some-injective (record { client = client; note = m }) x e) (f 0 m (omega arith))
     go (m ∷ ms) (suc j) e f = go ms j e (λ k d low. f (suc k) d (omega (arith, low)))
 
-own_of : (client : ℕ) (notes : List Note) → NotesTakeTime notes → AreInTurn notes →
+own_of : (client : ℕ) (notes : List CompletedCall) → NotesTakeTime notes → AreInTurn notes →
     AreOwn client (entries_of client notes)
 own_of client [] timed turns = record {
   own = λ x i. absurd (nothing_in x i);
@@ -68,7 +68,8 @@ own_of client (n ∷ notes) timed turns =
 none_own : (client : ℕ) → AreOwn client []
 none_own client = record { own = λ x i. absurd (nothing_in x i); timed = λ x i. absurd (nothing_in x i); turns = tt }
 
-each_from : (first : ℕ) (kept : List (List Note)) → EachInTurn kept → (place client : ℕ) → client ≡ first + place →
+each_from : (first : ℕ) (kept : List (List CompletedCall)) → EachInTurn kept → (place client : ℕ) →
+    client ≡ first + place →
     AreOwn client (list_at (entries_from first kept) place)
 each_from first [] turns place client e = none_own client
 each_from first (notes ∷ kept) turns zero client e =
@@ -77,7 +78,7 @@ each_from first (notes ∷ kept) turns zero client e =
 each_from first (notes ∷ kept) turns (suc place) client e = each_from (suc first) kept (λ k. turns (suc k)) place client
     (omega (arith, e))
 
-each_own : (kept : List (List Note)) → EachInTurn kept → EachOwn (entries_from 0 kept)
+each_own : (kept : List (List CompletedCall)) → EachInTurn kept → EachOwn (entries_from 0 kept)
 each_own kept turns place = each_from 0 kept turns place place (omega arith)
 
 -- ---- what is left when a call was taken
@@ -194,10 +195,11 @@ in_sequence (x ∷ all) f zero (suc j) a b e g less same =
     subst (λ (c : Call). c.end ≤ b.begin) first (subst (λ (c : Call). x.note.end ≤ c.begin) q.2 (f.1 q.0 q.1 client))
 in_sequence (x ∷ all) f (suc i) (suc j) a b e g less same = in_sequence all f.2 i j a b e g (omega (arith, less)) same
 
-pub times : (kept : List (List Note)) (all : List Entry) → Interleaves (entries_from 0 kept) all → EachInTurn kept →
+pub times : (kept : List (List CompletedCall)) (all : List Entry) → Interleaves (entries_from 0 kept) all →
+    EachInTurn kept →
     TheyTakeTime (map call_of_entry all)
 times kept all h turns = takes_time all (follow (entries_from 0 kept) all h (each_own kept turns))
 
-pub sequential : (kept : List (List Note)) (all : List Entry) → Interleaves (entries_from 0 kept) all →
+pub sequential : (kept : List (List CompletedCall)) (all : List Entry) → Interleaves (entries_from 0 kept) all →
     EachInTurn kept → CallsAreSequential (map call_of_entry all)
 sequential kept all h turns = in_sequence all (follow (entries_from 0 kept) all h (each_own kept turns))

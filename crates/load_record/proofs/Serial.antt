@@ -10,7 +10,7 @@ use Rattle.tx_observed.specs.declared.access.Access.{Access as MadeAccess}
 use Rattle.tx_observed.specs.declared.access.Access.TheVariants.{Write}
 use Rattle.stm_core.specs.Client.{Record}
 use Rattle.stm_core.specs.History.{Serial}
-use Rattle.vac_manager.specs.declared.note.AttemptNote.{AttemptNote}
+use Rattle.vac_manager.specs.declared.note.TracedAttempt.{TracedAttempt}
 use Rattle.vac_manager.specs.Tracing.{trace_of}
 use Rattle.judge_opacity.specs.Attempt.{Attempt}
 use Rattle.judge_opacity.specs.Words.{Image, zeros, words_after, wrong_read}
@@ -68,8 +68,8 @@ each_legal attempts h before after a e c =
 pub judged_both : (xs ys : List MadeAccess) → judged (xs ++ ys) ≡ judged xs ++ judged ys
 judged_both xs ys = map-append access_of xs ys
 
-done_both : (xs ys : List AttemptNote) → done_by (xs ++ ys) ≡ done_by xs ++ done_by ys
-done_both xs ys = flat_map-append (λ (a : AttemptNote). a.accesses.items) xs ys
+done_both : (xs ys : List TracedAttempt) → done_by (xs ++ ys) ≡ done_by xs ++ done_by ys
+done_both xs ys = flat_map-append (λ (a : TracedAttempt). a.accesses.items) xs ys
 
 committed_is : (entries : List AttemptEntry) →
     committed (map attempt_of entries) ≡ judged (done_by (committed_notes entries))
@@ -162,7 +162,7 @@ laid_all image a low =
 
 -- ---- serial records
 
-made_right : (m : Image) (image : List ℕ) (made : List AttemptNote) (records : List Record) →
+made_right : (m : Image) (image : List ℕ) (made : List TracedAttempt) (records : List Record) →
     Stands m image empty → AreTracesOf made records → Serial image records →
     wrong_read m (judged (done_by made)) ≡ None
 made_right m image [] records s h serial = refl
@@ -175,17 +175,17 @@ made_right m image (a ∷ more) (r ∷ records) s h serial =
     (trace_stands m image (trace_of a) r s h.0) h.1 serial.1
 
 -- the attempts that write the image
-pub opening_right : (image : List ℕ) (first : List AttemptNote) → done_by first ≡ writes_from 0 image →
+pub opening_right : (image : List ℕ) (first : List TracedAttempt) → done_by first ≡ writes_from 0 image →
     wrong_read zeros (judged (done_by first)) ≡ None
 opening_right image first e = ap (λ l. wrong_read zeros (judged l)) e ∙ laid_right zeros 0 image
 
-pub opening_stands : (image : List ℕ) (first : List AttemptNote) → done_by first ≡ writes_from 0 image →
+pub opening_stands : (image : List ℕ) (first : List TracedAttempt) → done_by first ≡ writes_from 0 image →
     Stands (words_after zeros (judged (done_by first))) image empty
 opening_stands image first e = stands_on (words_after zeros (judged (done_by first))) image
     (λ a low. ap (λ l. words_after zeros (judged l) a) e ∙ laid_all image a low)
 
 -- the accesses of the committed attempts, in two parts
-pub committed_parts : (entries : List AttemptEntry) (first made : List AttemptNote) →
+pub committed_parts : (entries : List AttemptEntry) (first made : List TracedAttempt) →
     committed_notes entries ≡ first ++ made →
     committed (map attempt_of entries) ≡ judged (done_by first) ++ judged (done_by made)
 committed_parts entries first made e =
@@ -193,7 +193,7 @@ committed_parts entries first made e =
     ∙ judged_both (done_by first) (done_by made)
 
 -- none of their reads is wrong
-pub committed_right : (image : List ℕ) (first : List AttemptNote) (all : List AttemptEntry) →
+pub committed_right : (image : List ℕ) (first : List TracedAttempt) (all : List AttemptEntry) →
     AreMadeSerially image first all → wrong_read zeros (committed (map attempt_of all)) ≡ None
 committed_right image first all h =
     ap (wrong_read zeros) (committed_parts all first h.made h.committed)

@@ -14,7 +14,7 @@ use Rattle.vac_streams.specs.declared.fault.StreamFault.TheVariants.{Memory, Wri
 use Rattle.vac_streams.specs.Sent.{Sent}
 use Rattle.vac_streams.proofs.Texts.{sent_both, part_second, prefix_longer, prefix_is, none_written, sent_end}
 use Rattle.vac_streams.proofs.Texts.{sent_end_in_part}
-use Rattle.vac_manager.specs.declared.note.Note.{Note}
+use Rattle.vac_manager.specs.declared.note.CompletedCall.{CompletedCall}
 use Rattle.load_record.specs.Order.{Entry, entries_from, IsMerged}
 use Rattle.load_record.specs.Numbers.{EachHasLines}
 use Rattle.load_record.specs.Picking.{Picks, IsEmpty, Merges}
@@ -93,7 +93,7 @@ sent_all lists left held holds hand p empty = record {
 
 -- ---- the whole history
 
-module _ (kept : List (List Note)) (held : Option (List ℕ))
+module _ (kept : List (List CompletedCall)) (held : Option (List ℕ))
     (read : (all : List Entry) → IsMerged kept all → EachHasLines kept → IsTheirHistory (map call_of_entry all)) where
   pub nothing_of_it : WroteHistoryPrefix kept held held
   nothing_of_it =

@@ -8,12 +8,12 @@ use Rattle.vac_lines.specs.LineTable.{words_task}
 use Rattle.vac_lines.specs.TaskText.{task_words, task_text, TaskTextsAreRead}
 use Rattle.vac_lines.proofs.Spacing.{words_cut, words_clean}
 use Rattle.vac_lines.proofs.TaskReading.{words_read, words_plain, task_some}
-use Rattle.vac_manager.specs.declared.note.Note.{Note}
+use Rattle.vac_manager.specs.declared.note.CompletedCall.{CompletedCall}
 use Rattle.judge_calls.specs.CallText.{IsReply, IsAnsweredCall, IsWritten, AreWritten, IsTheirHistory, HistoriesAreRead}
 use Rattle.judge_calls.proofs.CallText.{texts_read}
 use Rattle.judge_calls.proofs.Linearized.{legal_is_linearization}
 use Rattle.judge_calls.proofs.Histories.{histories_read}
-use Rattle.load_record.specs.declared.journal.Journal.{Journal}
+use Rattle.load_record.specs.declared.journal.CallRecorder.{CallRecorder}
 use Rattle.load_record.specs.Turns.{NotesTakeTime}
 use Rattle.load_record.specs.Numbers.{EndInTime, HaveReplies, HasLine, EachHasLines}
 use Rattle.load_record.specs.Order.{Entry, entries_of, entries_from, list_at, IsMerged}
@@ -32,7 +32,7 @@ histories : HistoriesAreRead
 histories = histories_read legal_is_linearization (texts_read tasks_read)
 
 -- what is known of a call that was kept
-record IsSound (n : Note) : Type 0 where
+record IsSound (n : CompletedCall) : Type 0 where
   begin : n.begin < 2 ^ 64
   end : n.end < 2 ^ 64
   numbers : IsReply n.reply
@@ -42,7 +42,7 @@ record IsSound (n : Note) : Type 0 where
 abbrev CanBeWritten : Entry → Type 0
 CanBeWritten e = IsWritten (call_of_entry e)
 
-can_be : (client : ℕ) (n : Note) → client ≤ 4294967295 → IsSound n →
+can_be : (client : ℕ) (n : CompletedCall) → client ≤ 4294967295 → IsSound n →
     CanBeWritten (record { client = client; note = n })
 can_be client n low h =
     let own : IsAnsweredCall (call_of_entry (record { client = client; note = n })) n.reply = record {
@@ -56,7 +56,7 @@ can_be client n low h =
     } in
     inl (n.reply, own)
 
-entries_can : (client : ℕ) (notes : List Note) → client ≤ 4294967295 → All IsSound notes →
+entries_can : (client : ℕ) (notes : List CompletedCall) → client ≤ 4294967295 → All IsSound notes →
     All CanBeWritten (entries_of client notes)
 entries_can client [] low h = All-nil CanBeWritten
 entries_can client (n ∷ notes) low h =
@@ -64,7 +64,7 @@ entries_can client (n ∷ notes) low h =
     (can_be client n low (All-head IsSound n notes h))
     (entries_can client notes low (All-tail IsSound n notes h))
 
-each_can : (first : ℕ) (kept : List (List Note)) → first + length kept ≤ 4294967296 →
+each_can : (first : ℕ) (kept : List (List CompletedCall)) → first + length kept ≤ 4294967296 →
     ((place : ℕ) → All IsSound (list_at kept place)) →
     (place : ℕ) → All CanBeWritten (list_at (entries_from first kept) place)
 each_can first [] few h place = All-nil CanBeWritten
@@ -74,14 +74,15 @@ each_can first (notes ∷ kept) few h (suc place) =
 
 -- ---- of the calls of journals
 
-all_sound : (notes : List Note) → NotesTakeTime notes → EndInTime notes → HaveReplies notes → All HasLine notes →
+all_sound : (notes : List CompletedCall) → NotesTakeTime notes → EndInTime notes → HaveReplies notes →
+    All HasLine notes →
     All IsSound notes
 all_sound notes timed ends replies lines k d low =
     let takes = timed k d low in
     let end = ends k d low in
     record { begin = omega (arith, takes, end); end = end; numbers = replies k d low; line = lines k d low }
 
-each_sound : {C : Type 0} (journals : List (Journal C)) → EachHasLines (map notes_of journals) →
+each_sound : {C : Type 0} (journals : List (CallRecorder C)) → EachHasLines (map notes_of journals) →
     (place : ℕ) → All IsSound (list_at (map notes_of journals) place)
 each_sound [] lines place = All-nil IsSound
 each_sound (j ∷ journals) lines zero = all_sound (notes_of j) j.timed j.ends j.replies (lines 0)
@@ -93,11 +94,11 @@ calls_can (e ∷ all) h =
     All-cons IsWritten (call_of_entry e) (map call_of_entry all) (All-head CanBeWritten e all h)
     (calls_can all (All-tail CanBeWritten e all h))
 
-map_length : {C : Type 0} (journals : List (Journal C)) → length (map notes_of journals) ≡ length journals
+map_length : {C : Type 0} (journals : List (CallRecorder C)) → length (map notes_of journals) ≡ length journals
 map_length [] = refl
 map_length (j ∷ journals) = ap suc (map_length journals)
 
-pub text_read : {C : Type 0} (opening : Journal C) (clients : List (Journal C)) → length clients < 2 ^ 32 →
+pub text_read : {C : Type 0} (opening : CallRecorder C) (clients : List (CallRecorder C)) → length clients < 2 ^ 32 →
     (all : List Entry) → IsMerged (kept_by opening clients) all → EachHasLines (kept_by opening clients) →
     IsTheirHistory (map call_of_entry all)
 text_read opening clients few all merged lines =

@@ -5,7 +5,7 @@ use Rattle.std.specs.Global.{Vec}
 use Rattle.tx_observed.specs.declared.access.Access.{Access}
 use Rattle.tx_observed.specs.declared.access.Access.TheVariants.{Read, Write}
 use Rattle.judge_time.specs.Laws.{TakeTurns, KeepPrecedence}
-use Rattle.vac_manager.specs.declared.note.AttemptNote.{AttemptNote}
+use Rattle.vac_manager.specs.declared.note.TracedAttempt.{TracedAttempt}
 use Rattle.load_record.specs.Lines.{AttemptEntry}
 use Rattle.load_record.specs.AttemptOrder.{EntriesAreOrdered}
 use Rattle.load_record.specs.Entries.{span_of_entry}
@@ -17,7 +17,7 @@ abbrev pub worked_image : List ℕ
 worked_image = 0 ∷ 5 ∷ []
 
 -- the attempt that writes the words which are not 0, before all others
-abbrev pub worked_first : Vec Access → AttemptNote
+abbrev pub worked_first : Vec Access → TracedAttempt
 worked_first accesses = record {
   begin = 0;
   end = 0;
@@ -27,7 +27,7 @@ worked_first accesses = record {
 }
 
 -- the attempt of client 1, which commits version 1
-abbrev pub worked_writer : Vec Access → AttemptNote
+abbrev pub worked_writer : Vec Access → TracedAttempt
 worked_writer accesses = record {
   begin = 1;
   end = 4;
@@ -37,7 +37,7 @@ worked_writer accesses = record {
 }
 
 -- the aborted attempt of client 2 at read version 1
-abbrev pub worked_aborted : Vec Access → AttemptNote
+abbrev pub worked_aborted : Vec Access → TracedAttempt
 worked_aborted accesses = record {
   begin = 2;
   end = 5;

@@ -5,23 +5,24 @@ use Rattle.std.specs.Io.KnownBytes.{Appends}
 use Rattle.judge_calls.specs.Call.{Call}
 use Rattle.judge_calls.specs.CallText.{answered_call, history_text, IsTheirHistory}
 use Rattle.vac_lines.specs.Writing.{AppendsPrefix}
-use Rattle.vac_manager.specs.declared.note.Note.{Note}
-use Rattle.load_record.specs.declared.journal.Journal.{Journal}
+use Rattle.vac_manager.specs.declared.note.CompletedCall.{CompletedCall}
+use Rattle.load_record.specs.declared.journal.CallRecorder.{CallRecorder}
 use Rattle.load_record.specs.Order.{Entry, IsMerged}
 use Rattle.load_record.specs.Numbers.{EachHasLines}
 
--- the calls that a client's journal has recorded
-abbrev pub notes_of : {C : Type 0} → Journal C → List Note
+-- the calls that a client's call recorder has recorded
+abbrev pub notes_of : {C : Type 0} → CallRecorder C → List CompletedCall
 notes_of journal = journal.notes.items
 
 -- the recorded calls of the setup phase, which is client 0, and of the clients numbered from 1
-abbrev pub kept_by : {C : Type 0} → Journal C → List (Journal C) → List (List Note)
+abbrev pub kept_by : {C : Type 0} → CallRecorder C → List (CallRecorder C) →
+    List (List CompletedCall)
 kept_by opening clients = notes_of opening ∷ map notes_of clients
 
--- the journals of the setup phase and of all clients had room for each call
--- Not said: that memory was refused if there was no room; that a load returns a journal with this
--- knowledge unchanged.
-abbrev pub are_whole : {C : Type 0} → Journal C → List (Journal C) → Bool
+-- the call recorders of the setup phase and of all clients had room for each call
+-- Not said: that memory was refused if there was no room; that a load returns a call recorder with
+-- this knowledge unchanged.
+abbrev pub are_whole : {C : Type 0} → CallRecorder C → List (CallRecorder C) → Bool
 are_whole opening clients = opening.is_whole && list_all (λ j. j.is_whole) clients
 
 -- the call of a history for a recorded entry
@@ -35,7 +36,8 @@ calls_text all = history_text (map call_of_entry all)
 -- the recorded calls of all clients were written in one order, one line each, and nothing else; if
 -- their tasks have lines that can be read, the text is read as these calls and judged as such
 -- Not said: the number of writes.
-pub record WroteHistory (kept : List (List Note)) (held holds : Option (List ℕ)) : Type 0 where
+pub record WroteHistory (kept : List (List CompletedCall)) (held holds : Option (List ℕ)) :
+    Type 0 where
   pub all : List Entry
   pub merged : IsMerged kept all
   pub written : Appends held holds (calls_text all)
@@ -43,7 +45,7 @@ pub record WroteHistory (kept : List (List Note)) (held holds : Option (List ℕ
 
 -- a prefix of the text of such a history was written
 -- Not said: that writing stops early only if memory is refused or a write fails.
-pub record WroteHistoryPrefix (kept : List (List Note)) (held holds : Option (List ℕ))
+pub record WroteHistoryPrefix (kept : List (List CompletedCall)) (held holds : Option (List ℕ))
     : Type 0 where
   pub all : List Entry
   pub merged : IsMerged kept all

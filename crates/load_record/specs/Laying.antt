@@ -4,10 +4,10 @@ use Rattle.std.specs.List.{All}
 use Rattle.tx_alloc.specs.Spread.{IsSpreadHeap}
 use Rattle.tx_observed.specs.declared.access.Access.{Access}
 use Rattle.tx_observed.specs.declared.access.Access.TheVariants.{Write}
-use Rattle.vac_manager.specs.declared.note.AttemptNote.{AttemptNote}
+use Rattle.vac_manager.specs.declared.note.TracedAttempt.{TracedAttempt}
 
 -- the attempt committed before all others: it began and ended at 0, and wrote version 0
-pub record IsLaidFirst (a : AttemptNote) : Type 0 where
+pub record IsLaidFirst (a : TracedAttempt) : Type 0 where
   pub commits : a.commits ≡ true
   pub begin : a.begin ≡ 0
   pub end : a.end ≡ 0
@@ -23,13 +23,13 @@ writes_from first [] = []
 writes_from first (word ∷ words) = write_of first word ++ writes_from (suc first) words
 
 -- the accesses of the attempts, one attempt after the other
-abbrev pub done_by : List AttemptNote → List Access
+abbrev pub done_by : List TracedAttempt → List Access
 done_by attempts = flat_map (λ a. a.accesses.items) attempts
 
 -- the attempts write exactly those initial words of a system with this number of blocks that are
 -- not 0, and do nothing else
 -- Not said: the number of attempts.
-pub record Lays (blocks : ℕ) (laid : List AttemptNote) : Type 0 where
+pub record Lays (blocks : ℕ) (laid : List TracedAttempt) : Type 0 where
   pub words : List ℕ
   pub heap : IsSpreadHeap words blocks
   pub before_all : All (λ a. IsLaidFirst a) laid

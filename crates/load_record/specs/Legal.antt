@@ -4,7 +4,7 @@ use Rattle.stm_core.specs.Client.{Record}
 use Rattle.stm_core.specs.Invariant.{Sorted}
 use Rattle.vac_model.specs.State.{State, empty_state}
 use Rattle.vac_manager.specs.Legal.{IsLegal, AreVersioned}
-use Rattle.vac_manager.specs.declared.note.Note.{Note}
+use Rattle.vac_manager.specs.declared.note.CompletedCall.{CompletedCall}
 use Rattle.vac_manager.specs.Keeping.{IsNoted}
 use Rattle.judge_calls.specs.Call.{Call}
 use Rattle.judge_object.specs.Linear.{CallsTakeTime, CallsAreSequential, CallsKeepPrecedence}
@@ -18,7 +18,7 @@ use Rattle.load_record.specs.History.{call_of_entry}
 
 -- the calls and the records correspond one to one, in any order, and each call is noted by its
 -- record
-abbrev pub AreCallsOf : List Note → List Record → Type 0
+abbrev pub AreCallsOf : List CompletedCall → List Record → Type 0
 AreCallsOf [] records = records ≡ []
 AreCallsOf (n ∷ notes) records =
     (first : List Record) × (r : Record) × (more : List Record) × (records ≡ first ++ r ∷ more)
@@ -46,7 +46,8 @@ pub record AreLegal (n : ℕ) (calls : List Call) (last : State) : Type 0 where
 -- calls that are written in the order of their records, those of each client in turn, are legal in
 -- this order
 abbrev pub OrderedCallsAreLegal : Type 0
-OrderedCallsAreLegal = (n : ℕ) (kept : List (List Note)) (all : List Entry) (last : State) →
+OrderedCallsAreLegal = (n : ℕ) (kept : List (List CompletedCall)) (all : List Entry)
+    (last : State) →
     AreRecorded n all last → IsMerged kept all → EachInTurn kept →
     AreOrdered (map (λ e. e.note) all) → AreLegal n (map call_of_entry all) last
 

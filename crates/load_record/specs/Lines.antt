@@ -5,13 +5,13 @@ use Rattle.tx_observed.specs.declared.access.Access.{Access}
 use Rattle.tx_observed.specs.declared.access.Access.TheVariants.{Read, Write}
 use Rattle.vac_lines.specs.Script.{as_line}
 use Rattle.vac_lines.specs.Text.{field_text}
-use Rattle.vac_manager.specs.declared.note.AttemptNote.{AttemptNote}
+use Rattle.vac_manager.specs.declared.note.TracedAttempt.{TracedAttempt}
 use Rattle.load_record.specs.declared.lines.Line.{Line}
 
 -- an attempt, with the number of its client
 pub record AttemptEntry : Type 0 where
   pub client : ℕ
-  pub attempt : AttemptNote
+  pub attempt : TracedAttempt
 
 -- the entry of a line that is to be written
 abbrev pub line_entry : Line → AttemptEntry

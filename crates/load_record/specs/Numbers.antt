@@ -9,16 +9,16 @@ use Rattle.vac_model.specs.declared.replies.Reply.TheVariants as reply
 use Rattle.vac_model.specs.Ranges.{is_task}
 use Rattle.vac_lines.specs.declared.line.TheConstants.{LINE_BYTES}
 use Rattle.vac_lines.specs.TaskText.{task_text}
-use Rattle.vac_manager.specs.declared.note.Note.{Note}
+use Rattle.vac_manager.specs.declared.note.CompletedCall.{CompletedCall}
 use Rattle.judge_calls.specs.CallText.{IsReply}
 use Rattle.load_record.specs.Order.{list_at}
 
 -- each call ended at a time of 64 bits
-abbrev pub EndInTime : List Note → Type 0
+abbrev pub EndInTime : List CompletedCall → Type 0
 EndInTime notes = All (λ n. n.end < 2 ^ 64) notes
 
 -- the numbers of each reply are in the ranges of its type
-abbrev pub HaveReplies : List Note → Type 0
+abbrev pub HaveReplies : List CompletedCall → Type 0
 HaveReplies notes = All (λ n. IsReply n.reply) notes
 
 -- the statement that a reply is in its ranges has at most one proof
@@ -31,15 +31,15 @@ IsReply-prop (reply.Trip t) = hlevel props
 IsReply-prop (reply.Update u) = hlevel props
 
 -- the statement that all replies are in their ranges has at most one proof
-pub HaveReplies-prop : (notes : List Note) → IsProp (HaveReplies notes)
+pub HaveReplies-prop : (notes : List CompletedCall) → IsProp (HaveReplies notes)
 HaveReplies-prop notes =
     Π_prop (λ k. Π_prop (λ n. Π_prop (λ _. IsReply-prop (slice_index_or notes k n).reply)))
 
 -- the task of the call can be issued, and its line is no longer than a line may be
-pub record HasLine (n : Note) : Type 0 where
+pub record HasLine (n : CompletedCall) : Type 0 where
   pub task : is_task n.task ≡ true
   pub line : length (task_text n.task) ≤ LINE_BYTES
 
 -- each call of each client has a line
-abbrev pub EachHasLines : List (List Note) → Type 0
+abbrev pub EachHasLines : List (List CompletedCall) → Type 0
 EachHasLines kept = (place : ℕ) → All HasLine (list_at kept place)

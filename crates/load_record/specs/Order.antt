@@ -2,20 +2,20 @@
 use Rattle.std.specs.Prelude.{◌≡◌, ℕ, suc, ◌+◌, ◌*◌, ◌||◌, ◌&&◌, Bool, false, cond, eqb, ltb}
 use Rattle.std.specs.Prelude.{List, [], ◌∷◌, map, slice_index_or, slice_set}
 use Rattle.std.specs.List.{AllPairs}
-use Rattle.vac_manager.specs.Placed.{Place}
-use Rattle.vac_manager.specs.declared.note.Note.{Note}
+use Rattle.vac_manager.specs.Placed.{CommitPosition}
+use Rattle.vac_manager.specs.declared.note.CompletedCall.{CompletedCall}
 
 -- a recorded call, with the number of its client
 pub record Entry : Type 0 where
   pub client : ℕ
-  pub note : Note
+  pub note : CompletedCall
 
 -- the calls of a client, each with the client's number
-abbrev pub entries_of : ℕ → List Note → List Entry
+abbrev pub entries_of : ℕ → List CompletedCall → List Entry
 entries_of client notes = map (λ n. record { client = client; note = n }) notes
 
 -- the entries of each client; the clients are numbered from `first` on
-abbrev pub entries_from : ℕ → List (List Note) → List (List Entry)
+abbrev pub entries_from : ℕ → List (List CompletedCall) → List (List Entry)
 entries_from first [] = []
 entries_from first (notes ∷ others) = entries_of first notes ∷ entries_from (suc first) others
 
@@ -38,12 +38,12 @@ Interleaves {X} lists (x ∷ all) =
     (others : List (List X)) × TakesFirst x lists others × Interleaves others all
 
 -- the rank of a record within its renewal: by version, the writer of a version before its readers
-abbrev pub rank_of : Place → ℕ
+abbrev pub rank_of : CommitPosition → ℕ
 rank_of place = 2 * place.version + cond place.wrote 0 1
 
 -- a is written before b: by renewal, then by version with the writer of a version before its
 -- readers, then by the begin of the calls
-abbrev pub precedes : Note → Note → Bool
+abbrev pub precedes : CompletedCall → CompletedCall → Bool
 precedes a b =
     ltb a.place.renewal b.place.renewal
     || (eqb a.place.renewal b.place.renewal
@@ -51,15 +51,15 @@ precedes a b =
     || (eqb (rank_of a.place) (rank_of b.place) && ltb a.begin b.begin)))
 
 -- no call precedes a call that stands before it in the list
-abbrev pub AreOrdered : List Note → Type 0
+abbrev pub AreOrdered : List CompletedCall → Type 0
 AreOrdered notes = AllPairs (λ earlier later. precedes later earlier ≡ false) notes
 
 -- in each list, no call precedes a call that stands before it
-abbrev pub EachOrdered : List (List Note) → Type 0
+abbrev pub EachOrdered : List (List CompletedCall) → Type 0
 EachOrdered lists = (place : ℕ) → AreOrdered (list_at lists place)
 
 -- the list has the recorded calls of all clients, numbered from 0, each once and those of each
 -- client in their order; the whole list is ordered if the calls of each client are
-pub record IsMerged (kept : List (List Note)) (all : List Entry) : Type 0 where
+pub record IsMerged (kept : List (List CompletedCall)) (all : List Entry) : Type 0 where
   pub each_once : Interleaves (entries_from 0 kept) all
   pub ordered : EachOrdered kept → AreOrdered (map (λ e. e.note) all)

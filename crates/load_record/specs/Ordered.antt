@@ -4,7 +4,7 @@ use Rattle.stm_core.specs.Client.{Record}
 use Rattle.stm_core.specs.History.{Serial}
 use Rattle.stm_core.specs.Invariant.{Sorted}
 use Rattle.judge_time.specs.Laws.{TakeTurns}
-use Rattle.vac_manager.specs.declared.note.AttemptNote.{AttemptNote}
+use Rattle.vac_manager.specs.declared.note.TracedAttempt.{TracedAttempt}
 use Rattle.vac_manager.specs.Legal.{AreVersioned}
 use Rattle.vac_manager.specs.Tracing.{trace_of, IsTraceOf}
 use Rattle.load_record.specs.Laying.{writes_from, done_by}
@@ -16,7 +16,7 @@ use Rattle.load_record.specs.Records.{committed_notes, AreMadeSerially, AbortedR
 
 -- the attempts and the records correspond one to one, in any order, and each attempt made its
 -- record
-abbrev pub CorrespondTo : List AttemptNote → List Record → Type 0
+abbrev pub CorrespondTo : List TracedAttempt → List Record → Type 0
 CorrespondTo [] records = records ≡ []
 CorrespondTo (a ∷ notes) records =
     (first : List Record) × (r : Record) × (more : List Record) × (records ≡ first ++ r ∷ more)
@@ -25,9 +25,9 @@ CorrespondTo (a ∷ notes) records =
 -- the first committed attempts write the image, and the others made the records of a history, in
 -- any order: the history is serial from the image and sorted, and has one writer a version and
 -- readers that wrote nothing
-pub record AreOfHistory (image : List ℕ) (first : List AttemptNote) (all : List AttemptEntry)
+pub record AreOfHistory (image : List ℕ) (first : List TracedAttempt) (all : List AttemptEntry)
     : Type 0 where
-  pub made : List AttemptNote
+  pub made : List TracedAttempt
   pub committed : committed_notes all ≡ first ++ made
   pub writes : done_by first ≡ writes_from 0 image
   pub history : List Record
@@ -41,14 +41,15 @@ pub record AreOfHistory (image : List ℕ) (first : List AttemptNote) (all : Lis
 -- their records
 abbrev pub OrderedAttemptsAreMadeSerially : Type 0
 OrderedAttemptsAreMadeSerially =
-    (image : List ℕ) (first : List AttemptNote) (all : List AttemptEntry) → EntriesAreOrdered all →
+    (image : List ℕ) (first : List TracedAttempt) (all : List AttemptEntry) →
+    EntriesAreOrdered all →
     AreOfHistory image first all → AreMadeSerially image first all
 
 -- the text of such entries that fit, if the aborted attempts read in place and the attempts of
 -- each client are in turn, is judged by precedence alone
 abbrev pub HistoriesAreOpaqueUpToPrecedence : Type 0
 HistoriesAreOpaqueUpToPrecedence =
-    (words : ℕ) (image : List ℕ) (first : List AttemptNote) (all : List AttemptEntry) →
+    (words : ℕ) (image : List ℕ) (first : List TracedAttempt) (all : List AttemptEntry) →
     AllFit words all → EntriesAreOrdered all → AreOfHistory image first all →
     AbortedReadInPlace image first all → TakeTurns span_of_entry all →
     JudgedByPrecedence words all

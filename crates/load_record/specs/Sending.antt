@@ -2,7 +2,7 @@
 use Rattle.std.specs.Prelude.{ℕ, List, [], ◌++◌, Option, codes, decimal}
 use Rattle.vac_lines.specs.TaskText.{task_text}
 use Rattle.vac_lines.specs.Text.{reply_text}
-use Rattle.vac_manager.specs.declared.note.Note.{Note}
+use Rattle.vac_manager.specs.declared.note.CompletedCall.{CompletedCall}
 use Rattle.vac_lines.specs.Writing.{AppendsPrefix}
 use Rattle.vac_streams.specs.Sent.{Sent}
 use Rattle.load_record.specs.Order.{Entry}
@@ -19,7 +19,7 @@ stamps_text e =
     number_and_space e.client ++ number_and_space e.note.begin ++ number_and_space e.note.end
 
 -- the task and the reply of a call
-abbrev pub task_and_reply_text : Note → List ℕ
+abbrev pub task_and_reply_text : CompletedCall → List ℕ
 task_and_reply_text n = task_text n.task ++ codes " -> " ++ reply_text n.reply
 
 -- the lines of calls that were picked from the lists were sent, and these lists are left

@@ -3,7 +3,7 @@ use Rattle.std.specs.Prelude.{◌≡◌, ◌⊎◌, ℕ, true, List, [], ◌++�
 use Rattle.std.specs.List.Sorted.{IsPermutation}
 use Rattle.std.specs.Io.KnownBytes.{Appends}
 use Rattle.vac_lines.specs.Writing.{AppendsPrefix}
-use Rattle.vac_manager.specs.declared.note.AttemptNote.{AttemptNote}
+use Rattle.vac_manager.specs.declared.note.TracedAttempt.{TracedAttempt}
 use Rattle.load_record.specs.Laying.{Lays}
 use Rattle.load_record.specs.Lines.{AttemptEntry, lines_text}
 use Rattle.load_record.specs.AttemptOrder.{EntriesAreOrdered}
@@ -16,7 +16,7 @@ use Rattle.load_record.specs.Pages.{Page, attempt_entries_of, attempt_entries_fr
 -- Not said: that an attempt listed as aborted was an attempt of this load, its reads, or its
 -- position.
 pub record AreAttempts (blocks : ℕ) (pages : List Page) (all : List AttemptEntry) : Type 0 where
-  pub laid : List AttemptNote
+  pub laid : List TracedAttempt
   pub lays : Lays blocks laid
   pub told : are_told pages ≡ true
   pub each_once : IsPermutation (attempt_entries_of 0 laid ++ attempt_entries_from 0 pages) all

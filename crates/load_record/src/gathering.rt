@@ -6,18 +6,18 @@ ghost use Rattle.load_record.specs.Noted.{all_noted};
 ghost use Rattle.load_record.specs.Pages.{attempts_of, page_of, pages_of, is_told, are_told};
 ghost use Rattle.load_record.specs.Pages.{attempt_entries_of, entries_on, attempt_entries_from};
 
-use crate::Watch;
-use crate::ledger::Ledger;
+use crate::StampClock;
+use crate::ledger::AttemptRecorder;
 use crate::lines::Line;
 use load_tasks::OPENING;
 use std::alloc::AllocError;
-use vac_manager::{AttemptNote, Note};
+use vac_manager::{CompletedCall, TracedAttempt};
 
 /// Adds attempts of a client.
 pub(crate) fn add_attempts<'a>(
     lines: &mut Vec<Line<'a>>,
     client: u32,
-    attempts: &'a [AttemptNote],
+    attempts: &'a [TracedAttempt],
 ) -> Result<(), AllocError>
     ensures { OnOk result (map line_entry lines.new.items
         ≡ map line_entry lines.old.items ++ attempt_entries_of client attempts.now) }
@@ -33,7 +33,7 @@ pub(crate) fn add_attempts<'a>(
 fn add_answered<'a>(
     lines: &mut Vec<Line<'a>>,
     client: u32,
-    calls: &'a [Note],
+    calls: &'a [CompletedCall],
 ) -> Result<(), AllocError>
     ensures added { OnOk result (map line_entry lines.new.items
         ≡ map line_entry lines.old.items ++ attempt_entries_of client (attempts_of calls.now)) }
@@ -52,10 +52,10 @@ fn add_answered<'a>(
 }
 
 /// Adds all attempts of a client.
-fn add_client<'a, W: Watch + Copy + Drop>(
+fn add_client<'a, W: StampClock + Copy + Drop>(
     lines: &mut Vec<Line<'a>>,
     client: u32,
-    ledger: &'a Ledger<W>,
+    ledger: &'a AttemptRecorder<W>,
 ) -> Result<(), AllocError>
     ensures added { OnOk result (map line_entry lines.new.items
         ≡ map line_entry lines.old.items ++ entries_on client (page_of ledger.now)) }
@@ -66,10 +66,10 @@ fn add_client<'a, W: Watch + Copy + Drop>(
 }
 
 /// Adds all attempts of the setup phase, as client 0, and of the clients, numbered from 1.
-pub(crate) fn add_all<'a, W: Watch + Copy + Drop>(
+pub(crate) fn add_all<'a, W: StampClock + Copy + Drop>(
     lines: &mut Vec<Line<'a>>,
-    opening: &'a Ledger<W>,
-    clients: &'a [Ledger<W>],
+    opening: &'a AttemptRecorder<W>,
+    clients: &'a [AttemptRecorder<W>],
 ) -> Result<(), AllocError>
     requires few { length clients.now < 2 ^ 32 }
     ensures added { OnOk result (map line_entry lines.new.items

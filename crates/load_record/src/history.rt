@@ -14,14 +14,14 @@ ghost use Rattle.load_record.specs.History.{WroteHistory, WroteHistoryPrefix};
 ghost use Rattle.load_record.specs.Sending.{number_and_space, stamps_text, task_and_reply_text};
 ghost use Rattle.load_record.specs.Sending.{SentMerged, MergedPrefix};
 
-use crate::journal::Journal;
-use crate::merging::{Picked, Rest, take_least};
-use crate::watch::Watch;
+use crate::journal::CallRecorder;
+use crate::merging::{NextCall, RemainingCalls, take_least};
+use crate::watch::StampClock;
 use load_tasks::OPENING;
 use std::alloc::{AllocError, Global};
 use std::io::Write;
 use vac_lines::{print_reply, print_task};
-use vac_manager::Note;
+use vac_manager::CompletedCall;
 use vac_model::Reply;
 use vac_streams::{StreamFault, send_chunk, send_rest};
 
@@ -35,7 +35,7 @@ fn append_number(hand: &mut Vec<u8>, number: u64) -> Result<(), AllocError>
 }
 
 /// Appends a call's client and times, with a space after each.
-fn append_stamps(hand: &mut Vec<u8>, picked: Picked<'_>) -> Result<(), AllocError>
+fn append_stamps(hand: &mut Vec<u8>, picked: NextCall<'_>) -> Result<(), AllocError>
     ensures { OnOk result
         (hand.new.items ≡ hand.old.items ++ stamps_text (picked_entry picked.entry)) }
 {
@@ -45,7 +45,7 @@ fn append_stamps(hand: &mut Vec<u8>, picked: Picked<'_>) -> Result<(), AllocErro
 }
 
 /// Appends a call's task and reply.
-fn append_answer(hand: &mut Vec<u8>, note: &Note) -> Result<(), AllocError>
+fn append_answer(hand: &mut Vec<u8>, note: &CompletedCall) -> Result<(), AllocError>
     ensures { OnOk result (hand.new.items ≡ hand.old.items ++ task_and_reply_text note.now) }
 {
     print_task(&note.task, hand)?;
@@ -54,7 +54,7 @@ fn append_answer(hand: &mut Vec<u8>, note: &Note) -> Result<(), AllocError>
 }
 
 /// Appends the line of a call.
-fn append_line(hand: &mut Vec<u8>, picked: Picked<'_>) -> Result<(), AllocError>
+fn append_line(hand: &mut Vec<u8>, picked: NextCall<'_>) -> Result<(), AllocError>
     ensures { OnOk result (hand.new.items
         ≡ hand.old.items ++ as_line (call_text (call_of_entry (picked_entry picked.entry)))) }
 {
@@ -67,7 +67,7 @@ fn append_line(hand: &mut Vec<u8>, picked: Picked<'_>) -> Result<(), AllocError>
 fn send_line<W: Write>(
     output: &mut W,
     hand: &mut Vec<u8>,
-    picked: Picked<'_>,
+    picked: NextCall<'_>,
 ) -> Result<(), StreamFault>
     ensures ok { OnOk result (Sent (W.contents output.old) (W.contents output.new)
         hand.old.items hand.new.items
@@ -84,7 +84,7 @@ fn send_line<W: Write>(
 fn send_all<W: Write>(
     output: &mut W,
     hand: &mut Vec<u8>,
-    rests: &mut [Rest<'_>],
+    rests: &mut [RemainingCalls<'_>],
 ) -> Result<(), StreamFault>
     requires empty { hand.old.items ≡ [] }
     ensures ok { OnOk result (SentMerged (left_of rests.old)
@@ -99,37 +99,37 @@ fn send_all<W: Write>(
     Ok(())
 }
 
-/// Returns whether each journal had room for each call.
-fn all_whole<J: Watch>(clients: &[Journal<J>]) -> bool
+/// Returns whether each call recorder had room for each call.
+fn all_whole<J: StampClock>(clients: &[CallRecorder<J>]) -> bool
     ensures { result ≡ list_all (λ j. j.is_whole) clients.now }
 {
     clients.iter().all(|journal| journal.is_whole())
 }
 
-/// Returns whether the journals of the setup phase and of the clients had room for each call.
-pub fn are_whole<J: Watch>(opening: &Journal<J>, clients: &[Journal<J>]) -> bool
+/// Returns whether the call recorders of the setup phase and of the clients had room for each call.
+pub fn are_whole<J: StampClock>(opening: &CallRecorder<J>, clients: &[CallRecorder<J>]) -> bool
     ensures { result ≡ are_whole opening.now clients.now }
 {
     opening.is_whole() && all_whole(clients)
 }
 
 /// Returns the calls of each client, none of which is written yet.
-fn rests_of<'j, J: Watch>(
+fn rests_of<'j, J: StampClock>(
     alloc: Global,
-    opening: &'j Journal<J>,
-    clients: &'j [Journal<J>],
-) -> Result<Vec<Rest<'j>>, AllocError>
+    opening: &'j CallRecorder<J>,
+    clients: &'j [CallRecorder<J>],
+) -> Result<Vec<RemainingCalls<'j>>, AllocError>
     requires few { length clients.now < 2 ^ 32 }
     ensures { IfOk result (λ rests.
         left_of rests.items ≡ entries_from 0 (kept_by opening.now clients.now)) }
 {
     let mut rests = Vec::new(alloc);
-    rests.push(Rest {
+    rests.push(RemainingCalls {
         client: OPENING,
         notes: opening.notes(),
     })?;
     'clients: for place in 0..clients.len() {
-        rests.push(Rest {
+        rests.push(RemainingCalls {
             client: place as u32 + 1,
             notes: clients[place].notes(),
         })?;
@@ -144,12 +144,12 @@ fn rests_of<'j, J: Watch>(
 /// by the begin of their calls.
 ///
 /// Allocates memory for one chunk of text, and a few words for each client. After a fault, the
-/// output has nothing or a prefix of such a text. If a journal had no room for a call, the call is
-/// missing. In this case nothing is written, and the fault is that memory was refused.
-pub fn write_history<J: Watch, W: Write>(
+/// output has nothing or a prefix of such a text. If a call recorder had no room for a call, the
+/// call is missing. In this case nothing is written, and the fault is that memory was refused.
+pub fn write_history<J: StampClock, W: Write>(
     alloc: Global,
-    opening: &Journal<J>,
-    clients: &[Journal<J>],
+    opening: &CallRecorder<J>,
+    clients: &[CallRecorder<J>],
     output: &mut W,
 ) -> Result<(), StreamFault>
     requires few { length clients.now < 2 ^ 32 }

@@ -1,4 +1,4 @@
-//! The journal of a client's completed calls.
+//! The call recorder of a client's completed calls.
 
 ghost use Rattle.std.specs.Prelude.{◌≡◌, ◌≤◌, [], true};
 ghost use Rattle.std.specs.List.{All};
@@ -6,17 +6,17 @@ ghost use Rattle.load_record.specs.Turns.{NotesTakeTime, AreInTurn};
 ghost use Rattle.load_record.specs.Numbers.{EndInTime, HaveReplies, HaveReplies-prop};
 ghost use Rattle.load_record.specs.Stamps.{IsStamp};
 
-use crate::watch::Watch;
+use crate::watch::StampClock;
 use judge_calls::numbers_of_a_reply;
 use std::alloc::{AllocError, Global};
-use vac_manager::{AttemptNote, Note, Place, Placed, Recorder, Untraced};
+use vac_manager::{CommitPosition, CompletedCall, PlacedReply, Recorder, TracedAttempt, Untraced};
 use vac_model::Task;
 
 /// A recorder of a client's completed calls, which reads a clock before and after each call.
 #[derive(Drop)]
-pub struct Journal<W> {
+pub struct CallRecorder<W> {
     watch: W,
-    notes: Vec<Note>,
+    notes: Vec<CompletedCall>,
     /// The last stamp.
     latest: u64,
     /// True if there was room for each call that was about to begin.
@@ -29,25 +29,25 @@ pub struct Journal<W> {
 }
 
 /// Reads the clock and returns a stamp that is not before the last one.
-pub fn stamp<W: Watch>(watch: &mut W, last: u64) -> u64
+pub fn stamp<W: StampClock>(watch: &mut W, last: u64) -> u64
     ensures read { IsStamp W.shows watch.old watch.new last result }
     ensures later { last ≤ result }
 {
     watch.read().max(last)
 }
 
-impl<W: Watch> Journal<W> {
+impl<W: StampClock> CallRecorder<W> {
     ghost use Rattle.std.specs.Prelude.{◌≡◌, ◌<◌, vec_len, vec_capacity};
     ghost use Rattle.load_record.specs.Stamped.{HasStamped, KeepsWith};
 
-    /// Returns an empty journal, whose times are read from this clock.
-    pub fn new(alloc: Global, watch: W) -> Journal<W>
+    /// Returns an empty call recorder, whose times are read from this clock.
+    pub fn new(alloc: Global, watch: W) -> CallRecorder<W>
         ensures empty { result.notes.items ≡ [] }
         ensures watch { result.watch ≡ watch }
         ensures fresh { result.latest ≡ 0 }
         ensures whole { result.is_whole ≡ true }
     {
-        Journal {
+        CallRecorder {
             watch,
             notes: Vec::new(alloc),
             latest: 0,
@@ -63,14 +63,19 @@ impl<W: Watch> Journal<W> {
     }
 
     /// Returns the recorded calls.
-    pub fn notes(&self) -> &[Note]
+    pub fn notes(&self) -> &[CompletedCall]
         ensures { result.now ≡ self.now.notes.items }
     {
         self.notes.as_slice()
     }
 
     /// Records a completed call as `keep` does, together with the attempt that committed.
-    pub fn keep_with(&mut self, task: Task, placed: Placed, attempt: Option<Box<AttemptNote>>)
+    pub fn keep_with(
+        &mut self,
+        task: Task,
+        placed: PlacedReply,
+        attempt: Option<Box<TracedAttempt>>,
+    )
         requires { vec_len self.old.notes < vec_capacity self.old.notes }
         ensures kept { KeepsWith task placed attempt
             self.old.notes.items self.new.notes.items }
@@ -79,10 +84,10 @@ impl<W: Watch> Journal<W> {
     {
         let begin = self.latest;
         let end = stamp(&mut self.watch, begin);
-        let Placed { reply, place } = placed;
+        let PlacedReply { reply, place } = placed;
         numbers_of_a_reply(&reply);
         self.latest = end;
-        self.notes.push_reserved(Note {
+        self.notes.push_reserved(CompletedCall {
             begin,
             end,
             task,
@@ -93,7 +98,7 @@ impl<W: Watch> Journal<W> {
     }
 }
 
-impl<W: Watch> Recorder for Journal<W> {
+impl<W: StampClock> Recorder for CallRecorder<W> {
     ghost use Rattle.std.specs.Prelude.{◌≡◌, ◌<◌, Some, None, OnOk, OnErr, false, vec_len, vec_capacity};
     ghost use Rattle.vac_manager.specs.Keeping.{HasKept};
     ghost use Rattle.load_record.specs.Stamps.{IsStamp};
@@ -108,7 +113,7 @@ impl<W: Watch> Recorder for Journal<W> {
     type Tracing = Untraced;
 
     /// Reserves room for a call and reads the clock once. If room is refused, the clock is not
-    /// read, and the journal is incomplete from then on.
+    /// read, and the call recorder is incomplete from then on.
     ///
     /// Not said: that the call begins right after this reading.
     fn begin(&mut self) -> Result<(), AllocError>
@@ -146,7 +151,7 @@ impl<W: Watch> Recorder for Journal<W> {
     /// Not said: that `begin` was called since the last call was recorded, and that the call ended
     /// right before this one; that a call without room is not issued. The caller guarantees all
     /// three.
-    fn keep(&mut self, task: Task, placed: Placed)
+    fn keep(&mut self, task: Task, placed: PlacedReply)
         requires { vec_len self.old.notes < vec_capacity self.old.notes }
         ensures kept { HasKept task placed None
             (Some self.old.notes.items) (Some self.new.notes.items) }

@@ -9,7 +9,7 @@ use std::alloc::{AllocError, Global};
 use tx_alloc::spread_words;
 use tx_memory::Addr;
 use tx_observed::Access;
-use vac_manager::AttemptNote;
+use vac_manager::TracedAttempt;
 use vac_model::limits::MOST_BLOCKS;
 
 /// Largest number of words that one attempt may write, so that its line is not too long.
@@ -30,7 +30,7 @@ fn lay_word(accesses: &mut Vec<Access>, address: u32, word: u64) -> Result<(), A
 
 /// Returns an attempt that writes those words that are not 0. The first word of the slice has the
 /// address `first`.
-fn lay_some(alloc: Global, first: u32, words: &[u64]) -> Result<AttemptNote, AllocError>
+fn lay_some(alloc: Global, first: u32, words: &[u64]) -> Result<TracedAttempt, AllocError>
     requires few { first + length words.now < 2 ^ 32 }
     ensures laid { IfOk result (λ a. IsLaidFirst a) }
     ensures writes { IfOk result (λ a. a.accesses.items ≡ writes_from first words.now) }
@@ -39,7 +39,7 @@ fn lay_some(alloc: Global, first: u32, words: &[u64]) -> Result<AttemptNote, All
     for (place, word) in words.iter().enumerate() {
         lay_word(&mut accesses, first + place as u32, *word)?;
     }
-    Ok(AttemptNote {
+    Ok(TracedAttempt {
         begin: 0,
         end: 0,
         commits: true,
@@ -49,7 +49,7 @@ fn lay_some(alloc: Global, first: u32, words: &[u64]) -> Result<AttemptNote, All
 }
 
 /// Returns attempts that write those words that are not 0.
-fn lay_all(alloc: Global, words: &[u64]) -> Result<Vec<AttemptNote>, AllocError>
+fn lay_all(alloc: Global, words: &[u64]) -> Result<Vec<TracedAttempt>, AllocError>
     requires few { length words.now < 2 ^ 31 }
     ensures laid { IfOk result (λ laid. All (λ a. IsLaidFirst a) laid.items) }
     ensures writes { IfOk result (λ laid. done_by laid.items ≡ writes_from 0 words.now) }
@@ -68,7 +68,7 @@ fn lay_all(alloc: Global, words: &[u64]) -> Result<Vec<AttemptNote>, AllocError>
 }
 
 /// Returns attempts that write the initial words of a system with this number of blocks.
-pub(crate) fn lay(alloc: Global, blocks: u32) -> Result<Vec<AttemptNote>, AllocError>
+pub(crate) fn lay(alloc: Global, blocks: u32) -> Result<Vec<TracedAttempt>, AllocError>
     requires some { 1 ≤ blocks }
     requires most { blocks ≤ MOST_BLOCKS }
     ensures { IfOk result (λ laid. Lays blocks laid.items) }

@@ -7,13 +7,13 @@ ghost use Rattle.load_record.specs.Lines.{head_text, line_text, line_entry};
 use std::alloc::AllocError;
 use tx_observed::Access;
 use vac_lines::append_field;
-use vac_manager::AttemptNote;
+use vac_manager::TracedAttempt;
 
 /// An attempt to be written, and the number of its client.
 #[derive(Clone, Copy, Drop)]
 pub(crate) struct Line<'a> {
     pub(crate) client: u32,
-    pub(crate) attempt: &'a AttemptNote,
+    pub(crate) attempt: &'a TracedAttempt,
 }
 
 /// Appends an access, after a space.

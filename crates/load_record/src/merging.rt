@@ -5,25 +5,25 @@ ghost use Rattle.load_record.specs.Order.{Entry, entries_of, list_at, precedes, 
 ghost use Rattle.load_record.specs.Picking.{Picks, IsEmpty};
 ghost use Rattle.load_record.specs.Rests.{left_of, picked_entry, IsBest};
 
-use vac_manager::{Note, Place};
+use vac_manager::{CommitPosition, CompletedCall};
 
 /// The remaining calls of a client.
 #[derive(Clone, Copy, Drop)]
-pub(crate) struct Rest<'j> {
+pub(crate) struct RemainingCalls<'j> {
     pub(crate) client: u32,
-    pub(crate) notes: &'j [Note],
+    pub(crate) notes: &'j [CompletedCall],
 }
 
 /// A call that is written next, and the number of its client.
 #[derive(Clone, Copy, Drop)]
-pub(crate) struct Picked<'j> {
+pub(crate) struct NextCall<'j> {
     pub(crate) client: u32,
-    pub(crate) note: &'j Note,
+    pub(crate) note: &'j CompletedCall,
 }
 
 /// Returns the rank of a record within its renewal: by version, the writer of a version before its
 /// readers.
-pub fn rank(place: Place) -> u64
+pub fn rank(place: CommitPosition) -> u64
     ensures { result ≡ rank_of place }
 {
     let reader = if place.wrote { 0 } else { 1 };
@@ -31,7 +31,7 @@ pub fn rank(place: Place) -> u64
 }
 
 /// Returns whether a call is written before another.
-fn precedes(a: &Note, b: &Note) -> bool
+fn precedes(a: &CompletedCall, b: &CompletedCall) -> bool
     ensures { result ≡ precedes a.now b.now }
 {
     if a.place.renewal != b.place.renewal {
@@ -44,10 +44,10 @@ fn precedes(a: &Note, b: &Note) -> bool
 /// Returns the client at this position if its first call precedes the best call of the clients
 /// before it, and otherwise the best of those clients.
 fn better<'j>(
-    best: Option<(usize, &'j Note)>,
+    best: Option<(usize, &'j CompletedCall)>,
     place: usize,
-    rest: Rest<'j>,
-) -> Option<(usize, &'j Note)>
+    rest: RemainingCalls<'j>,
+) -> Option<(usize, &'j CompletedCall)>
     ensures { (lists : List (List Entry)) →
         list_at lists place ≡ entries_of rest.entry.client rest.entry.notes.now →
         IsBest lists place best.entry → IsBest lists (place + 1) result }
@@ -62,10 +62,10 @@ fn better<'j>(
 }
 
 /// Returns the client whose next call is written next, and that call; None if no call remains.
-fn least<'j>(rests: &[Rest<'j>]) -> Option<(usize, &'j Note)>
+fn least<'j>(rests: &[RemainingCalls<'j>]) -> Option<(usize, &'j CompletedCall)>
     ensures { IsBest (left_of rests.now) (length rests.now) result }
 {
-    let mut best: Option<(usize, &'j Note)> = None;
+    let mut best: Option<(usize, &'j CompletedCall)> = None;
     'clients: for place in 0..rests.len() {
         best = better(best, place, rests[place]);
     }
@@ -73,7 +73,7 @@ fn least<'j>(rests: &[Rest<'j>]) -> Option<(usize, &'j Note)>
 }
 
 /// Removes and returns the call that is written next; None if no call remains.
-pub(crate) fn take_least<'j>(rests: &mut [Rest<'j>]) -> Option<Picked<'j>>
+pub(crate) fn take_least<'j>(rests: &mut [RemainingCalls<'j>]) -> Option<NextCall<'j>>
     ensures some { IfSome result (λ picked.
         Picks (picked_entry picked) (left_of rests.old) (left_of rests.new)) }
     ensures none { IfNone result (IsEmpty (left_of rests.old)) }
@@ -81,6 +81,6 @@ pub(crate) fn take_least<'j>(rests: &mut [Rest<'j>]) -> Option<Picked<'j>>
     let (place, note) = least(rests)?;
     let rest = rests[place];
     let (client, notes) = (rest.client, &rest.notes[1..]);
-    rests[place] = Rest { client, notes };
-    Some(Picked { client, note })
+    rests[place] = RemainingCalls { client, notes };
+    Some(NextCall { client, note })
 }

@@ -6,7 +6,8 @@ ghost use Rattle.load_record.specs.Judged.{AttemptTextsAreRead, TextsAreJudgedBy
 ghost use Rattle.load_record.specs.Judged.{TextsAreOpaqueUpToPrecedence};
 ghost use Rattle.load_record.specs.Records.{OutcomesAreJudgedApart, SerialAttemptsAreLegal};
 ghost use Rattle.load_record.specs.Records.{AttemptsInPlaceAreLegal};
-ghost use Rattle.load_record.specs.Loads.{LoadsBeginWithTheirHeap};
+ghost use Rattle.load_record.specs.Loads.{LoadsBeginWithTheirHeap, LoadsMakeTheirHistory};
+ghost use Rattle.load_record.specs.Loads.{LoadsAreJudgedByAbortsAndTimes};
 ghost use Rattle.load_record.specs.Ordered.{OrderedAttemptsAreMadeSerially};
 ghost use Rattle.load_record.specs.Ordered.{HistoriesAreOpaqueUpToPrecedence};
 
@@ -88,6 +89,26 @@ pub fn histories_are_opaque_up_to_precedence()
 /// or fit.
 pub fn attempts_of_a_load_begin_with_its_heap()
     ensures { LoadsBeginWithTheirHeap }
+{}
+
+/// States that the committed attempts of a load, in the order in which they are written, made the
+/// history of its calls, as `histories_are_opaque_up_to_precedence` asks: if the completed calls
+/// of the load made the records of a sorted history that is serial from the words of the heap, one
+/// call for each record, in any order.
+pub fn attempts_of_a_load_make_its_history()
+    ensures { LoadsMakeTheirHistory }
+{}
+
+/// States that the text of a load's attempts, at as many words as its heap has, is opaque for the
+/// judge if and only if each aborted attempt reads what the committed attempts before it and its
+/// own writes leave, the attempts of each client are in turn, and no attempt comes before an
+/// attempt that had ended before it began. So the judge can find no other fault, if the attempts
+/// fit and the completed calls of the load made a history, as
+/// `attempts_of_a_load_make_its_history` asks.
+///
+/// Not said: that a load's aborted attempts and times are right, or that its attempts fit.
+pub fn loads_are_judged_by_their_aborts_and_times()
+    ensures { LoadsAreJudgedByAbortsAndTimes }
 {}
 
 /// States that three attempts, worked out by hand, meet the conditions of

@@ -3,16 +3,16 @@
 ghost use Rattle.std.specs.Prelude.{◌≡◌};
 
 use stm_words::Version;
-use vac_manager::Place;
+use vac_manager::CommitPosition;
 
 /// Returns the commit position at the first version, of its writer or of a reader.
-pub(crate) fn first_place(wrote: bool) -> Place
+pub(crate) fn first_place(wrote: bool) -> CommitPosition
     ensures { result ≡ record { renewal = 0; version = 0; wrote = wrote } }
 {
     let Some(version) = Version::new(0) else {
         unreachable!()
     };
-    Place {
+    CommitPosition {
         renewal: 0,
         version,
         wrote,

@@ -5,49 +5,49 @@ ghost use Rattle.load_record.specs.Noted.{none_committed};
 
 use crate::accesses::Accesses;
 use crate::places::first_place;
-use crate::{Watch, stamp};
+use crate::{StampClock, stamp};
 use std::alloc::{AllocError, Global};
 use std::mem;
 use stm_attempt::Stop;
 use stm_words::Version;
 use tx_memory::{TxMem, TxRead};
 use tx_observed::Observed;
-use vac_manager::{AttemptNote, Body, Object, Place, Tracer};
+use vac_manager::{Body, CommitPosition, Object, TracedAttempt, Tracer};
 
 /// A tracer of the attempts of a client's calls, which reads a clock before and after each
-/// attempt. Aborted attempts are collected in the trail. The attempt that committed stays in the
-/// trail until it is taken.
+/// attempt. Aborted attempts are collected in the tracer. The attempt that committed stays in the
+/// tracer until it is taken.
 #[derive(Drop)]
-pub struct Trail<W> {
+pub struct AttemptTracer<W> {
     alloc: Global,
     watch: W,
     /// The last stamp: the begin of the running attempt, or the end of the last one.
     latest: u64,
     /// The commit position of a record that reads at the running attempt's read version.
-    place: Place,
+    place: CommitPosition,
     accesses: Accesses,
-    given_up: Vec<AttemptNote>,
-    committed: Option<AttemptNote>,
+    given_up: Vec<TracedAttempt>,
+    committed: Option<TracedAttempt>,
     /// True if there was room for each attempt.
     is_whole: bool,
     ghost aborted: { none_committed given_up.items ≡ true },
 }
 
-impl<W: Watch> Trail<W> {
+impl<W: StampClock> AttemptTracer<W> {
     ghost use Rattle.std.specs.Prelude.{[], None, IfSome, IfOk};
     ghost use Rattle.vac_manager.specs.Tracing.{trace_of, IsLastTraced};
     ghost use Rattle.load_record.specs.Known.{ended_by, is_whole_trail};
     ghost use Rattle.load_record.specs.StampedAttempts.{IsStamped};
 
-    /// Returns an empty trail, whose times are read from this clock.
-    pub(crate) fn new(alloc: Global, watch: W) -> Trail<W>
+    /// Returns an empty tracer, whose times are read from this clock.
+    pub(crate) fn new(alloc: Global, watch: W) -> AttemptTracer<W>
         ensures given_up { result.given_up.items ≡ [] }
         ensures committed { result.committed ≡ None }
         ensures whole { is_whole_trail result ≡ true }
         ensures fresh { result.latest ≡ 0 }
         ensures watch { result.watch ≡ watch }
     {
-        Trail {
+        AttemptTracer {
             alloc,
             watch,
             latest: 0,
@@ -67,14 +67,14 @@ impl<W: Watch> Trail<W> {
     }
 
     /// Returns the aborted attempts.
-    pub(crate) fn given_up(&self) -> &[AttemptNote]
+    pub(crate) fn given_up(&self) -> &[TracedAttempt]
         ensures { result.now ≡ self.now.given_up.items }
     {
         self.given_up.as_slice()
     }
 
     /// Takes out the attempt that committed, and returns it if there was room for all attempts.
-    pub(crate) fn take_committed(&mut self) -> Option<Box<AttemptNote>>
+    pub(crate) fn take_committed(&mut self) -> Option<Box<TracedAttempt>>
         ensures last { IfSome result (λ a. IsLastTraced (ended_by self.old) (trace_of a.value)) }
         ensures taken { self.new.committed ≡ None }
         ensures given_up { self.new.given_up.items ≡ self.old.given_up.items }
@@ -88,7 +88,7 @@ impl<W: Watch> Trail<W> {
     }
 
     /// Returns the attempt that has ended, with all its reads and writes.
-    fn end(&mut self, commits: bool, place: Place) -> Result<AttemptNote, AllocError>
+    fn end(&mut self, commits: bool, place: CommitPosition) -> Result<TracedAttempt, AllocError>
         ensures trace { IfOk result (λ a. trace_of a ≡ record {
           commits = commits;
           place = place;
@@ -108,7 +108,7 @@ impl<W: Watch> Trail<W> {
             return Err(AllocError);
         }
         let accesses = self.accesses.copied()?;
-        Ok(AttemptNote {
+        Ok(TracedAttempt {
             begin,
             end,
             commits,
@@ -118,25 +118,25 @@ impl<W: Watch> Trail<W> {
     }
 }
 
-impl<W: Watch + Copy> Trail<W> {
+impl<W: StampClock + Copy> AttemptTracer<W> {
     ghost use Rattle.std.specs.Prelude.{[], Some};
     ghost use Rattle.load_record.specs.Known.{ended_by};
 
-    /// Takes the trail, and leaves an empty one with the same clock.
-    pub(crate) fn take(&mut self) -> Trail<W>
+    /// Takes the tracer, and leaves an empty one with the same clock.
+    pub(crate) fn take(&mut self) -> AttemptTracer<W>
         ensures taken { result ≡ self.old }
         ensures empty { ended_by self.new ≡ Some [] }
         ensures watch { self.new.watch ≡ self.old.watch }
     {
-        let empty = Trail::new(self.alloc, self.watch);
+        let empty = AttemptTracer::new(self.alloc, self.watch);
         mem::replace(self, empty)
     }
 }
 
-impl<W: Watch> Tracer for Trail<W> {
+impl<W: StampClock> Tracer for AttemptTracer<W> {
     ghost use Rattle.std.specs.Prelude.{◌≡◌, ◌∷◌, ◌++◌, [], false, None, IfSome};
-    ghost use Rattle.vac_manager.specs.declared.note.AttemptNote.{AttemptNote};
-    ghost use Rattle.vac_manager.specs.Tracing.{HasNoAccess, HasTracedCommit, HasGivenUp};
+    ghost use Rattle.vac_manager.specs.declared.note.TracedAttempt.{TracedAttempt};
+    ghost use Rattle.vac_manager.specs.Tracing.{HasNoAccess, HasTracedCommit, HasTracedAbort};
     ghost use Rattle.load_record.specs.Stamps.{IsStamp};
     ghost use Rattle.load_record.specs.Known.{known, ended_by};
     ghost use Rattle.load_record.specs.StampedAttempts.{IsStamped};
@@ -179,7 +179,7 @@ impl<W: Watch> Tracer for Trail<W> {
           wrote = false;
         } }
     {
-        self.place = Place {
+        self.place = CommitPosition {
             renewal,
             version,
             wrote: false,
@@ -214,7 +214,7 @@ impl<W: Watch> Tracer for Trail<W> {
     ///
     /// Not said: that `prepare` was called since the last attempt ended, and that this attempt
     /// ended right before the call. The caller guarantees both.
-    fn commit(&mut self, place: &Place)
+    fn commit(&mut self, place: &CommitPosition)
         ensures ended { HasTracedCommit place.now
             (known self.old.accesses.is_whole self.old.accesses.items.items)
             (ended_by self.old) (ended_by self.new) }
@@ -232,13 +232,13 @@ impl<W: Watch> Tracer for Trail<W> {
     ///
     /// Not said: as for `commit`.
     fn give_up(&mut self, _stop: &Stop)
-        ensures ended { HasGivenUp
+        ensures ended { HasTracedAbort
             (known self.old.accesses.is_whole self.old.accesses.items.items)
             (ended_by self.old) (ended_by self.new) }
-        ensures stamped { (a : AttemptNote) →
+        ensures stamped { (a : TracedAttempt) →
             self.new.given_up.items ≡ self.old.given_up.items ++ (a ∷ []) →
             IsStamped W.shows self.old self.new a }
-        ensures placed { (a : AttemptNote) →
+        ensures placed { (a : TracedAttempt) →
             self.new.given_up.items ≡ self.old.given_up.items ++ (a ∷ []) →
             a.place ≡ self.old.place }
     {

@@ -4,12 +4,12 @@ ghost use Rattle.std.specs.Prelude.{ℕ};
 
 use std::time::{Clock, Instant};
 
-/// A clock from which a journal reads its times.
-pub trait Watch {
+/// A clock from which a call recorder reads its times.
+pub trait StampClock {
     /// The relation between the state before a reading, the number read, and the state after it.
     ghost shows: { Self → ℕ → Self → Type 0 };
 
-    /// Reads the clock, in nanoseconds since a start that all journals of a history share.
+    /// Reads the clock, in nanoseconds since a start that all call recorders of a history share.
     fn read(&mut self) -> u64
         ensures { shows self.old result self.new };
 }
@@ -17,19 +17,19 @@ pub trait Watch {
 /// A clock whose time counts from a start.
 #[derive(Drop)]
 #[derive_where(Clone, Copy)]
-pub struct Since<'a, C> {
+pub struct ElapsedClock<'a, C> {
     clock: &'a C,
     start: Option<Instant>,
 }
 
-impl<'a, C: Clock> Since<'a, C> {
+impl<'a, C: Clock> ElapsedClock<'a, C> {
     /// Returns the clock, counting from this start.
-    pub fn new(clock: &'a C, start: Option<Instant>) -> Since<'a, C> {
-        Since { clock, start }
+    pub fn new(clock: &'a C, start: Option<Instant>) -> ElapsedClock<'a, C> {
+        ElapsedClock { clock, start }
     }
 }
 
-impl<C: Clock> Watch for Since<'_, C> {
+impl<C: Clock> StampClock for ElapsedClock<'_, C> {
     ghost shows = { λ _ _ _. Unit {0} };
 
     /// Returns the nanoseconds since the start.

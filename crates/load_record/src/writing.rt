@@ -14,18 +14,18 @@ ghost use Rattle.load_record.specs.Text.{WroteAttempts, WroteAttemptsPrefix};
 
 use crate::gathering::{add_all, add_attempts};
 use crate::laying::lay;
-use crate::ledger::Ledger;
+use crate::ledger::AttemptRecorder;
 use crate::lines::{Line, append_line};
-use crate::{Watch, rank};
+use crate::{StampClock, rank};
 use load_tasks::OPENING;
 use std::alloc::Global;
 use std::io::Write;
-use vac_manager::AttemptNote;
+use vac_manager::TracedAttempt;
 use vac_streams::{StreamFault, send_chunk, send_rest};
 
 /// Returns the sort key of an attempt: its renewal, its version with the writer of a version
 /// before its readers, its begin, and its end.
-fn key_of(attempt: &AttemptNote) -> (u32, u64, u64, u64)
+fn key_of(attempt: &TracedAttempt) -> (u32, u64, u64, u64)
     ensures { result ≡ (
       attempt.now.place.renewal,
       rank_of attempt.now.place,
@@ -76,18 +76,18 @@ fn send_lines<O: Write>(
     Ok(())
 }
 
-/// Returns whether each ledger had room for each call and each attempt.
-fn all_whole<W: Watch + Copy + Drop>(clients: &[Ledger<W>]) -> bool
+/// Returns whether each attempt recorder had room for each call and each attempt.
+fn all_whole<W: StampClock + Copy + Drop>(clients: &[AttemptRecorder<W>]) -> bool
     ensures { result ≡ list_all is_whole_ledger clients.now }
 {
     clients.iter().all(|ledger| ledger.is_whole())
 }
 
-/// Returns whether the ledgers of the setup phase and of the clients had room for each call and
-/// each attempt.
-pub fn are_whole_attempts<W: Watch + Copy + Drop>(
-    opening: &Ledger<W>,
-    clients: &[Ledger<W>],
+/// Returns whether the attempt recorders of the setup phase and of the clients had room for each
+/// call and each attempt.
+pub fn are_whole_attempts<W: StampClock + Copy + Drop>(
+    opening: &AttemptRecorder<W>,
+    clients: &[AttemptRecorder<W>],
 ) -> bool
     ensures { result ≡ are_whole_ledgers opening.now clients.now }
 {
@@ -101,13 +101,13 @@ pub fn are_whole_attempts<W: Watch + Copy + Drop>(
 /// readers, by begin, and by end.
 ///
 /// Allocates a few words for each attempt, and memory for one chunk of text. After a fault, the
-/// output has nothing or a prefix of such a text. If a ledger had no room for a call or for an
-/// attempt, nothing is written, and the fault is that memory was refused.
-pub fn write_attempts<W: Watch + Copy + Drop, O: Write>(
+/// output has nothing or a prefix of such a text. If an attempt recorder had no room for a call or
+/// for an attempt, nothing is written, and the fault is that memory was refused.
+pub fn write_attempts<W: StampClock + Copy + Drop, O: Write>(
     alloc: Global,
     blocks: u32,
-    opening: &Ledger<W>,
-    clients: &[Ledger<W>],
+    opening: &AttemptRecorder<W>,
+    clients: &[AttemptRecorder<W>],
     output: &mut O,
 ) -> Result<(), StreamFault>
     requires blocks { is_block_count blocks ≡ true }

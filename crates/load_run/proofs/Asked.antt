@@ -16,10 +16,10 @@ use Rattle.vac_manager.specs.Called.{CallerShown}
 use Rattle.vac_manager.specs.Tracing.{HasTraced, Trace}
 use Rattle.vac_manager.specs.declared.fault.Fault.{Fault}
 use Rattle.vac_manager.specs.declared.fault.Fault.TheVariants as fault
-use Rattle.vac_manager.specs.declared.placed.Effort.{Effort}
-use Rattle.vac_manager.specs.declared.placed.Placed.{Placed}
+use Rattle.vac_manager.specs.declared.placed.CallStatistics.{CallStatistics}
+use Rattle.vac_manager.specs.declared.placed.PlacedReply.{PlacedReply}
 use Rattle.load_run.specs.Asking.{HasRecorded}
-use Rattle.load_run.specs.Attempted.{IsEffort, no_effort, with_call}
+use Rattle.load_run.specs.Attempted.{AreStatistics, no_attempts, with_call}
 use Rattle.load_run.specs.Keeping.{KeptNotes, HasKeptAdded}
 use Rattle.load_run.specs.Looping.{Answered, AreOfTasks, Clocked, counted, least_attempts_of, nothing}
 use Rattle.load_run.specs.Looping.{answered_by}
@@ -35,13 +35,13 @@ use Rattle.load_run.proofs.Notes.{kept_none, kept_one}
 -- client met no conflict; if the call completed, the client's records are a complete history, and
 -- otherwise the call was refused as a command of the setup phase is
 pub record WasAsked (region : RegionShown) (t : Task) (tries : ℕ) (end : Result (Unit {0}) Fault)
-    (e : Effort) (v v' : Client) (before after : KeptNotes) : Type 0 where
+    (e : CallStatistics) (v v' : Client) (before after : KeptNotes) : Type 0 where
   pub in_range : IfErr end (λ why. why ≢ fault.Arguments)
   pub answered : Answered region.renewal (answered_by t end) v v'
   pub attempts : v.attempt.number + least_attempts_of tries end ≤ v'.attempt.number
   pub alone : HasAllGrants v → (counted end nothing).busy ≡ 0
   pub clock : HasAllGrants v → Clocked region.last v v' (counted end nothing)
-  pub took : IsEffort tries (counted end nothing) (with_call e no_effort)
+  pub took : AreStatistics tries (counted end nothing) (with_call e no_attempts)
   pub kept : HasKeptAdded v v' before after
   pub ready : HasAllGrants v → IfOk end (λ _. IsAnswered region v')
   pub refused : HasAllGrants v → IfErr end (λ why. IsOpeningFault region.last v.floor why)
@@ -56,7 +56,7 @@ traced_by r v v' a b k m e f h = subst (λ (o : Option (List Trace)). HasTraced 
     (subst (λ (o : Option (List Trace)). HasTraced r v v' o k) e h)
 
 -- there was no room to keep the call
-pub asked_none : (region : RegionShown) (t : Task) (tries : ℕ) (e : Effort) (v : Client) (a b : KeptNotes) →
+pub asked_none : (region : RegionShown) (t : Task) (tries : ℕ) (e : CallStatistics) (v : Client) (a b : KeptNotes) →
     is_try_count tries ≡ true → e ≡ nothing_done → b ≡ a → WasAsked region t tries (Err fault.Memory) e v v a b
 asked_none region t tries e v a b some none same = record {
   in_range = λ q. cc;
@@ -72,16 +72,16 @@ asked_none region t tries e v a b some none same = record {
 
 -- what a loop needs of a task that was issued
 pub record Issued {E : Type 0} (region : RegionShown) (built : Result Task E) (tries : ℕ)
-    (end : Result (Unit {0}) Fault) (e : Effort) (v v' : Client) (a b : KeptNotes) : Type 0 where
+    (end : Result (Unit {0}) Fault) (e : CallStatistics) (v v' : Client) (a b : KeptNotes) : Type 0 where
   pub in_range : IfErr end (λ why. why ≢ fault.Arguments)
   pub one : RanOne region.renewal built tries end v v'
   pub clock : HasAllGrants v → Clocked region.last v v' (counted end nothing)
-  pub took : IsEffort tries (counted end nothing) (with_call e no_effort)
+  pub took : AreStatistics tries (counted end nothing) (with_call e no_attempts)
   pub kept : HasKeptAdded v v' a b
 
 -- a task that was built, and for whose call there was room
 pub issued : {E : Type 0} (region : RegionShown) (drawn : Result Task E) (t : Task) (tries : ℕ)
-    (end : Result (Unit {0}) Fault) (e : Effort) (v v' : Client) (a b : KeptNotes) → drawn ≡ Ok t →
+    (end : Result (Unit {0}) Fault) (e : CallStatistics) (v v' : Client) (a b : KeptNotes) → drawn ≡ Ok t →
     WasAsked region t tries end e v v' a b → Issued region drawn tries end e v v' a b
 issued region drawn t tries end e v v' a b is h =
     subst (λ (x : Result Task _). Issued region x tries end e v v' a b) (sym is) (record {
@@ -93,7 +93,8 @@ issued region drawn t tries end e v v' a b is h =
     })
 
 -- a task that was not built, or for whose call there was no room
-pub issued_none : {E : Type 0} (region : RegionShown) (drawn : Result Task E) (tries : ℕ) (e : Effort) (v : Client)
+pub issued_none : {E : Type 0} (region : RegionShown) (drawn : Result Task E) (tries : ℕ) (e : CallStatistics)
+    (v : Client)
     (a b : KeptNotes) → is_try_count tries ≡ true → e ≡ nothing_done → b ≡ a →
     Issued region drawn tries (Err fault.Memory) e v v a b
 issued_none region (Ok t) tries e v a b some none same =
@@ -110,15 +111,16 @@ attempt_more : (n m tries : ℕ) → n < m → n + least_attempts_of {R = Unit {
 attempt_more n m tries less = omega arith
 
 -- the call was answered, and kept
-pub asked_answered : (region : RegionShown) (t : Task) (tries : ℕ) (end : Result Placed Fault) (p : Placed) (e : Effort)
+pub asked_answered : (region : RegionShown) (t : Task) (tries : ℕ) (end : Result PlacedReply Fault) (p : PlacedReply)
+    (e : CallStatistics)
     (c c' : ClientShown) (a b k : KeptNotes) (before traced : Option (List Trace)) →
     end ≡ Ok p → HasCalledPlaced region t tries end e c c' → HasTraced (replied end) c.value c'.value before traced →
     b ≡ a → HasKept t p traced b k → WasAsked region t tries (Ok tt) e c.value c'.value a k
 asked_answered region t tries end p e c c' a b k before traced is h told same kept =
     let called : HasCalledPlaced region t tries (Ok p) e c c' =
-    subst (λ (r : Result Placed Fault). HasCalledPlaced region t tries r e c c') is h in
+    subst (λ (r : Result PlacedReply Fault). HasCalledPlaced region t tries r e c c') is h in
     let attempts : HasTraced {X = Fault} (Ok p.reply) c.value c'.value before traced =
-    subst (λ (r : Result Placed Fault). HasTraced (replied r) c.value c'.value before traced) is told in
+    subst (λ (r : Result PlacedReply Fault). HasTraced (replied r) c.value c'.value before traced) is told in
     record {
       in_range = tt;
       answered = answered_one region.renewal t p.reply c.value c'.value called.call.records called.call.floor
@@ -126,8 +128,8 @@ asked_answered region t tries end p e c c' a b k before traced is h told same ke
       attempts = attempt_more c.value.attempt.number c'.value.attempt.number tries called.call.attempts.0;
       alone = λ alone. refl;
       clock = λ alone. clocked_answered region.last p.reply c.value c'.value (called.call.next alone);
-      took = took_answered tries c.value.attempt.number c'.value.attempt.number p called.effort.conflicts e
-          called.call.attempts called.effort.effort called.effort.begun;
+      took = took_answered tries c.value.attempt.number c'.value.attempt.number p called.statistics.conflicts e
+          called.call.attempts called.statistics.statistics called.statistics.begun;
       kept = kept_one region.renewal t p c.value c'.value a b k before traced called.place attempts same kept;
       ready = λ alone. record { whole = called.call.whole alone; legal = called.call.legal };
       refused = λ alone. tt;
@@ -159,12 +161,13 @@ opening_fault region t tries (fault.Busy conflict) v v' known next why = next
 opening_fault region t tries (fault.Spent version) v v' known next why = (why.1.version_is, next)
 
 -- the call was refused
-pub asked_refused : (region : RegionShown) (t : Task) (tries : ℕ) (end : Result Placed Fault) (f : Fault) (e : Effort)
+pub asked_refused : (region : RegionShown) (t : Task) (tries : ℕ) (end : Result PlacedReply Fault) (f : Fault)
+    (e : CallStatistics)
     (c c' : ClientShown) (a b : KeptNotes) → is_task t ≡ true → is_try_count tries ≡ true → end ≡ Err f →
     HasCalledPlaced region t tries end e c c' → b ≡ a → WasAsked region t tries (Err f) e c.value c'.value a b
 asked_refused region t tries end f e c c' a b range some is h same =
     let called : HasCalledPlaced region t tries (Err f) e c c' =
-    subst (λ (r : Result Placed Fault). HasCalledPlaced region t tries r e c c') is h in
+    subst (λ (r : Result PlacedReply Fault). HasCalledPlaced region t tries r e c c') is h in
     let known : f ≢ fault.Arguments = λ q.
     clash (is_task t) (is_try_count tries) range some (called.call.arguments.0 (ap Err q)) in
     record {
@@ -173,8 +176,8 @@ asked_refused region t tries end f e c c' a b range some is h same =
       attempts = refused_attempts c.value.attempt.number c'.value.attempt.number tries f called.call.attempts;
       alone = λ alone. none_busy f (called.call.alone alone);
       clock = λ alone. clocked_refused region.last f c.value c'.value (called.call.next alone);
-      took = took_refused tries c.value.attempt.number c'.value.attempt.number f called.effort.conflicts e known
-          called.call.attempts called.effort.effort called.effort.begun;
+      took = took_refused tries c.value.attempt.number c'.value.attempt.number f called.statistics.conflicts e known
+          called.call.attempts called.statistics.statistics called.statistics.begun;
       kept = kept_none c.value c'.value a b called.place same;
       ready = λ alone. tt;
       refused = λ alone. opening_fault region t tries f c.value c'.value known (called.call.next alone)
@@ -182,8 +185,8 @@ asked_refused region t tries end f e c c' a b range some is h same =
     }
 
 -- a call that was recorded after it ended
-pub asked_recorded : (region : RegionShown) (t : Task) (tries : ℕ) (end : Result Placed Fault)
-    (ended : Result (Unit {0}) Fault) (e : Effort) (c c' : ClientShown) (a b k : KeptNotes)
+pub asked_recorded : (region : RegionShown) (t : Task) (tries : ℕ) (end : Result PlacedReply Fault)
+    (ended : Result (Unit {0}) Fault) (e : CallStatistics) (c c' : ClientShown) (a b k : KeptNotes)
     (before traced : Option (List Trace)) → is_task t ≡ true → is_try_count tries ≡ true →
     HasCalledPlaced region t tries end e c c' → HasTraced (replied end) c.value c'.value before traced →
     b ≡ a → HasRecorded t end ended traced b k → WasAsked region t tries ended e c.value c'.value a k
@@ -204,7 +207,7 @@ no_record n v v' a = a.records ∙ (ap (λ (l : List Record). v.records ++ l) (n
     append-nil v.records)
 
 -- a command of the opening was answered
-pub command_answered : (command : Command) (e : Effort) (y y' : CallerShown) (a b : KeptNotes)
+pub command_answered : (command : Command) (e : CallStatistics) (y y' : CallerShown) (a b : KeptNotes)
     (end : Result (Unit {0}) Fault) → HasAllGrants y.user.value →
     WasAsked y.shared (One command) 1 end e y.user.value y'.user.value a b →
     IfOk end (λ _. WasAnswered command y y' a b)
@@ -217,7 +220,7 @@ command_answered command e y y' a b (Ok x) alone h = record {
 command_answered command e y y' a b (Err f) alone h = tt
 
 -- it was refused
-pub command_refused : (command : Command) (e : Effort) (y y' : CallerShown) (a b : KeptNotes)
+pub command_refused : (command : Command) (e : CallStatistics) (y y' : CallerShown) (a b : KeptNotes)
     (end : Result (Unit {0}) Fault) → HasAllGrants y.user.value →
     WasAsked y.shared (One command) 1 end e y.user.value y'.user.value a b →
     IfErr end (λ why. WasRefused why y y')

@@ -4,20 +4,20 @@ use Rattle.std.proofs.Math.Nat.{add-mul}
 use Rattle.stm_attempt.specs.declared.conflict.Conflict.{Conflict}
 use Rattle.vac_manager.specs.declared.fault.Fault.{Fault}
 use Rattle.vac_manager.specs.declared.fault.Fault.TheVariants as fault
-use Rattle.vac_manager.specs.declared.placed.Placed.{Placed}
-use Rattle.vac_manager.specs.declared.placed.Effort.{Effort}
+use Rattle.vac_manager.specs.declared.placed.PlacedReply.{PlacedReply}
+use Rattle.vac_manager.specs.declared.placed.CallStatistics.{CallStatistics}
 use Rattle.vac_manager.specs.Called.{Attempts}
-use Rattle.vac_manager.specs.Placed.{closed_by, conflicts_of, effort_of, locks_of, nothing_done, one_more}
+use Rattle.vac_manager.specs.Placed.{closed_by, conflicts_of, statistics_of, locks_of, nothing_done, one_more}
 use Rattle.vac_manager.proofs.Counting.{each_counted, each_located}
 use Rattle.load_run.specs.declared.outcomes.Outcomes.{Outcomes}
 use Rattle.load_run.specs.declared.statistics.AttemptStatistics.{AttemptStatistics}
 use Rattle.load_run.specs.Looping.{nothing, counted, total, plus}
-use Rattle.load_run.specs.Attempted.{IsEffort, no_effort, with_call, both_efforts}
+use Rattle.load_run.specs.Attempted.{AreStatistics, no_attempts, with_call, both_statistics}
 
 -- a task that is not busy took one attempt more than there were conflicts
-quiet : (tries : ℕ) (t : Outcomes) (x : Effort) → t.busy ≡ 0 → t.answered + t.memory + t.spent ≡ 1 →
+quiet : (tries : ℕ) (t : Outcomes) (x : CallStatistics) → t.busy ≡ 0 → t.answered + t.memory + t.spent ≡ 1 →
     x.attempts ≡ conflicts_of x → locks_of x + x.lost_tick ≡ conflicts_of x → x.attempts + 1 ≤ tries →
-    IsEffort tries t (with_call (one_more x) no_effort)
+    AreStatistics tries t (with_call (one_more x) no_attempts)
 quiet tries t x none one n l few =
     let all : total t * tries ≡ 1 * tries = ap (λ (k : ℕ). k * tries) (one_of t none one) in
     let busy : t.busy * tries ≡ 0 * tries = ap (λ (k : ℕ). k * tries) none in
@@ -34,8 +34,8 @@ quiet tries t x none one n l few =
     one_of u none one = omega (arith, none, one)
 
 -- one that is busy took as many as there were conflicts
-busy_only : (tries : ℕ) (x : Effort) → x.attempts ≡ conflicts_of x → locks_of x + x.lost_tick ≡ conflicts_of x →
-    x.attempts ≡ tries → IsEffort tries (record nothing { busy = 1 }) (with_call x no_effort)
+busy_only : (tries : ℕ) (x : CallStatistics) → x.attempts ≡ conflicts_of x → locks_of x + x.lost_tick ≡ conflicts_of x →
+    x.attempts ≡ tries → AreStatistics tries (record nothing { busy = 1 }) (with_call x no_attempts)
 busy_only tries x n l all = record {
   least = omega (arith, n);
   most = omega (arith, n);
@@ -52,43 +52,50 @@ all_tries : (before now tries k : ℕ) → now ≡ before + tries → before + k
 all_tries before now tries k few all = omega (arith, few, all)
 
 -- what a call took that was answered
-pub took_answered : (tries before now : ℕ) (p : Placed) (cs : List Conflict) (e : Effort) →
-    Attempts tries before now (Ok p.reply) → e ≡ closed_by (Ok p) (effort_of cs) → before + e.attempts ≡ now →
-    IsEffort tries (counted {R = Unit {0}} (Ok tt) nothing) (with_call e no_effort)
+pub took_answered : (tries before now : ℕ) (p : PlacedReply) (cs : List Conflict) (e : CallStatistics) →
+    Attempts tries before now (Ok p.reply) → e ≡ closed_by (Ok p) (statistics_of cs) → before + e.attempts ≡ now →
+    AreStatistics tries (counted {R = Unit {0}} (Ok tt) nothing) (with_call e no_attempts)
 took_answered tries before now p cs e a same b =
-    subst (λ (x : Effort). IsEffort tries (counted {R = Unit {0}} (Ok tt) nothing) (with_call x no_effort)) (sym same)
-    (quiet tries (counted {R = Unit {0}} (Ok tt) nothing) (effort_of cs) refl refl (each_counted cs) (each_located cs)
-    (within before now tries ((effort_of cs).attempts + 1) a.1
-    (sym (ap (λ (x : Effort). before + x.attempts) same) ∙ b)))
+    subst (λ (x : CallStatistics). AreStatistics tries (counted {R = Unit {0}} (Ok tt) nothing)
+    (with_call x no_attempts)) (sym same)
+    (quiet tries (counted {R = Unit {0}} (Ok tt) nothing) (statistics_of cs) refl refl (each_counted cs)
+    (each_located cs)
+    (within before now tries ((statistics_of cs).attempts + 1) a.1
+    (sym (ap (λ (x : CallStatistics). before + x.attempts) same) ∙ b)))
 
 -- what one took that was refused
 refused : (tries before now : ℕ) (f : Fault) (cs : List Conflict) → f ≢ fault.Arguments →
-    Attempts tries before now (Err f) → before + (closed_by {R = Placed} (Err f) (effort_of cs)).attempts ≡ now →
-    IsEffort tries (counted {R = Unit {0}} (Err f) nothing)
-    (with_call (closed_by {R = Placed} (Err f) (effort_of cs)) no_effort)
+    Attempts tries before now (Err f) → before + (closed_by {R = PlacedReply} (Err f) (statistics_of cs)).attempts
+    ≡ now →
+    AreStatistics tries (counted {R = Unit {0}} (Err f) nothing)
+    (with_call (closed_by {R = PlacedReply} (Err f) (statistics_of cs)) no_attempts)
 refused tries before now fault.Arguments cs known a b = absurd (known refl)
 refused tries before now fault.Memory cs known a b =
-    quiet tries (counted {R = Unit {0}} (Err fault.Memory) nothing) (effort_of cs) refl refl (each_counted cs)
-    (each_located cs) (within before now tries ((effort_of cs).attempts + 1) a.1 b)
+    quiet tries (counted {R = Unit {0}} (Err fault.Memory) nothing) (statistics_of cs) refl refl (each_counted cs)
+    (each_located cs) (within before now tries ((statistics_of cs).attempts + 1) a.1 b)
 refused tries before now (fault.Busy conflict) cs known a b =
-    busy_only tries (effort_of cs) (each_counted cs) (each_located cs)
-    (all_tries before now tries (effort_of cs).attempts a b)
+    busy_only tries (statistics_of cs) (each_counted cs) (each_located cs)
+    (all_tries before now tries (statistics_of cs).attempts a b)
 refused tries before now (fault.Spent version) cs known a b =
-    quiet tries (counted {R = Unit {0}} (Err (fault.Spent version)) nothing) (effort_of cs) refl refl (each_counted cs)
-    (each_located cs) (within before now tries ((effort_of cs).attempts + 1) a.1 b)
+    quiet tries (counted {R = Unit {0}} (Err (fault.Spent version)) nothing) (statistics_of cs) refl refl
+    (each_counted cs)
+    (each_located cs) (within before now tries ((statistics_of cs).attempts + 1) a.1 b)
 
-pub took_refused : (tries before now : ℕ) (f : Fault) (cs : List Conflict) (e : Effort) → f ≢ fault.Arguments →
-    Attempts tries before now (Err f) → e ≡ closed_by {R = Placed} (Err f) (effort_of cs) → before + e.attempts ≡ now →
-    IsEffort tries (counted {R = Unit {0}} (Err f) nothing) (with_call e no_effort)
+pub took_refused : (tries before now : ℕ) (f : Fault) (cs : List Conflict) (e : CallStatistics) → f ≢ fault.Arguments →
+    Attempts tries before now (Err f) → e ≡ closed_by {R = PlacedReply} (Err f) (statistics_of cs) →
+    before + e.attempts ≡ now →
+    AreStatistics tries (counted {R = Unit {0}} (Err f) nothing) (with_call e no_attempts)
 took_refused tries before now f cs e known a same b =
-    subst (λ (x : Effort). IsEffort tries (counted {R = Unit {0}} (Err f) nothing) (with_call x no_effort)) (sym same)
-    (refused tries before now f cs known a (sym (ap (λ (x : Effort). before + x.attempts) same) ∙ b))
+    subst (λ (x : CallStatistics). AreStatistics tries (counted {R = Unit {0}} (Err f) nothing)
+    (with_call x no_attempts)) (sym same)
+    (refused tries before now f cs known a (sym (ap (λ (x : CallStatistics). before + x.attempts) same) ∙ b))
 
 -- want of memory before a call took nothing
-pub took_none : (tries : ℕ) (e : Effort) → 1 ≤ tries → e ≡ nothing_done →
-    IsEffort tries (counted {R = Unit {0}} (Err fault.Memory) nothing) (with_call e no_effort)
+pub took_none : (tries : ℕ) (e : CallStatistics) → 1 ≤ tries → e ≡ nothing_done →
+    AreStatistics tries (counted {R = Unit {0}} (Err fault.Memory) nothing) (with_call e no_attempts)
 took_none tries e some none =
-    subst (λ (x : Effort). IsEffort tries (counted {R = Unit {0}} (Err fault.Memory) nothing) (with_call x no_effort))
+    subst (λ (x : CallStatistics). AreStatistics tries (counted {R = Unit {0}} (Err fault.Memory) nothing)
+    (with_call x no_attempts))
     (sym none)
     (record {
       least = omega arith;
@@ -100,8 +107,8 @@ took_none tries e some none =
     })
 
 -- the tasks of two
-pub effort_both : (n : ℕ) (t u : Outcomes) (d e : AttemptStatistics) → IsEffort n t d → IsEffort n u e →
-    IsEffort n (plus t u) (both_efforts d e)
+pub effort_both : (n : ℕ) (t u : Outcomes) (d e : AttemptStatistics) → AreStatistics n t d → AreStatistics n u e →
+    AreStatistics n (plus t u) (both_statistics d e)
 effort_both n t u d e h k =
     let all : total (plus t u) ≡ total t + total u = omega arith in
     let p : total (plus t u) * n ≡ (total t + total u) * n = ap (λ (x : ℕ). x * n) all in
@@ -157,7 +164,7 @@ none_first : (m n : ℕ) → m + n ≡ m + (0 + n)
 none_first m n = omega arith
 
 -- what one more call took is added to what the others took
-call_both : (e : Effort) (d : AttemptStatistics) → with_call e d ≡ both_efforts d (with_call e no_effort)
+call_both : (e : CallStatistics) (d : AttemptStatistics) → with_call e d ≡ both_statistics d (with_call e no_attempts)
 call_both e d = λ i. record {
   attempts = none_first d.attempts e.attempts i;
   held = none_first d.held e.held i;
@@ -173,10 +180,11 @@ call_both e d = λ i. record {
 }
 
 -- one task more
-pub effort_counted : {R : Type 0} (n : ℕ) (end : Result R Fault) (t : Outcomes) (d : AttemptStatistics) (e : Effort) →
-    IsEffort n t d → IsEffort n (counted end nothing) (with_call e no_effort) →
-    IsEffort n (counted end t) (with_call e d)
+pub effort_counted : {R : Type 0} (n : ℕ) (end : Result R Fault) (t : Outcomes) (d : AttemptStatistics)
+    (e : CallStatistics) →
+    AreStatistics n t d → AreStatistics n (counted end nothing) (with_call e no_attempts) →
+    AreStatistics n (counted end t) (with_call e d)
 effort_counted n end t d e h k =
-    subst (λ (u : Outcomes). IsEffort n u (with_call e d)) (sym (counted_plus end t))
-    (subst (λ (f : AttemptStatistics). IsEffort n (plus t (counted end nothing)) f) (sym (call_both e d))
-    (effort_both n t (counted end nothing) d (with_call e no_effort) h k))
+    subst (λ (u : Outcomes). AreStatistics n u (with_call e d)) (sym (counted_plus end t))
+    (subst (λ (f : AttemptStatistics). AreStatistics n (plus t (counted end nothing)) f) (sym (call_both e d))
+    (effort_both n t (counted end nothing) d (with_call e no_attempts) h k))

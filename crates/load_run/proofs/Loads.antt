@@ -4,6 +4,7 @@ use Rattle.std.proofs.Common.{◌/◌, List, [], ◌∷◌, ◌++◌, length}
 use Rattle.std.proofs.Common.{length-append, map, refl, sym, inl, inr, ap, subst, arith}
 use Rattle.tx_memory.specs.Image.{In}
 use Rattle.stm_core.specs.Client.{Client, Record}
+use Rattle.stm_core.specs.History.{Serial}
 use Rattle.stm_region.specs.Shown.{RegionShown}
 use Rattle.vac_model.specs.declared.replies.Report.{Report}
 use Rattle.vac_model.specs.State.{State, empty_state, report}
@@ -109,11 +110,13 @@ pub loaded_kept : {D G K : Type 0} (leads : D → ℕ → D → Type 0) (notes :
     RoundHasRun leads (shown notes) s (s.rounds * s.tasks) y slots end →
     AreVersioned end.client.value.records →
     end.manager.size ≡ y.shared.size →
+    end.manager.first ≡ y.shared.first →
     ClosesSomewhere end.manager end.client.value words →
     ((x : State) → Shows words x → report x ≡ r) →
     LoadedKept leads s (λ slot. slot.draws) state slots end.outcomes.outcomes r before kept (kept_at notes slots)
     (kept_at notes end.slots.items)
-loaded_kept leads notes s state last slots y end before kept words r n opened keeps all versioned size closed shows =
+loaded_kept leads notes s state last slots y end before kept words r n opened keeps all versioned size first closed
+    shows =
     let ran = opened.ran in
     let closes = closed.1 in
     let added = ran.answered.added in
@@ -134,6 +137,9 @@ loaded_kept leads notes s state last slots y end before kept words r n opened ke
         opened = ran.answered.added;
         rest = all.rest;
         opening_first = all.behind ∙ ap (λ (l : List Record). l ++ all.rest) records;
+        image = y.shared.opening;
+        heap = opened.opens.heap;
+        serial = subst (λ (i : List ℕ). Serial i after.records) (first ∙ opened.opens.first) closes.ends.serial;
         in_order = closes.ends.sorted;
         versioned = versioned;
         commands = ran.commands;
@@ -184,6 +190,9 @@ kept_on leads s draws_of drawing state ps qs t r before after befores afters e h
     opened = h.loaded.opened;
     rest = h.loaded.rest;
     opening_first = h.loaded.opening_first;
+    image = h.loaded.image;
+    heap = h.loaded.heap;
+    serial = h.loaded.serial;
     in_order = h.loaded.in_order;
     versioned = h.loaded.versioned;
     commands = h.loaded.commands;

@@ -6,12 +6,12 @@ use Rattle.std.specs.Global.{Box}
 use Rattle.stm_core.specs.Client.{Client, Record}
 use Rattle.vac_model.specs.declared.tasks.Task.{Task}
 use Rattle.vac_model.specs.Code.{code}
-use Rattle.vac_manager.specs.declared.placed.Placed.{Placed}
+use Rattle.vac_manager.specs.declared.placed.PlacedReply.{PlacedReply}
 use Rattle.vac_model.specs.declared.replies.Reply.{Reply}
 use Rattle.vac_manager.specs.Placed.{AddsAt}
 use Rattle.vac_manager.specs.declared.fault.Fault.{Fault}
-use Rattle.vac_manager.specs.declared.note.Note.{Note}
-use Rattle.vac_manager.specs.declared.note.AttemptNote.{AttemptNote}
+use Rattle.vac_manager.specs.declared.note.CompletedCall.{CompletedCall}
+use Rattle.vac_manager.specs.declared.note.TracedAttempt.{TracedAttempt}
 use Rattle.vac_manager.specs.Tracing.{Trace, trace_of, IsLastTraced, IsTraceOf, IsOfAdded, HasTraced}
 use Rattle.vac_manager.specs.Keeping.{notes_behind, HasKept, IsNoted}
 use Rattle.load_run.specs.Lists.{Paired, none, both}
@@ -26,11 +26,12 @@ paired_both related (x ∷ xs) us [] vs p q = elim p [ ]
 
 behind_none : (k : KeptNotes) → notes_behind k [] ≡ k
 behind_none None = refl
-behind_none (Some ns) = ap (λ (l : List Note). Some l) (append-nil ns)
+behind_none (Some ns) = ap (λ (l : List CompletedCall). Some l) (append-nil ns)
 
-behind_both : (k : KeptNotes) (ns ms : List Note) → notes_behind (notes_behind k ns) ms ≡ notes_behind k (ns ++ ms)
+behind_both : (k : KeptNotes) (ns ms : List CompletedCall) →
+    notes_behind (notes_behind k ns) ms ≡ notes_behind k (ns ++ ms)
 behind_both None ns ms = refl
-behind_both (Some ks) ns ms = ap (λ (l : List Note). Some l) (append_assoc ks ns ms)
+behind_both (Some ks) ns ms = ap (λ (l : List CompletedCall). Some l) (append_assoc ks ns ms)
 
 pub are_kept_both : (rs qs : List Record) (a b c : KeptNotes) → AreKept rs a b → AreKept qs b c → AreKept (rs ++ qs) a c
 are_kept_both rs qs a b c p q = record {
@@ -77,7 +78,7 @@ is_of_record v v' r t e h = subst (λ (x : Record). IsTraceOf t x)
     (same_last v.records v.records h.added r (sym h.records ∙ e)) h.is
 
 -- so did the one that is noted, if any is
-noted_made : (o : Option (Box AttemptNote)) (reply : Reply) (v v' : Client) (r : Record)
+noted_made : (o : Option (Box TracedAttempt)) (reply : Reply) (v v' : Client) (r : Record)
     (before traced : Option (List Trace)) → v'.records ≡ v.records ++ (r ∷ []) →
     HasTraced {X = Fault} (Ok reply) v v' before traced →
     IfSome o (λ a. IsLastTraced traced (trace_of a.value)) → IfSome o (λ a. IsTraceOf (trace_of a.value) r)
@@ -86,7 +87,7 @@ noted_made (Some a) reply v v' r before traced e h last = is_of_record v v' r (t
 noted_made None reply v v' r before traced e h last = tt
 
 -- the call that added a record was kept
-pub kept_one : (renewal : ℕ) (t : Task) (p : Placed) (v v' : Client) (a b c : KeptNotes)
+pub kept_one : (renewal : ℕ) (t : Task) (p : PlacedReply) (v v' : Client) (a b c : KeptNotes)
     (before traced : Option (List Trace)) → AddsAt renewal (code t p.reply) p.place v v' →
     HasTraced {X = Fault} (Ok p.reply) v v' before traced → b ≡ a → HasKept t p traced b c → HasKeptAdded v v' a c
 kept_one renewal t p v v' a b c before traced adds attempts same h = record {

@@ -4,7 +4,7 @@ use Rattle.std.proofs.Common.{map, min, ◌+◌, ◌≤◌, append-nil, append_a
 use Rattle.std.specs.Vec.Iter.{into_iter_items, into_iter_len}
 use Rattle.load_tasks.specs.declared.settings.Settings.{Settings}
 use Rattle.load_run.specs.declared.workers.Worker.{Worker}
-use Rattle.load_run.specs.declared.workers.WorkOf.{WorkOf}
+use Rattle.load_run.specs.declared.workers.WorkerPromise.{WorkerPromise}
 use Rattle.load_run.specs.Lists.{Paired, none, both}
 use Rattle.load_run.specs.Slots.{SlotShown}
 use Rattle.load_run.specs.Load.{IsPromise, DidWork}
@@ -91,7 +91,7 @@ all_but_first P xs ys x e h = let g : All P (x ∷ ys) = subst (λ (l : List _).
 
 -- a promise of work that was kept
 pub kept_promise : {W D : Type 0} (leads : D → ℕ → D → Type 0) (shown_of : W →
-    SlotShown D) (s : Settings) (w : Worker W) (p : WorkOf W) (d : Worker W) →
+    SlotShown D) (s : Settings) (w : Worker W) (p : WorkerPromise W) (d : Worker W) →
     IsPromise s w p → DidWork leads shown_of p.settings p.worker.value d → DidWork leads shown_of s w d
 kept_promise leads shown_of s w p d h k =
     subst (λ (x : Settings). DidWork leads shown_of x w d) h.settings_is
@@ -99,7 +99,7 @@ kept_promise leads shown_of s w p d h k =
 
 -- promises of work that were kept
 pub worked_through : {W H D : Type 0} (leads : D → ℕ → D → Type 0) (shown_of : W →
-    SlotShown D) (s : Settings) (promise : H → WorkOf W)
+    SlotShown D) (s : Settings) (promise : H → WorkerPromise W)
     (ws : List (Worker W)) (hs : List H) (ds : List (Worker W)) →
     Paired (λ w h. IsPromise s w (promise h)) ws hs → Paired
     (λ h d. DidWork leads shown_of (promise h).settings (promise h).worker.value d) hs ds →

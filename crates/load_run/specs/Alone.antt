@@ -38,10 +38,12 @@ pub record IsReadyForRound (s : Settings) (y : CallerShown) : Type 0 where
   pub known : AreKnown y.shared.renewal y.user.value.floor y.user.value.records
   pub early : y.user.value.floor ≤ 4 * s.items
 
--- the manager was renewed with the records of its solo client, and the next round can begin
+-- the manager was renewed with the records of its solo client, and the next round can begin; the
+-- words of its first opening are the same
 pub record IsRenewed (s : Settings) (y y' : CallerShown) : Type 0 where
   pub renewal : y'.shared.renewal ≡ y.shared.renewal + 1
   pub size : y'.shared.size ≡ y.shared.size
+  pub first : y'.shared.first ≡ y.shared.first
   pub records : y'.user.value.records ≡ y.user.value.records
   pub alone : IsAloneInRenewal y'
   pub ready : IsReadyForRound s y'

@@ -1,13 +1,13 @@
 -- The attempt statistics of calls, and their relation to the results of the tasks.
 use Rattle.std.specs.Prelude.{◌≡◌, ◌≤◌, ℕ, ◌+◌, ◌*◌}
-use Rattle.vac_manager.specs.declared.placed.Effort.{Effort}
+use Rattle.vac_manager.specs.declared.placed.CallStatistics.{CallStatistics}
 use Rattle.load_run.specs.declared.statistics.AttemptStatistics.{AttemptStatistics}
 use Rattle.load_run.specs.declared.outcomes.Outcomes.{Outcomes}
 use Rattle.load_run.specs.Looping.{nothing, total}
 
 -- the attempt statistics of no call
-abbrev pub no_effort : AttemptStatistics
-no_effort = record {
+abbrev pub no_attempts : AttemptStatistics
+no_attempts = record {
   attempts = 0;
   held = 0;
   newer = 0;
@@ -30,7 +30,7 @@ abbrev pub lock_conflicts_in : AttemptStatistics → ℕ
 lock_conflicts_in e = e.roots + e.heads + e.nodes + e.uses + e.stocks
 
 -- the statistics with those of one more call added
-abbrev pub with_call : Effort → AttemptStatistics → AttemptStatistics
+abbrev pub with_call : CallStatistics → AttemptStatistics → AttemptStatistics
 with_call c e = record {
   attempts = e.attempts + c.attempts;
   held = e.held + c.held;
@@ -46,8 +46,8 @@ with_call c e = record {
 }
 
 -- the sums of both statistics
-abbrev pub both_efforts : AttemptStatistics → AttemptStatistics → AttemptStatistics
-both_efforts d e = record {
+abbrev pub both_statistics : AttemptStatistics → AttemptStatistics → AttemptStatistics
+both_statistics d e = record {
   attempts = d.attempts + e.attempts;
   held = d.held + e.held;
   newer = d.newer + e.newer;
@@ -80,7 +80,7 @@ uncounted tries = record { outcomes = nothing; tries = tries }
 -- more attempts. Only the sums are compared.
 -- Not said: the kind of a conflict, or the word that its lock guards; that no attempt is left out
 -- together with its conflict or its completed call.
-pub record IsEffort (tries : ℕ) (t : Outcomes) (e : AttemptStatistics) : Type 0 where
+pub record AreStatistics (tries : ℕ) (t : Outcomes) (e : AttemptStatistics) : Type 0 where
   pub least : conflicts_in e + t.answered + t.spent ≤ e.attempts
   pub most : e.attempts ≤ conflicts_in e + t.answered + t.memory + t.spent
   pub busy : t.busy * tries ≤ conflicts_in e

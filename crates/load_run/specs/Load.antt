@@ -4,9 +4,10 @@ use Rattle.std.specs.Prelude.{All, vec_len, Result, IfOk, IfErr}
 use Rattle.vac_model.specs.declared.tasks.Task.{Task}
 use Rattle.stm_core.specs.Client.{Client, Record, merged}
 use Rattle.stm_core.specs.declared.limits.TheConstants.{MOST_GRANTS}
-use Rattle.stm_core.specs.History.{Sub}
+use Rattle.stm_core.specs.History.{Sub, Serial}
 use Rattle.stm_core.specs.Invariant.{Sorted}
 use Rattle.stm_region.specs.Shown.{RegionShown}
+use Rattle.tx_alloc.specs.Spread.{IsSpreadHeap}
 use Rattle.vac_manager.specs.Called.{ClientShown, HasAllGrants, CallerShown}
 use Rattle.vac_manager.specs.Opening.{Opens}
 use Rattle.stm_object.specs.Callers.{GoesOn}
@@ -16,7 +17,7 @@ use Rattle.load_tasks.specs.declared.settings.Settings.{Settings}
 use Rattle.load_tasks.specs.declared.settings.TheConstants.{MOST_CLIENTS, MOST_TASKS}
 use Rattle.load_run.specs.declared.outcomes.Outcomes.{Outcomes}
 use Rattle.load_run.specs.declared.workers.Worker.{Worker}
-use Rattle.load_run.specs.declared.workers.WorkOf.{WorkOf}
+use Rattle.load_run.specs.declared.workers.WorkerPromise.{WorkerPromise}
 use Rattle.load_run.specs.declared.workers.Crew.{Crew}
 use Rattle.load_run.specs.declared.rounds.Round.{Round}
 use Rattle.load_run.specs.Alone.{IsAloneInRenewal, caller_of}
@@ -71,7 +72,7 @@ pub record DidAllWork {W D : Type 0} (leads : D → ℕ → D → Type 0) (shown
   pub others : Paired (DidWork leads shown_of s) crew.others.items done.others.items
 
 -- the promise is about the tasks of this worker with these settings
-pub record IsPromise {W : Type 0} (s : Settings) (w : Worker W) (p : WorkOf W) : Type 0 where
+pub record IsPromise {W : Type 0} (s : Settings) (w : Worker W) (p : WorkerPromise W) : Type 0 where
   pub settings_is : p.settings ≡ s
   pub worker_is : p.worker.value ≡ w
 
@@ -273,11 +274,13 @@ abbrev pub IsLoadFault : {D : Type 0} → (D → ℕ → D → Type 0) → Setti
 IsLoadFault leads s state e = (e ≡ load.Arguments) ⊎ StopsLoad leads s state e
 
 -- the result of a load: there is a history, legal from the empty state, whose final state has the
--- report. The commands of the setup phase come first, followed by exactly the completed tasks, in
--- the order of renewals and versions. The tasks of a client are drawn in turn over all rounds, and
--- the completed ones are in the history in their order. Each version has at most one writer, and a
--- reader wrote nothing. The counts cover all tasks of all clients in all rounds; with a single
--- client no task is busy, and if the clock has time, none finds the clock spent
+-- report. The history is also serial over words: it begins with the words of a partitioned heap,
+-- and each record reads what the records before it leave. The commands of the setup phase come
+-- first, followed by exactly the completed tasks, in the order of renewals and versions. The tasks
+-- of a client are drawn in turn over all rounds, and the completed ones are in the history in their
+-- order. Each version has at most one writer, and a reader wrote nothing. The counts cover all
+-- tasks of all clients in all rounds; with a single client no task is busy, and if the clock has
+-- time, none finds the clock spent
 -- Not said: with several clients, that a task counted as busy or spent was issued; that a task
 -- counted under memory was really refused memory. Tests count the completed calls.
 -- Not said: the round in which a task completed; that the manager is renewed between two rounds;
@@ -294,6 +297,9 @@ pub record HasLoaded {D P : Type 0} (leads : D → ℕ → D → Type 0) (s : Se
   pub opened : List Record
   pub rest : List Record
   pub opening_first : history ≡ opened ++ rest
+  pub image : List ℕ
+  pub heap : IsSpreadHeap image s.blocks
+  pub serial : Serial image history
   pub in_order : Sorted history
   pub versioned : AreVersioned history
   pub commands : List Command

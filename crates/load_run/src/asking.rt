@@ -5,7 +5,7 @@ ghost use Rattle.load_run.specs.Asking.{HasRecorded};
 
 use std::alloc::AllocError;
 use stm_attempt::{Gate, Point};
-use vac_manager::{Fault, Placed, Recorder};
+use vac_manager::{Fault, PlacedReply, Recorder};
 use vac_model::Task;
 
 /// Returns the task once the recorder has room for its call. Fails if the task could not be built,
@@ -27,7 +27,7 @@ pub(crate) fn with_room<K: Recorder>(
 /// Returns the result of the call without its reply.
 pub(crate) fn record_call<G: Gate, K: Recorder>(
     task: Task,
-    end: Result<Placed, Fault>,
+    end: Result<PlacedReply, Fault>,
     gate: &mut G,
     keep: &mut K,
 ) -> Result<(), Fault>

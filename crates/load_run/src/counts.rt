@@ -2,13 +2,13 @@
 
 ghost use Rattle.std.specs.Prelude.{◌≡◌, ◌≢◌, ◌<◌, ◌≤◌, ◌^◌, ◌+◌, IfErr};
 ghost use Rattle.vac_model.specs.declared.limits.TheConstants.{MOST_TRIES};
-ghost use Rattle.load_run.specs.Attempted.{IsEffort, no_effort, uncounted, with_call};
+ghost use Rattle.load_run.specs.Attempted.{AreStatistics, no_attempts, uncounted, with_call};
 ghost use Rattle.load_run.specs.Looping.{nothing, counted, total, plus};
 
 use crate::outcomes::Outcomes;
 use crate::statistics::AttemptStatistics;
 use std::marker::Model;
-use vac_manager::{Effort, Fault};
+use vac_manager::{CallStatistics, Fault};
 
 /// Counts of tasks by their result, each with at most `tries` attempts, and the attempt statistics
 /// of their calls. Contracts see the counts and the limit on attempts.
@@ -22,13 +22,14 @@ pub struct TaskCounts {
 impl Model for TaskCounts {
     ghost use Rattle.std.specs.Prelude.{◌≤◌};
     ghost use Rattle.vac_model.specs.declared.limits.TheConstants.{MOST_TRIES};
-    ghost use Rattle.load_run.specs.Attempted.{TaskCountsShown, IsEffort};
+    ghost use Rattle.load_run.specs.Attempted.{TaskCountsShown, AreStatistics};
 
     ghost Value = { TaskCountsShown };
 
     ghost view = { λ c. record { outcomes = c.outcomes; tries = c.tries } };
 
-    ghost invariant = { λ c. IsEffort c.tries c.outcomes c.statistics × (c.tries ≤ MOST_TRIES) };
+    ghost invariant = { λ c. AreStatistics c.tries c.outcomes c.statistics × (c.tries ≤
+        MOST_TRIES) };
 }
 
 impl TaskCounts {
@@ -46,15 +47,15 @@ impl TaskCounts {
 
     /// Counts a task by its result, and adds the attempt statistics of its call. The result is
     /// never that a number is out of its range, because no such task is issued.
-    pub(crate) fn count(&mut self, end: &Result<(), Fault>, effort: Effort)
+    pub(crate) fn count(&mut self, end: &Result<(), Fault>, statistics: &CallStatistics)
         requires few { total self.old.outcomes < 2 ^ 32 }
         requires in_range { IfErr end.now (λ fault. fault ≢ Fault.Arguments) }
-        requires took { IsEffort self.old.tries (counted end.now nothing)
-            (with_call effort no_effort) }
+        requires took { AreStatistics self.old.tries (counted end.now nothing)
+            (with_call statistics.now no_attempts) }
         ensures { self.new ≡ record self.old { outcomes = counted end.now self.old.outcomes } }
     {
         self.outcomes.count(end);
-        self.statistics.add(effort);
+        self.statistics.add(statistics);
     }
 
     /// Adds up the counts of both.
@@ -76,7 +77,7 @@ impl TaskCounts {
     /// Returns the counts of the tasks and the attempt statistics of their calls.
     pub fn apart(self) -> (Outcomes, AttemptStatistics)
         ensures outcomes { result.0 ≡ self.outcomes }
-        ensures statistics { IsEffort self.tries result.0 result.1 }
+        ensures statistics { AreStatistics self.tries result.0 result.1 }
     {
         (self.outcomes, self.statistics)
     }

@@ -4,7 +4,7 @@ ghost use Rattle.std.specs.Prelude.{◌≡◌, ◌↔◌, ◌⊎◌, true, false
 ghost use Rattle.std.specs.Prelude.{IfOk, IfErr, IsErrOf};
 ghost use Rattle.load_tasks.specs.Setting.{is_settings};
 ghost use Rattle.load_run.specs.Keeping.{AreKept};
-ghost use Rattle.load_run.specs.Attempted.{IsEffort};
+ghost use Rattle.load_run.specs.Attempted.{AreStatistics};
 ghost use Rattle.load_run.specs.Alone.{IsAloneInRenewal, caller_of};
 ghost use Rattle.load_run.specs.Slots.{kept_at};
 ghost use Rattle.load_run.specs.Load.{HasOpened, LoadedKept, is_load, IsStopOfLoad};
@@ -179,7 +179,8 @@ impl<D: Draws + Send + Drop, G: Gate + Send + Drop, K: Recorder + Send + Drop> L
             self.draws self.slots.items r.0.outcomes r.0.report (K.notes self.keep)
             (K.notes r.2.opening) (kept_at K.notes self.slots.items)
             (map K.notes r.2.clients.items)) }
-        ensures statistics { IfOk result (λ r. IsEffort self.plan.settings.tries r.0.outcomes r.1) }
+        ensures statistics { IfOk result (λ r. AreStatistics self.plan.settings.tries r.0.outcomes
+            r.1) }
         ensures refused { IfErr result (λ fault.
             StopsLoad D.leads self.plan.settings self.draws fault) }
     {

@@ -12,7 +12,7 @@ use crate::counts::TaskCounts;
 use load_tasks::{Draws, Settings, draw_task};
 use std::alloc::Global;
 use stm_attempt::Gate;
-use vac_manager::{Caller, Effort, Fault, Recorder, trace_call};
+use vac_manager::{CallStatistics, Caller, Fault, Recorder, trace_valid};
 
 /// Issues the client's tasks of one round, one after the other, each as it is drawn, and counts
 /// their results and attempts. A task that could not be built counts under memory, and so does a
@@ -38,17 +38,19 @@ pub fn count_loop<D: Draws, G: Gate, K: Recorder>(
         (K.notes keep.old) (K.notes keep.new) }
 {
     let mut outcomes = TaskCounts::new(settings.tries);
+    let mut statistics = CallStatistics::new();
     'tasks: for _ in 0..settings.tasks {
         let drawn = draw_task(alloc, draws, settings);
         let Ok(task) = with_room(drawn, keep) else {
-            outcomes.count(&Err(Fault::Memory), Effort::new());
+            outcomes.count(&Err(Fault::Memory), &CallStatistics::new());
             continue;
         };
         let mut tracer = keep.lend();
-        let (end, effort) = trace_call(caller, &task, settings.tries, gate, &mut tracer);
+        let tries = settings.tries;
+        let end = trace_valid(caller, &task, tries, gate, &mut tracer, &mut statistics);
         keep.take_back(tracer);
         let end = record_call(task, end, gate, keep);
-        outcomes.count(&end, effort);
+        outcomes.count(&end, &statistics);
     }
     outcomes
 }

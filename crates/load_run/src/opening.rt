@@ -12,7 +12,7 @@ ghost use Rattle.load_run.specs.Opening.{RanOrStopped, OpeningEnded, WasAnswered
 use crate::asking::record_call;
 use load_tasks::{Draws, Settings, draw_stock};
 use stm_attempt::NoGate;
-use vac_manager::{Caller, Fault, Recorder, trace_call};
+use vac_manager::{CallStatistics, Caller, Fault, Recorder, trace_call};
 use vac_model::{Command, Kind, Task};
 
 /// Attempts that a command of the setup phase may make at most.
@@ -38,7 +38,15 @@ fn ask_for<K: Recorder>(
         return Err(Fault::Memory);
     };
     let mut tracer = keep.lend();
-    let (end, _effort) = trace_call(caller, &task, TRIES, &mut NoGate, &mut tracer);
+    let mut statistics = CallStatistics::new();
+    let end = trace_call(
+        caller,
+        &task,
+        TRIES,
+        &mut NoGate,
+        &mut tracer,
+        &mut statistics,
+    );
     keep.take_back(tracer);
     record_call(task, end, &mut NoGate, keep)
 }

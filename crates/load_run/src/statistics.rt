@@ -2,10 +2,10 @@
 
 ghost use Rattle.std.specs.Prelude.{◌≡◌, ◌<◌, ◌≤◌, ◌+◌, ◌^◌};
 ghost use Rattle.vac_manager.specs.Placed.{conflicts_of};
-ghost use Rattle.load_run.specs.Attempted.{no_effort, conflicts_in, lock_conflicts_in, with_call, both_efforts};
+ghost use Rattle.load_run.specs.Attempted.{no_attempts, conflicts_in, lock_conflicts_in, with_call, both_statistics};
 
 use crate::sums::added_up;
-use vac_manager::Effort;
+use vac_manager::CallStatistics;
 
 /// Attempt statistics of several calls: the number of attempts, the number that aborted on each
 /// kind of conflict, and the number of conflicts over the lock of each kind of word.
@@ -38,30 +38,30 @@ pub struct AttemptStatistics {
 impl AttemptStatistics {
     /// Returns the statistics of no attempt.
     pub(crate) fn new() -> AttemptStatistics
-        ensures { result ≡ no_effort }
+        ensures { result ≡ no_attempts }
     {
         AttemptStatistics::default()
     }
 
     /// Adds the attempt statistics of one call.
-    pub(crate) fn add(&mut self, effort: Effort)
+    pub(crate) fn add(&mut self, statistics: &CallStatistics)
         requires few { self.old.attempts < 2 ^ 62 }
         requires conflicts { conflicts_in self.old ≤ self.old.attempts }
         requires locks { lock_conflicts_in self.old ≤ conflicts_in self.old }
-        requires fits { conflicts_of effort ≤ effort.attempts }
-        ensures { self.new ≡ with_call effort self.old }
+        requires fits { conflicts_of statistics.now ≤ statistics.now.attempts }
+        ensures { self.new ≡ with_call statistics.now self.old }
     {
-        self.attempts += u64::from(effort.attempts);
-        self.held += u64::from(effort.held);
-        self.newer += u64::from(effort.newer);
-        self.moved += u64::from(effort.moved);
-        self.lost_lock += u64::from(effort.lost_lock);
-        self.lost_tick += u64::from(effort.lost_tick);
-        self.roots += u64::from(effort.roots);
-        self.heads += u64::from(effort.heads);
-        self.nodes += u64::from(effort.nodes);
-        self.uses += u64::from(effort.uses);
-        self.stocks += u64::from(effort.stocks);
+        self.attempts += u64::from(statistics.attempts);
+        self.held += u64::from(statistics.held);
+        self.newer += u64::from(statistics.newer);
+        self.moved += u64::from(statistics.moved);
+        self.lost_lock += u64::from(statistics.lost_lock);
+        self.lost_tick += u64::from(statistics.lost_tick);
+        self.roots += u64::from(statistics.roots);
+        self.heads += u64::from(statistics.heads);
+        self.nodes += u64::from(statistics.nodes);
+        self.uses += u64::from(statistics.uses);
+        self.stocks += u64::from(statistics.stocks);
     }
 
     /// Adds up both statistics.
@@ -71,7 +71,7 @@ impl AttemptStatistics {
         requires others { conflicts_in other ≤ other.attempts }
         requires locks { lock_conflicts_in self ≤ conflicts_in self }
         requires others_locks { lock_conflicts_in other ≤ conflicts_in other }
-        ensures { result ≡ both_efforts self other }
+        ensures { result ≡ both_statistics self other }
     {
         added_up!(
             AttemptStatistics: self + other;

@@ -26,20 +26,20 @@ pub(crate) struct Worker<'m, W> {
 
 /// The promise of a worker's thread: the worker ran its tasks.
 #[derive(Drop)]
-pub(crate) struct WorkOf<'m, W> {
+pub(crate) struct WorkerPromise<'m, W> {
     settings: Settings,
     worker: Snapshot<Worker<'m, W>>,
 }
 
 impl<'m, D: Draws, G, K: Recorder> Promise<Worker<'m, Slot<D, G, K>>>
-    for WorkOf<'m, Slot<D, G, K>> {
+    for WorkerPromise<'m, Slot<D, G, K>> {
     ghost kept_by = { λ p r. DidWork D.leads (shown K.notes) p.settings p.worker.value r };
 }
 
 /// The thread of a worker.
 pub(crate) type Handle<'m, D, G, K> = PromisedHandle<
     Worker<'m, Slot<D, G, K>>,
-    WorkOf<'m, Slot<D, G, K>>,
+    WorkerPromise<'m, Slot<D, G, K>>,
 >;
 
 /// The workers of a round, before or after their tasks; the first worker stands apart.
@@ -90,7 +90,7 @@ impl Plan {
             IsPromise self.settings worker.entry handle.promise) }
         ensures refused { IfErr result (λ fault. fault ≡ LoadFault.Spawn) }
     {
-        let promise = WorkOf {
+        let promise = WorkerPromise {
             settings: self.settings,
             worker: Snapshot::of(&worker),
         };

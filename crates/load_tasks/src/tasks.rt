@@ -137,6 +137,7 @@ impl Part for Command {
 
 impl Drawing<'_> {
     /// Draws `count` parts, one after the other, into an array with `N` places.
+    #[inline(always)]
     fn draw_parts<P: Part, D: Draws, const N: usize>(
         &self,
         draws: &mut D,
@@ -158,6 +159,7 @@ impl Drawing<'_> {
     /// Draws a trip. All its words are drawn, even if memory to build the trip is refused.
     ///
     /// Few asks are drawn into a short array, since all places of an array are filled first.
+    #[inline(always)]
     fn draw_trip<D: Draws>(&self, draws: &mut D) -> Result<Task, AllocError>
         ensures drawn { DrawnTask D.leads (drawn_trip self.now.settings.now)
             draws.old result draws.new }
@@ -233,6 +235,7 @@ impl Drawing<'_> {
 
     /// Draws a task that is no question. All its words are drawn, even if memory to build the task
     /// is refused.
+    #[inline(always)]
     fn draw_work<D: Draws>(&self, draws: &mut D) -> Result<Task, AllocError>
         ensures drawn { DrawnTask D.leads (work self.now.settings.now) draws.old result draws.new }
         ensures range { IfOk result (λ task. is_task task ≡ true) }
@@ -249,6 +252,7 @@ impl Drawing<'_> {
 }
 
 /// Draws a task. All its words are drawn, even if memory to build the task is refused.
+#[inline(always)]
 pub fn draw_task<D: Draws>(
     alloc: Global,
     draws: &mut D,

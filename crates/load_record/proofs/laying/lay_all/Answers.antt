@@ -1,5 +1,5 @@
 use Rattle.std.proofs.Common.{rules, arith, ◌≡◌, ◌++◌, ◌+◌, sym, subst, List}
-use Rattle.vac_manager.specs.declared.note.AttemptNote.{AttemptNote}
+use Rattle.vac_manager.specs.declared.note.TracedAttempt.{TracedAttempt}
 use Rattle.load_record.specs.Laying.{done_by, writes_from}
 use Rattle.load_record.proofs.Pieces.{piece_laid}
 use Rattle.load_record.proofs.laying.lay_all.Goals as goal
@@ -14,7 +14,7 @@ pieces-preserved c =
     record {
       count = omega (arith, c.pieces.invariant.count, cut.back_len);
       laid = search rules;
-      writes = subst (λ (l : List AttemptNote). done_by l ++ writes_from
+      writes = subst (λ (l : List TracedAttempt). done_by l ++ writes_from
           (c.pieces.first + c.min-count.result) c.split_at.result.1.now ≡ writes_from 0 c.args.words.now)
-          (sym {A = List AttemptNote} c.in_ok-push.ensures.items) more;
+          (sym {A = List TracedAttempt} c.in_ok-push.ensures.items) more;
     }

@@ -14,6 +14,7 @@ returns-in-Ok-clause-renewed c =
     record {
       renewal = ap (λ (r : RegionShown). r.renewal) region;
       size = ap (λ (r : RegionShown). r.size) region;
+      first = ap (λ (r : RegionShown). r.first) region;
       records = ap (λ (x : ClientShown). x.value.records) client;
       alone = record {
         own = ap (λ (x : ClientShown). x.table) client;

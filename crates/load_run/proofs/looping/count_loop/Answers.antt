@@ -4,7 +4,7 @@ use Rattle.vac_model.specs.declared.tasks.Task.{Task}
 use Rattle.vac_manager.specs.declared.fault.Fault.TheVariants as fault
 use Rattle.load_run.proofs.Answering.{RanOne, looped_none, looped_more}
 use Rattle.load_run.proofs.Asked.{asked_recorded, issued, issued_none, traced_by}
-use Rattle.load_run.specs.Attempted.{IsEffort, no_effort, with_call}
+use Rattle.load_run.specs.Attempted.{AreStatistics, no_attempts, with_call}
 use Rattle.load_run.specs.Looping.{Clocked, counted, nothing}
 use Rattle.load_run.proofs.Clocking.{clocked_none, clocked_more}
 use Rattle.load_run.proofs.Callers.{of_manager}
@@ -48,49 +48,49 @@ tasks-preserved-in_default g c =
 
 pub count-requires-in-tasks-clause-took : goal.count-requires-in-tasks-clause-took
 count-requires-in-tasks-clause-took g c =
-    let asked = asked_recorded c.tasks.caller.shared c.in-Ok.task c.args.settings.now.tries c.trace_call-end.result.0
-    c.record_call-end.result c.trace_call-end.result.1 c.tasks.caller.user c.trace_call-end.new.caller.user
+    let asked = asked_recorded c.tasks.caller.shared c.in-Ok.task c.args.settings.now.tries c.trace_valid-end.result
+    c.record_call-end.result c.trace_valid-end.new.statistics c.tasks.caller.user c.trace_valid-end.new.caller.user
     (g.K.Recorder.notes c.tasks.keep) _ (g.K.Recorder.notes c.record_call-end.new.keep) _ _
     (subst (λ (x : Result Task _). IfOk x (λ t. is_task t ≡ true)) c.in-Ok.ensures.task c.draw_task-drawn.ensures.range)
-    (some_tries c.args.settings.now c.requires.settings) c.trace_call-end.ensures.called
-    (traced_by _ _ _ _ _ _ _ c.lend-tracer.ensures.traced c.take_back.ensures.traced c.trace_call-end.ensures.traced)
+    (some_tries c.args.settings.now c.requires.settings) c.trace_valid-end.ensures.called
+    (traced_by _ _ _ _ _ _ _ c.lend-tracer.ensures.traced c.take_back.ensures.traced c.trace_valid-end.ensures.traced)
     (c.take_back.ensures.same ∙ (c.lend-tracer.ensures.same ∙ c.with_room.ensures.same)) c.record_call-end.ensures in
     let i = issued c.tasks.caller.shared c.draw_task-drawn.result c.in-Ok.task c.args.settings.now.tries
-    c.record_call-end.result c.trace_call-end.result.1 c.tasks.caller.user.value
-    c.trace_call-end.new.caller.user.value _ _ c.in-Ok.ensures.task asked in
-    subst (λ (n : ℕ). IsEffort n (counted c.record_call-end.result nothing)
-    (with_call c.trace_call-end.result.1 no_effort)) (sym c.tasks.invariant.tries) i.took
+    c.record_call-end.result c.trace_valid-end.new.statistics c.tasks.caller.user.value
+    c.trace_valid-end.new.caller.user.value _ _ c.in-Ok.ensures.task asked in
+    subst (λ (n : ℕ). AreStatistics n (counted c.record_call-end.result nothing)
+    (with_call c.trace_valid-end.new.statistics no_attempts)) (sym c.tasks.invariant.tries) i.took
 
 pub tasks-preserved : goal.tasks-preserved
 tasks-preserved g c =
-    let asked = asked_recorded c.tasks.caller.shared c.in-Ok.task c.args.settings.now.tries c.trace_call-end.result.0
-    c.record_call-end.result c.trace_call-end.result.1 c.tasks.caller.user c.trace_call-end.new.caller.user
+    let asked = asked_recorded c.tasks.caller.shared c.in-Ok.task c.args.settings.now.tries c.trace_valid-end.result
+    c.record_call-end.result c.trace_valid-end.new.statistics c.tasks.caller.user c.trace_valid-end.new.caller.user
     (g.K.Recorder.notes c.tasks.keep) _ (g.K.Recorder.notes c.record_call-end.new.keep) _ _
     (subst (λ (x : Result Task _). IfOk x (λ t. is_task t ≡ true)) c.in-Ok.ensures.task c.draw_task-drawn.ensures.range)
-    (some_tries c.args.settings.now c.requires.settings) c.trace_call-end.ensures.called
-    (traced_by _ _ _ _ _ _ _ c.lend-tracer.ensures.traced c.take_back.ensures.traced c.trace_call-end.ensures.traced)
+    (some_tries c.args.settings.now c.requires.settings) c.trace_valid-end.ensures.called
+    (traced_by _ _ _ _ _ _ _ c.lend-tracer.ensures.traced c.take_back.ensures.traced c.trace_valid-end.ensures.traced)
     (c.take_back.ensures.same ∙ (c.lend-tracer.ensures.same ∙ c.with_room.ensures.same)) c.record_call-end.ensures in
     let i = issued c.tasks.caller.shared c.draw_task-drawn.result c.in-Ok.task c.args.settings.now.tries
-    c.record_call-end.result c.trace_call-end.result.1 c.tasks.caller.user.value
-    c.trace_call-end.new.caller.user.value _ _ c.in-Ok.ensures.task asked in
+    c.record_call-end.result c.trace_valid-end.new.statistics c.tasks.caller.user.value
+    c.trace_valid-end.new.caller.user.value _ _ c.in-Ok.ensures.task asked in
     record {
       caller = search rules;
       looped = rw c.count-in-tasks.ensures (looped_more g.D.Draws.leads c.args.settings.now
           c.args.caller.now.shared.renewal c.tasks.counter c.args.caller.now.user.value c.tasks.caller.user.value
-          c.trace_call-end.new.caller.user.value
+          c.trace_valid-end.new.caller.user.value
           c.args.draws.now c.tasks.draws c.draw_task-drawn.new.draws c.tasks.outcomes.outcomes c.draw_task-drawn.result
           c.record_call-end.result
           c.tasks.invariant.looped c.draw_task-drawn.ensures.drawn
           (of_manager (λ m. RanOne m.renewal c.draw_task-drawn.result c.args.settings.now.tries
           c.record_call-end.result
-          c.tasks.caller.user.value c.trace_call-end.new.caller.user.value) c.args.caller.now c.tasks.caller
+          c.tasks.caller.user.value c.trace_valid-end.new.caller.user.value) c.args.caller.now c.tasks.caller
           c.tasks.invariant.caller i.one));
       clock = λ alone. rw c.count-in-tasks.ensures (clocked_more c.args.caller.now.shared.last
           c.record_call-end.result
-          c.args.caller.now.user.value c.tasks.caller.user.value c.trace_call-end.new.caller.user.value
+          c.args.caller.now.user.value c.tasks.caller.user.value c.trace_valid-end.new.caller.user.value
           c.tasks.outcomes.outcomes
           (c.tasks.invariant.clock alone)
-          (of_manager (λ m. Clocked m.last c.tasks.caller.user.value c.trace_call-end.new.caller.user.value
+          (of_manager (λ m. Clocked m.last c.tasks.caller.user.value c.trace_valid-end.new.caller.user.value
           (counted c.record_call-end.result nothing)) c.args.caller.now c.tasks.caller c.tasks.invariant.caller
           (i.clock (c.tasks.invariant.looped.answered.grants ∙ alone))));
       tries = search rules;

@@ -1,6 +1,6 @@
 use Rattle.std.proofs.Common.{inl, ◌≡◌, ◌∙◌, ◌*◌, ◌≤◌, length, ℕ, refl, sym, ap, subst, arith}
 use Rattle.stm_region.specs.Shown.{RegionShown}
-use Rattle.load_run.specs.Attempted.{IsEffort, TaskCountsShown}
+use Rattle.load_run.specs.Attempted.{AreStatistics, TaskCountsShown}
 use Rattle.load_run.specs.Alone.{caller_of}
 use Rattle.load_run.specs.Slots.{shown, kept_at}
 use Rattle.load_run.specs.Load.{LoadedKept, StopsLoad, RoundHasRun}
@@ -22,6 +22,7 @@ rounds-init g c =
     record {
       renewals = omega (arith, first, c.in_ok-manager.ensures.opened.opens.renewal);
       size = refl;
+      first = refl;
       round = c.in_ok-round.ensures.round;
       ran = λ y h. subst (λ (n : ℕ). RoundHasRun g.D.Draws.leads
           (shown g.K.Recorder.notes) s n y c.args.self.slots.items
@@ -72,6 +73,7 @@ rounds-preserved g c =
     record {
       renewals = omega (arith, ap (λ (m : RegionShown). m.renewal) more.manager ∙ renewed.renewal, i.renewals);
       size = ap (λ (m : RegionShown). m.size) more.manager ∙ (renewed.size ∙ i.size);
+      first = ap (λ (m : RegionShown). m.first) more.manager ∙ (renewed.first ∙ i.first);
       round = record {
         number = more.round.number;
         tries = ap (λ (x : TaskCountsShown). x.tries) c.plus.ensures ∙ i.round.tries;
@@ -103,6 +105,7 @@ returns-clause-kept g c =
     let ran = subst (λ (k : ℕ). RoundHasRun g.D.Draws.leads (shown notes) s (k * s.tasks) opened
     c.args.self.slots.items c.rounds.round) done (c.rounds.invariant.ran opened c.in_ok-round.ensures.ran) in
     let size = c.rounds.invariant.size ∙ ap (λ (m : RegionShown). m.size) c.in_ok-round.ensures.manager in
+    let first = c.rounds.invariant.first ∙ ap (λ (m : RegionShown). m.first) c.in_ok-round.ensures.manager in
     rw c.apart.ensures.outcomes (kept_returned (λ slot. slot.keep) notes c.rounds.round.slots.items
     c.recorders_of-clients.result.items c.recorders_of-clients.ensures
     (λ afters. LoadedKept g.D.Draws.leads s (λ slot. slot.draws) c.args.self.draws c.args.self.slots.items
@@ -111,7 +114,7 @@ returns-clause-kept g c =
     (loaded_kept g.D.Draws.leads notes s c.args.self.draws
     c.open_load.new.opening c.args.self.slots.items opened c.rounds.round _ _ c.in_ok-words.words.items
     c.report_of-report.result n c.in_ok-manager.ensures.opened c.in_ok-manager.ensures.kept ran
-    c.in_ok-words.ensures.versioned size c.in_ok-words.ensures.closes c.report_of-report.ensures))
+    c.in_ok-words.ensures.versioned size first c.in_ok-words.ensures.closes c.report_of-report.ensures))
 
 pub returns-in_default-clause-refused : goal.returns-in_default-clause-refused
 returns-in_default-clause-refused g c = (c.args.self.draws, inl refl)
@@ -170,5 +173,5 @@ returns-in_err-words-clause-refused g c =
     )
 
 pub returns-clause-statistics : goal.returns-clause-statistics
-returns-clause-statistics g c = subst (λ (n : ℕ). IsEffort n c.apart.result.0 c.apart.result.1)
+returns-clause-statistics g c = subst (λ (n : ℕ). AreStatistics n c.apart.result.0 c.apart.result.1)
     c.rounds.invariant.round.tries c.apart.ensures.statistics

@@ -8,6 +8,7 @@ abbrev pub invariant-rounds : goal.invariant-rounds
 invariant-rounds g l = record {
   renewals : l.round.manager.renewal + 1 ≡ l.done;
   size : l.round.manager.size ≡ l.initial.round.manager.size;
+  first : l.round.manager.first ≡ l.initial.round.manager.first;
   round : IsRound l.fn.self.plan.settings l.round;
   ran : (y : CallerShown) →
       RoundHasRun g.D.Draws.leads (shown g.K.Recorder.notes) l.fn.self.plan.settings l.fn.self.plan.settings.tasks y

@@ -1,5 +1,5 @@
 use Rattle.load_record.proofs.Ended.{has_taken}
-use Rattle.load_record.proofs.ledger.LedgerRecorder.keep.Goals as goal
+use Rattle.load_record.proofs.ledger.AttemptRecorderRecorder.keep.Goals as goal
 
 pub returns-clause-taken : goal.returns-clause-taken
 returns-clause-taken g c =

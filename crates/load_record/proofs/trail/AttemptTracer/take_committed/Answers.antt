@@ -1,6 +1,6 @@
 use Rattle.std.proofs.Common.{rules, ◌≡◌, true, Some}
 use Rattle.load_record.proofs.Ended.{last_taken}
-use Rattle.load_record.proofs.trail.Trail.take_committed.Goals as goal
+use Rattle.load_record.proofs.trail.AttemptTracer.take_committed.Goals as goal
 
 pub returns-clause-last : goal.returns-clause-last
 returns-clause-last g c =
