@@ -9,23 +9,27 @@ use Rattle.std.proofs.Math.Seq.{take-nil}
 use Rattle.vac_lines.specs.Writing.{AppendsPrefix}
 use Rattle.judge_calls.specs.Reading.{HasStoppedJudging}
 use Rattle.cli_main.specs.Ending.{fault_line, EndsJudged}
-use Rattle.judge_calls.specs.HeldReading.{IsReadWhole, HasHeld, HasHeldStopped}
-use Rattle.judge_calls.specs.AnyOrder.{HasHeldOrder, HasHeldOrderStopped}
+use Rattle.judge_calls.specs.HeldReading.{IsReadWhole, HasChecked, HasStoppedChecking}
+use Rattle.judge_calls.specs.AnyOrder.{HasCheckedOrder, HasStoppedCheckingOrder}
 use Rattle.vac_streams.specs.declared.fault.StreamFault.{StreamFault}
 use Rattle.vac_streams.specs.declared.fault.StreamFault.TheVariants as stream
+use Rattle.judge_levels.specs.declared.level.Level.TheVariants as level
 use Rattle.judge_linear.specs.declared.ordering.Outcome.{Outcome}
 use Rattle.judge_linear.specs.declared.ordering.Outcome.TheVariants as outcome
 use Rattle.judge_linear.specs.Ordering.{FindsText, HasText, HasOrdered}
 use Rattle.judge_linear.specs.Ordering as order
 use Rattle.judge_opacity.specs.Reading as opaque
 use Rattle.judge_opacity.specs.Placed as place
+use Rattle.judge_part_text.specs.Naming.{Named}
+use Rattle.judge_part_text.specs.Parting.{HasStoppedParting}
 use Rattle.cli_main.specs.Judging.{Judges, JudgesHeld, JudgesWith, JudgeStopped, WorkStopped, NotOpened, NamedAlone}
 use Rattle.cli_main.specs.Ordering.{OrderStopped, FindsNone, HasRefusedInPart, OrderWorkStopped, HoldsOrder}
 use Rattle.cli_main.specs.Ordering.{HoldsText, HoldsInAnyOrder}
 use Rattle.cli_main.specs.Ordering.{JudgesAnyOrder, JudgesAnyHeld, JudgesAnyWith, status_of}
-use Rattle.cli_options.specs.declared.asked.Judging.{Judging}
+use Rattle.cli_options.specs.declared.asked.JudgeSettings.{JudgeSettings}
 use Rattle.cli_main.specs.Asking.{AttemptsStopped, PlacingStopped, JudgesAs, JudgesUnless, JudgesAsked}
 use Rattle.cli_main.specs.Asking.{has_stray_settings}
+use Rattle.cli_main.specs.Parting.{PartStopped}
 use Rattle.cli_main.proofs.Ending.{nothing_then}
 
 -- where nothing was written behind it
@@ -60,7 +64,8 @@ judge_stopped blocks stream.Bound unread left held middle holds none line =
 
 -- the same of a history that is held against work
 pub work_stopped : (tasks rest : Option (List ℕ)) (blocks : ℕ) (fault : StreamFault)
-    (unread left held middle holds : Option (List ℕ)) → HasHeldStopped blocks fault tasks rest unread left held middle
+    (unread left held middle holds : Option (List ℕ)) → HasStoppedChecking blocks fault tasks rest unread left held
+    middle
     → AppendsPrefix middle holds (fault_line fault) → WorkStopped tasks blocks unread left held holds
 work_stopped tasks rest blocks stream.Read unread left held middle holds none line =
     inr (named_stream stream.Read (λ e. absurd cc) held middle holds none line)
@@ -81,7 +86,7 @@ work_stopped tasks rest blocks stream.Bound unread left held middle holds none l
 
 -- the same of a search for an order
 pub order_stopped : (blocks steps : ℕ) (fault : StreamFault) (unread left held middle holds : Option (List ℕ)) →
-    order.HasStoppedOrdering blocks steps fault unread left held middle
+    order.HasStoppedOrdering level.Linearizable blocks steps fault unread left held middle
     → AppendsPrefix middle holds (fault_line fault) → OrderStopped blocks steps unread left held holds
 order_stopped blocks steps stream.Read unread left held middle holds none line =
     inr (named_stream stream.Read (λ e. absurd cc) held middle holds none line)
@@ -129,6 +134,26 @@ placing_stopped words stream.Memory unread left held middle holds none line =
 placing_stopped words stream.Bound unread left held middle holds none line =
     inr (named_stream stream.Bound (λ e. absurd cc) held middle holds none line)
 
+-- the same of the writing of a part
+pub part_stopped : (names : Named) (fault : StreamFault) (unread left held middle holds : Option (List ℕ)) →
+    HasStoppedParting names fault unread left held middle
+    → AppendsPrefix middle holds (fault_line fault) → PartStopped names unread left held holds
+part_stopped names stream.Read unread left held middle holds none line =
+    inr (named_stream stream.Read (λ e. absurd cc) held middle holds none line)
+part_stopped names stream.Write unread left held middle holds part line =
+    inl (record {
+      bytes = part.bytes;
+      read = part.read;
+      is_part = part.is_part;
+      text = part.text;
+      is = part.is;
+      written = then_nothing held middle holds _ part.written line;
+    })
+part_stopped names stream.Memory unread left held middle holds none line =
+    inr (named_stream stream.Memory (λ e. absurd cc) held middle holds none line)
+part_stopped names stream.Bound unread left held middle holds none line =
+    inr (named_stream stream.Bound (λ e. absurd cc) held middle holds none line)
+
 -- whether an order was found
 abbrev pub is_order : Outcome → Bool
 is_order outcome.Ordered = true
@@ -141,7 +166,7 @@ no_order found none e = let bad : true ≡ false = subst (λ (f : Outcome). is_o
 -- what was found was kept, and then written
 pub kept : (blocks steps : ℕ) (found : Outcome) (status : ℕ) (unread left held holds : Option (List ℕ)) (text : List ℕ)
     → is_order found ≡ false
-    → HasOrdered blocks steps found unread left (Some []) (Some text)
+    → HasOrdered level.Linearizable blocks steps found unread left (Some []) (Some text)
     → (Appends held holds text × (status ≡ status_of found)) ⊎ (AppendsPrefix held holds text × (status ≡ 1)) →
     FindsNone blocks steps status unread left held holds
 kept blocks steps found status unread left held holds text none has (inl whole) =
@@ -151,7 +176,7 @@ kept blocks steps found status unread left held holds text none has (inl whole) 
       whole.1,
       record {
         text = text;
-        is = subst (HasText blocks steps unread left found) (sym has.written) has.is;
+        is = subst (HasText level.Linearizable blocks steps unread left found) (sym has.written) has.is;
         written = whole.0;
       },
     )
@@ -162,7 +187,7 @@ kept blocks steps found status unread left held holds text none has (inr part) =
         record {
           result = found;
           text = text;
-          is = subst (HasText blocks steps unread left found) (sym
+          is = subst (HasText level.Linearizable blocks steps unread left found) (sym
               has.written) has.is;
           written = part.0;
         },
@@ -173,15 +198,17 @@ kept blocks steps found status unread left held holds text none has (inr part) =
 -- the same where what was found and its text are known by other names
 pub kept_as : (blocks steps : ℕ) (given found : Outcome) (status : ℕ) (unread left held holds : Option (List ℕ))
     (before text shown : List ℕ) → given ≡ found
-    → is_order found ≡ false → before ≡ [] → shown ≡ text → HasOrdered blocks steps given unread left (Some before)
+    → is_order found ≡ false → before ≡ [] → shown ≡ text → HasOrdered level.Linearizable blocks steps given unread left
+    (Some before)
     (Some text)
     → (Appends held holds shown × (status ≡ status_of found)) ⊎ (AppendsPrefix held holds shown × (status ≡ 1)) →
     FindsNone blocks steps status unread left held holds
 kept_as blocks steps given found status unread left held holds before text shown e none f same has wrote =
     kept blocks steps found status unread left held holds shown none
-    (subst (λ t. HasOrdered blocks steps found unread left (Some []) (Some t)) (sym same)
-    (subst (λ t. HasOrdered blocks steps found unread left (Some t) (Some text)) f
-    (subst (λ (o : Outcome). HasOrdered blocks steps o unread left (Some before) (Some text)) e has))) wrote
+    (subst (λ t. HasOrdered level.Linearizable blocks steps found unread left (Some []) (Some t)) (sym same)
+    (subst (λ t. HasOrdered level.Linearizable blocks steps found unread left (Some t) (Some text)) f
+    (subst (λ (o : Outcome). HasOrdered level.Linearizable blocks steps o unread left (Some before) (Some text)) e
+    has))) wrote
 
 -- a fault came before anything was found
 pub unordered : (blocks steps status : ℕ) (unread left held holds : Option (List ℕ)) (fault : StreamFault) →
@@ -191,14 +218,15 @@ unordered blocks steps status unread left held holds fault one other line = inr 
 
 -- an order was kept
 pub order_is_kept : (blocks steps : ℕ) (unread left : Option (List ℕ)) (text : List ℕ) →
-    HasOrdered blocks steps outcome.Ordered unread left (Some []) (Some text)
-    → HasText blocks steps unread left outcome.Ordered text
-order_is_kept blocks steps unread left text has = subst (HasText blocks steps unread left outcome.Ordered)
+    HasOrdered level.Linearizable blocks steps outcome.Ordered unread left (Some []) (Some text)
+    → HasText level.Linearizable blocks steps unread left outcome.Ordered text
+order_is_kept blocks steps unread left text has = subst (HasText level.Linearizable blocks steps unread left
+    outcome.Ordered)
     (sym has.written) has.is
 
 -- and then judged
 pub found_judged : (blocks steps status : ℕ) (unread left rest held middle holds : Option (List ℕ)) (text : List ℕ) →
-    HasText blocks steps unread left outcome.Ordered text
+    HasText level.Linearizable blocks steps unread left outcome.Ordered text
     → middle ≡ held → Judges blocks status (Some text) rest middle holds →
     JudgesAnyOrder blocks steps status unread left held holds
 found_judged blocks steps status unread left rest held middle holds text has same judged =
@@ -212,7 +240,7 @@ found_judged blocks steps status unread left rest held middle holds text has sam
 
 -- a fault ended the check of an order
 order_work_stopped : (tasks rest : Option (List ℕ)) (blocks : ℕ) (fault : StreamFault) (bytes text : List ℕ)
-    (held middle holds : Option (List ℕ)) → HasHeldOrderStopped blocks fault tasks rest bytes text held middle
+    (held middle holds : Option (List ℕ)) → HasStoppedCheckingOrder blocks fault tasks rest bytes text held middle
     → AppendsPrefix middle holds (fault_line fault) → OrderWorkStopped tasks blocks bytes text held holds
 order_work_stopped tasks rest blocks stream.Read bytes text held middle holds none line =
     inr (named_stream stream.Read (λ e. absurd cc) held middle holds none line)
@@ -232,31 +260,34 @@ order_work_stopped tasks rest blocks stream.Bound bytes text held middle holds n
 -- an order was checked against work
 pub order_held : (tasks rest : Option (List ℕ)) (blocks : ℕ) (r : Result Bool StreamFault) (status : ℕ)
     (bytes text : List ℕ) (held middle holds : Option (List ℕ))
-    → IfOk r (λ covered. HasHeldOrder blocks covered tasks rest bytes text held middle)
-    → IfErr r (λ fault. HasHeldOrderStopped blocks fault tasks rest bytes text held middle)
+    → IfOk r (λ covered. HasCheckedOrder blocks covered tasks rest bytes text held middle)
+    → IfErr r (λ fault. HasStoppedCheckingOrder blocks fault tasks rest bytes text held middle)
     → EndsJudged r status middle holds → HoldsOrder tasks blocks status bytes text held holds
 order_held tasks rest blocks (Ok true) status bytes text held middle holds ok err e =
-    inl (e.0, (rest, subst (λ h. HasHeldOrder blocks true tasks rest bytes text held h) (sym e.1) ok))
+    inl (e.0, (rest, subst (λ h. HasCheckedOrder blocks true tasks rest bytes text held h) (sym e.1) ok))
 order_held tasks rest blocks (Ok false) status bytes text held middle holds ok err e =
-    inr (e.0, inl (rest, subst (λ h. HasHeldOrder blocks false tasks rest bytes text held h) (sym e.1) ok))
+    inr (e.0, inl (rest, subst (λ h. HasCheckedOrder blocks false tasks rest bytes text held h) (sym e.1) ok))
 order_held tasks rest blocks (Err fault) status bytes text held middle holds ok err e =
     inr (e.0, inr (order_work_stopped tasks rest blocks fault bytes text held middle holds err e.1))
 
 -- a history that was read whole, and then searched
 text_read : (blocks steps : ℕ) (unread left rest : Option (List ℕ)) (bytes : List ℕ) (found : Outcome)
-    (text : List ℕ) → IsReadWhole unread left bytes → HasText blocks steps (Some bytes) rest found text →
-    HasText blocks steps unread left found text
+    (text : List ℕ) → IsReadWhole unread left bytes → HasText level.Linearizable blocks steps
+    (Some bytes) rest found text →
+    HasText level.Linearizable blocks steps unread left found text
 text_read blocks steps unread left rest bytes found text read has = record {
   bytes = bytes;
   consumed = read.consumed;
   of_read = inl (read.at_end, has.of_input);
-  of_input = Consumes-whole unread left bytes (λ input. FindsText blocks steps input found text) read.consumed
+  of_input = Consumes-whole unread left bytes (λ input. FindsText level.Linearizable blocks steps input found text)
+      read.consumed
       read.at_end has.of_input;
 }
 
 -- an order was found, and checked against work
 pub found_text : (tasks : Option (List ℕ)) (blocks steps status : ℕ) (rest held middle holds : Option (List ℕ))
-    (bytes text given : List ℕ) → given ≡ text → HasText blocks steps (Some bytes) rest outcome.Ordered text →
+    (bytes text given : List ℕ) → given ≡ text → HasText level.Linearizable blocks steps
+    (Some bytes) rest outcome.Ordered text →
     middle ≡ held → HoldsOrder tasks blocks status bytes given middle holds →
     HoldsInAnyOrder tasks blocks steps status bytes held holds
 found_text tasks blocks steps status rest held middle holds bytes text given same has before judged =
@@ -304,13 +335,13 @@ none_in_slice blocks steps status unread left rest held holds bytes shown read i
 -- a history was judged and held against work
 pub held_judged : (tasks rest : Option (List ℕ)) (blocks : ℕ) (r : Result Bool StreamFault) (status : ℕ)
     (unread left held middle holds : Option (List ℕ))
-    → IfOk r (λ legal. HasHeld blocks legal tasks rest unread left held middle)
-    → IfErr r (λ fault. HasHeldStopped blocks fault tasks rest unread left held middle)
+    → IfOk r (λ legal. HasChecked blocks legal tasks rest unread left held middle)
+    → IfErr r (λ fault. HasStoppedChecking blocks fault tasks rest unread left held middle)
     → EndsJudged r status middle holds → JudgesHeld tasks blocks status unread left held holds
 held_judged tasks rest blocks (Ok true) status unread left held middle holds ok err e =
-    inl (e.0, (rest, subst (λ h. HasHeld blocks true tasks rest unread left held h) (sym e.1) ok))
+    inl (e.0, (rest, subst (λ h. HasChecked blocks true tasks rest unread left held h) (sym e.1) ok))
 held_judged tasks rest blocks (Ok false) status unread left held middle holds ok err e =
-    inr (e.0, inl (rest, subst (λ h. HasHeld blocks false tasks rest unread left held h) (sym e.1) ok))
+    inr (e.0, inl (rest, subst (λ h. HasChecked blocks false tasks rest unread left held h) (sym e.1) ok))
 held_judged tasks rest blocks (Err fault) status unread left held middle holds ok err e =
     inr (e.0, inr (work_stopped tasks rest blocks fault unread left held middle holds err e.1))
 
@@ -374,13 +405,13 @@ not_opened_as files false (Some name) blocks steps status unread held holds some
 not_opened_as files true (Some name) blocks steps status unread held holds some not = inr (refl, not)
 
 -- the words give settings of a search and ask for none
-pub refused_as : (files : List ℕ → Option (List ℕ)) (how : Judging) (status : ℕ) (unread held : Option (List ℕ)) →
+pub refused_as : (files : List ℕ → Option (List ℕ)) (how : JudgeSettings) (status : ℕ) (unread held : Option (List ℕ)) →
     has_stray_settings how ≡ true → status ≡ 2 → JudgesAsked files how status unread unread held held
 refused_as files how status unread held stray refused =
     subst (λ b. JudgesUnless b files how status unread unread held held) (sym stray) (refused, refl, refl)
 
 -- they do not
-pub asked_as : (files : List ℕ → Option (List ℕ)) (how : Judging) (status : ℕ)
+pub asked_as : (files : List ℕ → Option (List ℕ)) (how : JudgeSettings) (status : ℕ)
     (unread left held holds : Option (List ℕ))
     → has_stray_settings how ≡ false
     → JudgesAs files how.any_order how.tasks how.blocks how.search.steps status unread left held holds

@@ -6,31 +6,31 @@ use Rattle.std.proofs.lemmas.Bool.Decides.{nat_tests}
 use Rattle.load_run.specs.Load.{is_load}
 use Rattle.load_tasks.specs.declared.settings.Settings.{Settings}
 use Rattle.load_tasks.specs.Setting.{is_settings}
-use Rattle.vac_manager.specs.declared.note.Note.{Note}
-use Rattle.load_record.specs.declared.ledger.Ledger.{Ledger}
+use Rattle.vac_manager.specs.declared.note.CompletedCall.{CompletedCall}
+use Rattle.load_record.specs.declared.ledger.AttemptRecorder.{AttemptRecorder}
 use Rattle.load_record.specs.Pages.{page_of, pages_of}
 use Rattle.load_record.specs.Text.{WroteAttempts, WroteAttemptsPrefix}
 use Rattle.load_run.specs.declared.load.LoadFault.TheVariants as load
 use Rattle.load_run.specs.declared.load.LoadFault.{LoadFault}
-use Rattle.cli_main.specs.Load.{HasNoted, WroteTried, WroteTriedInPart}
+use Rattle.cli_main.specs.Load.{HasNoted, WroteLoadAttempts, WroteLoadAttemptsInPart}
 
 -- the calls that a ledger keeps
-abbrev calls_in : {W : Type 0} → Ledger W → List Note
+abbrev calls_in : {W : Type 0} → AttemptRecorder W → List CompletedCall
 calls_in ledger = ledger.journal.notes.items
 
-same_pages : {W : Type 0} (clients : List (Ledger W)) → map (λ page. page.calls)
+same_pages : {W : Type 0} (clients : List (AttemptRecorder W)) → map (λ page. page.calls)
     (map page_of clients) ≡ map calls_in clients
 same_pages [] = refl
-same_pages (c ∷ clients) = ap (λ (l : List (List Note)). calls_in c ∷ l) (same_pages clients)
+same_pages (c ∷ clients) = ap (λ (l : List (List CompletedCall)). calls_in c ∷ l) (same_pages clients)
 
-module _ {W : Type 0} (s : Settings) (opening : Ledger W) (clients : List (Ledger W))
+module _ {W : Type 0} (s : Settings) (opening : AttemptRecorder W) (clients : List (AttemptRecorder W))
     (has : HasNoted s (calls_in opening) (map calls_in clients)) where
   has_pages : HasNoted s (page_of opening).calls (map (λ page. page.calls) (map page_of clients))
-  has_pages = subst (λ (l : List (List Note)). HasNoted s (calls_in opening) l) (sym (same_pages clients)) has
+  has_pages = subst (λ (l : List (List CompletedCall)). HasNoted s (calls_in opening) l) (sym (same_pages clients)) has
 
   -- the attempts were written whole
   pub wrote_tried : (held holds : Option (List ℕ)) → WroteAttempts s.blocks (pages_of opening clients) held holds →
-      WroteTried s held holds
+      WroteLoadAttempts s held holds
   wrote_tried held holds wrote = record {
     opening = page_of opening;
     clients = map page_of clients;
@@ -40,7 +40,7 @@ module _ {W : Type 0} (s : Settings) (opening : Ledger W) (clients : List (Ledge
 
   -- a prefix of them was written
   pub wrote_tried_in_part : (held holds : Option (List ℕ)) →
-      WroteAttemptsPrefix s.blocks (pages_of opening clients) held holds → WroteTriedInPart s held holds
+      WroteAttemptsPrefix s.blocks (pages_of opening clients) held holds → WroteLoadAttemptsInPart s held holds
   wrote_tried_in_part held holds wrote = record {
     opening = page_of opening;
     clients = map page_of clients;

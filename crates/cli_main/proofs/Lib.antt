@@ -7,3 +7,5 @@ mod Lines
 pub mod LoadEnds
 pub mod Ledgers
 pub mod Judgement
+pub mod PartNames
+pub mod Reported

@@ -13,7 +13,7 @@ use Rattle.load_tasks.specs.declared.settings.Settings.{Settings}
 use Rattle.load_tasks.specs.Setting.{is_settings}
 use Rattle.load_tasks.specs.Streams.{gives}
 use Rattle.vac_lines.proofs.Lengths.{task_fits}
-use Rattle.vac_manager.specs.declared.note.Note.{Note}
+use Rattle.vac_manager.specs.declared.note.CompletedCall.{CompletedCall}
 use Rattle.vac_manager.specs.Keeping.{IsNoted}
 use Rattle.load_tasks.specs.Laws.{IsReadBack, AreReadBack}
 use Rattle.load_tasks.proofs.ReadBack.{all_read}
@@ -26,13 +26,13 @@ use Rattle.load_run.specs.Load.{Share, HasShare}
 use Rattle.cli_main.specs.Load.{HasNoted}
 
 -- a call of this task has its line
-has_line : (n : Note) (t : Task) → n.task ≡ t → IsReadBack t → HasLine n
+has_line : (n : CompletedCall) (t : Task) → n.task ≡ t → IsReadBack t → HasLine n
 has_line n t same h =
     let own = subst IsReadBack (sym same) h in
     record { task = own.range; line = own.fits }
 
 -- so have the calls of the records of such tasks
-have_lines : (notes : List Note) (records : List Record) (tasks : List Task) → Paired IsNoted notes records →
+have_lines : (notes : List CompletedCall) (records : List Record) (tasks : List Task) → Paired IsNoted notes records →
     AreOfTasks tasks records → All IsReadBack tasks → All HasLine notes
 have_lines [] [] tasks none are read = All-nil HasLine
 have_lines (n ∷ notes) (r ∷ records) (t ∷ tasks) (both h hs) are read =
@@ -58,13 +58,13 @@ as_tasks_read (c ∷ commands) h =
     (as_tasks_read commands (All-tail (λ c. IsReadBack (task.One c)) c commands h))
 
 module _ (s : Settings) (drawn : AreReadBack s) where
-  share_lines : (notes : List Note) (p : Lcg) (x : Share Lcg) → Paired IsNoted notes x.records →
+  share_lines : (notes : List CompletedCall) (p : Lcg) (x : Share Lcg) → Paired IsNoted notes x.records →
       HasShare gives s (s.rounds * s.tasks) p x → All HasLine notes
   share_lines notes p x h are =
       have_lines notes x.records are.answered h are.are_of (part_read are.among
       (drawn.of_client (s.rounds * s.tasks) (are.drawn.words ++ []) [] are.tasks (are.drawn.reads [])))
 
-  clients_lines : (clients : List (List Note)) (shares : List (Share Lcg)) (pairs : List Lcg) →
+  clients_lines : (clients : List (List CompletedCall)) (shares : List (Share Lcg)) (pairs : List Lcg) →
       Paired (λ notes x. Paired IsNoted notes x.records) clients shares →
       Paired (λ p x. HasShare gives s (s.rounds * s.tasks) p x) pairs shares → EachHasLines clients
   clients_lines [] shares pairs hs gs place = All-nil HasLine
@@ -74,7 +74,8 @@ module _ (s : Settings) (drawn : AreReadBack s) where
   clients_lines (notes ∷ clients) (x ∷ shares) [] hs gs place = elim gs [ ]
   clients_lines (notes ∷ clients) [] pairs hs gs place = elim hs [ ]
 
-pub each_has_lines : (s : Settings) (opening : List Note) (clients : List (List Note)) → is_settings s ≡ true →
+pub each_has_lines : (s : Settings) (opening : List CompletedCall) (clients : List (List CompletedCall)) →
+    is_settings s ≡ true →
     HasNoted s opening clients → EachHasLines (opening ∷ clients)
 each_has_lines s opening clients fits h = go
   where

@@ -7,7 +7,7 @@ use Rattle.load_tasks.specs.declared.settings.Settings.{Settings}
 use Rattle.load_tasks.specs.Streams.{stream_of}
 use Rattle.load_tasks.specs.Setting.{is_settings, is_work, is_system}
 use Rattle.vac_model.specs.Ranges.{is_block_count}
-use Rattle.load_record.specs.declared.journal.Journal.{Journal}
+use Rattle.load_record.specs.declared.journal.CallRecorder.{CallRecorder}
 use Rattle.load_record.specs.Order.{Entry, IsMerged, AreOrdered}
 use Rattle.load_record.specs.Numbers.{EachHasLines}
 use Rattle.load_record.specs.History.{notes_of, kept_by, call_of_entry, calls_text, WroteHistory, WroteHistoryPrefix}
@@ -97,7 +97,8 @@ ended_with_lines s load (suc zero) held holds fits loaded low done stopped =
 ended_with_lines s load (suc (suc n)) held holds fits loaded low done stopped = absurd (omega (arith, low))
 
 -- the calls of journals that were written in one order
-module _ {C : Type 0} (s : Settings) (opening : Journal C) (clients : List (Journal C)) (fits : is_settings s ≡ true)
+module _ {C : Type 0} (s : Settings) (opening : CallRecorder C) (clients : List (CallRecorder C))
+    (fits : is_settings s ≡ true)
     (has : HasNoted s (notes_of opening) (map notes_of clients)) where
   in_order : (all : List Entry) → IsMerged (kept_by opening clients) all → AreOrdered (map (λ e. e.note) all)
   in_order all merged = merged.ordered (each_ordered s opening clients has)

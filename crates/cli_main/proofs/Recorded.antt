@@ -2,7 +2,7 @@
 use Rattle.std.proofs.Common.{◌≡◌, ℕ, zero, suc, List, [], ◌∷◌, ◌++◌, get_or, set, map, refl, sym, ap, subst}
 use Rattle.stm_core.specs.Client.{Record}
 use Rattle.load_tasks.specs.declared.settings.Settings.{Settings}
-use Rattle.vac_manager.specs.declared.note.Note.{Note}
+use Rattle.vac_manager.specs.declared.note.CompletedCall.{CompletedCall}
 use Rattle.vac_manager.specs.Keeping.{IsNoted}
 use Rattle.load_record.specs.Turns.{EachInTurn}
 use Rattle.load_record.specs.Order.{Entry, entries_of, entries_from, Interleaves, IsMerged, AreOrdered}
@@ -21,14 +21,15 @@ OfRecords es rs = Paired (λ e r. IsNoted e.note r) es rs
 abbrev EachOfRecords : List (List Entry) → List (List Record) → Type 0
 EachOfRecords lists records = Paired OfRecords lists records
 
-entries_paired : (client : ℕ) (notes : List Note) (rs : List Record) → Paired IsNoted notes rs →
+entries_paired : (client : ℕ) (notes : List CompletedCall) (rs : List Record) → Paired IsNoted notes rs →
     OfRecords (entries_of client notes) rs
 entries_paired client [] [] none = none
 entries_paired client (n ∷ notes) (r ∷ rs) (both h hs) = both h (entries_paired client notes rs hs)
 entries_paired client [] (r ∷ rs) hs = elim hs [ ]
 entries_paired client (n ∷ notes) [] hs = elim hs [ ]
 
-lists_paired : {X : Type 0} (records_of : X → List Record) (first : ℕ) (kept : List (List Note)) (xs : List X) →
+lists_paired : {X : Type 0} (records_of : X → List Record) (first : ℕ) (kept : List (List CompletedCall))
+    (xs : List X) →
     Paired (λ notes x. Paired IsNoted notes (records_of x)) kept xs →
     EachOfRecords (entries_from first kept) (map records_of xs)
 lists_paired records_of first [] [] none = none
@@ -179,7 +180,7 @@ calls_of lists (e ∷ all) records history h pairs once =
 
 -- ---- the whole load
 
-recorded : (s : Settings) (opening : List Note) (clients : List (List Note)) (all : List Entry)
+recorded : (s : Settings) (opening : List CompletedCall) (clients : List (List CompletedCall)) (all : List Entry)
     (h : HasNoted s opening clients) → IsMerged (opening ∷ clients) all → AreRecorded s.blocks all h.loaded.last
 recorded s opening clients all h merged =
     let l = h.loaded in
@@ -199,7 +200,7 @@ recorded s opening clients all h merged =
           (l.opened ++ l.rest) merged.each_once pairs once);
     }
 
-pub load_legal : (s : Settings) (opening : List Note) (clients : List (List Note)) (all : List Entry)
+pub load_legal : (s : Settings) (opening : List CompletedCall) (clients : List (List CompletedCall)) (all : List Entry)
     (h : HasNoted s opening clients) → IsMerged (opening ∷ clients) all → EachInTurn (opening ∷ clients) →
     AreOrdered (map (λ e. e.note) all) → AreLegal s.blocks (map call_of_entry all) h.loaded.last
 load_legal s opening clients all h merged turns ordered =

@@ -8,10 +8,10 @@ use Rattle.stm_core.specs.History.{Sub, done, keep, skip}
 use Rattle.stm_core.specs.Invariant.{Sorted}
 use Rattle.stm_core.proofs.Merging.{in_sub}
 use Rattle.load_tasks.specs.declared.settings.Settings.{Settings}
-use Rattle.vac_manager.specs.Placed.{Place}
-use Rattle.vac_manager.specs.declared.note.Note.{Note}
+use Rattle.vac_manager.specs.Placed.{CommitPosition}
+use Rattle.vac_manager.specs.declared.note.CompletedCall.{CompletedCall}
 use Rattle.vac_manager.specs.Keeping.{IsNoted}
-use Rattle.load_record.specs.declared.journal.Journal.{Journal}
+use Rattle.load_record.specs.declared.journal.CallRecorder.{CallRecorder}
 use Rattle.load_record.specs.Turns.{NotesTakeTime, AreInTurn, EachInTurn}
 use Rattle.load_record.specs.Order.{precedes, rank_of, list_at, AreOrdered, EachOrdered}
 use Rattle.load_record.specs.History.{notes_of, kept_by}
@@ -28,13 +28,13 @@ never_back : (a b c d x y z w : ℕ) → below a b c x y z ≡ false → w ≤ d
 never_back a b c d x y z w e l = grind (arith, nat_tests, e, l)
 
 -- a call does not precede one that began before it, and whose record does not stand behind its own
-not_before : (a b : Note) (r x : Record) → IsNoted a r → IsNoted b x → before x r ≡ false → a.begin ≤ b.begin →
+not_before : (a b : CompletedCall) (r x : Record) → IsNoted a r → IsNoted b x → before x r ≡ false → a.begin ≤ b.begin →
     precedes b a ≡ false
 not_before a b r x h k e l =
-    subst (λ (p : Place). ltb p.renewal a.place.renewal || (eqb p.renewal a.place.renewal &&
+    subst (λ (p : CommitPosition). ltb p.renewal a.place.renewal || (eqb p.renewal a.place.renewal &&
     (ltb (rank_of p) (rank_of a.place) || (eqb (rank_of p) (rank_of a.place) && ltb b.begin a.begin))) ≡ false)
     (sym k.place)
-    (subst (λ (p : Place). ltb x.renewal p.renewal || (eqb x.renewal p.renewal &&
+    (subst (λ (p : CommitPosition). ltb x.renewal p.renewal || (eqb x.renewal p.renewal &&
     (ltb (rank x) (rank_of p) || (eqb (rank x) (rank_of p) && ltb b.begin a.begin))) ≡ false) (sym h.place)
     (never_back x.renewal (rank x) x.point b.begin r.renewal (rank r) r.point a.begin e l))
 
@@ -45,7 +45,8 @@ sorted_part (keep x s) o = (λ r i. o.0 r (in_sub r s i), sorted_part s o.1)
 sorted_part (skip y s) o = sorted_part s o.1
 
 -- the record of a call
-noted_at : (notes : List Note) (records : List Record) → Paired IsNoted notes records → (k : ℕ) (d : Note) →
+noted_at : (notes : List CompletedCall) (records : List Record) → Paired IsNoted notes records →
+    (k : ℕ) (d : CompletedCall) →
     k < length notes → (r : Record) × IsNoted (get_or notes k d) r × In r records
 noted_at [] [] none k d low = absurd (omega (arith, low))
 noted_at (n ∷ notes) (r ∷ records) (both h hs) zero d low = (r, h, (0, refl))
@@ -56,15 +57,15 @@ noted_at [] (r ∷ records) h k d low = elim h [ ]
 noted_at (n ∷ notes) [] h k d low = elim h [ ]
 
 -- the records of two calls, one behind the other
-record StandBehind (a b : Note) : Type 0 where
+record StandBehind (a b : CompletedCall) : Type 0 where
   first : Record
   second : Record
   of_first : IsNoted a first
   of_second : IsNoted b second
   behind : before second first ≡ false
 
-behind_at : (notes : List Note) (records : List Record) → Paired IsNoted notes records → Sorted records →
-    (i j : ℕ) (d : Note) → i < j → j < length notes → StandBehind (get_or notes i d) (get_or notes j d)
+behind_at : (notes : List CompletedCall) (records : List Record) → Paired IsNoted notes records → Sorted records →
+    (i j : ℕ) (d : CompletedCall) → i < j → j < length notes → StandBehind (get_or notes i d) (get_or notes j d)
 behind_at [] [] none o i j d less low = absurd (omega (arith, low))
 behind_at (n ∷ notes) (r ∷ records) (both h hs) o i zero d less low = absurd (omega (arith, less))
 behind_at (n ∷ notes) (r ∷ records) (both h hs) o zero (suc j) d less low =
@@ -75,7 +76,7 @@ behind_at (n ∷ notes) (r ∷ records) (both h hs) o (suc i) (suc j) d less low
 behind_at [] (r ∷ records) h o i j d less low = elim h [ ]
 behind_at (n ∷ notes) [] h o i j d less low = elim h [ ]
 
-ordered_notes : (notes : List Note) (records : List Record) → Paired IsNoted notes records → Sorted records →
+ordered_notes : (notes : List CompletedCall) (records : List Record) → Paired IsNoted notes records → Sorted records →
     NotesTakeTime notes → AreInTurn notes → AreOrdered notes
 ordered_notes notes records h o timed turns i j d less low =
     let p = behind_at notes records h o i j d less low in
@@ -85,7 +86,7 @@ ordered_notes notes records h o timed turns i j d less low =
     (omega (arith, takes, turn))
 
 -- the journals of clients whose records are parts of a list in order
-clients_ordered : {C X : Type 0} (records_of : X → List Record) (clients : List (Journal C)) (xs : List X)
+clients_ordered : {C X : Type 0} (records_of : X → List Record) (clients : List (CallRecorder C)) (xs : List X)
     (all : List Record) → Paired (λ notes x. Paired IsNoted notes (records_of x)) (map notes_of clients) xs
     → InterleavedAll records_of xs all → Sorted all → EachOrdered (map notes_of clients)
 clients_ordered records_of [] xs all h among o place = λ i j d less low. absurd (omega (arith, low))
@@ -105,7 +106,7 @@ sub_back [] [] = done
 sub_back [] (x ∷ m) = keep x (sub_back [] m)
 sub_back (x ∷ l) m = skip x (sub_back l m)
 
-pub each_ordered : {C : Type 0} (s : Settings) (opening : Journal C) (clients : List (Journal C)) →
+pub each_ordered : {C : Type 0} (s : Settings) (opening : CallRecorder C) (clients : List (CallRecorder C)) →
     HasNoted s (notes_of opening) (map notes_of clients) → EachOrdered (kept_by opening clients)
 each_ordered s opening clients h place =
     let sorted : Sorted (h.loaded.opened ++ h.loaded.rest) =
@@ -119,11 +120,11 @@ each_ordered s opening clients h place =
         h.loaded.each_once (sorted_part (sub_back h.loaded.opened h.loaded.rest) sorted) k
 
 -- each journal's calls take their turns
-clients_in_turn : {C : Type 0} (clients : List (Journal C)) → EachInTurn (map notes_of clients)
+clients_in_turn : {C : Type 0} (clients : List (CallRecorder C)) → EachInTurn (map notes_of clients)
 clients_in_turn [] place = (λ k d low. absurd (omega (arith, low)), λ i j d less low. absurd (omega (arith, low)))
 clients_in_turn (c ∷ clients) zero = (c.timed, c.in_turn)
 clients_in_turn (c ∷ clients) (suc k) = clients_in_turn clients k
 
-pub each_in_turn : {C : Type 0} (opening : Journal C) (clients : List (Journal C)) →
+pub each_in_turn : {C : Type 0} (opening : CallRecorder C) (clients : List (CallRecorder C)) →
     EachInTurn (kept_by opening clients)
 each_in_turn opening clients = clients_in_turn (opening ∷ clients)

@@ -3,7 +3,7 @@ use Rattle.std.specs.Prelude.{◌≡◌, ◌⊎◌, ◌&&◌, ℕ, Bool, true, f
 use Rattle.std.specs.Borrow.{Bor}
 use Rattle.judge_opacity.specs.Reading.{HasJudgedAttempts, HasJudgedAttemptsInPart}
 use Rattle.judge_opacity.specs.Placed.{HasPlaced, HasPlacedInPart}
-use Rattle.cli_options.specs.declared.asked.Judging.{Judging}
+use Rattle.cli_options.specs.declared.asked.JudgeSettings.{JudgeSettings}
 use Rattle.cli_main.specs.Ending.{EndsWithStatus}
 use Rattle.cli_main.specs.Judging.{Judges, JudgesWork, NamedAlone}
 use Rattle.cli_main.specs.Ordering.{JudgesAnyOrder, JudgesAnyWork}
@@ -23,11 +23,11 @@ JudgesAs files true (Some name) blocks steps status unread left held holds =
     JudgesAnyWork (files name.now) blocks steps status unread left held holds
 
 -- true if the words give settings of a search, and ask for no search
-abbrev pub has_stray_settings : Judging → Bool
+abbrev pub has_stray_settings : JudgeSettings → Bool
 has_stray_settings how = how.names_search && not how.any_order
 
 -- the program refuses the command line, or judges a history as the command line asks
-abbrev pub JudgesUnless : Bool → (List ℕ → Option (List ℕ)) → Judging → ℕ → Option (List ℕ)
+abbrev pub JudgesUnless : Bool → (List ℕ → Option (List ℕ)) → JudgeSettings → ℕ → Option (List ℕ)
     → Option (List ℕ) → Option (List ℕ) → Option (List ℕ) → Type 0
 JudgesUnless true files how status unread left held holds =
     (status ≡ 2) × (left ≡ unread) × (holds ≡ held)
@@ -36,7 +36,7 @@ JudgesUnless false files how status unread left held holds =
 
 -- the program judges a history as the command line asks; if the words give settings of a search and
 -- ask for none, the command line is refused, nothing is read, and nothing is written to the output
-abbrev pub JudgesAsked : (List ℕ → Option (List ℕ)) → Judging → ℕ → Option (List ℕ)
+abbrev pub JudgesAsked : (List ℕ → Option (List ℕ)) → JudgeSettings → ℕ → Option (List ℕ)
     → Option (List ℕ) → Option (List ℕ) → Option (List ℕ) → Type 0
 JudgesAsked files how status unread left held holds =
     JudgesUnless (has_stray_settings how) files how status unread left held holds

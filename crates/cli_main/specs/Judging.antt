@@ -4,7 +4,7 @@ use Rattle.vac_lines.specs.Writing.{AppendsPrefix}
 use Rattle.vac_streams.specs.declared.fault.StreamFault.{StreamFault}
 use Rattle.vac_streams.specs.declared.fault.StreamFault.TheVariants.{Memory, Write}
 use Rattle.judge_calls.specs.Reading.{HasJudged, HasJudgedInPart}
-use Rattle.judge_calls.specs.HeldReading.{HasHeld, HasHeldInPart}
+use Rattle.judge_calls.specs.HeldReading.{HasChecked, HasCheckedInPart}
 use Rattle.cli_main.specs.Ending.{EndsWithStatus, fault_line, unopened_line}
 
 -- a fault other than a failing output ended the command, and only a prefix of the line that names
@@ -36,7 +36,7 @@ Judges blocks status unread left held holds =
 abbrev pub HasHeldFile : Option (List ℕ) → ℕ → Bool → Option (List ℕ) → Option (List ℕ)
     → Option (List ℕ) → Option (List ℕ) → Type 0
 HasHeldFile tasks blocks legal unread left held holds =
-    (rest : Option (List ℕ)) × HasHeld blocks legal tasks rest unread left held holds
+    (rest : Option (List ℕ)) × HasChecked blocks legal tasks rest unread left held holds
 
 -- a fault ended the judgement against a workload: either the output failed, and a prefix of the
 -- verdict was written; or another fault was met, and only a prefix of the line that names a fault
@@ -45,7 +45,7 @@ HasHeldFile tasks blocks legal unread left held holds =
 abbrev pub WorkStopped : Option (List ℕ) → ℕ → Option (List ℕ) → Option (List ℕ)
     → Option (List ℕ) → Option (List ℕ) → Type 0
 WorkStopped tasks blocks unread left held holds =
-    ((rest : Option (List ℕ)) × HasHeldInPart blocks tasks rest unread left held holds)
+    ((rest : Option (List ℕ)) × HasCheckedInPart blocks tasks rest unread left held holds)
     ⊎ NamedAlone held holds
 
 -- the file of the workload was not opened: a prefix of the line that says so was written, or a

@@ -12,7 +12,7 @@ use Rattle.rand_pcg.specs.Lcg.{Lcg}
 use Rattle.load_tasks.specs.declared.settings.Settings.{Settings}
 use Rattle.load_tasks.specs.Setting.{is_settings}
 use Rattle.load_tasks.specs.Streams.{gives, stream_of}
-use Rattle.vac_manager.specs.declared.note.Note.{Note}
+use Rattle.vac_manager.specs.declared.note.CompletedCall.{CompletedCall}
 use Rattle.vac_manager.specs.Keeping.{IsNoted}
 use Rattle.load_record.specs.Turns.{EachInTurn}
 use Rattle.load_record.specs.Order.{AreOrdered}
@@ -119,7 +119,8 @@ EndsKept wrote in_part status s held holds =
 
 -- the load of these settings ran to its end, and the notes are its completed calls: those of the
 -- setup phase and those of each client, one for each record, in the order of the records
-pub record HasNoted (s : Settings) (opening : List Note) (clients : List (List Note))
+pub record HasNoted (s : Settings) (opening : List CompletedCall)
+    (clients : List (List CompletedCall))
     : Type 0 where
   pub load : LoadReport
   pub loaded : LoadedBySeed s load.outcomes load.report
@@ -127,7 +128,7 @@ pub record HasNoted (s : Settings) (opening : List Note) (clients : List (List N
   pub of_clients : Paired (λ notes x. Paired IsNoted notes x.records) clients loaded.shares
 
 -- the recorded calls; none if nothing is recorded
-abbrev pub calls_kept : KeptNotes → List Note
+abbrev pub calls_kept : KeptNotes → List CompletedCall
 calls_kept None = []
 calls_kept (Some calls) = calls
 
@@ -145,11 +146,11 @@ AreNoted notes s k = HasNoted s (calls_kept (notes k.opening))
 -- them read first.
 -- Not said: that a stamp is a reading of the clock; that the state is the one that the load writes
 -- to the error stream, of which no clause speaks.
--- Not said: that no call was left out because a journal had no room for it. Of the journals that a
--- load returns, only the recorded calls are known.
+-- Not said: that no call was left out because a call recorder had no room for it. Of the call
+-- recorders that a load returns, only the recorded calls are known.
 pub record WroteCalls (s : Settings) (held holds : Option (List ℕ)) : Type 0 where
-  pub opening : List Note
-  pub clients : List (List Note)
+  pub opening : List CompletedCall
+  pub clients : List (List CompletedCall)
   pub noted : HasNoted s opening clients
   pub in_turn : EachInTurn (opening ∷ clients)
   pub written : WroteHistory (opening ∷ clients) held holds
@@ -160,8 +161,8 @@ pub record WroteCalls (s : Settings) (held holds : Option (List ℕ)) : Type 0 w
 
 -- the load ran to its end, and a prefix of such a history was written
 pub record WroteCallsInPart (s : Settings) (held holds : Option (List ℕ)) : Type 0 where
-  pub opening : List Note
-  pub clients : List (List Note)
+  pub opening : List CompletedCall
+  pub clients : List (List CompletedCall)
   pub noted : HasNoted s opening clients
   pub in_turn : EachInTurn (opening ∷ clients)
   pub written : WroteHistoryPrefix (opening ∷ clients) held holds
@@ -178,15 +179,15 @@ pub record WroteCallsInPart (s : Settings) (held holds : Option (List ℕ)) : Ty
 -- a reading of the clock, and that the stamps of each client are in turn. `vacation opaque` judges
 -- these.
 -- Not said: that `vacation opaque` reads the lines.
--- Not said: that nothing was left out because a ledger had no room for it.
-pub record WroteTried (s : Settings) (held holds : Option (List ℕ)) : Type 0 where
+-- Not said: that nothing was left out because an attempt recorder had no room for it.
+pub record WroteLoadAttempts (s : Settings) (held holds : Option (List ℕ)) : Type 0 where
   pub opening : Page
   pub clients : List Page
   pub noted : HasNoted s opening.calls (map (λ page. page.calls) clients)
   pub written : WroteAttempts s.blocks (opening ∷ clients) held holds
 
 -- the load ran to its end, and nothing or a prefix of the text of such attempts was written
-pub record WroteTriedInPart (s : Settings) (held holds : Option (List ℕ)) : Type 0 where
+pub record WroteLoadAttemptsInPart (s : Settings) (held holds : Option (List ℕ)) : Type 0 where
   pub opening : Page
   pub clients : List Page
   pub noted : HasNoted s opening.calls (map (λ page. page.calls) clients)

@@ -1,10 +1,11 @@
 -- The search for a linearization: status, input and output.
 use Rattle.std.specs.Prelude.{◌≡◌, ◌≢◌, ◌⊎◌, ℕ, Bool, true, false, Option, Some, None, List}
+use Rattle.judge_levels.specs.declared.level.Level.TheVariants as level
 use Rattle.judge_linear.specs.declared.ordering.Outcome.{Outcome}
 use Rattle.judge_linear.specs.declared.ordering.Outcome.TheVariants as outcome
 use Rattle.judge_linear.specs.Ordering.{FindsText, HasText, HasOrdered, HasOrderedInPart}
 use Rattle.judge_calls.specs.HeldReading.{IsReadWhole}
-use Rattle.judge_calls.specs.AnyOrder.{HasHeldOrder, HasHeldOrderInPart}
+use Rattle.judge_calls.specs.AnyOrder.{HasCheckedOrder, HasCheckedOrderInPart}
 use Rattle.cli_main.specs.Ending.{EndsWithStatus}
 use Rattle.cli_main.specs.Judging.{Judges, NamedAlone, NotOpened}
 
@@ -20,21 +21,21 @@ status_of outcome.Undecided = 3
 abbrev pub OrderStopped : ℕ → ℕ → Option (List ℕ) → Option (List ℕ) → Option (List ℕ)
     → Option (List ℕ) → Type 0
 OrderStopped blocks steps unread left held holds =
-    HasOrderedInPart blocks steps unread left held holds ⊎ NamedAlone held holds
+    HasOrderedInPart level.Linearizable blocks steps unread left held holds ⊎ NamedAlone held holds
 
 -- the program searches for a linearization of a history's calls, and writes the result
 abbrev pub Orders : ℕ → ℕ → ℕ → Option (List ℕ) → Option (List ℕ) → Option (List ℕ)
     → Option (List ℕ) → Type 0
 Orders blocks steps status unread left held holds =
     ((found : Outcome) × (status ≡ status_of found)
-    × HasOrdered blocks steps found unread left held holds)
+    × HasOrdered level.Linearizable blocks steps found unread left held holds)
     ⊎ ((status ≡ 1) × OrderStopped blocks steps unread left held holds)
 
 -- no linearization was found, and a prefix of the text that says so was written
 abbrev pub HasRefusedInPart : ℕ → ℕ → Option (List ℕ) → Option (List ℕ) → Option (List ℕ)
     → Option (List ℕ) → Type 0
 HasRefusedInPart blocks steps unread left held holds =
-    (part : HasOrderedInPart blocks steps unread left held holds)
+    (part : HasOrderedInPart level.Linearizable blocks steps unread left held holds)
     × (part.result ≢ outcome.Ordered)
 
 -- no linearization is found, and the text that says so is written; or a fault ended the search,
@@ -43,7 +44,7 @@ abbrev pub FindsNone : ℕ → ℕ → ℕ → Option (List ℕ) → Option (Lis
     → Option (List ℕ) → Type 0
 FindsNone blocks steps status unread left held holds =
     ((found : Outcome) × (found ≢ outcome.Ordered) × (status ≡ status_of found)
-    × HasOrdered blocks steps found unread left held holds)
+    × HasOrdered level.Linearizable blocks steps found unread left held holds)
     ⊎ ((status ≡ 1)
     × (HasRefusedInPart blocks steps unread left held holds ⊎ NamedAlone held holds))
 
@@ -51,7 +52,7 @@ FindsNone blocks steps status unread left held holds =
 pub record JudgesFound (blocks steps status : ℕ) (unread left held holds : Option (List ℕ)) :
     Type 0 where
   pub text : List ℕ
-  pub order : HasText blocks steps unread left outcome.Ordered text
+  pub order : HasText level.Linearizable blocks steps unread left outcome.Ordered text
   pub rest : Option (List ℕ)
   pub judged : Judges blocks status (Some text) rest held holds
 
@@ -68,7 +69,7 @@ JudgesAnyOrder blocks steps status unread left held holds =
 abbrev pub HasHeldOrderFile : Option (List ℕ) → ℕ → Bool → List ℕ → List ℕ → Option (List ℕ)
     → Option (List ℕ) → Type 0
 HasHeldOrderFile tasks blocks covered bytes text held holds =
-    (rest : Option (List ℕ)) × HasHeldOrder blocks covered tasks rest bytes text held holds
+    (rest : Option (List ℕ)) × HasCheckedOrder blocks covered tasks rest bytes text held holds
 
 -- a fault ended the check of an order against a workload: either the output failed, and a prefix of
 -- the verdict was written; or another fault was met, and only a prefix of the line that names a
@@ -77,7 +78,7 @@ HasHeldOrderFile tasks blocks covered bytes text held holds =
 abbrev pub OrderWorkStopped : Option (List ℕ) → ℕ → List ℕ → List ℕ → Option (List ℕ)
     → Option (List ℕ) → Type 0
 OrderWorkStopped tasks blocks bytes text held holds =
-    ((rest : Option (List ℕ)) × HasHeldOrderInPart blocks tasks rest bytes text held holds)
+    ((rest : Option (List ℕ)) × HasCheckedOrderInPart blocks tasks rest bytes text held holds)
     ⊎ NamedAlone held holds
 
 -- the program checks an order of a history's calls against a workload; the status is 0 if the order
@@ -94,7 +95,7 @@ HoldsOrder tasks blocks status bytes text held holds =
 pub record HoldsText (tasks : Option (List ℕ)) (blocks steps status : ℕ) (bytes : List ℕ)
     (held holds : Option (List ℕ)) : Type 0 where
   pub text : List ℕ
-  pub order : FindsText blocks steps bytes outcome.Ordered text
+  pub order : FindsText level.Linearizable blocks steps bytes outcome.Ordered text
   pub judged : HoldsOrder tasks blocks status bytes text held holds
 
 -- a history with these bytes is checked against a workload in a linearization that is found, or

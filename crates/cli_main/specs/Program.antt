@@ -8,9 +8,9 @@ use Rattle.clap.specs.declared.error.kind.ErrorKind.TheVariants as error
 use Rattle.load_tasks.specs.declared.settings.Settings.{Settings}
 use Rattle.load_tasks.specs.Setting.{is_settings}
 use Rattle.load_run.specs.declared.load.LoadFault.TheVariants.{Arguments}
-use Rattle.cli_options.specs.declared.asked.Asked.{Asked}
-use Rattle.cli_options.specs.declared.asked.Asked.TheVariants.{Run, Dump, Check, Judge, Order}
-use Rattle.cli_options.specs.declared.asked.Asked.TheVariants.{Opaque, Load, Tasks}
+use Rattle.cli_options.specs.declared.asked.Request.{Request}
+use Rattle.cli_options.specs.declared.asked.Request.TheVariants.{Run, Dump, Check, Judge, Order}
+use Rattle.cli_options.specs.declared.asked.Request.TheVariants.{Opaque, Part, Load, Tasks}
 use Rattle.vac_lines.specs.Script.{as_line}
 use Rattle.vac_streams.specs.declared.fault.StreamFault.TheVariants.{Memory}
 use Rattle.vac_lines.specs.Writing.{AppendsPrefix}
@@ -19,10 +19,12 @@ use Rattle.cli_script.specs.Dump.{Dumped, DumpStopped}
 use Rattle.cli_script.specs.Check.{Checked, CheckStopped}
 use Rattle.load_tasks.specs.Worklist.{WroteTasks, WroteTasksPrefix}
 use Rattle.cli_main.specs.Load.{EndsLoad, WroteLoad, WroteLoadInPart}
-use Rattle.cli_main.specs.Load.{EndsKept, WroteCalls, WroteCallsInPart, WroteTried, WroteTriedInPart}
+use Rattle.cli_main.specs.Load.{EndsKept, WroteCalls, WroteCallsInPart, WroteLoadAttempts, WroteLoadAttemptsInPart}
 use Rattle.cli_main.specs.Ending.{EndsWithStatus, NamedAfter, NamedAfterWriting, fault_line, load_fault_line}
 use Rattle.cli_main.specs.Ordering.{Orders}
 use Rattle.cli_main.specs.Asking.{JudgesAsked, JudgesOpacity}
+use Rattle.cli_main.specs.Parting.{WritesPartOf}
+use Rattle.cli_main.specs.Reporting.{Reports}
 use Rattle.cli_options.specs.CommandLine.{vacation, AsksFor}
 
 -- the program runs a load, and writes its history or its two lines
@@ -31,15 +33,16 @@ Loads true status s held holds = EndsKept WroteCalls WroteCallsInPart status s h
 Loads false status s held holds = EndsLoad WroteLoad WroteLoadInPart status s held holds
 
 -- the program runs a load, and writes its attempts
-abbrev pub Tries : ℕ → Settings → Option (List ℕ) → Option (List ℕ) → Type 0
-Tries status s held holds = EndsKept WroteTried WroteTriedInPart status s held holds
+abbrev pub WritesAttempts : ℕ → Settings → Option (List ℕ) → Option (List ℕ) → Type 0
+WritesAttempts status s held holds = EndsKept WroteLoadAttempts WroteLoadAttemptsInPart status s
+    held holds
 
 -- the program runs a load, and writes its history, its attempts or its two lines; if both history
 -- and attempts are asked for, the command line is refused, and nothing is written
 abbrev pub LoadsAs : Bool → Bool → ℕ → Settings → Option (List ℕ) → Option (List ℕ) → Type 0
 LoadsAs true true status s held holds = (status ≡ 2) × (holds ≡ held)
 LoadsAs true false status s held holds = Loads true status s held holds
-LoadsAs false true status s held holds = Tries status s held holds
+LoadsAs false true status s held holds = WritesAttempts status s held holds
 LoadsAs false false status s held holds = Loads false status s held holds
 
 -- the program writes the tasks of a load if its settings fit each other, and refuses the command
@@ -76,21 +79,24 @@ Checks status unread left held holds =
 
 -- the program does what the command line asks for; `files` gives the bytes of each file by its
 -- name
-abbrev pub Does : (Text → Option (List ℕ)) → Asked → ℕ → Option (List ℕ) → Option (List ℕ)
+abbrev pub Fulfils : (Text → Option (List ℕ)) → Request → ℕ → Option (List ℕ) → Option (List ℕ)
     → Option (List ℕ) → Option (List ℕ) → Type 0
-Does files (Run blocks) status unread left held holds =
+Fulfils files (Run blocks) status unread left held holds =
     RunsScript blocks status unread left held holds
-Does files (Dump blocks) status unread left held holds = Dumps blocks status unread left held holds
-Does files Check status unread left held holds = Checks status unread left held holds
-Does files (Judge how) status unread left held holds =
+Fulfils files (Dump blocks) status unread left held holds =
+    Dumps blocks status unread left held holds
+Fulfils files Check status unread left held holds = Checks status unread left held holds
+Fulfils files (Judge how) status unread left held holds =
     JudgesAsked files how status unread left held holds
-Does files (Order blocks search) status unread left held holds =
+Fulfils files (Order blocks search) status unread left held holds =
     Orders blocks search.steps status unread left held holds
-Does files (Opaque how) status unread left held holds =
+Fulfils files (Opaque how) status unread left held holds =
     JudgesOpacity how.place how.words status unread left held holds
-Does files (Load settings how) status unread left held holds =
+Fulfils files (Part words) status unread left held holds =
+    WritesPartOf words status unread left held holds
+Fulfils files (Load settings how) status unread left held holds =
     (left ≡ unread) × LoadsAs how.history how.attempts status settings held holds
-Does files (Tasks settings) status unread left held holds =
+Fulfils files (Tasks settings) status unread left held holds =
     (left ≡ unread) × ListsTasks status settings held holds
 
 -- the text of `--version`: the name and version of the program, and the toolchain that proved and
@@ -113,13 +119,14 @@ ShowsError error.DisplayVersion status held holds =
     EndsWithStatus status (Appends held holds version_text) (AppendsPrefix held holds version_text)
 ShowsError kind status held holds = (status ≡ 2) × (holds ≡ held)
 
--- clap accepts the words, and the program did what they ask for
+-- clap accepts the words, and the program did what they ask for, with its report on standard error
 pub record Obeyed (files : Text → Option (List ℕ)) (words : List Text) (status : ℕ)
-    (unread left held holds : Option (List ℕ)) : Type 0 where
+    (unread left held holds told tells : Option (List ℕ)) : Type 0 where
   pub taken : fault_of vacation words ≡ []
-  pub asked : Asked
+  pub asked : Request
   pub asks : AsksFor words asked
-  pub done : Does files asked status unread left held holds
+  pub done : Fulfils files asked status unread left held holds
+  pub reported : Reports asked status told tells
 
 -- memory was refused, or clap does not accept the words: the explanation was shown, and no input
 -- was read
@@ -135,7 +142,7 @@ pub record Explained (words : List Text) (status : ℕ) (unread left held holds 
 -- the program does what the words of its command line ask for, or explains why not; `files` gives
 -- the bytes of each file by its name
 abbrev pub Serves : (Text → Option (List ℕ)) → List Text → ℕ → Option (List ℕ) → Option (List ℕ)
-    → Option (List ℕ) → Option (List ℕ) → Type 0
-Serves files words status unread left held holds =
-    Obeyed files words status unread left held holds
+    → Option (List ℕ) → Option (List ℕ) → Option (List ℕ) → Option (List ℕ) → Type 0
+Serves files words status unread left held holds told tells =
+    Obeyed files words status unread left held holds told tells
     ⊎ Explained words status unread left held holds

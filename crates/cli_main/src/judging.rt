@@ -1,17 +1,21 @@
 //! Judging histories and attempts, and the resulting statuses.
 
-ghost use Rattle.std.specs.Prelude.{◌≡◌, true, IfOk, IfErr, OnOk, IsSome, option_map};
+ghost use Rattle.std.specs.Prelude.{◌≡◌, true, false, IfOk, IfErr, OnOk, IsSome, option_map};
 ghost use Rattle.vac_model.specs.Ranges.{is_block_count};
 ghost use Rattle.cli_main.specs.Judging.{Judges, JudgesWith, NotOpened};
 ghost use Rattle.cli_main.specs.Asking.{has_stray_settings, JudgesAs, JudgesAsked};
 ghost use Rattle.cli_main.specs.Asking.{JudgesAttempts, PlacesAttempts, JudgesOpacity};
+ghost use Rattle.cli_main.specs.Reporting.{ReportsUnless, ReportsAttempts};
+ghost use Rattle.judge_coverage.specs.Watching.{inner_of};
 
 use crate::files::Open;
+use crate::reporting::{most_watched, report_attempts, report_calls};
 use crate::searching::judge_any;
 use crate::status::{REFUSED, end_by, end_judged, end_unopened};
-use cli_options::{Judging, Opacity};
-use judge_calls::{judge_history, judge_work};
-use judge_opacity::{judge_attempts, place_attempts};
+use cli_options::{JudgeSettings, OpacitySettings};
+use judge_calls::{CALL_BYTES, judge_history, judge_with_workload};
+use judge_coverage::Watched;
+use judge_opacity::{ATTEMPT_BYTES, judge_attempts, place_attempts};
 use std::alloc::Global;
 use std::io;
 use std::io::{ErrorKind, Read, Write};
@@ -50,7 +54,10 @@ fn judge_with<F: Read + Drop, R: Read, W: Write>(
     match tasks {
         None => judge_alone(alloc, blocks, input, output),
         Some(mut tasks) => {
-            end_judged(judge_work(alloc, blocks, &mut tasks, input, output), output)
+            end_judged(
+                judge_with_workload(alloc, blocks, &mut tasks, input, output),
+                output,
+            )
         }
     }
 }
@@ -94,16 +101,18 @@ fn open_tasks<F: Open, W: Write>(
 fn judge_as<T: Clock + AllocGlobal, F: Open, R: Read, W: Write, E: Write>(
     rt: &T,
     files: &F,
-    how: Judging<'_>,
+    how: JudgeSettings<'_>,
     input: &mut R,
     output: &mut W,
     errors: &mut E,
 ) -> u8
     requires { is_block_count how.blocks ≡ true }
-    ensures { JudgesAs (F.holds files.now) how.entry.any_order how.entry.tasks how.entry.blocks
-        how.entry.search.steps result
+    ensures judged { JudgesAs (F.holds files.now) how.entry.any_order how.entry.tasks
+        how.entry.blocks how.entry.search.steps result
         (R.remaining input.old) (R.remaining input.new)
         (W.contents output.old) (W.contents output.new) }
+    ensures untold { how.entry.search.progress ≡ false →
+        E.contents errors.new ≡ E.contents errors.old }
 {
     let tasks = match open_tasks(files, how.tasks, output) {
         Ok(tasks) => tasks,
@@ -117,7 +126,7 @@ fn judge_as<T: Clock + AllocGlobal, F: Open, R: Read, W: Write, E: Write>(
 }
 
 /// Returns whether the command line gives settings of a search, and asks for no search.
-fn has_stray_settings(how: &Judging<'_>) -> bool
+fn has_stray_settings(how: &JudgeSettings<'_>) -> bool
     ensures { result ≡ has_stray_settings how.now }
 {
     how.names_search && !how.any_order
@@ -132,24 +141,35 @@ fn refuse_search<E: Write>(errors: &mut E) -> u8
     REFUSED
 }
 
-/// Judges a history as the command line asks, and returns the status.
+/// Judges a history as the command line asks, reports on it, and returns the status.
 pub(crate) fn judge<T: Clock + AllocGlobal, F: Open, R: Read, W: Write, E: Write>(
     rt: &T,
     files: &F,
-    how: Judging<'_>,
-    input: &mut R,
+    how: JudgeSettings<'_>,
+    input: &mut Watched<R>,
     output: &mut W,
     errors: &mut E,
 ) -> u8
     requires { is_block_count how.blocks ≡ true }
-    ensures { JudgesAsked (F.holds files.now) how.entry result
-        (R.remaining input.old) (R.remaining input.new)
+    ensures judged { JudgesAsked (F.holds files.now) how.entry result
+        (R.remaining (inner_of input.old)) (R.remaining (inner_of input.new))
         (W.contents output.old) (W.contents output.new) }
+    ensures reported { ReportsUnless (has_stray_settings how.entry) how.entry result
+        (E.contents errors.old) (E.contents errors.new) }
 {
     if has_stray_settings(&how) {
         return refuse_search(errors);
     }
-    judge_as(rt, files, how, input, output, errors)
+    input.watch(CALL_BYTES, most_watched(how.search.stats));
+    let status = judge_as(rt, files, how, input, output, errors);
+    report_calls(
+        rt.alloc(),
+        how.search.stats,
+        status,
+        input.measure_calls(),
+        errors,
+    );
+    status
 }
 
 /// Judges attempts on `words` words in the order of their lines, and returns the status: 0 if they
@@ -171,9 +191,9 @@ fn judge_placed<R: Read, W: Write>(alloc: Global, words: u32, input: &mut R, out
 }
 
 /// Judges attempts as the command line asks, and returns the status: 0 if they are opaque.
-pub(crate) fn judge_opaque<R: Read, W: Write>(
+fn judge_opaque_as<R: Read, W: Write>(
     alloc: Global,
-    how: Opacity,
+    how: OpacitySettings,
     input: &mut R,
     output: &mut W,
 ) -> u8
@@ -186,4 +206,25 @@ pub(crate) fn judge_opaque<R: Read, W: Write>(
     } else {
         judge_in_order(alloc, how.words, input, output)
     }
+}
+
+/// Judges attempts as the command line asks, reports on them, and returns the status: 0 if they are
+/// opaque.
+pub(crate) fn judge_opaque<R: Read, W: Write, E: Write>(
+    alloc: Global,
+    how: OpacitySettings,
+    input: &mut Watched<R>,
+    output: &mut W,
+    errors: &mut E,
+) -> u8
+    ensures judged { JudgesOpacity how.place how.words result
+        (R.remaining (inner_of input.old)) (R.remaining (inner_of input.new))
+        (W.contents output.old) (W.contents output.new) }
+    ensures reported { ReportsAttempts how.stats result
+        (E.contents errors.old) (E.contents errors.new) }
+{
+    input.watch(ATTEMPT_BYTES, most_watched(how.stats));
+    let status = judge_opaque_as(alloc, how, input, output);
+    report_attempts(alloc, how.stats, status, input.measure_attempts(), errors);
+    status
 }

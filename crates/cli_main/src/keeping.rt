@@ -7,13 +7,15 @@ ghost use Rattle.load_tasks.specs.Setting.{is_settings};
 ghost use Rattle.load_run.specs.declared.slots.Recorders.{Recorders};
 ghost use Rattle.cli_main.specs.Ending.{CanStopWriting};
 ghost use Rattle.cli_main.specs.Load.{AreNoted, EndsKept};
-ghost use Rattle.cli_main.specs.Program.{Loads, Tries};
+ghost use Rattle.cli_main.specs.Program.{Loads, WritesAttempts};
 
-use crate::load::{AskedLoad, tell_load};
-use crate::stats::{Span, tell_stats};
+use crate::load::{LoadRequest, tell_load};
+use crate::stats::{LoadTimer, tell_stats};
 use crate::status::{end_by_settings, end_done, end_load_by};
-use crate::telling::run_told;
-use load_record::{Journal, Ledger, Since, Watch, write_attempts, write_history};
+use crate::telling::run_with_progress;
+use load_record::{
+    AttemptRecorder, CallRecorder, ElapsedClock, StampClock, write_attempts, write_history,
+};
 use load_run::{LoadFault, Recorders, Settings};
 use std::alloc::{AllocError, Global};
 use std::io::Write;
@@ -63,7 +65,7 @@ pub(crate) trait Transcript<W>: Recorder + Sized {
         ensures fault { IfErr result CanStopWriting };
 }
 
-impl<W: Watch> Transcript<W> for Journal<W> {
+impl<W: StampClock> Transcript<W> for CallRecorder<W> {
     ghost use Rattle.load_record.specs.History as history;
     ghost use Rattle.cli_main.specs.Load.{WroteCalls, WroteCallsInPart};
 
@@ -73,39 +75,45 @@ impl<W: Watch> Transcript<W> for Journal<W> {
 
     ghost are_whole = { λ k. history.are_whole k.opening k.clients.items };
 
-    fn empty(alloc: Global, watch: W) -> Journal<W> {
-        Journal::new(alloc, watch)
+    fn empty(alloc: Global, watch: W) -> CallRecorder<W> {
+        CallRecorder::new(alloc, watch)
     }
 
-    fn are_whole(recorders: &Recorders<Journal<W>>) -> bool {
+    fn are_whole(recorders: &Recorders<CallRecorder<W>>) -> bool {
         load_record::are_whole(&recorders.opening, recorders.clients.as_slice())
     }
 
-    fn write<O: Write>(load: &KeptLoad<'_, Journal<W>>, output: &mut O) -> Result<(), StreamFault> {
+    fn write<O: Write>(
+        load: &KeptLoad<'_, CallRecorder<W>>,
+        output: &mut O,
+    ) -> Result<(), StreamFault> {
         let Recorders { opening, clients } = &load.recorders;
         write_history(load.alloc, opening, clients.as_slice(), output)
     }
 }
 
-impl<W: Watch + Copy + Drop> Transcript<W> for Ledger<W> {
+impl<W: StampClock + Copy + Drop> Transcript<W> for AttemptRecorder<W> {
     ghost use Rattle.load_record.specs.Known.{are_whole_ledgers};
-    ghost use Rattle.cli_main.specs.Load.{WroteTried, WroteTriedInPart};
+    ghost use Rattle.cli_main.specs.Load.{WroteLoadAttempts, WroteLoadAttemptsInPart};
 
-    ghost wrote = { WroteTried };
+    ghost wrote = { WroteLoadAttempts };
 
-    ghost wrote_in_part = { WroteTriedInPart };
+    ghost wrote_in_part = { WroteLoadAttemptsInPart };
 
     ghost are_whole = { λ k. are_whole_ledgers k.opening k.clients.items };
 
-    fn empty(alloc: Global, watch: W) -> Ledger<W> {
-        Ledger::new(alloc, watch)
+    fn empty(alloc: Global, watch: W) -> AttemptRecorder<W> {
+        AttemptRecorder::new(alloc, watch)
     }
 
-    fn are_whole(recorders: &Recorders<Ledger<W>>) -> bool {
+    fn are_whole(recorders: &Recorders<AttemptRecorder<W>>) -> bool {
         load_record::are_whole_attempts(&recorders.opening, recorders.clients.as_slice())
     }
 
-    fn write<O: Write>(load: &KeptLoad<'_, Ledger<W>>, output: &mut O) -> Result<(), StreamFault> {
+    fn write<O: Write>(
+        load: &KeptLoad<'_, AttemptRecorder<W>>,
+        output: &mut O,
+    ) -> Result<(), StreamFault> {
         let (blocks, kept) = (load.settings.blocks, &load.recorders);
         write_attempts(
             load.alloc,
@@ -118,7 +126,7 @@ impl<W: Watch + Copy + Drop> Transcript<W> for Ledger<W> {
 }
 
 /// Returns the empty recorders of a load of `count` clients, with one clock and one start.
-fn empty_recorders<'a, T: Clock, K: Transcript<Since<'a, T>> + Drop>(
+fn empty_recorders<'a, T: Clock, K: Transcript<ElapsedClock<'a, T>> + Drop>(
     alloc: Global,
     clock: &'a T,
     count: u32,
@@ -131,22 +139,26 @@ fn empty_recorders<'a, T: Clock, K: Transcript<Since<'a, T>> + Drop>(
     let start = Instant::now(clock).ok();
     let mut clients = Vec::with_capacity(alloc, count as usize)?;
     for number in 0..count {
-        clients.push(K::empty(alloc, Since::new(clock, start)))?;
+        clients.push(K::empty(alloc, ElapsedClock::new(clock, start)))?;
     }
-    let opening = K::empty(alloc, Since::new(clock, start));
+    let opening = K::empty(alloc, ElapsedClock::new(clock, start));
     Ok(Recorders { opening, clients })
 }
 
-impl<'a, T: Threads + Wait + Clock + Sync + AllocGlobal> AskedLoad<'a, T> {
+impl<'a, T: Threads + Wait + Clock + Sync + AllocGlobal> LoadRequest<'a, T> {
     /// Runs the load, writes the history of its calls, writes its two lines to `errors`, and
-    /// returns the status. A call for which a journal had no room was not issued, and the load
-    /// then ends with the fault of refused memory.
+    /// returns the status. A call for which a call recorder had no room was not issued, and the
+    /// load then ends with the fault of refused memory.
     pub(crate) fn note<W: Write, E: Write + Send>(&self, output: &mut W, errors: &mut E) -> u8
         ensures { Loads true result self.now.settings.now
             (W.contents output.old) (W.contents output.new) }
     {
         let (clock, count) = (self.rt, self.settings.clients);
-        let recorders = empty_recorders::<T, Journal<Since<'a, T>>>(clock.alloc(), clock, count);
+        let recorders = empty_recorders::<T, CallRecorder<ElapsedClock<'a, T>>>(
+            clock.alloc(),
+            clock,
+            count,
+        );
         self.keep(recorders, output, errors)
     }
 
@@ -154,18 +166,22 @@ impl<'a, T: Threads + Wait + Clock + Sync + AllocGlobal> AskedLoad<'a, T> {
     /// returns the status. If there was no room for a call, for an attempt, or for the reads and
     /// writes of an attempt, the load ends with the fault of refused memory.
     pub(crate) fn trace<W: Write, E: Write + Send>(&self, output: &mut W, errors: &mut E) -> u8
-        ensures { Tries result self.now.settings.now
+        ensures { WritesAttempts result self.now.settings.now
             (W.contents output.old) (W.contents output.new) }
     {
         let (clock, count) = (self.rt, self.settings.clients);
-        let recorders = empty_recorders::<T, Ledger<Since<'a, T>>>(clock.alloc(), clock, count);
+        let recorders = empty_recorders::<T, AttemptRecorder<ElapsedClock<'a, T>>>(
+            clock.alloc(),
+            clock,
+            count,
+        );
         self.keep(recorders, output, errors)
     }
 
     /// Runs the load with these recorders, writes the recorded calls, writes the load's two lines
     /// to `errors`, and returns the status. If a recorder had no room, the load ends with the
     /// fault of refused memory.
-    fn keep<K: Transcript<Since<'a, T>> + Send + Drop, W: Write, E: Write + Send>(
+    fn keep<K: Transcript<ElapsedClock<'a, T>> + Send + Drop, W: Write, E: Write + Send>(
         &self,
         recorders: Result<Recorders<K>, AllocError>,
         output: &mut W,
@@ -186,8 +202,8 @@ impl<'a, T: Threads + Wait + Clock + Sync + AllocGlobal> AskedLoad<'a, T> {
         let Ok(empty) = recorders else {
             return end_load_by(LoadFault::Memory, output);
         };
-        let span = Span::new(self.rt, self.settings.clients);
-        let (report, statistics, recorders) = match run_told(
+        let span = LoadTimer::new(self.rt, self.settings.clients);
+        let (report, statistics, recorders) = match run_with_progress(
             self.rt,
             self.settings,
             self.how,

@@ -9,7 +9,9 @@ mod files;
 mod judging;
 mod keeping;
 mod load;
+mod parting;
 mod program;
+mod reporting;
 mod searching;
 mod stats;
 mod status;
@@ -17,6 +19,7 @@ mod telling;
 
 pub use cli_script::{check_words, dump_script, run_script};
 pub use files::Open;
+pub use judge_coverage::Watched;
 pub use program::{refuse_words, run_words};
 pub use vac_lines::{LineFault, print_reply, read_line};
 pub use vac_streams::StreamFault;

@@ -11,10 +11,10 @@ ghost use Rattle.vac_lines.specs.Script.{as_line};
 ghost use Rattle.vac_lines.specs.Writing.{AppendsPrefix};
 ghost use Rattle.vac_lines.specs.Text.{report_text};
 
-use crate::stats::{Span, tell_stats};
+use crate::stats::{LoadTimer, tell_stats};
 use crate::status::{DONE, FAULT, REFUSED, end_by, end_by_settings, end_load_by};
-use crate::telling::run_told;
-use cli_options::How;
+use crate::telling::run_with_progress;
+use cli_options::LoadOutput;
 use load_run::{LoadFault, LoadReport, Outcomes, Settings, no_recorders};
 use std::alloc::{AllocError, Global};
 use std::io::Write;
@@ -27,11 +27,11 @@ use vac_streams::StreamFault;
 
 /// A load from the command line, with the runtime it runs on.
 #[derive(Drop)]
-pub(crate) struct AskedLoad<'a, T> {
+pub(crate) struct LoadRequest<'a, T> {
     pub(crate) rt: &'a T,
     pub(crate) settings: &'a Settings,
     /// The outputs that the command line asks for.
-    pub(crate) how: How,
+    pub(crate) how: LoadOutput,
 }
 
 /// Writes that a load cannot write both its history and its attempts, and returns the status of a
@@ -53,14 +53,14 @@ fn refuse_both<E: Write>(errors: &mut E) -> u8
 pub(crate) fn load<T: Threads + Wait + Clock + Sync + AllocGlobal, W: Write, E: Write + Send>(
     rt: &T,
     settings: &Settings,
-    how: How,
+    how: LoadOutput,
     output: &mut W,
     errors: &mut E,
 ) -> u8
     ensures { LoadsAs how.history how.attempts result settings.now
         (W.contents output.old) (W.contents output.new) }
 {
-    let asked = AskedLoad { rt, settings, how };
+    let asked = LoadRequest { rt, settings, how };
     match (how.history, how.attempts) {
         (true, true) => refuse_both(errors),
         (true, false) => asked.note(output, errors),
@@ -69,7 +69,7 @@ pub(crate) fn load<T: Threads + Wait + Clock + Sync + AllocGlobal, W: Write, E: 
     }
 }
 
-impl<T: Threads + Wait + Clock + Sync + AllocGlobal> AskedLoad<'_, T> {
+impl<T: Threads + Wait + Clock + Sync + AllocGlobal> LoadRequest<'_, T> {
     /// Runs the load, writes its two lines, and returns the status.
     fn report<W: Write, E: Write + Send>(&self, output: &mut W, errors: &mut E) -> u8
         ensures { Loads false result self.now.settings.now
@@ -81,8 +81,8 @@ impl<T: Threads + Wait + Clock + Sync + AllocGlobal> AskedLoad<'_, T> {
         let Ok(recorders) = no_recorders(self.rt.alloc(), self.settings.clients) else {
             return end_load_by(LoadFault::Memory, output);
         };
-        let span = Span::new(self.rt, self.settings.clients);
-        match run_told(self.rt, self.settings, self.how, recorders, &span, errors) {
+        let span = LoadTimer::new(self.rt, self.settings.clients);
+        match run_with_progress(self.rt, self.settings, self.how, recorders, &span, errors) {
             Ok((report, statistics, _kept)) => {
                 if self.how.stats {
                     let answered = report.outcomes.answered;

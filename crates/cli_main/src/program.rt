@@ -5,17 +5,20 @@ ghost use Rattle.std.specs.Io.KnownBytes.{Appends};
 ghost use Rattle.clap.specs.Words.{kind_of};
 ghost use Rattle.clap.specs.declared.error.kind.ErrorKind.TheVariants.{DisplayVersion};
 ghost use Rattle.vac_model.specs.Ranges.{is_block_count};
+ghost use Rattle.judge_coverage.specs.Watching.{inner_of};
 ghost use Rattle.cli_main.specs.Program.{RunsScript, Dumps, Checks, ListsTasks, ShowsError, Serves};
 
 use crate::files::Open;
 use crate::judging::{judge, judge_opaque};
 use crate::load::load;
+use crate::parting::part;
 use crate::searching::order;
 use crate::status::{DONE, FAULT, REFUSED, end_by, end_by_settings, end_done, end_judged};
 use clap::Error;
 use clap::error::ErrorKind;
-use cli_options::{Asked, VERSION, read_asked};
+use cli_options::{Request, VERSION, read_asked};
 use cli_script::{check_words, dump_script, run_script};
+use judge_coverage::Watched;
 use load_run::Settings;
 use load_tasks::{TasksFault, write_tasks};
 use std::alloc::Global;
@@ -29,37 +32,40 @@ use vac_streams::StreamFault;
 /// Runs the program on a command line, whose first word is the program's name, and returns its
 /// status. The status is 0 if the program did its work or showed its help or its version. The
 /// status is 1 after a fault, or if `check` found no balanced state, `judge` no legal history,
-/// `order` no linearization, or `opaque` attempts that are not opaque. The status is 2 if the
-/// command line was refused, and 3 if `order` did not decide.
+/// `order` no linearization, `opaque` attempts that are not opaque, or `part` a call without a
+/// part. The status is 2 if the command line was refused, and 3 if `order` did not decide.
 ///
 /// Help and the version go to `output`, the text of a refused command line to `errors`. A fault is
 /// the last line of `output`, unless `output` failed. The lines that a load writes to `errors`
-/// (its progress, its statistics, its two lines with `--history`) change neither `output` nor the
-/// status.
+/// (its progress, its statistics, its two lines with `--history`) and those of a judge (its
+/// progress, the figures of its log, a warning) change neither `output` nor the status.
 ///
 /// Not said: that a load that is asked for progress lines writes them, their text and their times;
-/// the line of `--stats`. Tests look at these.
+/// the line of `--stats` of a load; that the figures of a judge's log are those of the log. Tests
+/// look at these.
 pub fn run_words<
     T: Threads + Wait + Clock + Sync + AllocGlobal,
     R: Read,
     W: Write,
     E: Write + Send,
     F: Open,
->(rt: &T, files: &F, words: &[String], input: &mut R, output: &mut W, errors: &mut E) -> u8
-    ensures { Serves (F.holds files.now) (map string_bytes words.now) result
-        (R.remaining input.old) (R.remaining input.new)
-        (W.contents output.old) (W.contents output.new) }
+>(rt: &T, files: &F, words: &[String], input: &mut Watched<R>, output: &mut W, errors: &mut E) -> u8
+    ensures served { Serves (F.holds files.now) (map string_bytes words.now) result
+        (R.remaining (inner_of input.old)) (R.remaining (inner_of input.new))
+        (W.contents output.old) (W.contents output.new)
+        (E.contents errors.old) (E.contents errors.new) }
 {
     let alloc = rt.alloc();
     match read_asked(alloc, words) {
-        Ok(Asked::Run(blocks)) => run(alloc, blocks, input, output),
-        Ok(Asked::Dump(blocks)) => dump(alloc, blocks, input, output),
-        Ok(Asked::Check) => check(alloc, input, output),
-        Ok(Asked::Judge(how)) => judge(rt, files, how, input, output, errors),
-        Ok(Asked::Order(blocks, search)) => order(rt, blocks, search, input, output, errors),
-        Ok(Asked::Opaque(how)) => judge_opaque(alloc, how, input, output),
-        Ok(Asked::Load(settings, how)) => load(rt, &settings, how, output, errors),
-        Ok(Asked::Tasks(settings)) => list_tasks(alloc, &settings, output, errors),
+        Ok(Request::Run(blocks)) => run(alloc, blocks, input, output),
+        Ok(Request::Dump(blocks)) => dump(alloc, blocks, input, output),
+        Ok(Request::Check) => check(alloc, input, output),
+        Ok(Request::Judge(how)) => judge(rt, files, how, input, output, errors),
+        Ok(Request::Order(blocks, search)) => order(rt, blocks, search, input, output, errors),
+        Ok(Request::Opaque(how)) => judge_opaque(alloc, how, input, output, errors),
+        Ok(Request::Part(words)) => part(alloc, &words, input, output, errors),
+        Ok(Request::Load(settings, how)) => load(rt, &settings, how, output, errors),
+        Ok(Request::Tasks(settings)) => list_tasks(alloc, &settings, output, errors),
         Err(error) => show(alloc, &error, output, errors),
     }
 }

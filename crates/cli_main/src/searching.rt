@@ -1,20 +1,26 @@
 //! Searching for a linearization of a history's calls, with progress lines.
 
-ghost use Rattle.std.specs.Prelude.{◌≡◌, ◌≢◌, ◌⊎◌, true, IfOk, IfErr, OnOk, option_map};
+ghost use Rattle.std.specs.Prelude.{◌≡◌, ◌≢◌, ◌⊎◌, true, false, IfOk, IfErr, OnOk, option_map};
 ghost use Rattle.std.specs.Io.KnownBytes.{Appends};
 ghost use Rattle.vac_model.specs.Ranges.{is_block_count};
 ghost use Rattle.vac_lines.specs.Writing.{AppendsPrefix};
+ghost use Rattle.judge_levels.specs.declared.level.Level.TheVariants.{Linearizable};
 ghost use Rattle.judge_linear.specs.declared.ordering.Outcome.TheVariants.{Ordered};
 ghost use Rattle.judge_linear.specs.Ordering.{HasText};
 ghost use Rattle.cli_main.specs.Ordering.{Orders, FindsNone, HoldsOrder, JudgesAnyOrder};
 ghost use Rattle.cli_main.specs.Ordering.{HoldsInAnyOrder, JudgesAnyHeld, JudgesAnyWith, status_of};
+ghost use Rattle.cli_main.specs.Reporting.{ReportsBeside};
+ghost use Rattle.judge_coverage.specs.Watching.{inner_of};
 
 use crate::judging::judge_alone;
+use crate::reporting::{most_watched, report_calls};
 use crate::status::{DONE, FAULT, UNDECIDED, end_by, end_judged};
 use crate::telling::has_passed;
-use cli_options::{Judging, Search};
-use judge_calls::{judge_work_in_order, read_all};
-use judge_linear::{Outcome, order_history};
+use cli_options::{JudgeSettings, SearchSettings};
+use judge_calls::{CALL_BYTES, judge_order_with_workload, read_all};
+use judge_coverage::Watched;
+use judge_levels::Level;
+use judge_linear::{Outcome, Settings, order_history};
 use judge_object::Watcher;
 use std::alloc::Global;
 use std::io::{Read, Write};
@@ -25,31 +31,28 @@ use vac_streams::StreamFault;
 /// Number of steps between two readings of the clock.
 const STRIDE: u64 = 4_096;
 
-/// A watcher that writes the progress of a search at most twice a second, if the command line asks
-/// for progress.
+/// A watcher that writes the progress of a search at most twice a second.
 #[derive(Drop)]
-struct Teller<'a, 'b, T, E> {
+struct ProgressWatcher<'a, 'b, T, E> {
     rt: &'a T,
     errors: &'b mut E,
-    is_told: bool,
     last: Option<Instant>,
 }
 
-impl<'a, 'b, T: Clock, E: Write> Teller<'a, 'b, T, E> {
+impl<'a, 'b, T: Clock, E: Write> ProgressWatcher<'a, 'b, T, E> {
     /// Returns the watcher of a search that begins.
-    fn new(rt: &'a T, is_told: bool, errors: &'b mut E) -> Teller<'a, 'b, T, E> {
-        Teller {
+    fn new(rt: &'a T, errors: &'b mut E) -> ProgressWatcher<'a, 'b, T, E> {
+        ProgressWatcher {
             rt,
             errors,
-            is_told,
             last: Instant::now(rt).ok(),
         }
     }
 }
 
-impl<T: Clock + AllocGlobal, E: Write> Watcher for Teller<'_, '_, T, E> {
+impl<T: Clock + AllocGlobal, E: Write> Watcher for ProgressWatcher<'_, '_, T, E> {
     fn tell(&mut self, placed: u64, steps: u64) {
-        if !self.is_told || steps % STRIDE != 0 || !has_passed(self.rt, self.last) {
+        if steps % STRIDE != 0 || !has_passed(self.rt, self.last) {
             return;
         }
         let alloc = self.rt.alloc();
@@ -73,23 +76,79 @@ fn status_of(outcome: Outcome) -> u8
 
 /// Writes the calls of a history in a linearization, or writes that there is none, and returns the
 /// status.
-pub(crate) fn order<T: Clock + AllocGlobal, R: Read, W: Write, E: Write>(
+fn find_order<R: Read, W: Write, V: Watcher>(
+    alloc: Global,
+    blocks: u32,
+    steps: u64,
+    input: &mut R,
+    output: &mut W,
+    watcher: &mut V,
+) -> u8
+    requires { is_block_count blocks ≡ true }
+    ensures { Orders blocks steps result (R.remaining input.old) (R.remaining input.new)
+        (W.contents output.old) (W.contents output.new) }
+{
+    let how = Settings {
+        blocks,
+        level: Level::Linearizable,
+        steps,
+    };
+    match order_history(alloc, how, input, output, watcher) {
+        Ok(outcome) => status_of(outcome),
+        Err(fault) => end_by(fault, output),
+    }
+}
+
+/// As `find_order`, with progress lines if the command line asks for progress.
+fn find_order_watched<T: Clock + AllocGlobal, R: Read, W: Write, E: Write>(
     rt: &T,
     blocks: u32,
-    search: Search,
+    search: SearchSettings,
     input: &mut R,
     output: &mut W,
     errors: &mut E,
 ) -> u8
     requires { is_block_count blocks ≡ true }
-    ensures { Orders blocks search.steps result (R.remaining input.old) (R.remaining input.new)
+    ensures ordered { Orders blocks search.steps result
+        (R.remaining input.old) (R.remaining input.new)
         (W.contents output.old) (W.contents output.new) }
+    ensures untold { search.progress ≡ false → E.contents errors.new ≡ E.contents errors.old }
 {
-    let mut teller = Teller::new(rt, search.progress, errors);
-    match order_history(rt.alloc(), blocks, search.steps, input, output, &mut teller) {
-        Ok(outcome) => status_of(outcome),
-        Err(fault) => end_by(fault, output),
+    if search.progress {
+        let mut teller = ProgressWatcher::new(rt, errors);
+        find_order(rt.alloc(), blocks, search.steps, input, output, &mut teller)
+    } else {
+        find_order(rt.alloc(), blocks, search.steps, input, output, &mut ())
     }
+}
+
+/// Writes the calls of a history in a linearization, or writes that there is none, reports on the
+/// history, and returns the status.
+pub(crate) fn order<T: Clock + AllocGlobal, R: Read, W: Write, E: Write>(
+    rt: &T,
+    blocks: u32,
+    search: SearchSettings,
+    input: &mut Watched<R>,
+    output: &mut W,
+    errors: &mut E,
+) -> u8
+    requires { is_block_count blocks ≡ true }
+    ensures ordered { Orders blocks search.steps result
+        (R.remaining (inner_of input.old)) (R.remaining (inner_of input.new))
+        (W.contents output.old) (W.contents output.new) }
+    ensures reported { ReportsBeside search.progress search.stats result
+        (E.contents errors.old) (E.contents errors.new) }
+{
+    input.watch(CALL_BYTES, most_watched(search.stats));
+    let status = find_order_watched(rt, blocks, search, input, output, errors);
+    report_calls(
+        rt.alloc(),
+        search.stats,
+        status,
+        input.measure_calls(),
+        errors,
+    );
+    status
 }
 
 /// Writes the text of an outcome other than a linearization, and returns the status.
@@ -130,7 +189,7 @@ fn order_kept<R: Read, W: Write, V: Watcher>(
     watcher: &mut V,
 ) -> Result<Vec<u8>, u8>
     requires { is_block_count blocks ≡ true }
-    ensures order { IfOk result (λ text. HasText blocks steps
+    ensures order { IfOk result (λ text. HasText Linearizable blocks steps
         (R.remaining input.old) (R.remaining input.new) Ordered text.items) }
     ensures unwritten { OnOk result (W.contents output.new ≡ W.contents output.old) }
     ensures none { IfErr result (λ status. FindsNone blocks steps status
@@ -138,7 +197,12 @@ fn order_kept<R: Read, W: Write, V: Watcher>(
         (W.contents output.old) (W.contents output.new)) }
 {
     let mut text = Vec::new(alloc);
-    match order_history(alloc, blocks, steps, input, &mut text, watcher) {
+    let how = Settings {
+        blocks,
+        level: Level::Linearizable,
+        steps,
+    };
+    match order_history(alloc, how, input, &mut text, watcher) {
         Ok(Outcome::Ordered) => Ok(text),
         Ok(Outcome::Illegal) => Err(write_found(Outcome::Illegal, text.as_slice(), output)),
         Ok(Outcome::Undecided) => Err(write_found(Outcome::Undecided, text.as_slice(), output)),
@@ -150,7 +214,7 @@ fn order_kept<R: Read, W: Write, V: Watcher>(
 /// status.
 fn judge_found<R: Read, W: Write, V: Watcher>(
     alloc: Global,
-    how: &Judging<'_>,
+    how: &JudgeSettings<'_>,
     input: &mut R,
     output: &mut W,
     watcher: &mut V,
@@ -184,7 +248,7 @@ fn hold_found<V: Read, W: Write>(
         (W.contents output.old) (W.contents output.new) }
 {
     end_judged(
-        judge_work_in_order(alloc, blocks, tasks, history, order, output),
+        judge_order_with_workload(alloc, blocks, tasks, history, order, output),
         output,
     )
 }
@@ -193,7 +257,7 @@ fn hold_found<V: Read, W: Write>(
 /// these tasks, or writes that there is no linearization, and returns the status.
 fn hold_in_any_order<F: Read, W: Write, V: Watcher>(
     alloc: Global,
-    how: &Judging<'_>,
+    how: &JudgeSettings<'_>,
     tasks: &mut F,
     history: &[u8],
     output: &mut W,
@@ -221,7 +285,7 @@ fn hold_in_any_order<F: Read, W: Write, V: Watcher>(
 /// writes that there is none, and returns the status.
 fn judge_found_work<F: Read, R: Read, W: Write, V: Watcher>(
     alloc: Global,
-    how: &Judging<'_>,
+    how: &JudgeSettings<'_>,
     tasks: &mut F,
     input: &mut R,
     output: &mut W,
@@ -240,23 +304,45 @@ fn judge_found_work<F: Read, R: Read, W: Write, V: Watcher>(
 
 /// Judges a history in a linearization that is found, or writes that there is none, checks it
 /// against these tasks if there are any, and returns the status.
+fn judge_any_watched<F: Read + Drop, R: Read, W: Write, V: Watcher>(
+    alloc: Global,
+    how: &JudgeSettings<'_>,
+    tasks: Option<F>,
+    input: &mut R,
+    output: &mut W,
+    watcher: &mut V,
+) -> u8
+    requires { is_block_count how.now.blocks ≡ true }
+    ensures { JudgesAnyWith (option_map F.remaining tasks) how.now.blocks how.now.search.steps
+        result (R.remaining input.old) (R.remaining input.new)
+        (W.contents output.old) (W.contents output.new) }
+{
+    match tasks {
+        None => judge_found(alloc, how, input, output, watcher),
+        Some(mut tasks) => judge_found_work(alloc, how, &mut tasks, input, output, watcher),
+    }
+}
+
+/// As `judge_any_watched`, with progress lines if the command line asks for progress.
 pub(crate) fn judge_any<T: Clock + AllocGlobal, F: Read + Drop, R: Read, W: Write, E: Write>(
     rt: &T,
-    how: Judging<'_>,
+    how: JudgeSettings<'_>,
     tasks: Option<F>,
     input: &mut R,
     output: &mut W,
     errors: &mut E,
 ) -> u8
     requires { is_block_count how.blocks ≡ true }
-    ensures { JudgesAnyWith (option_map F.remaining tasks) how.entry.blocks how.entry.search.steps
-        result (R.remaining input.old) (R.remaining input.new)
+    ensures judged { JudgesAnyWith (option_map F.remaining tasks) how.entry.blocks
+        how.entry.search.steps result (R.remaining input.old) (R.remaining input.new)
         (W.contents output.old) (W.contents output.new) }
+    ensures untold { how.entry.search.progress ≡ false →
+        E.contents errors.new ≡ E.contents errors.old }
 {
-    let alloc = rt.alloc();
-    let mut teller = Teller::new(rt, how.search.progress, errors);
-    match tasks {
-        None => judge_found(alloc, &how, input, output, &mut teller),
-        Some(mut tasks) => { judge_found_work(alloc, &how, &mut tasks, input, output, &mut teller) }
+    if how.search.progress {
+        let mut teller = ProgressWatcher::new(rt, errors);
+        judge_any_watched(rt.alloc(), &how, tasks, input, output, &mut teller)
+    } else {
+        judge_any_watched(rt.alloc(), &how, tasks, input, output, &mut ())
     }
 }

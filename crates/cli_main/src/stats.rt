@@ -21,7 +21,7 @@ const MOST_TURNS: u32 = 1_000_000;
 /// The time that the clients of a load took: from the time when all of them were ready first to
 /// the time when the last one was done. The time is 0 if the clock cannot be read.
 #[derive(Drop)]
-pub(crate) struct Span<'a, T> {
+pub(crate) struct LoadTimer<'a, T> {
     rt: &'a T,
     clients: u32,
     /// The time at which the nanoseconds begin to count.
@@ -36,10 +36,10 @@ pub(crate) struct Span<'a, T> {
     end: AtomicU64,
 }
 
-impl<'a, T: Clock> Span<'a, T> {
+impl<'a, T: Clock> LoadTimer<'a, T> {
     /// Returns the time span of `clients` clients that have not begun.
-    pub(crate) fn new(rt: &'a T, clients: u32) -> Span<'a, T> {
-        Span {
+    pub(crate) fn new(rt: &'a T, clients: u32) -> LoadTimer<'a, T> {
+        LoadTimer {
             rt,
             clients,
             start: Instant::now(rt).ok(),
@@ -111,7 +111,7 @@ impl<'a, T: Clock> Span<'a, T> {
     }
 }
 
-impl<T: Clock> Gate for &Span<'_, T> {
+impl<T: Clock> Gate for &LoadTimer<'_, T> {
     #[inline]
     fn at(&mut self, _point: Point) {}
 

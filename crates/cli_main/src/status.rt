@@ -24,9 +24,9 @@ pub(crate) const UNDECIDED: u8 = 3;
 /// Status of a program whose command line was refused.
 pub(crate) const REFUSED: u8 = 2;
 
-/// Writes the last line of a program. A failed write changes nothing.
+/// Writes the last lines of a program to one of its outputs. A failed write changes nothing.
 #[tactic(auto, using(crate::proofs::Ending::either_way))]
-fn write_last<W: Write>(line: &[u8], output: &mut W)
+pub(crate) fn write_last<W: Write>(line: &[u8], output: &mut W)
     ensures { AppendsPrefix (W.contents output.old) (W.contents output.new) line.now }
 {
     let _ = write_and_flush(output, line);

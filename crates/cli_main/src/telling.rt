@@ -2,8 +2,8 @@
 
 ghost use Rattle.cli_main.specs.Load.{HasRun, RunsKept};
 
-use crate::stats::Span;
-use cli_options::How;
+use crate::stats::LoadTimer;
+use cli_options::LoadOutput;
 use load_run::{AttemptStatistics, Load, LoadFault, LoadReport, PcgDraws, Recorders, Settings};
 use std::alloc::Global;
 use std::io::Write;
@@ -132,16 +132,16 @@ fn all_tasks(settings: &Settings) -> u64 {
 ///
 /// If no thread can be started for the progress lines, the load runs and none is written: a join
 /// then runs its second closure first.
-pub(crate) fn run_told<
+pub(crate) fn run_with_progress<
     T: Threads + Wait + Clock + Sync + AllocGlobal,
     K: Recorder + Send + Drop,
     E: Write + Send,
 >(
     rt: &T,
     settings: &Settings,
-    how: How,
+    how: LoadOutput,
     recorders: Recorders<K>,
-    span: &Span<T>,
+    span: &LoadTimer<T>,
     errors: &mut E,
 ) -> Result<(LoadReport, AttemptStatistics, Recorders<K>), LoadFault>
 where

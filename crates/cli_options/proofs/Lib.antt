@@ -6,3 +6,4 @@ pub mod Given
 pub mod Stops
 pub mod Naming
 pub mod Sources
+pub mod Values

@@ -1,5 +1,5 @@
 -- Commands with options added.
-use Rattle.std.proofs.Common.{◌≡◌, ◌∙◌, ◌++◌, ℕ, List, [], ◌∷◌, Bool, Some, true, false, refl, sym, ap, ap₂}
+use Rattle.std.proofs.Common.{◌≡◌, ◌∙◌, ◌++◌, ℕ, List, [], ◌∷◌, length, Bool, Some, true, false, refl, sym, ap, ap₂}
 use Rattle.std.specs.Prelude.{◌||◌, Option, Result, Ok, Err, IfOk, IsOkAnd}
 use Rattle.std.specs.declared.alloc.AllocError.{AllocError}
 use Rattle.std.specs.Borrow.{Bor}
@@ -10,7 +10,8 @@ use Rattle.clap.specs.declared.builder.command.Command.TheViews.{out-Command}
 use Rattle.clap.specs.declared.builder.command.Command.{Command}
 use Rattle.clap.specs.declared.builder.arg.Arg.{Arg}
 use Rattle.clap.specs.declared.builder.value_parser.ValueParser.{ValueParser}
-use Rattle.clap.specs.declared.builder.texts.Texts.TheVariants.{One}
+use Rattle.clap.specs.declared.builder.texts.Texts.TheVariants.{One, Many}
+use Rattle.clap.specs.declared.builder.action.ArgAction.{ArgAction}
 use Rattle.cli_options.specs.CommandLine.{short_option, IsOption, IsCommand, AddsOptions, AddsCommands, with_commands}
 use Rattle.cli_options.specs.CommandLine.{with_rules, with_options, GetsOptions, GetsCommands}
 
@@ -48,6 +49,22 @@ pub default_set : (a b : Arg) (text : _) (r : Rule) → b ≡ record a { default
     IsOption b (record r { defaults = text.now ∷ [] })
 default_set a b text r e is = record {
   rule = ap rule_of e ∙ ap (λ (s : Rule). record s { defaults = text.now ∷ [] }) is.rule;
+  own = ap (λ (x : Arg). x.global) e ∙ is.own;
+}
+
+-- an option with this action
+pub action_set : (a b : Arg) (action : ArgAction) (r : Rule) → b ≡ record a { action = Some action } → IsOption a r →
+    IsOption b (record r { action = Some action })
+action_set a b action r e is = record {
+  rule = ap rule_of e ∙ ap (λ (s : Rule). record s { action = Some action }) is.rule;
+  own = ap (λ (x : Arg). x.global) e ∙ is.own;
+}
+
+-- an option with names for this number of values
+pub names_set : (a b : Arg) (names : _) (n : ℕ) (r : Rule) → b ≡ record a { val_names = Many names } →
+    length names.now ≡ n → IsOption a r → IsOption b (record r { value_names = n })
+names_set a b names n r e long is = record {
+  rule = ap rule_of e ∙ ap₂ (λ (s : Rule) (m : ℕ). record s { value_names = m }) is.rule long;
   own = ap (λ (x : Arg). x.global) e ∙ is.own;
 }
 

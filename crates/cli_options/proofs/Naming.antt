@@ -155,10 +155,10 @@ with_blocks name = record (shape_at 0) { name = name }
 
 -- the subcommands that run a load, and that draw its tasks
 loading : Shape
-loading = shape_at 6
+loading = shape_at 7
 
 drawing : Shape
-drawing = shape_at 7
+drawing = shape_at 8
 
 -- the subcommands that judge, that find an order, and that judge attempts
 judging : Shape
@@ -178,18 +178,27 @@ judging_fit = (
     fit refl refl refl,
     (
       fit refl refl refl,
-      (fit refl refl refl, (fit refl refl refl, (fit refl refl refl, tt))),
+      (
+        fit refl refl refl,
+        (fit refl refl refl, (fit refl refl refl, (fit refl refl refl, tt))),
+      ),
     ),
   ),
 )
 
 ordering_fit : AllFit ordering.rules
 unfolding shape_at ordering
-ordering_fit = (fit refl refl refl, (fit refl refl refl, (fit refl refl refl, (fit refl refl refl, tt))))
+ordering_fit = (
+  fit refl refl refl,
+  (
+    fit refl refl refl,
+    (fit refl refl refl, (fit refl refl refl, (fit refl refl refl, tt))),
+  ),
+)
 
 opaque_fit : AllFit opaque.rules
 unfolding shape_at opaque
-opaque_fit = (fit refl refl refl, (fit refl refl refl, (fit refl refl refl, tt)))
+opaque_fit = (fit refl refl refl, (fit refl refl refl, (fit refl refl refl, (fit refl refl refl, tt))))
 
 blocks_fit : (name : Text) → AllFit (with_blocks name).rules
 unfolding shape_at with_blocks
@@ -331,6 +340,8 @@ judging_given rows e = record {
         (option_given judging rows judging_fit e (filled steps_option) refl (omega arith));
     progress = flag_given rows (codes "progress") (option_given judging rows judging_fit e
         (filled (flag (codes "progress"))) refl (omega arith));
+    stats = flag_given rows (codes "stats") (option_given judging rows judging_fit e
+        (filled (flag (codes "stats"))) refl (omega arith));
   };
 }
 
@@ -346,6 +357,8 @@ ordering_given rows e = record {
       (option_given ordering rows ordering_fit e (filled steps_option) refl (omega arith));
   progress = flag_given rows (codes "progress") (option_given ordering rows ordering_fit e
       (filled (flag (codes "progress"))) refl (omega arith));
+  stats = flag_given rows (codes "stats") (option_given ordering rows ordering_fit e
+      (filled (flag (codes "stats"))) refl (omega arith));
 }
 
 opaque_given : (rows : List Row) → IsEntered opaque rows → HasOpacity rows
@@ -355,6 +368,8 @@ opaque_given rows e = record {
       (option_given opaque rows opaque_fit e (filled words_option) refl (omega arith));
   place = flag_given rows (codes "place") (option_given opaque rows opaque_fit e
       (filled (flag (codes "place"))) refl (omega arith));
+  stats = flag_given rows (codes "stats") (option_given opaque rows opaque_fit e
+      (filled (flag (codes "stats"))) refl (omega arith));
 }
 
 -- ---- the subcommand that the words name
@@ -389,7 +404,13 @@ run_alone = (
             λ e. absurd (differ _ _ refl e),
             (
               λ e. absurd (differ _ _ refl e),
-              (λ e. absurd (differ _ _ refl e), (λ e. absurd (differ _ _ refl e), tt)),
+              (
+                λ e. absurd (differ _ _ refl e),
+                (
+                  λ e. absurd (differ _ _ refl e),
+                  (λ e. absurd (differ _ _ refl e), tt),
+                ),
+              ),
             ),
           ),
         ),
@@ -414,7 +435,13 @@ dump_alone = (
             λ e. absurd (differ _ _ refl e),
             (
               λ e. absurd (differ _ _ refl e),
-              (λ e. absurd (differ _ _ refl e), (λ e. absurd (differ _ _ refl e), tt)),
+              (
+                λ e. absurd (differ _ _ refl e),
+                (
+                  λ e. absurd (differ _ _ refl e),
+                  (λ e. absurd (differ _ _ refl e), tt),
+                ),
+              ),
             ),
           ),
         ),
@@ -439,7 +466,13 @@ judge_alone = (
             λ e. absurd (differ _ _ refl e),
             (
               λ e. absurd (differ _ _ refl e),
-              (λ e. absurd (differ _ _ refl e), (λ e. absurd (differ _ _ refl e), tt)),
+              (
+                λ e. absurd (differ _ _ refl e),
+                (
+                  λ e. absurd (differ _ _ refl e),
+                  (λ e. absurd (differ _ _ refl e), tt),
+                ),
+              ),
             ),
           ),
         ),
@@ -464,7 +497,13 @@ order_alone = (
             λ e. absurd (differ _ _ refl e),
             (
               λ e. absurd (differ _ _ refl e),
-              (λ e. absurd (differ _ _ refl e), (λ e. absurd (differ _ _ refl e), tt)),
+              (
+                λ e. absurd (differ _ _ refl e),
+                (
+                  λ e. absurd (differ _ _ refl e),
+                  (λ e. absurd (differ _ _ refl e), tt),
+                ),
+              ),
             ),
           ),
         ),
@@ -489,7 +528,13 @@ opaque_alone = (
             λ e. refl,
             (
               λ e. absurd (differ _ _ refl e),
-              (λ e. absurd (differ _ _ refl e), (λ e. absurd (differ _ _ refl e), tt)),
+              (
+                λ e. absurd (differ _ _ refl e),
+                (
+                  λ e. absurd (differ _ _ refl e),
+                  (λ e. absurd (differ _ _ refl e), tt),
+                ),
+              ),
             ),
           ),
         ),
@@ -512,7 +557,16 @@ load_alone = (
           λ e. absurd (differ _ _ refl e),
           (
             λ e. absurd (differ _ _ refl e),
-            (λ e. refl, (λ e. absurd (differ _ _ refl e), (λ e. absurd (differ _ _ refl e), tt))),
+            (
+              λ e. absurd (differ _ _ refl e),
+              (
+                λ e. refl,
+                (
+                  λ e. absurd (differ _ _ refl e),
+                  (λ e. absurd (differ _ _ refl e), tt),
+                ),
+              ),
+            ),
           ),
         ),
       ),
@@ -534,7 +588,13 @@ tasks_alone = (
           λ e. absurd (differ _ _ refl e),
           (
             λ e. absurd (differ _ _ refl e),
-            (λ e. absurd (differ _ _ refl e), (λ e. refl, (λ e. absurd (differ _ _ refl e), tt))),
+            (
+              λ e. absurd (differ _ _ refl e),
+              (
+                λ e. absurd (differ _ _ refl e),
+                (λ e. refl, (λ e. absurd (differ _ _ refl e), tt)),
+              ),
+            ),
           ),
         ),
       ),
@@ -587,7 +647,7 @@ IsOneOf : Shape → Type 0
 IsOneOf s =
     (s ≡ shape_at 0) ⊎ ((s ≡ shape_at 1) ⊎ ((s ≡ shape_at 2) ⊎
     ((s ≡ shape_at 3) ⊎ ((s ≡ shape_at 4) ⊎ ((s ≡ shape_at 5) ⊎
-    ((s ≡ shape_at 6) ⊎ ((s ≡ shape_at 7) ⊎ (s ≡ shape_at 8))))))))
+    ((s ≡ shape_at 6) ⊎ ((s ≡ shape_at 7) ⊎ ((s ≡ shape_at 8) ⊎ (s ≡ shape_at 9)))))))))
 
 each_one : Each IsOneOf (built vacation).subs
 unfolding shape_at IsOneOf
@@ -608,8 +668,8 @@ each_one = (
               (
                 inr (inr (inr (inr (inr (inr (inr (inl refl))))))),
                 (
-                  inr (inr (inr (inr (inr (inr (inr (inr refl))))))),
-                  tt,
+                  inr (inr (inr (inr (inr (inr (inr (inr (inl refl)))))))),
+                  (inr (inr (inr (inr (inr (inr (inr (inr (inr (refl))))))))), tt),
                 ),
               ),
             ),
@@ -652,7 +712,7 @@ IsNamed words rows =
     Names words (codes "run") rows ⊎ (Names words (codes "dump") rows ⊎
     (Names words (codes "check") rows ⊎ (Names words (codes "judge") rows ⊎
     (Names words (codes "order") rows ⊎ (Names words (codes "opaque") rows ⊎
-    (Names words (codes "load") rows ⊎ Names words (codes "tasks") rows))))))
+    (Names words (codes "part") rows ⊎ (Names words (codes "load") rows ⊎ (Names words (codes "tasks") rows))))))))
 
 pub one_is_named : (words : List Text) → fault_of vacation words ≡ [] → (rows : List Row) × IsNamed words rows
 unfolding shape_at IsOneOf
@@ -665,7 +725,7 @@ one_is_named words fault =
     (argument_words vacation words) refl top.walked tt in
     let other = stopped_at (built vacation) _ p.0.0 p.0.1 (
       refl,
-      (refl, (refl, (refl, (refl, (refl, (refl, (refl, (refl, tt)))))))),
+      (refl, (refl, (refl, (refl, (refl, (refl, (refl, (refl, (refl, tt))))))))),
     ) stopped p.1 in
     let found = subcommand_entered IsOneOf vacation words p.0.0 p.0.1 each_one fault p.1 in (
       p.0.1,
@@ -685,10 +745,12 @@ one_is_named words fault =
     which s (inr (inr (inr (inr (inr (inl is)))))) at other =
         inr (inr (inr (inr (inr (inl (at (codes "opaque") (ap (λ (t : Shape). t.name) is)))))))
     which s (inr (inr (inr (inr (inr (inr (inl is))))))) at other =
-        inr (inr (inr (inr (inr (inr (inl (at (codes "load") (ap (λ (t : Shape). t.name) is))))))))
+        inr (inr (inr (inr (inr (inr (inl (at (codes "part") (ap (λ (t : Shape). t.name) is))))))))
     which s (inr (inr (inr (inr (inr (inr (inr (inl is)))))))) at other =
-        inr (inr (inr (inr (inr (inr (inr ((at (codes "tasks") (ap (λ (t : Shape). t.name) is)))))))))
-    which s (inr (inr (inr (inr (inr (inr (inr (inr is)))))))) at other =
+        inr (inr (inr (inr (inr (inr (inr (inl (at (codes "load") (ap (λ (t : Shape). t.name) is)))))))))
+    which s (inr (inr (inr (inr (inr (inr (inr (inr (inl is))))))))) at other =
+        inr (inr (inr (inr (inr (inr (inr (inr (at (codes "tasks") (ap (λ (t : Shape). t.name) is)))))))))
+    which s (inr (inr (inr (inr (inr (inr (inr (inr (inr is))))))))) at other =
         absurd (let bad : true ≡ false = subst (λ (t : Shape). bytes_eq t.name (codes "help") ≡ false) is other in cc)
 
 -- ---- the values that clap's getters return
@@ -751,38 +813,52 @@ is_none (Some x) e = absurd (let bad : false ≡ true = e in cc)
 
 -- no subcommand is named if a search for each of them found none
 pub none_is_named : {X : Type 0} (words : List Text) (rows : List Row) (found : Option (Text × List Row))
-    (run dump check judge order opaque tasks load : Option X) → found ≡ subcommand_of vacation words
+    (run dump check judge order opaque part tasks load : Option X) → found ≡ subcommand_of vacation words
     → ((r : List Row) → found ≡ Some (codes "run", r) → IsSome run)
     → ((r : List Row) → found ≡ Some (codes "dump", r) → IsSome dump)
     → ((r : List Row) → found ≡ Some (codes "check", r) → IsSome check)
     → ((r : List Row) → found ≡ Some (codes "judge", r) → IsSome judge)
     → ((r : List Row) → found ≡ Some (codes "order", r) → IsSome order)
     → ((r : List Row) → found ≡ Some (codes "opaque", r) → IsSome opaque)
+    → ((r : List Row) → found ≡ Some (codes "part", r) → IsSome part)
     → ((r : List Row) → found ≡ Some (codes "tasks", r) → IsSome tasks)
     → ((r : List Row) → found ≡ Some (codes "load", r) → IsSome load)
-    → run ≡ None → dump ≡ None → false ≡ is_some check → judge ≡ None → order ≡ None → opaque ≡ None → tasks ≡ None →
-    load ≡ None → IsNamed words rows → ⊥
-none_is_named words rows found run dump check judge order opaque tasks load is find_run find_dump find_check find_judge
-    find_order find_opaque find_tasks find_load no_run no_dump no_check no_judge no_order no_opaque no_tasks no_load
+    → run ≡ None → dump ≡ None → false ≡ is_some check → judge ≡ None → order ≡ None → opaque ≡ None → part ≡ None →
+    tasks ≡ None → load ≡ None
+    → IsNamed words rows → ⊥
+none_is_named words rows found run dump check judge order opaque part tasks load is
+    find_run find_dump find_check find_judge find_order find_opaque find_part find_tasks find_load
+    no_run no_dump no_check no_judge no_order no_opaque no_part no_tasks no_load
     (inl n) = not_some run no_run (find_run rows (is ∙ n))
-none_is_named words rows found run dump check judge order opaque tasks load is find_run find_dump find_check find_judge
-    find_order find_opaque find_tasks find_load no_run no_dump no_check no_judge no_order no_opaque no_tasks no_load
+none_is_named words rows found run dump check judge order opaque part tasks load is
+    find_run find_dump find_check find_judge find_order find_opaque find_part find_tasks find_load
+    no_run no_dump no_check no_judge no_order no_opaque no_part no_tasks no_load
     (inr (inl n)) = not_some dump no_dump (find_dump rows (is ∙ n))
-none_is_named words rows found run dump check judge order opaque tasks load is find_run find_dump find_check find_judge
-    find_order find_opaque find_tasks find_load no_run no_dump no_check no_judge no_order no_opaque no_tasks no_load
+none_is_named words rows found run dump check judge order opaque part tasks load is
+    find_run find_dump find_check find_judge find_order find_opaque find_part find_tasks find_load
+    no_run no_dump no_check no_judge no_order no_opaque no_part no_tasks no_load
     (inr (inr (inl n))) = not_some check (is_none check no_check) (find_check rows (is ∙ n))
-none_is_named words rows found run dump check judge order opaque tasks load is find_run find_dump find_check find_judge
-    find_order find_opaque find_tasks find_load no_run no_dump no_check no_judge no_order no_opaque no_tasks no_load
+none_is_named words rows found run dump check judge order opaque part tasks load is
+    find_run find_dump find_check find_judge find_order find_opaque find_part find_tasks find_load
+    no_run no_dump no_check no_judge no_order no_opaque no_part no_tasks no_load
     (inr (inr (inr (inl n)))) = not_some judge no_judge (find_judge rows (is ∙ n))
-none_is_named words rows found run dump check judge order opaque tasks load is find_run find_dump find_check find_judge
-    find_order find_opaque find_tasks find_load no_run no_dump no_check no_judge no_order no_opaque no_tasks no_load
+none_is_named words rows found run dump check judge order opaque part tasks load is
+    find_run find_dump find_check find_judge find_order find_opaque find_part find_tasks find_load
+    no_run no_dump no_check no_judge no_order no_opaque no_part no_tasks no_load
     (inr (inr (inr (inr (inl n))))) = not_some order no_order (find_order rows (is ∙ n))
-none_is_named words rows found run dump check judge order opaque tasks load is find_run find_dump find_check find_judge
-    find_order find_opaque find_tasks find_load no_run no_dump no_check no_judge no_order no_opaque no_tasks no_load
+none_is_named words rows found run dump check judge order opaque part tasks load is
+    find_run find_dump find_check find_judge find_order find_opaque find_part find_tasks find_load
+    no_run no_dump no_check no_judge no_order no_opaque no_part no_tasks no_load
     (inr (inr (inr (inr (inr (inl n)))))) = not_some opaque no_opaque (find_opaque rows (is ∙ n))
-none_is_named words rows found run dump check judge order opaque tasks load is find_run find_dump find_check find_judge
-    find_order find_opaque find_tasks find_load no_run no_dump no_check no_judge no_order no_opaque no_tasks no_load
-    (inr (inr (inr (inr (inr (inr (inl n))))))) = not_some load no_load (find_load rows (is ∙ n))
-none_is_named words rows found run dump check judge order opaque tasks load is find_run find_dump find_check find_judge
-    find_order find_opaque find_tasks find_load no_run no_dump no_check no_judge no_order no_opaque no_tasks no_load
-    (inr (inr (inr (inr (inr (inr (inr n))))))) = not_some tasks no_tasks (find_tasks rows (is ∙ n))
+none_is_named words rows found run dump check judge order opaque part tasks load is
+    find_run find_dump find_check find_judge find_order find_opaque find_part find_tasks find_load
+    no_run no_dump no_check no_judge no_order no_opaque no_part no_tasks no_load
+    (inr (inr (inr (inr (inr (inr (inl n))))))) = not_some part no_part (find_part rows (is ∙ n))
+none_is_named words rows found run dump check judge order opaque part tasks load is
+    find_run find_dump find_check find_judge find_order find_opaque find_part find_tasks find_load
+    no_run no_dump no_check no_judge no_order no_opaque no_part no_tasks no_load
+    (inr (inr (inr (inr (inr (inr (inr (inl n)))))))) = not_some load no_load (find_load rows (is ∙ n))
+none_is_named words rows found run dump check judge order opaque part tasks load is
+    find_run find_dump find_check find_judge find_order find_opaque find_part find_tasks find_load
+    no_run no_dump no_check no_judge no_order no_opaque no_part no_tasks no_load
+    (inr (inr (inr (inr (inr (inr (inr (inr n)))))))) = not_some tasks no_tasks (find_tasks rows (is ∙ n))

@@ -1,5 +1,6 @@
 -- The command line that the program takes, in clap's terms, and the request that its words make.
 use Rattle.std.specs.Prelude.{◌≡◌, ℕ, ◌+◌, pos, ◌≤◌, ◌⊎◌, ◌||◌, Bool, true, false, Some, codes}
+use Rattle.std.specs.Prelude.{map, unwrap_or}
 use Rattle.std.specs.Prelude.{List, [], ◌∷◌, ◌++◌, Option, option_map, option_and_then, find}
 use Rattle.std.specs.Prelude.{Result, IfOk, IsOkAnd}
 use Rattle.std.specs.Str.{bytes_eq}
@@ -8,12 +9,12 @@ use Rattle.std.specs.Borrow.{Bor}
 use Rattle.std.specs.Str.Parse.{IsNumeral, digits_value, without_leading_plus}
 use Rattle.clap.specs.Simple.{new_shape}
 use Rattle.clap.specs.Values.{bool_text}
-use Rattle.clap.specs.Walk.{first_of, one_of}
+use Rattle.clap.specs.Walk.{all_of, first_of, one_of}
 use Rattle.clap.specs.declared.parser.matches.ValueSource.{ValueSource}
 use Rattle.clap.specs.declared.parser.matches.ValueSource.TheVariants.{CommandLine}
 use Rattle.clap.specs.Words.{App, Shape, Rule, Row, Text, app_of, fault_of, new_rule, rule_of}
 use Rattle.clap.specs.Words.{subcommand_of, subcommand_rows_of, with_rule, with_subcommand}
-use Rattle.clap.specs.declared.builder.action.ArgAction.TheVariants.{SetTrue}
+use Rattle.clap.specs.declared.builder.action.ArgAction.TheVariants.{Append, SetTrue}
 use Rattle.clap.specs.declared.builder.arg.Arg.{Arg}
 use Rattle.clap.specs.declared.builder.command.Command.{Command}
 use Rattle.clap.specs.declared.builder.command.Command.TheViews.{out-Command}
@@ -28,13 +29,14 @@ use Rattle.load_tasks.specs.declared.settings.Settings.{Settings}
 use Rattle.vac_model.specs.declared.limits.TheConstants.{MOST_TRIES}
 use Rattle.stm_words.specs.declared.version.TheConstants.{VERSION_LIMIT}
 use Rattle.cli_options.specs.declared.asked.TheConstants.{MOST_NUMBER, MOST_WORDS, DRAWN_TRIES}
-use Rattle.cli_options.specs.declared.asked.How.{How}
-use Rattle.cli_options.specs.declared.asked.Asked.{Asked}
-use Rattle.cli_options.specs.declared.asked.Asked.TheVariants.{Run, Dump, Check, Judge, Order}
-use Rattle.cli_options.specs.declared.asked.Asked.TheVariants.{Opaque, Load, Tasks}
-use Rattle.cli_options.specs.declared.asked.Search.{Search}
-use Rattle.cli_options.specs.declared.asked.Judging.{Judging}
-use Rattle.cli_options.specs.declared.asked.Opacity.{Opacity}
+use Rattle.cli_options.specs.declared.asked.LoadOutput.{LoadOutput}
+use Rattle.cli_options.specs.declared.asked.Request.{Request}
+use Rattle.cli_options.specs.declared.asked.Request.TheVariants.{Run, Dump, Check, Judge, Order}
+use Rattle.cli_options.specs.declared.asked.Request.TheVariants.{Opaque, Part, Load, Tasks}
+use Rattle.cli_options.specs.declared.asked.PartWords.{PartWords}
+use Rattle.cli_options.specs.declared.asked.SearchSettings.{SearchSettings}
+use Rattle.cli_options.specs.declared.asked.JudgeSettings.{JudgeSettings}
+use Rattle.cli_options.specs.declared.asked.OpacitySettings.{OpacitySettings}
 
 -- ---- the options and subcommands
 
@@ -129,9 +131,9 @@ flag name = record (new_rule name) { long = Some name; action = Some SetTrue }
 abbrev pub steps_option : Rule
 steps_option = any_number_option (codes "steps") (codes "10000000")
 
--- the options of a search for a linearization
+-- the options of a search for a linearization, and of the report on the log
 abbrev pub searching_options : List Rule
-searching_options = steps_option ∷ flag (codes "progress") ∷ []
+searching_options = steps_option ∷ flag (codes "progress") ∷ flag (codes "stats") ∷ []
 
 -- the options of a judge
 abbrev pub judging_options : List Rule
@@ -143,7 +145,23 @@ words_option = number_option (codes "words") 1 MOST_WORDS (codes "65536")
 
 -- the options of a judge of attempts
 abbrev pub opaque_options : List Rule
-opaque_options = words_option ∷ flag (codes "place") ∷ []
+opaque_options = words_option ∷ flag (codes "place") ∷ flag (codes "stats") ∷ []
+
+-- `--customer N`: a customer of a scope; each use adds one
+abbrev pub customer_option : Rule
+customer_option = record (valued_option (codes "customer")) { action = Some Append }
+
+-- `--item KIND ID`: an item of a scope; each use adds one
+abbrev pub item_option : Rule
+item_option = record (new_rule (codes "item")) {
+  long = Some (codes "item");
+  action = Some Append;
+  value_names = 2;
+}
+
+-- the options of a part
+abbrev pub part_options : List Rule
+part_options = customer_option ∷ item_option ∷ []
 
 -- the flags of a load: reports of its progress and statistics, and its history or attempts as
 -- output
@@ -183,7 +201,8 @@ abbrev pub judging_commands : List Shape
 judging_commands = with_options (codes "check") []
     ∷ with_options (codes "judge") judging_options
     ∷ with_options (codes "order") (blocks_option ∷ searching_options)
-    ∷ with_options (codes "opaque") opaque_options ∷ []
+    ∷ with_options (codes "opaque") opaque_options
+    ∷ with_options (codes "part") part_options ∷ []
 
 -- the subcommands that run a load or write its tasks
 abbrev pub load_commands : List Shape
@@ -266,15 +285,18 @@ IsFlag rows name = Says rows name true ⊎ Says rows name false
 abbrev pub NamesFile : List Row → Text → Option (Bor Text) → Type 0
 NamesFile rows option file = first_of option rows ≡ option_map (λ name. name.now) file
 
--- the rows of clap give a search its number of steps and say whether it reports its progress
+-- the rows of clap give a search its number of steps, and say whether it reports its progress and
+-- whether the figures of the log are reported
 pub record HasSearch (rows : List Row) : Type 0 where
   pub steps : GivesIn rows (codes "steps") 0 MOST_NUMBER
   pub progress : IsFlag rows (codes "progress")
+  pub stats : IsFlag rows (codes "stats")
 
--- the search has the number of steps and the progress reports that its options say
-pub record IsSearchOfRows (rows : List Row) (search : Search) : Type 0 where
+-- the search has the number of steps and the reports that its options say
+pub record IsSearchOfRows (rows : List Row) (search : SearchSettings) : Type 0 where
   pub steps : Gives rows (codes "steps") search.steps
   pub progress : Says rows (codes "progress") search.progress
+  pub stats : Says rows (codes "stats") search.stats
 
 -- true if a value stands in the words, and is no default
 abbrev pub is_of_words : Option ValueSource → Bool
@@ -286,6 +308,10 @@ abbrev pub is_given : Text → List Row → Bool
 is_given option rows =
     is_of_words (option_and_then (λ row. row.source) (find (λ row. bytes_eq row.id option) rows))
 
+-- the values of all uses of an option, in their order
+abbrev pub values_of : Text → List Row → List Text
+values_of option rows = unwrap_or (all_of option rows) []
+
 -- the rows of clap have all that a judge needs
 pub record HasJudging (rows : List Row) : Type 0 where
   pub blocks : GivesIn rows (codes "blocks") 1 MOST_BLOCKS
@@ -294,7 +320,7 @@ pub record HasJudging (rows : List Row) : Type 0 where
 
 -- the judge's settings are those that its options give; the words name a search if they give its
 -- number of steps or ask for its progress
-pub record IsJudging (rows : List Row) (how : Judging) : Type 0 where
+pub record IsJudging (rows : List Row) (how : JudgeSettings) : Type 0 where
   pub blocks : Gives rows (codes "blocks") how.blocks
   pub room : is_block_count how.blocks ≡ true
   pub tasks : NamesFile rows (codes "tasks") how.tasks
@@ -302,17 +328,25 @@ pub record IsJudging (rows : List Row) (how : Judging) : Type 0 where
   pub search : IsSearchOfRows rows how.search
   pub named : how.names_search ≡ (is_given (codes "steps") rows || how.search.progress)
 
+-- the words for the scope of a part are the values of all uses of its options
+pub record IsPartWords (rows : List Row) (part : PartWords) : Type 0 where
+  pub customers : map (λ value. value.now) part.customers.items
+      ≡ values_of (codes "customer") rows
+  pub items : map (λ value. value.now) part.items.items ≡ values_of (codes "item") rows
+
 -- the rows of clap have all that a judge of attempts needs
 pub record HasOpacity (rows : List Row) : Type 0 where
   pub words : GivesIn rows (codes "words") 1 MOST_WORDS
   pub place : IsFlag rows (codes "place")
+  pub stats : IsFlag rows (codes "stats")
 
 -- the settings of a judge of attempts are those that its options give
-pub record IsOpacity (rows : List Row) (how : Opacity) : Type 0 where
+pub record IsOpacity (rows : List Row) (how : OpacitySettings) : Type 0 where
   pub words : Gives rows (codes "words") how.words
   pub some : 1 ≤ how.words
   pub room : how.words ≤ MOST_WORDS
   pub place : Says rows (codes "place") how.place
+  pub stats : Says rows (codes "stats") how.stats
 
 -- the rows of clap say of each flag of a load whether it is set
 pub record HasFlags (rows : List Row) : Type 0 where
@@ -360,7 +394,7 @@ pub record AreGiven (rows : List Row) (s : Settings) : Type 0 where
   pub tries : Gives rows (codes "tries") s.tries
 
 -- the output of a load is as its flags say
-pub record IsTold (rows : List Row) (how : How) : Type 0 where
+pub record IsTold (rows : List Row) (how : LoadOutput) : Type 0 where
   pub progress : Says rows (codes "progress") how.progress
   pub stats : Says rows (codes "stats") how.stats
   pub history : Says rows (codes "history") how.history
@@ -376,7 +410,7 @@ abbrev pub Names : List Text → Text → List Row → Type 0
 Names words name rows = subcommand_of vacation words ≡ Some (name, rows)
 
 -- the words make this request
-abbrev pub AsksFor : List Text → Asked → Type 0
+abbrev pub AsksFor : List Text → Request → Type 0
 AsksFor words (Run blocks) = (rows : List Row) × Names words (codes "run") rows
     × Gives rows (codes "blocks") blocks × (is_block_count blocks ≡ true)
 AsksFor words (Dump blocks) = (rows : List Row) × Names words (codes "dump") rows
@@ -389,6 +423,8 @@ AsksFor words (Order blocks search) = (rows : List Row) × Names words (codes "o
     × IsSearchOfRows rows search
 AsksFor words (Opaque how) =
     (rows : List Row) × Names words (codes "opaque") rows × IsOpacity rows how
+AsksFor words (Part part) =
+    (rows : List Row) × Names words (codes "part") rows × IsPartWords rows part
 AsksFor words (Load settings how) = (rows : List Row) × Names words (codes "load") rows
     × AreGiven rows settings × IsTold rows how
 AsksFor words (Tasks settings) = (rows : List Row) × Names words (codes "tasks") rows

@@ -11,13 +11,13 @@ ghost use Rattle.cli_options.specs.CommandLine.{HasLoad, AreGiven, is_given, is_
 ghost use Rattle.cli_options.specs.CommandLine.{Says, IsFlag, HasFlags, IsTold, NamesFile, AsksFor};
 ghost use Rattle.cli_options.specs.CommandLine.{IsFoundIn};
 ghost use Rattle.cli_options.specs.CommandLine.{HasSearch, IsSearchOfRows, HasJudging, IsJudging};
-ghost use Rattle.cli_options.specs.CommandLine.{HasOpacity, IsOpacity};
+ghost use Rattle.cli_options.specs.CommandLine.{HasOpacity, IsOpacity, values_of, IsPartWords};
 
 use crate::options::command_line;
 use clap::parser::ValueSource;
 use clap::{ArgMatches, Error};
 use load_tasks::Settings;
-use std::alloc::Global;
+use std::alloc::{AllocError, Global};
 use stm_words::VERSION_LIMIT;
 
 /// Largest value of an option for any 64-bit number: the seed of a load, or the steps of a search.
@@ -29,7 +29,7 @@ const DRAWN_TRIES: u32 = 1;
 
 /// The output of a load besides its two lines.
 #[derive(Clone, Copy)]
-pub struct How {
+pub struct LoadOutput {
     /// True if the load reports its progress.
     pub progress: bool,
     /// True if the load reports its running time and the number of its attempts.
@@ -45,18 +45,20 @@ pub struct How {
 /// Largest number of words of a memory whose attempts are judged.
 pub const MOST_WORDS: u32 = 4_194_304;
 
-/// The settings of a search for a linearization.
+/// The settings of a search for a linearization, and of the report on the log.
 #[derive(Clone, Copy)]
-pub struct Search {
+pub struct SearchSettings {
     /// Largest number of steps.
     pub steps: u64,
     /// True if the search reports its progress.
     pub progress: bool,
+    /// True if the figures of the log are reported, whether or not there is a search.
+    pub stats: bool,
 }
 
 /// The settings of a judge of a history.
 #[derive(Clone, Copy)]
-pub struct Judging<'a> {
+pub struct JudgeSettings<'a> {
     /// Number of blocks of the system that was called.
     pub blocks: u32,
     /// The file of the tasks against which the history is checked.
@@ -64,23 +66,35 @@ pub struct Judging<'a> {
     /// True if the judge searches for a linearization instead of trusting the order of the lines.
     pub any_order: bool,
     /// The settings of that search.
-    pub search: Search,
+    pub search: SearchSettings,
     /// True if the command line itself gives a setting of that search.
     pub names_search: bool,
 }
 
+/// The scope of a part, in the words of the command line.
+#[derive(Drop)]
+pub struct PartWords<'a> {
+    /// The values of the customers.
+    pub customers: Vec<&'a str>,
+    /// The values of the items, a kind and an id for each.
+    pub items: Vec<&'a str>,
+}
+
 /// The settings of a judge of attempts.
 #[derive(Clone, Copy)]
-pub struct Opacity {
+pub struct OpacitySettings {
     /// Number of words of the memory.
     pub words: u32,
     /// True if only the order of the committed writers is given, and the judge searches for places
     /// of the other attempts.
     pub place: bool,
+    /// True if the figures of the log are reported.
+    pub stats: bool,
 }
 
 /// The request that a command line makes.
-pub enum Asked<'a> {
+#[derive(Drop)]
+pub enum Request<'a> {
     /// Runs a script on a system of this many blocks.
     Run(u32),
     /// Runs a script on a system of this many blocks and dumps the memory that the script leaves.
@@ -88,13 +102,15 @@ pub enum Asked<'a> {
     /// Audits the words of a memory.
     Check,
     /// Judges a history.
-    Judge(Judging<'a>),
+    Judge(JudgeSettings<'a>),
     /// Finds a linearization of a history of a system of this many blocks.
-    Order(u32, Search),
+    Order(u32, SearchSettings),
     /// Judges attempts.
-    Opaque(Opacity),
+    Opaque(OpacitySettings),
+    /// Writes the part of a history on this scope.
+    Part(PartWords<'a>),
     /// Runs a load, with this output.
-    Load(Settings, How),
+    Load(Settings, LoadOutput),
     /// Writes the tasks of a load.
     Tasks(Settings),
 }
@@ -152,11 +168,11 @@ fn flag_of(matches: &ArgMatches, name: &str) -> bool
 }
 
 /// Returns the output settings of a load.
-fn how_of(matches: &ArgMatches) -> How
+fn how_of(matches: &ArgMatches) -> LoadOutput
     requires { HasFlags (rows_of (found_of matches.now)) }
     ensures { IsTold (rows_of (found_of matches.now)) result }
 {
-    How {
+    LoadOutput {
         progress: flag_of(matches, "progress"),
         stats: flag_of(matches, "stats"),
         history: flag_of(matches, "history"),
@@ -181,13 +197,14 @@ fn file_of<'a>(matches: &ArgMatches<'a>) -> Option<&'a str>
 }
 
 /// Returns the settings of a search.
-fn search_of(matches: &ArgMatches) -> Search
+fn search_of(matches: &ArgMatches) -> SearchSettings
     requires { HasSearch (rows_of (found_of matches.now)) }
     ensures { IsSearchOfRows (rows_of (found_of matches.now)) result }
 {
-    Search {
+    SearchSettings {
         steps: any_number_of(matches, "steps"),
         progress: flag_of(matches, "progress"),
+        stats: flag_of(matches, "stats"),
     }
 }
 
@@ -210,18 +227,42 @@ fn is_given(matches: &ArgMatches, option: &str) -> bool
 }
 
 /// Returns the settings of a judge of a history.
-fn judging_of<'a>(matches: &ArgMatches<'a>) -> Judging<'a>
+fn judging_of<'a>(matches: &ArgMatches<'a>) -> JudgeSettings<'a>
     requires { HasJudging (rows_of (found_of matches.now)) }
     ensures { IsJudging (rows_of (found_of matches.now)) result }
 {
     let search = search_of(matches);
-    Judging {
+    JudgeSettings {
         blocks: blocks_of(matches),
         tasks: file_of(matches),
         any_order: flag_of(matches, "any-order"),
         search,
         names_search: is_given(matches, "steps") || search.progress,
     }
+}
+
+/// Returns the values of all uses of an option, in their order.
+fn values_of<'a>(
+    alloc: Global,
+    matches: &ArgMatches<'a>,
+    option: &str,
+) -> Result<Vec<&'a str>, AllocError>
+    ensures { IfOk result (λ values. map (λ value. value.now) values.items
+        ≡ values_of option.now (rows_of (found_of matches.now))) }
+{
+    match matches.get_strs(option) {
+        Some(values) => Vec::from_slice(alloc, values),
+        None => Ok(Vec::new(alloc)),
+    }
+}
+
+/// Returns the words for the scope of a part.
+fn part_words_of<'a>(alloc: Global, matches: &ArgMatches<'a>) -> Result<PartWords<'a>, AllocError>
+    ensures { IfOk result (λ part. IsPartWords (rows_of (found_of matches.now)) part) }
+{
+    let customers = values_of(alloc, matches, "customer")?;
+    let items = values_of(alloc, matches, "item")?;
+    Ok(PartWords { customers, items })
 }
 
 /// Returns the number of words that a judge of attempts gives, or the default.
@@ -235,13 +276,14 @@ fn words_of(matches: &ArgMatches) -> u32
 }
 
 /// Returns the settings of a judge of attempts.
-fn opacity_of(matches: &ArgMatches) -> Opacity
+fn opacity_of(matches: &ArgMatches) -> OpacitySettings
     requires { HasOpacity (rows_of (found_of matches.now)) }
     ensures { IsOpacity (rows_of (found_of matches.now)) result }
 {
-    Opacity {
+    OpacitySettings {
         words: words_of(matches),
         place: flag_of(matches, "place"),
+        stats: flag_of(matches, "stats"),
     }
 }
 
@@ -276,33 +318,37 @@ fn tries_of(matches: &ArgMatches) -> u32
 }
 
 /// Returns the request in words that clap has parsed.
-fn asked_of<'a>(matches: &ArgMatches<'a>) -> Asked<'a>
+fn asked_of<'a>(alloc: Global, matches: &ArgMatches<'a>) -> Result<Request<'a>, AllocError>
     requires { (words : List Text) × IsFoundIn words matches.now }
-    ensures { (words : List Text) → IsFoundIn words matches.now → AsksFor words result }
+    ensures { IfOk result (λ asked. (words : List Text) →
+        IsFoundIn words matches.now → AsksFor words asked) }
 {
     if let Some(run) = named(matches, "run") {
-        return Asked::Run(blocks_of(run));
+        return Ok(Request::Run(blocks_of(run)));
     }
     if let Some(dump) = named(matches, "dump") {
-        return Asked::Dump(blocks_of(dump));
+        return Ok(Request::Dump(blocks_of(dump)));
     }
     if named(matches, "check").is_some() {
-        return Asked::Check;
+        return Ok(Request::Check);
     }
     if let Some(judge) = named(matches, "judge") {
-        return Asked::Judge(judging_of(judge));
+        return Ok(Request::Judge(judging_of(judge)));
     }
     if let Some(order) = named(matches, "order") {
-        return Asked::Order(blocks_of(order), search_of(order));
+        return Ok(Request::Order(blocks_of(order), search_of(order)));
     }
     if let Some(opaque) = named(matches, "opaque") {
-        return Asked::Opaque(opacity_of(opaque));
+        return Ok(Request::Opaque(opacity_of(opaque)));
+    }
+    if let Some(part) = named(matches, "part") {
+        return Ok(Request::Part(part_words_of(alloc, part)?));
     }
     if let Some(tasks) = named(matches, "tasks") {
-        return Asked::Tasks(settings_of(tasks, DRAWN_TRIES));
+        return Ok(Request::Tasks(settings_of(tasks, DRAWN_TRIES)));
     }
     match named(matches, "load") {
-        Some(load) => Asked::Load(settings_of(load, tries_of(load)), how_of(load)),
+        Some(load) => Ok(Request::Load(settings_of(load, tries_of(load)), how_of(load))),
         None => unreachable!(),
     }
 }
@@ -311,10 +357,10 @@ fn asked_of<'a>(matches: &ArgMatches<'a>) -> Asked<'a>
 /// the reason why they are refused.
 ///
 /// Not said: if clap could name two faults, which of them it names.
-pub fn read_asked<'a>(alloc: Global, words: &'a [String]) -> Result<Asked<'a>, Error>
+pub fn read_asked<'a>(alloc: Global, words: &'a [String]) -> Result<Request<'a>, Error>
     ensures fails { FailsBy (fault_of vacation (map string_bytes words.now)) result }
     ensures asked { IfOk result (λ asked. AsksFor (map string_bytes words.now) asked) }
 {
     let matches = read_words(alloc, words)?;
-    Ok(asked_of(&matches))
+    Ok(asked_of(alloc, &matches)?)
 }

@@ -5,5 +5,7 @@
 mod asked;
 mod options;
 
-pub use asked::{Asked, How, Judging, Opacity, Search, read_asked};
+pub use asked::{
+    JudgeSettings, LoadOutput, OpacitySettings, PartWords, Request, SearchSettings, read_asked,
+};
 pub use options::VERSION;

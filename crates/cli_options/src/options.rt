@@ -8,6 +8,7 @@ ghost use Rattle.cli_options.specs.CommandLine.{file_option, opaque_options, wit
 ghost use Rattle.cli_options.specs.CommandLine.{client_options, task_options, drawing_options};
 ghost use Rattle.cli_options.specs.CommandLine.{running_options, load_options};
 ghost use Rattle.cli_options.specs.CommandLine.{searching_options, judging_options};
+ghost use Rattle.cli_options.specs.CommandLine.{customer_option, item_option, part_options};
 ghost use Rattle.cli_options.specs.CommandLine.{top_command, script_commands, judging_commands};
 ghost use Rattle.cli_options.specs.CommandLine.{load_commands, vacation, IsOption, IsCommand};
 ghost use Rattle.cli_options.specs.CommandLine.{GetsOptions, GetsCommands};
@@ -22,6 +23,9 @@ use vac_model::limits::{MOST_BLOCKS, MOST_PARTS, MOST_TRIES};
 /// The output of `--version`: the program and its version, and the toolchain that proved and built
 /// the program, as `rt version` names it.
 pub const VERSION: &str = "vacation 0.1.0\nrattle-kit-13f logic dac8208d650f15bf\n";
+
+/// Names of the two values of an item in the help.
+const ITEM_NAMES: [&str; 2] = ["KIND", "ID"];
 
 /// Default number of blocks of a system.
 const DEFAULT_BLOCKS: &str = "1024";
@@ -91,6 +95,35 @@ fn flag<'a>(alloc: Global, name: &'a str) -> Arg<'a>
     ensures { IsOption result (flag name.now) }
 {
     Arg::new(alloc, name).long(name).action(ArgAction::SetTrue)
+}
+
+/// Returns the flag that asks for the figures of a log.
+fn coverage_flag<'a>(alloc: Global) -> Arg<'a>
+    ensures { IsOption result (flag (codes "stats")) }
+{
+    flag(alloc, "stats").help(
+        "Reports on standard error how much overlapped, which says what the verdict is worth",
+    )
+}
+
+/// Returns the option for a customer of a scope.
+fn customer_option<'a>(alloc: Global) -> Arg<'a>
+    ensures { IsOption result customer_option }
+{
+    valued_option(alloc, "customer")
+        .action(ArgAction::Append)
+        .help("Customer of the scope; up to 64 of them")
+}
+
+/// Returns the option for an item of a scope.
+fn item_option<'a>(alloc: Global) -> Arg<'a>
+    ensures { IsOption result item_option }
+{
+    Arg::new(alloc, "item")
+        .long("item")
+        .value_names(&ITEM_NAMES)
+        .action(ArgAction::Append)
+        .help("Item of the scope, of the kind car, flight or room; up to 64 of them")
 }
 
 /// Adds an option to a command.
@@ -174,7 +207,7 @@ fn add_load_options<'a>(alloc: Global, command: Made<'a>) -> Made<'a>
     add_running_options(alloc, add_drawing_options(alloc, command))
 }
 
-/// Adds the options of a search for a linearization.
+/// Adds the options of a search for a linearization, and of the report on the log.
 fn add_searching_options<'a>(alloc: Global, command: Made<'a>) -> Made<'a>
     ensures { GetsOptions command.entry searching_options result }
 {
@@ -184,7 +217,10 @@ fn add_searching_options<'a>(alloc: Global, command: Made<'a>) -> Made<'a>
     let progress = flag(alloc, "progress").help(
         "Reports the progress of the search on standard error, at most twice a second",
     );
-    add_option(add_option(command, steps), progress)
+    add_option(
+        add_option(add_option(command, steps), progress),
+        coverage_flag(alloc),
+    )
 }
 
 /// Returns the subcommand that finds a linearization.
@@ -215,7 +251,18 @@ fn opaque_command<'a>(alloc: Global) -> Made<'a>
         .about("Judges the attempts on standard input: whether their order shows opacity")
         .after_help("Example:\n  echo '1 0 5 commit r 7 0 w 7 1' | vacation opaque")
         .arg(words);
-    add_option(command, place)
+    add_option(add_option(command, place), coverage_flag(alloc))
+}
+
+/// Returns the subcommand that writes a part of a history.
+fn part_command<'a>(alloc: Global) -> Made<'a>
+    ensures { IfOk result (λ c. IsCommand c (with_options (codes "part") part_options)) }
+{
+    let command = Command::new(alloc, "part")
+        .about("Writes what the history on standard input says of some customers and items")
+        .after_help("Example:\n  echo '1 0 5 newcust 3 -> true' | vacation part --customer 3")
+        .arg(customer_option(alloc));
+    add_option(command, item_option(alloc))
 }
 
 /// Returns the subcommand that judges a history.
@@ -278,10 +325,11 @@ fn add_judging_commands<'a>(alloc: Global, top: Made<'a>) -> Made<'a>
         .about("Audits the words of a memory on standard input, as dump writes them")
         .after_help("Example:\n  echo 'add car 7 100 50' | vacation dump | vacation check");
     let top = add_command(add_command(top, Ok(check)), judge_command(alloc));
-    add_command(
+    let top = add_command(
         add_command(top, order_command(alloc)),
         opaque_command(alloc),
-    )
+    );
+    add_command(top, part_command(alloc))
 }
 
 /// Returns the program before its subcommands are added.

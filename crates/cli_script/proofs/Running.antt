@@ -21,8 +21,8 @@ use Rattle.vac_manager.specs.Called.{CallerShown}
 use Rattle.vac_streams.specs.declared.fault.StreamFault.{StreamFault}
 use Rattle.vac_streams.specs.declared.next.Next.{Next}
 use Rattle.vac_streams.specs.declared.next.Next.TheVariants.{GoOn, Stop}
-use Rattle.vac_streams.specs.Told.{Told, Line, LongLine, Pause, told_of, told_lines, lines_in}
-use Rattle.vac_streams.specs.Heard.{ToldAll, ToldLast, AreFirst, AreFirstOf, HeardAll, Heard}
+use Rattle.vac_streams.specs.Told.{Message, Line, LongLine, Pause, message_of, line_messages, lines_in}
+use Rattle.vac_streams.specs.Heard.{ReceivedAll, ReceivedLast, AreFirst, AreFirstOf, HeardAll, Heard}
 use Rattle.vac_streams.specs.Sent.{Sent}
 use Rattle.vac_streams.proofs.Telling.{lines_both, first_of_read, first_of_input}
 use Rattle.vac_streams.proofs.Texts.{sent_nothing, sent_hand, sent_text, sent_both, sent_end}
@@ -31,42 +31,42 @@ use Rattle.cli_script.specs.System.{StandsInState, RanScript, IsNew}
 use Rattle.cli_script.specs.Hearing.{told_task, AnsweredCut, HearsLine, HearsPause, Hears}
 
 -- the tasks of what was told
-abbrev pub tasks : List Told → List (Result Task LineFault)
+abbrev pub tasks : List Message → List (Result Task LineFault)
 tasks told = map told_task told
 
 -- the output lines of what was told, from a state on, and the state that it leaves
-abbrev pub answers : State → List Told → List ℕ
+abbrev pub answers : State → List Message → List ℕ
 answers s told = (script s (tasks told)).1
 
-abbrev pub leaves : State → List Told → State
+abbrev pub leaves : State → List Message → State
 leaves s told = (script s (tasks told)).0
 
 -- a line that is not too long is told
-short_told : (line : List ℕ) → nat_lt 1024 (length line) ≡ false → told_of 1024 line ≡ Line line
+short_told : (line : List ℕ) → nat_lt 1024 (length line) ≡ false → message_of 1024 line ≡ Line line
 short_told line e = rw e refl
 
 -- a line that is told asks for the task of the line
-one_task : (line : List ℕ) → told_task (told_of 1024 line) ≡ line_task line
+one_task : (line : List ℕ) → told_task (message_of 1024 line) ≡ line_task line
 one_task line =
     elim (cases_lt 1024 (length line)) [
       | inl h ↦ rw (lt-ltb 1024 (length line) h) refl
       | inr h ↦ let short : nat_lt 1024 (length line) ≡ false = grind (arith) in ap told_task (short_told line short)
     ]
 
-all_tasks : (lines : List (List ℕ)) → map told_task (map (told_of 1024) lines) ≡ map line_task lines
+all_tasks : (lines : List (List ℕ)) → map told_task (map (message_of 1024) lines) ≡ map line_task lines
 all_tasks [] = refl
-all_tasks (line ∷ more) = ap (λ t. t ∷ map told_task (map (told_of 1024) more)) (one_task line)
+all_tasks (line ∷ more) = ap (λ t. t ∷ map told_task (map (message_of 1024) more)) (one_task line)
     ∙ ap (λ t. line_task line ∷ t) (all_tasks more)
 
 -- what a script writes and leaves is that of the lines that are told of it
-out_told : (n : ℕ) (text : List ℕ) → script_out n text ≡ answers (empty_state n) (told_lines 1024 text)
+out_told : (n : ℕ) (text : List ℕ) → script_out n text ≡ answers (empty_state n) (line_messages 1024 text)
 out_told n text = ap (λ t. (script (empty_state n) t).1) (sym (all_tasks (lines_of text)))
 
-state_told : (n : ℕ) (text : List ℕ) → script_state n text ≡ leaves (empty_state n) (told_lines 1024 text)
+state_told : (n : ℕ) (text : List ℕ) → script_state n text ≡ leaves (empty_state n) (line_messages 1024 text)
 state_told n text = ap (λ t. (script (empty_state n) t).0) (sym (all_tasks (lines_of text)))
 
 -- lines behind others
-answers_both : (s : State) (a b : List Told) → answers s (a ++ b) ≡ answers s a ++ answers (leaves s a) b
+answers_both : (s : State) (a b : List Message) → answers s (a ++ b) ≡ answers s a ++ answers (leaves s a) b
 answers_both s [] b = refl
 answers_both s (x ∷ a) b =
     let first = answer s (told_task x) in
@@ -74,21 +74,21 @@ answers_both s (x ∷ a) b =
     ∙ sym (append_assoc first.1 (answers first.0 a) (answers (leaves first.0 a) b))
 
 -- a prefix of what the first lines of a text answer is one of the script's output
-of_first : (n : ℕ) (lines : List Told) (text written : List ℕ) → AreFirst 1024 lines text
+of_first : (n : ℕ) (lines : List Message) (text written : List ℕ) → AreFirst 1024 lines text
     → Extends written (answers (empty_state n) lines) → Extends written (script_out n text)
 of_first n lines text written f e =
     subst (Extends written) (sym (out_told n text ∙ ap (answers (empty_state n)) f.1
     ∙ answers_both (empty_state n) lines f.0))
     (extends_longer written (answers (empty_state n) lines) (answers (leaves (empty_state n) lines) f.0) e)
 
-of_input : (n : ℕ) (lines : List Told) (written : List ℕ) (unread : Option (List ℕ))
+of_input : (n : ℕ) (lines : List Message) (written : List ℕ) (unread : Option (List ℕ))
     → IfSome unread (λ input. AreFirst 1024 lines input) → Extends written (answers (empty_state n) lines)
     → IfSome unread (λ input. Extends written (script_out n input))
 of_input n lines written None f e = tt
 of_input n lines written (Some input) f e = of_first n lines input written f e
 
 -- what was written is a prefix of what the lines so far answer
-pub wrote_prefix : (n : ℕ) (unread left held holds : Option (List ℕ)) (bytes text : List ℕ) (lines : List Told)
+pub wrote_prefix : (n : ℕ) (unread left held holds : Option (List ℕ)) (bytes text : List ℕ) (lines : List Message)
     → Consumes unread left bytes → AreFirstOf 1024 lines bytes left
     → Appends held holds text → Extends text (answers (empty_state n) lines) → WrotePrefix n unread left held holds
 wrote_prefix n unread left held holds bytes text lines c f w e = record {
@@ -106,7 +106,7 @@ extends_nil text = refl
 -- nothing was read and nothing was written
 pub wrote_nothing : (n : ℕ) (unread held : Option (List ℕ)) → WrotePrefix n unread unread held held
 wrote_nothing n unread held =
-    wrote_prefix n unread unread held held [] [] [] (Consumes-nil unread) (inr (λ x. (told_lines 1024 x, refl)))
+    wrote_prefix n unread unread held held [] [] [] (Consumes-nil unread) (inr (λ x. (line_messages 1024 x, refl)))
     (Appends-nil held) refl
 
 extends_behind : (prefix xs ys : List ℕ) → Extends xs ys → Extends (prefix ++ xs) (prefix ++ ys)
@@ -115,11 +115,11 @@ extends_behind (x ∷ prefix) xs ys h = ap (λ t. x ∷ t) (extends_behind prefi
 
 module _ {S O : Type 0} (system : S → CallerShown) (out : S → List ℕ) (contents : O → Option (List ℕ)) where
   -- what being told something makes of a script and its output
-  abbrev hears : S → O → Told → Result Next StreamFault → S → O → Type 0
+  abbrev hears : S → O → Message → Result Next StreamFault → S → O → Type 0
   hears x o told answer y p = Hears (system x) (out x) (contents o) told answer (system y) (out y) (contents p)
 
   -- the script ran these lines
-  record RanLines (x : S) (o : O) (lines : List Told) (y : S) (p : O) : Type 0 where
+  record RanLines (x : S) (o : O) (lines : List Message) (y : S) (p : O) : Type 0 where
     pub same : (system y).shared ≡ (system x).shared
     pub stands : (s : State) → StandsInState (system x) s → StandsInState (system y) (leaves s lines)
     pub sent : (s : State) → StandsInState (system x) s → Sent (contents o) (contents p) (out x) (out y)
@@ -129,7 +129,7 @@ module _ {S O : Type 0} (system : S → CallerShown) (out : S → List ℕ) (con
   ran_nothing x o = record { same = refl; stands = λ s h. h; sent = λ s h. sent_nothing (contents o) (out x) }
 
   -- a line first
-  ran_line : (x : S) (o : O) (line : Told) (lines : List Told) (u : S) (q : O) (y : S) (p : O)
+  ran_line : (x : S) (o : O) (line : Message) (lines : List Message) (u : S) (q : O) (y : S) (p : O)
       → HearsLine (system x) (out x) (contents o) (told_task line) (Ok GoOn) (system u) (out u) (contents q)
       → RanLines u q lines y p → RanLines x o (line ∷ lines) y p
   ran_line x o line lines u q y p h r = record {
@@ -146,7 +146,7 @@ module _ {S O : Type 0} (system : S → CallerShown) (out : S → List ℕ) (con
   }
 
   -- a pause first
-  ran_pause : (x : S) (o : O) (lines : List Told) (u : S) (q : O) (y : S) (p : O)
+  ran_pause : (x : S) (o : O) (lines : List Message) (u : S) (q : O) (y : S) (p : O)
       → HearsPause (system x) (out x) (contents o) (Ok GoOn) (system u) (out u) (contents q)
       → RanLines u q lines y p → RanLines x o lines y p
   ran_pause x o lines u q y p h r = record {
@@ -158,7 +158,7 @@ module _ {S O : Type 0} (system : S → CallerShown) (out : S → List ℕ) (con
   }
 
   -- all that was told
-  ran_told : (x : S) (o : O) (told : List Told) (y : S) (p : O) → ToldAll hears x o told y p
+  ran_told : (x : S) (o : O) (told : List Message) (y : S) (p : O) → ReceivedAll hears x o told y p
       → RanLines x o (lines_in told) y p
   ran_told x o [] y p h = subst (λ z. RanLines x o [] z p) (sym h.0)
       (subst (λ z. RanLines x o [] x z) (sym h.1) (ran_nothing x o))
@@ -169,12 +169,12 @@ module _ {S O : Type 0} (system : S → CallerShown) (out : S → List ℕ) (con
   ran_told x o (Pause ∷ told) y p h = ran_pause x o (lines_in told) h.0 h.1 y p h.2 (ran_told h.0 h.1 told y p h.3)
 
   -- what was written is a prefix of what these lines answer
-  record CutLines (x : S) (o : O) (lines : List Told) (p : O) (s : State) : Type 0 where
+  record CutLines (x : S) (o : O) (lines : List Message) (p : O) (s : State) : Type 0 where
     pub text : List ℕ
     pub written : Appends (contents o) (contents p) text
     pub prefix : Extends text (out x ++ answers s lines)
 
-  cut_sent : (x : S) (o : O) (lines : List Told) (y : S) (p : O) (s : State)
+  cut_sent : (x : S) (o : O) (lines : List Message) (y : S) (p : O) (s : State)
       → Sent (contents o) (contents p) (out x) (out y) (answers s lines) → CutLines x o lines p s
   cut_sent x o lines y p s h = record {
     text = h.front;
@@ -184,7 +184,7 @@ module _ {S O : Type 0} (system : S → CallerShown) (out : S → List ℕ) (con
   }
 
   -- a line of which no more than a part was written
-  cut_line : (x : S) (o : O) (lines : List Told) (line : Told) (u : S) (q : O) (p : O) (s : State)
+  cut_line : (x : S) (o : O) (lines : List Message) (line : Message) (u : S) (q : O) (p : O) (s : State)
       → RanLines x o lines u q → AnsweredCut (system u) (out u) (contents q) (contents p) (told_task line)
       → StandsInState (system x) s → CutLines x o (lines ++ line ∷ []) p s
   cut_line x o lines line u q p s r h st =
@@ -202,7 +202,7 @@ module _ {S O : Type 0} (system : S → CallerShown) (out : S → List ℕ) (con
       }
 
   -- what was at hand was written in part
-  cut_pause : (x : S) (o : O) (lines : List Told) (u : S) (q : O) (p : O) (s : State) → RanLines x o lines u q
+  cut_pause : (x : S) (o : O) (lines : List Message) (u : S) (q : O) (p : O) (s : State) → RanLines x o lines u q
       → AppendsPrefix (contents q) (contents p) (out u) → StandsInState (system x) s → CutLines x o lines p s
   cut_pause x o lines u q p s r h st =
       let sent = r.sent s st in
@@ -215,8 +215,9 @@ module _ {S O : Type 0} (system : S → CallerShown) (out : S → List ℕ) (con
       }
 
   -- the script ended by a fault at what was told last
-  cut_last : (x : S) (o : O) (before : List Told) (last : Told) (fault : StreamFault) (u : S) (q : O) (y : S) (p : O)
-      (s : State) → ToldAll hears x o before u q → hears u q last (Err fault) y p → StandsInState (system x) s
+  cut_last : (x : S) (o : O) (before : List Message) (last : Message) (fault : StreamFault) (u : S) (q : O) (y : S)
+      (p : O)
+      (s : State) → ReceivedAll hears x o before u q → hears u q last (Err fault) y p → StandsInState (system x) s
       → CutLines x o (lines_in (before ++ last ∷ [])) p s
   cut_last x o before (Line text) fault u q y p s h k st =
       subst (λ l. CutLines x o l p s) (sym (lines_both before (Line text ∷ [])))
@@ -228,14 +229,14 @@ module _ {S O : Type 0} (system : S → CallerShown) (out : S → List ℕ) (con
       subst (λ l. CutLines x o l p s) (sym (lines_both before (Pause ∷ []) ∙ append-nil (lines_in before)))
       (cut_pause x o (lines_in before) u q p s (ran_told x o before u q h) k st)
 
-  cut_told : (x : S) (o : O) (told : List Told) (fault : StreamFault) (y : S) (p : O) (s : State)
-      → ToldLast hears x o told (Err fault) y p → StandsInState (system x) s → CutLines x o (lines_in told) p s
+  cut_told : (x : S) (o : O) (told : List Message) (fault : StreamFault) (y : S) (p : O) (s : State)
+      → ReceivedLast hears x o told (Err fault) y p → StandsInState (system x) s → CutLines x o (lines_in told) p s
   cut_told x o told fault y p s h st =
       subst (λ l. CutLines x o (lines_in l) p s) (sym h.all)
       (cut_last x o h.before h.last fault h.sink h.output y p s h.first h.then st)
 
   -- no line makes a script stop
-  never_stops : (u : S) (q : O) (last : Told) (y : S) (p : O) → hears u q last (Ok Stop) y p → ⊥
+  never_stops : (u : S) (q : O) (last : Message) (y : S) (p : O) → hears u q last (Ok Stop) y p → ⊥
   never_stops u q (Line text) y p h = let e : Stop ≡ GoOn = h.0 in cc
   never_stops u q LongLine y p h = let e : Stop ≡ GoOn = h.0 in cc
   never_stops u q Pause y p h = let e : Stop ≡ GoOn = h.0 in cc
@@ -266,7 +267,7 @@ module _ {S O : Type 0} (system : S → CallerShown) (out : S → List ℕ) (con
     empty = f;
   }
 
-  prefix_first : (n : ℕ) (x : S) (o : O) (lines : List Told) (p : O) (unread left : Option (List ℕ)) (bytes : List ℕ)
+  prefix_first : (n : ℕ) (x : S) (o : O) (lines : List Message) (p : O) (unread left : Option (List ℕ)) (bytes : List ℕ)
       → IsFirst n x → Consumes unread left bytes → AreFirstOf 1024 lines bytes left
       → CutLines x o lines p (empty_state n) → WrotePrefix n unread left (contents o) (contents p)
   prefix_first n x o lines p unread left bytes i c f h =

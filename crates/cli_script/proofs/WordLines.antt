@@ -12,13 +12,13 @@ use Rattle.vac_audit.specs.declared.audit.TheConstants.{MOST_HEAP_WORDS}
 use Rattle.vac_streams.specs.declared.fault.StreamFault.{StreamFault}
 use Rattle.vac_streams.specs.declared.next.Next.{Next}
 use Rattle.vac_streams.specs.declared.next.Next.TheVariants.{GoOn, Stop}
-use Rattle.vac_streams.specs.Told.{Told, Line, LongLine, Pause, told_of, told_lines, lines_in}
-use Rattle.vac_streams.specs.Heard.{ToldAll, ToldLast, AreFirst, AreFirstOf, HeardAll, HeardLast, Heard}
+use Rattle.vac_streams.specs.Told.{Message, Line, LongLine, Pause, message_of, line_messages, lines_in}
+use Rattle.vac_streams.specs.Heard.{ReceivedAll, ReceivedLast, AreFirst, AreFirstOf, HeardAll, HeardLast, Heard}
 use Rattle.vac_streams.proofs.Telling.{lines_both}
 use Rattle.cli_script.specs.Reading.{NoneOrMany, TookWord, RefusedLine, HearsWord, ReadWords, ReadNone}
 
 -- the word of a line that was told
-abbrev word_told : Told → Option ℕ
+abbrev word_told : Message → Option ℕ
 word_told (Line line) = memory_word_of line
 word_told LongLine = None
 word_told Pause = None
@@ -35,25 +35,25 @@ long_word line h =
     let many : nat_le (length line) 20 ≡ false = grind (arith) in
     rw (some, many) refl
 
-one_word : (line : List ℕ) → memory_word_of line ≡ word_told (told_of 1024 line)
+one_word : (line : List ℕ) → memory_word_of line ≡ word_told (message_of 1024 line)
 one_word line =
     elim (cases_lt 1024 (length line)) [
       | inl h ↦ long_word line h ∙ (rw (lt-ltb 1024 (length line) h) refl)
       | inr h ↦ let short : nat_lt 1024 (length line) ≡ false = grind (arith) in rw short refl
     ]
 
-words_told : (lines : List (List ℕ)) → words_of_lines lines ≡ all_words (map word_told (map (told_of 1024) lines))
+words_told : (lines : List (List ℕ)) → words_of_lines lines ≡ all_words (map word_told (map (message_of 1024) lines))
 unfolding all_words
 words_told [] = refl
 words_told (line ∷ more) = ap (λ w. word_in_front w (words_of_lines more)) (one_word line)
-    ∙ ap (word_in_front (word_told (told_of 1024 line))) (words_told more)
+    ∙ ap (word_in_front (word_told (message_of 1024 line))) (words_told more)
 
 -- the words of what was told
-abbrev words_in : List Told → Option (List ℕ)
+abbrev words_in : List Message → Option (List ℕ)
 words_in told = all_words (map word_told told)
 
 -- these words, and behind them those of what was told
-abbrev behind : List ℕ → List Told → Option (List ℕ)
+abbrev behind : List ℕ → List Message → Option (List ℕ)
 behind words told = option_map (λ more. words ++ more) (words_in told)
 
 some_none : (word : ℕ) → Some word ≡ None → ⊥
@@ -76,19 +76,19 @@ refused words (Some word) (Some more) (inl e) = absurd (some_none word e)
 refused words (Some word) (Some more) (inr h) = omega (arith, h, length-append words (word ∷ more))
 
 -- one more word was taken
-behind_line : (words words' : List ℕ) (line : List ℕ) (more : List Told) → TookWord words words' line
+behind_line : (words words' : List ℕ) (line : List ℕ) (more : List Message) → TookWord words words' line
     → behind words (Line line ∷ more) ≡ behind words' more
 unfolding all_words
 behind_line words words' line more t = ap (λ w. option_map (λ m. words ++ m) (word_in_front w (words_in more))) t.is
     ∙ between words words' t.word (words_in more) t.more
 
 -- a line was refused
-refused_line : (words : List ℕ) (line : List ℕ) (more : List Told) → RefusedLine words line
+refused_line : (words : List ℕ) (line : List ℕ) (more : List Message) → RefusedLine words line
     → NoneOrMany (behind words (Line line ∷ more))
 unfolding all_words
 refused_line words line more h = refused words (memory_word_of line) (words_in more) h
 
-refused_long : (words : List ℕ) (more : List Told) → NoneOrMany (behind words (LongLine ∷ more))
+refused_long : (words : List ℕ) (more : List Message) → NoneOrMany (behind words (LongLine ∷ more))
 unfolding all_words
 refused_long words more = tt
 
@@ -96,8 +96,8 @@ go_stop : GoOn ≡ Stop → ⊥
 go_stop e = cc
 
 -- the words of a whole text
-whole_words : (text : List ℕ) → memory_words text ≡ behind [] (told_lines 1024 text)
-whole_words text = words_told (lines_of text) ∙ sym (option_map_id (words_in (told_lines 1024 text)))
+whole_words : (text : List ℕ) → memory_words text ≡ behind [] (line_messages 1024 text)
+whole_words text = words_told (lines_of text) ∙ sym (option_map_id (words_in (line_messages 1024 text)))
 
 none_behind : (w : List ℕ) → behind w [] ≡ Some w
 unfolding all_words
@@ -105,28 +105,28 @@ none_behind w = ap Some (append-nil w)
 
 module _ {S : Type 0} (words : S → List ℕ) where
   -- these were taken: whatever follows, the words are the same
-  record Taken (x : S) (lines : List Told) (y : S) : Type 0 where
-    pub same : (more : List Told) → behind (words x) (lines ++ more) ≡ behind (words y) more
+  record Taken (x : S) (lines : List Message) (y : S) : Type 0 where
+    pub same : (more : List Message) → behind (words x) (lines ++ more) ≡ behind (words y) more
     pub few : length (words x) ≤ MOST_HEAP_WORDS → length (words y) ≤ MOST_HEAP_WORDS
 
-  taken_line : (x : S) (line : List ℕ) (lines : List Told) (u y : S) → TookWord (words x) (words u) line
+  taken_line : (x : S) (line : List ℕ) (lines : List Message) (u y : S) → TookWord (words x) (words u) line
       → Taken u lines y → Taken x (Line line ∷ lines) y
   taken_line x line lines u y t r = record {
     same = λ more. behind_line (words x) (words u) line (lines ++ more) t ∙ r.same more;
     few = λ h. r.few t.few;
   }
 
-  taken_pause : (x : S) (lines : List Told) (u y : S) → words u ≡ words x → Taken u lines y → Taken x lines y
+  taken_pause : (x : S) (lines : List Message) (u y : S) → words u ≡ words x → Taken u lines y → Taken x lines y
   taken_pause x lines u y e r = record {
     same = λ more. ap (λ w. behind w (lines ++ more)) (sym e) ∙ r.same more;
     few = λ h. r.few (subst (λ w. length w ≤ MOST_HEAP_WORDS) (sym e) h);
   }
 
 module _ {S O : Type 0} (words : S → List ℕ) where
-  abbrev hears : S → O → Told → Result Next StreamFault → S → O → Type 0
+  abbrev hears : S → O → Message → Result Next StreamFault → S → O → Type 0
   hears x o told answer y p = HearsWord (words x) told answer (words y)
 
-  taken_told : (x : S) (o : O) (told : List Told) (y : S) (p : O) → ToldAll hears x o told y p
+  taken_told : (x : S) (o : O) (told : List Message) (y : S) (p : O) → ReceivedAll hears x o told y p
       → Taken words x (lines_in told) y
   taken_told x o [] y p h = subst (λ z. Taken words x [] z) (sym h.0) (record { same = λ more. refl; few = λ f. f })
   taken_told x o (Line line ∷ told) y p h = taken_line words x line (lines_in told) h.0 y h.2
@@ -144,21 +144,21 @@ module _ {S O : Type 0} (words : S → List ℕ) where
         bytes = h.bytes;
         consumed = h.consumed;
         ended = h.ended;
-        words_are = whole_words h.bytes ∙ ap (λ w. behind w (told_lines 1024 h.bytes)) (sym e)
+        words_are = whole_words h.bytes ∙ ap (λ w. behind w (line_messages 1024 h.bytes)) (sym e)
             ∙ ap (behind (words x)) (sym h.lines ∙ sym (append-nil (lines_in h.told))) ∙ t.same []
             ∙ none_behind (words y);
         few = t.few (omega (arith, ap length e));
       }
 
   -- the last line that was told is refused, whatever follows
-  stopped : (u : S) (q : O) (last : Told) (y : S) (p : O) (more : List Told) → hears u q last (Ok Stop) y p
+  stopped : (u : S) (q : O) (last : Message) (y : S) (p : O) (more : List Message) → hears u q last (Ok Stop) y p
       → NoneOrMany (behind (words u) (lines_in (last ∷ []) ++ more))
   stopped u q (Line line) y p more h = refused_line (words u) line more h
   stopped u q LongLine y p more h = refused_long (words u) more
   stopped u q Pause y p more h = absurd (go_stop (sym h.0))
 
-  no_words : (x : S) (o : O) (told : List Told) (y : S) (p : O) (more : List Told)
-      → ToldLast hears x o told (Ok Stop) y p → NoneOrMany (behind (words x) (lines_in told ++ more))
+  no_words : (x : S) (o : O) (told : List Message) (y : S) (p : O) (more : List Message)
+      → ReceivedLast hears x o told (Ok Stop) y p → NoneOrMany (behind (words x) (lines_in told ++ more))
   no_words x o told y p more h =
       let t = taken_told x o h.before h.sink h.output h.first in
       let lines : lines_in told ++ more ≡ lines_in h.before ++ (lines_in (h.last ∷ []) ++ more) =
@@ -167,14 +167,14 @@ module _ {S O : Type 0} (words : S → List ℕ) where
       subst NoneOrMany (sym (ap (behind (words x)) lines ∙ t.same (lines_in (h.last ∷ []) ++ more)))
       (stopped h.sink h.output h.last y p more h.then)
 
-  none_of : (x : S) (o : O) (told : List Told) (y : S) (p : O) (text : List ℕ) → words x ≡ []
-      → ToldLast hears x o told (Ok Stop) y p → AreFirst 1024 (lines_in told) text → NoneOrMany (memory_words text)
+  none_of : (x : S) (o : O) (told : List Message) (y : S) (p : O) (text : List ℕ) → words x ≡ []
+      → ReceivedLast hears x o told (Ok Stop) y p → AreFirst 1024 (lines_in told) text → NoneOrMany (memory_words text)
   none_of x o told y p text e h f =
-      subst NoneOrMany (sym (whole_words text ∙ ap (λ w. behind w (told_lines 1024 text)) (sym e)
+      subst NoneOrMany (sym (whole_words text ∙ ap (λ w. behind w (line_messages 1024 text)) (sym e)
       ∙ ap (behind (words x)) f.1)) (no_words x o told y p f.0 h)
 
-  none_of_first : (x : S) (o : O) (told : List Told) (y : S) (p : O) (bytes : List ℕ) (left : Option (List ℕ))
-      → words x ≡ [] → ToldLast hears x o told (Ok Stop) y p → AreFirstOf 1024 (lines_in told) bytes left
+  none_of_first : (x : S) (o : O) (told : List Message) (y : S) (p : O) (bytes : List ℕ) (left : Option (List ℕ))
+      → words x ≡ [] → ReceivedLast hears x o told (Ok Stop) y p → AreFirstOf 1024 (lines_in told) bytes left
       → (IsAtEnd left × NoneOrMany (memory_words bytes)) ⊎ ((x : List ℕ) → NoneOrMany (memory_words (bytes ++ x)))
   none_of_first x o told y p bytes left e h (inl f) = inl (f.0, none_of x o told y p bytes e h f.1)
   none_of_first x o told y p bytes left e h (inr f) = inr (λ z. none_of x o told y p (bytes ++ z) e h (f z))

@@ -14,11 +14,11 @@ use Rattle.vac_manager.specs.Called.{CallerShown}
 use Rattle.vac_streams.specs.declared.fault.StreamFault.{StreamFault}
 use Rattle.vac_streams.specs.declared.next.Next.{Next}
 use Rattle.vac_streams.specs.declared.next.Next.TheVariants.{GoOn}
-use Rattle.vac_streams.specs.Told.{Told, Line, LongLine, Pause}
+use Rattle.vac_streams.specs.Told.{Message, Line, LongLine, Pause}
 use Rattle.cli_script.specs.System.{StandsInState, AnsweredLine}
 
 -- the task of a line that was read, or its fault; a pause has no task
-abbrev pub told_task : Told → Result Task LineFault
+abbrev pub told_task : Message → Result Task LineFault
 told_task (Line text) = line_task text
 told_task LongLine = Err fault.LongLine
 told_task Pause = Err fault.BadCommand
@@ -65,7 +65,7 @@ HearsPause y out held (Ok next) y' out' holds =
 HearsPause y out held (Err fault) y' out' holds = AppendsPrefix held holds out
 
 -- the effect of an event of the line reader on the system, on the buffered text and on the output
-abbrev pub Hears : CallerShown → List ℕ → Option (List ℕ) → Told
+abbrev pub Hears : CallerShown → List ℕ → Option (List ℕ) → Message
     → Result Next StreamFault → CallerShown → List ℕ → Option (List ℕ) → Type 0
 Hears y out held (Line text) answer y' out' holds =
     HearsLine y out held (told_task (Line text)) answer y' out' holds

@@ -8,7 +8,7 @@ use Rattle.vac_audit.specs.declared.audit.TheConstants.{MOST_HEAP_WORDS}
 use Rattle.vac_streams.specs.declared.fault.StreamFault.{StreamFault}
 use Rattle.vac_streams.specs.declared.next.Next.{Next}
 use Rattle.vac_streams.specs.declared.next.Next.TheVariants.{GoOn, Stop}
-use Rattle.vac_streams.specs.Told.{Told, Line, LongLine, Pause}
+use Rattle.vac_streams.specs.Told.{Message, Line, LongLine, Pause}
 
 -- the bytes are not the words of a memory, or there are more words than a memory has
 abbrev pub NoneOrMany : Option (List ℕ) → Type 0
@@ -44,7 +44,7 @@ RefusedLine words line = (memory_word_of line ≡ None) ⊎ (MOST_HEAP_WORDS ≤
 
 -- the effect of an event of the line reader on the words: a word is added, or the reader stops
 -- because the text is not that of a memory
-abbrev pub HearsWord : List ℕ → Told → Result Next StreamFault → List ℕ → Type 0
+abbrev pub HearsWord : List ℕ → Message → Result Next StreamFault → List ℕ → Type 0
 HearsWord words (Line line) (Ok GoOn) words' = TookWord words words' line
 HearsWord words (Line line) (Ok Stop) words' = RefusedLine words line
 HearsWord words (Line line) (Err fault) words' = ⊤

@@ -2,7 +2,7 @@
 
 use crate::same::same;
 use crate::small_load::SETTINGS;
-use load_record::{Ledger, Watch, write_attempts};
+use load_record::{AttemptRecorder, StampClock, write_attempts};
 use load_run::{Load, Recorders, Settings};
 use std::process::Abort;
 use std::sync::Wait;
@@ -13,7 +13,7 @@ use stm_attempt::NoGate;
 #[derive(Clone, Copy, Drop)]
 struct Still;
 
-impl Watch for Still {
+impl StampClock for Still {
     ghost shows = { λ _ _ _. Unit {0} };
 
     fn read(&mut self) -> u64 {
@@ -46,16 +46,16 @@ const ONE_QUESTION: Settings = Settings {
 };
 
 /// The recorders of a load's attempts.
-type Kept = Recorders<Ledger<Still>>;
+type Kept = Recorders<AttemptRecorder<Still>>;
 
 /// Runs the load and returns the recorders of its attempts.
 fn attempted<R: Threads + Wait + Abort + AllocGlobal>(rt: &R) -> Kept {
     let alloc = rt.alloc();
     let mut clients = Vec::new(alloc);
     clients
-        .push(Ledger::new(alloc, Still))
+        .push(AttemptRecorder::new(alloc, Still))
         .expect(rt, "there is memory");
-    let opening = Ledger::new(alloc, Still);
+    let opening = AttemptRecorder::new(alloc, Still);
     let recorders = Recorders { opening, clients };
     let Ok(load) = Load::by_seed(alloc, &ONE_QUESTION, NoGate, recorders) else {
         panic!(rt; "a setting is out of its range")

@@ -3,7 +3,7 @@
 use crate::example::{ANSWERS, DUMP, SCRIPT};
 use crate::failing::{NEVER, Pieces, Sink, Stop};
 use crate::same::same;
-use cli_main::{Open, run_words};
+use cli_main::{Open, Watched, run_words};
 use std::alloc::{AllocError, Global};
 use std::io::{ErrorKind, Read, Write};
 use std::process::Abort;
@@ -20,7 +20,8 @@ fn words_of(alloc: Global, words: &[&str]) -> Result<Vec<String>, AllocError> {
     Ok(owned)
 }
 
-/// The end of a command line: its status, and true if no error message was written.
+/// The end of a command line: its status, and true if no error message was written. The warning of
+/// a judge about its log is no error message.
 pub(crate) type Ended = (u8, bool);
 
 /// Runs a command line.
@@ -33,15 +34,23 @@ pub(crate) fn run_line<
     let alloc = rt.alloc();
     let words = words_of(alloc, words).expect(rt, "there is memory");
     let mut errors = Vec::new(alloc);
-    let status = run_words(rt, files, words.as_slice(), input, output, &mut errors);
-    (status, errors.is_empty())
+    let status = run_words(
+        rt,
+        files,
+        words.as_slice(),
+        &mut Watched::new(alloc, input),
+        output,
+        &mut errors,
+    );
+    let warns = errors.as_slice().starts_with(b"warning: ");
+    (status, errors.is_empty() || warns)
 }
 
 /// The output of `--version`.
 const VERSION: &[u8] = b"vacation 0.1.0\nrattle-kit-13f logic dac8208d650f15bf\n";
 
 /// Command lines, with their statuses and outputs.
-const ROWS: [(&[&str], u8, &[u8]); 21] = [
+const ROWS: [(&[&str], u8, &[u8]); 24] = [
     (&["vacation", "run"], 0, ANSWERS),
     (&["vacation", "run", "--blocks", "1"], 0, ANSWERS),
     (&["vacation", "run", "--blocks=262144"], 0, ANSWERS),
@@ -63,6 +72,9 @@ const ROWS: [(&[&str], u8, &[u8]); 21] = [
     (&["vacation", "judge", "--progress"], 2, b""),
     (&["vacation", "tasks", "--history"], 2, b""),
     (&["vacation", "tasks", "--tries", "64"], 2, b""),
+    (&["vacation", "part"], 2, b""),
+    (&["vacation", "part", "--item", "car"], 2, b""),
+    (&["vacation", "part", "--customer", "0"], 2, b""),
 ];
 
 #[test]
@@ -78,6 +90,29 @@ fn command_lines(rt: HostRuntime) {
             &(words, wants, answers),
         );
     }
+}
+
+/// A history whose calls concern two customers.
+const CALLS: &[u8] = b"1 0 5 newcust 3 -> true\n2 1 6 newcust 4 -> true\n1 7 9 leave 3 -> 0\n";
+
+/// The part of `CALLS` on customer 3.
+const PART: &[u8] = b"1 0 5 newcust 3 -> true\n1 7 9 leave 3 -> 0\n";
+
+#[test]
+fn parts(rt: HostRuntime) {
+    let words = &["vacation", "part", "--customer", "3"];
+    let mut input = CALLS;
+    let mut out = Vec::new(rt.alloc());
+    let ended = run_line(&rt, &rt, words, &mut input, &mut out);
+    same(&rt, &(ended, out.as_slice()), &((0, true), PART));
+    let mut input = CALLS;
+    let mut sink = Sink::new(rt.alloc(), 7, 1, Stop::Fails(ErrorKind::Other));
+    let unwritten = run_line(&rt, &rt, words, &mut input, &mut sink);
+    same(
+        &rt,
+        &(unwritten, sink.taken.as_slice()),
+        &((1, true), &PART[..7]),
+    );
 }
 
 #[test]

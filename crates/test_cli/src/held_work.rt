@@ -2,7 +2,7 @@
 
 use crate::texts::Row;
 use crate::verdicts::BLOCKS;
-use judge_calls::judge_work;
+use judge_calls::judge_with_workload;
 use std::alloc::Global;
 use std::test::Fail;
 use vac_streams::StreamFault;
@@ -13,7 +13,7 @@ fn held(alloc: Global, tasks: &str, history: &str) -> Result<(bool, Vec<u8>), St
     let mut tasks = tasks.as_bytes();
     let mut history = history.as_bytes();
     let mut text = Vec::new(alloc);
-    let legal = judge_work(alloc, BLOCKS, &mut tasks, &mut history, &mut text)?;
+    let legal = judge_with_workload(alloc, BLOCKS, &mut tasks, &mut history, &mut text)?;
     Ok((legal, text))
 }
 

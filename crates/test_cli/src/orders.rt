@@ -1,7 +1,8 @@
 //! Histories of a few lines that claim no order, with the output of the search.
 
 use crate::texts::Row;
-use judge_linear::{Outcome, order_history};
+use judge_levels::Level;
+use judge_linear::{Outcome, Settings, order_history};
 use judge_object::Watcher;
 use std::alloc::Global;
 use std::test::Fail;
@@ -14,7 +15,12 @@ const BLOCKS: u32 = 9;
 fn ordered(alloc: Global, steps: u64, history: &str) -> Result<(Outcome, Vec<u8>), StreamFault> {
     let mut history = history.as_bytes();
     let mut text = Vec::new(alloc);
-    let outcome = order_history(alloc, BLOCKS, steps, &mut history, &mut text, &mut ())?;
+    let how = Settings {
+        blocks: BLOCKS,
+        level: Level::Linearizable,
+        steps,
+    };
+    let outcome = order_history(alloc, how, &mut history, &mut text, &mut ())?;
     Ok((outcome, text))
 }
 
@@ -187,7 +193,12 @@ fn searches(alloc: Global, steps: u64, history: &str) -> Result<(u64, Outcome), 
     let mut history = history.as_bytes();
     let mut text = Vec::new(alloc);
     let mut begun = Begun { searches: 0 };
-    let outcome = order_history(alloc, BLOCKS, steps, &mut history, &mut text, &mut begun)?;
+    let how = Settings {
+        blocks: BLOCKS,
+        level: Level::Linearizable,
+        steps,
+    };
+    let outcome = order_history(alloc, how, &mut history, &mut text, &mut begun)?;
     Ok((begun.searches, outcome))
 }
 

@@ -1,14 +1,14 @@
 //! The times in a history, by a clock that counts its readings.
 
 use crate::same::same;
-use load_record::{Journal, Since, write_history};
+use load_record::{CallRecorder, ElapsedClock, write_history};
 use std::alloc::Global;
 use std::cell::Cell;
 use std::io;
 use std::process::Abort;
 use std::time::{Clock, Duration, Instant};
 use stm_words::Version;
-use vac_manager::{Place, Placed, Recorder};
+use vac_manager::{CommitPosition, PlacedReply, Recorder};
 use vac_model::{Command, Reply, Task};
 
 /// A clock that shows the number of its earlier readings.
@@ -29,13 +29,13 @@ impl Clock for Readings {
     }
 }
 
-/// The journal of a client, by this clock.
-type Kept<'a> = Journal<Since<'a, Readings>>;
+/// The call recorder of a client, by this clock.
+type Kept<'a> = CallRecorder<ElapsedClock<'a, Readings>>;
 
 /// Records a call that made this customer with this version.
 fn keep(rt: &impl Abort, journal: &mut Kept<'_>, id: u32, version: u64) {
     let version = Version::new(version).expect(rt, "it is a version");
-    let place = Place {
+    let place = CommitPosition {
         renewal: 0,
         version,
         wrote: true,
@@ -44,7 +44,7 @@ fn keep(rt: &impl Abort, journal: &mut Kept<'_>, id: u32, version: u64) {
     journal.begin().expect(rt, "there is memory");
     journal.keep(
         Task::One(Command::NewCustomer { id }),
-        Placed { reply, place },
+        PlacedReply { reply, place },
     );
 }
 
@@ -71,8 +71,8 @@ fn calls_have_the_readings_around_them(rt: HostRuntime) {
         count: Cell::new(0),
     };
     let start = Instant::now(&clock).ok();
-    let mut opening = Journal::new(rt.alloc(), Since::new(&clock, start));
-    let mut client = Journal::new(rt.alloc(), Since::new(&clock, start));
+    let mut opening = CallRecorder::new(rt.alloc(), ElapsedClock::new(&clock, start));
+    let mut client = CallRecorder::new(rt.alloc(), ElapsedClock::new(&clock, start));
     keep(&rt, &mut opening, 1, 1);
     keep(&rt, &mut client, 2, 3);
     keep(&rt, &mut opening, 3, 2);

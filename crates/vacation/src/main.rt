@@ -6,7 +6,7 @@
 //! whether the calls that such a program logged are right.
 #![tactic(auto)]
 
-use cli_main::{refuse_words, run_words};
+use cli_main::{Watched, refuse_words, run_words};
 use std::io::ErrorKind;
 use std::process::ExitCode;
 use std::{env, io};
@@ -32,7 +32,7 @@ fn main(rt: HostRuntime) -> ExitCode {
         &rt,
         &rt,
         words.as_slice(),
-        &mut rt.stdin(),
+        &mut Watched::new(rt.alloc(), rt.stdin()),
         &mut rt.stdout(),
         &mut rt.stderr(),
     );

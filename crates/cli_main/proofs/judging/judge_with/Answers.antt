@@ -5,11 +5,11 @@ use Rattle.cli_main.specs.Judging.{JudgesWith}
 use Rattle.cli_main.proofs.Judgement.{held_judged}
 use Rattle.cli_main.proofs.judging.judge_with.Goals as goal
 
-pub judge_work-requires-clause-some : goal.judge_work-requires-clause-some
-judge_work-requires-clause-some g c = leb-true _ _ (and_parts _ _ c.requires).0
+pub judge_with_workload-requires-clause-some : goal.judge_with_workload-requires-clause-some
+judge_with_workload-requires-clause-some g c = leb-true _ _ (and_parts _ _ c.requires).0
 
-pub judge_work-requires-clause-most : goal.judge_work-requires-clause-most
-judge_work-requires-clause-most g c = leb-true _ _ (and_parts _ _ c.requires).1
+pub judge_with_workload-requires-clause-most : goal.judge_with_workload-requires-clause-most
+judge_with_workload-requires-clause-most g c = leb-true _ _ (and_parts _ _ c.requires).1
 
 pub returns-in-None : goal.returns-in-None
 returns-in-None g c =
@@ -21,8 +21,8 @@ returns-in-None g c =
 pub returns-in-Some : goal.returns-in-Some
 returns-in-Some g c =
     subst (λ (w : Option (Option (List ℕ))). JudgesWith w c.args.blocks c.end_judged.result
-    (g.R.Read.remaining c.args.input.now) (g.R.Read.remaining c.judge_work.new.input)
+    (g.R.Read.remaining c.args.input.now) (g.R.Read.remaining c.judge_with_workload.new.input)
     (g.W.Write.contents c.args.output.now) (g.W.Write.contents c.end_judged.new.output))
     (sym (ap (option_map g.F.Read.remaining) c.in-Some.is))
-    (held_judged _ _ c.args.blocks c.judge_work.result _ _ _ _ _ _ c.judge_work.ensures.ok
-    c.judge_work.ensures.err c.end_judged.ensures)
+    (held_judged _ _ c.args.blocks c.judge_with_workload.result _ _ _ _ _ _ c.judge_with_workload.ensures.ok
+    c.judge_with_workload.ensures.err c.end_judged.ensures)

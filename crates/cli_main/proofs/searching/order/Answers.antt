@@ -1,17 +1,14 @@
-use Rattle.std.proofs.Common.{leb-true, inr}
-use Rattle.std.proofs.lemmas.Bool.{and_parts}
-use Rattle.cli_main.proofs.Judgement.{order_stopped}
+use Rattle.cli_main.specs.Ordering.{Orders}
+use Rattle.cli_main.proofs.Reported.{beside, through}
 use Rattle.cli_main.proofs.searching.order.Goals as goal
 
-pub order_history-requires-clause-some : goal.order_history-requires-clause-some
-order_history-requires-clause-some g c = leb-true _ _ (and_parts _ _ c.requires).0
+pub returns-clause-ordered : goal.returns-clause-ordered
+returns-clause-ordered g c =
+    through (λ a b. Orders c.args.blocks c.args.search.steps c.find_order_watched-status.result
+    (g.R.Read.remaining a) (g.R.Read.remaining b) (g.W.Write.contents c.args.output.now)
+    (g.W.Write.contents c.find_order_watched-status.new.output))
+    _ _ _ _ c.watch.ensures.inner c.measure_calls.ensures.inner c.find_order_watched-status.ensures.ordered
 
-pub order_history-requires-clause-most : goal.order_history-requires-clause-most
-order_history-requires-clause-most g c = leb-true _ _ (and_parts _ _ c.requires).1
-
-pub returns-in-Err : goal.returns-in-Err
-returns-in-Err g c = inr (
-  c.end_by.ensures.status,
-  order_stopped _ _ c.in-Err.fault _ _ _ _ _ c.in-Err.ensures.err
-      c.end_by.ensures.line,
-)
+pub returns-clause-reported : goal.returns-clause-reported
+returns-clause-reported g c =
+    beside _ _ _ _ _ _ c.find_order_watched-status.ensures.untold (c.measure_calls.result, c.report_calls.ensures)

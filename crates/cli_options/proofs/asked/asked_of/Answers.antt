@@ -28,28 +28,28 @@ opacity_of-requires c = opaque_options c.requires.0 _ c.requires.1.taken
 
 pub settings_of-requires : goal.settings_of-requires
 settings_of-requires c = tasks_options c.requires.0 _ c.requires.1.taken
-    (sym c.requires.1.found ∙ c.in-Some-named-5.ensures.some)
+    (sym c.requires.1.found ∙ c.in-Some-named-6.ensures.some)
 
-pub settings_of-requires-in-Some-named-6 : goal.settings_of-requires-in-Some-named-6
-settings_of-requires-in-Some-named-6 c = (load_options c.requires.0 _ c.requires.1.taken
-    (sym c.requires.1.found ∙ c.in-Some-named-6.ensures.some)).drawing
+pub settings_of-requires-in-Some-named-7 : goal.settings_of-requires-in-Some-named-7
+settings_of-requires-in-Some-named-7 c = (load_options c.requires.0 _ c.requires.1.taken
+    (sym c.requires.1.found ∙ c.in-Some-named-7.ensures.some)).drawing
 
 pub tries_of-requires : goal.tries_of-requires
 tries_of-requires c = load_options c.requires.0 _ c.requires.1.taken
-    (sym c.requires.1.found ∙ c.in-Some-named-6.ensures.some)
+    (sym c.requires.1.found ∙ c.in-Some-named-7.ensures.some)
 
 pub how_of-requires : goal.how_of-requires
 how_of-requires c = (load_options c.requires.0 _ c.requires.1.taken
-    (sym c.requires.1.found ∙ c.in-Some-named-6.ensures.some)).flags
+    (sym c.requires.1.found ∙ c.in-Some-named-7.ensures.some)).flags
 
 pub unreachable-requires : goal.unreachable-requires
 unreachable-requires c =
     let one = one_is_named c.requires.0 c.requires.1.taken in
-    none_is_named c.requires.0 one.0 _ _ _ _ _ _ _ _ _ c.requires.1.found
+    none_is_named c.requires.0 one.0 _ _ _ _ _ _ _ _ _ _ c.requires.1.found
     c.named.ensures.none c.named-2.ensures.none c.named-3.ensures.none c.named-4.ensures.none
-    c.named-5.ensures.none c.named-6.ensures.none c.named-7.ensures.none c.named-8.ensures.none c.in_default.is
-    c.in_default-named.is c.if-is_some.ensures c.in_default-named-2.is
-    c.in_default-named-3.is c.in_default-named-4.is c.in_default-named-5.is c.in-None.is one.1
+    c.named-5.ensures.none c.named-6.ensures.none c.named-7.ensures.none c.named-8.ensures.none c.named-9.ensures.none
+    c.in_default.is c.in_default-named.is c.if-is_some.ensures c.in_default-named-2.is c.in_default-named-3.is
+    c.in_default-named-4.is c.in_default-named-5.is c.in_default-named-6.is c.in-None.is one.1
 
 pub returns-in-Some : goal.returns-in-Some
 returns-in-Some c = λ words is. (
@@ -94,6 +94,13 @@ pub returns-in-Some-named-5 : goal.returns-in-Some-named-5
 returns-in-Some-named-5 c = λ words is. (
   _,
   sym is.found ∙ c.in-Some-named-5.ensures.some,
+  c.in_ok-part_words_of.ensures,
+)
+
+pub returns-in-Some-named-6 : goal.returns-in-Some-named-6
+returns-in-Some-named-6 c = λ words is. (
+  _,
+  sym is.found ∙ c.in-Some-named-6.ensures.some,
   c.settings_of.ensures.drawn,
   c.settings_of.ensures.tries,
 )

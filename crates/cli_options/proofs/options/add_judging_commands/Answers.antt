@@ -10,4 +10,5 @@ returns c =
     (no_command c.args.top) c.add_command.ensures check in
     let s2 = command_more _ _ _ _ _ _ s1 c.add_command-top.ensures c.judge_command.ensures in
     let s3 = command_more _ _ _ _ _ _ s2 c.add_command-2.ensures c.order_command.ensures in
-    command_more _ _ _ _ _ _ s3 c.add_command-3.ensures c.opaque_command.ensures
+    let s4 = command_more _ _ _ _ _ _ s3 c.add_command-top-2.ensures c.opaque_command.ensures in
+    command_more _ _ _ _ _ _ s4 c.add_command-3.ensures c.part_command.ensures

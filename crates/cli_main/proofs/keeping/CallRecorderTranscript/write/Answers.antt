@@ -1,7 +1,7 @@
 use Rattle.std.proofs.Common.{rules}
 use Rattle.cli_main.proofs.LoadEnds.{wrote_calls, wrote_calls_in_part}
 use Rattle.cli_main.proofs.Ending.{on_ok, on_err}
-use Rattle.cli_main.proofs.keeping.JournalTranscript.write.Goals as goal
+use Rattle.cli_main.proofs.keeping.CallRecorderTranscript.write.Goals as goal
 
 pub returns-clause-ok : goal.returns-clause-ok
 returns-clause-ok g c =

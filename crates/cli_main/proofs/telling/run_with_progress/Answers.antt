@@ -1,5 +1,5 @@
 use Rattle.cli_main.proofs.Seeded.{ran_by_seed, not_seeded, handed_on}
-use Rattle.cli_main.proofs.telling.run_told.Goals as goal
+use Rattle.cli_main.proofs.telling.run_with_progress.Goals as goal
 
 pub returns-then-not-how : goal.returns-then-not-how
 returns-then-not-how g c = ran_by_seed g.K.Recorder.notes c.args.settings.now c.args.recorders c.in_ok-load.load _

@@ -4,7 +4,7 @@ use Rattle.load_run.specs.declared.load.LoadFault.TheVariants as load
 use Rattle.cli_main.specs.Load.{WroteLoad, WroteLoadInPart}
 use Rattle.cli_main.proofs.LoadEnds.{ended_for_memory, ended_with_lines, ended_by_fault}
 use Rattle.cli_main.proofs.Ledgers.{not_refused}
-use Rattle.cli_main.proofs.load.AskedLoad.report.Goals as goal
+use Rattle.cli_main.proofs.load.LoadRequest.report.Goals as goal
 
 pub returns-in_default : goal.returns-in_default
 returns-in_default g c =
@@ -12,12 +12,12 @@ returns-in_default g c =
     ended_for_memory WroteLoad WroteLoadInPart c.args.self.now.settings.now (search rules) _
     (g.W.Write.contents c.args.output.now) (g.W.Write.contents c.end_load_by.new.output) e.low e.high e.refused e.line
 
-pub returns-in-Ok-run_told : goal.returns-in-Ok-run_told
-returns-in-Ok-run_told g c =
+pub returns-in-Ok-run_with_progress : goal.returns-in-Ok-run_with_progress
+returns-in-Ok-run_with_progress g c =
     let e = c.write_load.ensures in
-    ended_with_lines c.args.self.now.settings.now c.in-Ok-run_told.report c.write_load.result
+    ended_with_lines c.args.self.now.settings.now c.in-Ok-run_with_progress.report c.write_load.result
     (g.W.Write.contents c.args.output.now) (g.W.Write.contents c.write_load.new.output)
-    (search rules) c.in-Ok-run_told.ensures.kept.loaded e.status e.done e.stopped
+    (search rules) c.in-Ok-run_with_progress.ensures.kept.loaded e.status e.done e.stopped
 
 pub returns : goal.returns
 returns g c =

@@ -2,7 +2,7 @@ use Rattle.std.proofs.Common.{rules}
 use Rattle.cli_main.proofs.LoadEnds.{right_blocks}
 use Rattle.cli_main.proofs.Ledgers.{wrote_tried, wrote_tried_in_part}
 use Rattle.cli_main.proofs.Ending.{on_ok, on_err}
-use Rattle.cli_main.proofs.keeping.LedgerTranscript.write.Goals as goal
+use Rattle.cli_main.proofs.keeping.AttemptRecorderTranscript.write.Goals as goal
 
 pub write_attempts-requires-clause-blocks : goal.write_attempts-requires-clause-blocks
 write_attempts-requires-clause-blocks g c = right_blocks c.args.load.now.settings.now c.requires.fits

@@ -5,7 +5,7 @@ use Rattle.cli_main.specs.Load.{StoppedKept}
 use Rattle.cli_main.proofs.Kept.{noted, same_clients}
 use Rattle.cli_main.proofs.LoadEnds.{ended_for_memory, ended_kept, ended_by_fault, few_clients}
 use Rattle.cli_main.proofs.Ledgers.{not_refused}
-use Rattle.cli_main.proofs.load.AskedLoad.keep.Goals as goal
+use Rattle.cli_main.proofs.load.LoadRequest.keep.Goals as goal
 
 pub returns-in_default : goal.returns-in_default
 returns-in_default g c =
@@ -26,8 +26,8 @@ write-requires g c =
     let s = c.args.self.now.settings.now in
     let fits : is_settings s ≡ true = search rules in
     let few : s.clients ≤ 64 = few_clients s fits in
-    let loaded = c.in-Ok-run_told.loaded in
-    let kept = c.in-Ok-run_told.ensures.kept in
+    let loaded = c.in-Ok-run_with_progress.loaded in
+    let kept = c.in-Ok-run_with_progress.ensures.kept in
     let empty = c.in-Ok.empty in
     let number : vec_len empty.clients ≡ s.clients = rw c.in-Ok.is at c.requires.number in
     let same : length loaded.2.clients.items ≡ length empty.clients.items =

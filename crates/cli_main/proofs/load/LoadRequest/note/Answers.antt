@@ -1,10 +1,10 @@
 use Rattle.std.proofs.Common.{rules}
 use denote.Param.Send.{sendable}
 use Rattle.std.proofs.Crossing.{crosses}
-use Rattle.load_record.proofs.journal.Journal.TheSendSync as journal
-use Rattle.load_record.proofs.watch.Since.TheSendSync as since
+use Rattle.load_record.proofs.journal.CallRecorder.TheSendSync as journal
+use Rattle.load_record.proofs.watch.ElapsedClock.TheSendSync as since
 use Rattle.stm_object.proofs.tracer.Untraced.TheSendSync as untraced
-use Rattle.cli_main.proofs.load.AskedLoad.note.Goals as goal
+use Rattle.cli_main.proofs.load.LoadRequest.note.Goals as goal
 
 pub keep-requires : goal.keep-requires
 keep-requires g c κs =

@@ -1,0 +1,48 @@
+-- The report of a judge on its log.
+use Rattle.std.proofs.Common.{◌≡◌, ◌∙◌, ◌++◌, ℕ, Bool, true, false, List, [], Option, None, Some, ap, sym, subst, refl}
+use Rattle.std.proofs.Common.{append-nil}
+use Rattle.vac_lines.specs.Writing.{AppendsPrefix}
+use Rattle.cli_options.specs.declared.asked.JudgeSettings.{JudgeSettings}
+use Rattle.cli_main.specs.Asking.{has_stray_settings}
+use Rattle.cli_main.specs.Reporting.{ReportsCalls, ReportsBeside, ReportsUnless}
+
+-- nothing was written
+pub none_of : (held : Option (List ℕ)) (text : List ℕ) → AppendsPrefix held held text
+none_of None text = (0, tt)
+none_of (Some bytes) text = (0, sym (append-nil bytes))
+
+-- the text was written that a report has
+pub shown : (held holds : Option (List ℕ)) (slice items text : List ℕ) → slice ≡ items → items ≡ text →
+    AppendsPrefix held holds slice → AppendsPrefix held holds text
+shown held holds slice items text e f written = subst (AppendsPrefix held holds) (e ∙ f) written
+
+-- a text behind another, in a list that was empty
+pub both : (start middle last first second : List ℕ) → start ≡ [] → middle ≡ start ++ first → last ≡ middle ++ second →
+    last ≡ first ++ second
+both start middle last first second e f g =
+    g ∙ ap (λ m. m ++ second) (f ∙ ap (λ s. s ++ first) e)
+
+-- the report was written to what was there, unless progress lines were
+pub beside : (progress stats : Bool) (status : ℕ) (held middle holds : Option (List ℕ)) →
+    (progress ≡ false → middle ≡ held) → ReportsCalls stats status middle holds →
+    ReportsBeside progress stats status held holds
+beside true stats status held middle holds untold report = tt
+beside false stats status held middle holds untold report =
+    subst (λ h. ReportsCalls stats status h holds) (untold refl) report
+
+-- the command line is refused
+pub reports_refused : (how : JudgeSettings) (status : ℕ) (told tells : Option (List ℕ)) →
+    has_stray_settings how ≡ true → ReportsUnless (has_stray_settings how) how status told tells
+reports_refused how status told tells stray = subst (λ b. ReportsUnless b how status told tells) (sym stray) tt
+
+-- the command line is not refused
+pub reports_asked : (how : JudgeSettings) (status : ℕ) (told tells : Option (List ℕ)) →
+    has_stray_settings how ≡ false → ReportsBeside how.search.progress how.search.stats status told tells →
+    ReportsUnless (has_stray_settings how) how status told tells
+reports_asked how status told tells stray report =
+    subst (λ b. ReportsUnless b how status told tells) (sym stray) report
+
+-- what holds of the reader that was watched
+pub through : {X : Type 0} (P : X → X → Type 0) (start first middle last : X) → first ≡ start → last ≡ middle →
+    P first middle → P start last
+through P start first middle last e f h = subst (λ x. P x last) e (subst (P first) (sym f) h)

@@ -1,0 +1,49 @@
+-- Writing the part of a history: status, input and output.
+use Rattle.std.specs.Prelude.{◌≡◌, ◌⊎◌, ℕ, true, false, Option, Some, None, List, map}
+use Rattle.judge_part_text.specs.Naming.{Named, names_of}
+use Rattle.judge_part_text.specs.Parting.{HasParted, HasPartedInPart}
+use Rattle.cli_options.specs.declared.asked.PartWords.{PartWords}
+use Rattle.vac_lines.specs.Writing.{AppendsPrefix}
+use Rattle.vac_streams.specs.declared.fault.StreamFault.TheVariants.{Memory}
+use Rattle.cli_main.specs.Ending.{EndsWithStatus, fault_line}
+use Rattle.cli_main.specs.Judging.{NamedAlone}
+
+-- a fault ended the writing of a part: either the output failed, and a prefix of the text was
+-- written; or another fault was met, and only a prefix of the line that names a fault was written
+-- Not said: which fault stands for which cause.
+abbrev pub PartStopped : Named → Option (List ℕ) → Option (List ℕ) → Option (List ℕ)
+    → Option (List ℕ) → Type 0
+PartStopped names unread left held holds =
+    HasPartedInPart names unread left held holds ⊎ NamedAlone held holds
+
+-- the program writes the part of a history on the scope of these customers and items; the status
+-- is 0 if the part was written
+abbrev pub WritesPart : Named → ℕ → Option (List ℕ) → Option (List ℕ) → Option (List ℕ)
+    → Option (List ℕ) → Type 0
+WritesPart names status unread left held holds =
+    EndsWithStatus status (HasParted names true unread left held holds)
+    (HasParted names false unread left held holds ⊎ PartStopped names unread left held holds)
+
+-- the program writes the part of a history on a scope, if there is one; otherwise the command line
+-- is refused, nothing is read, and nothing is written to the output
+abbrev pub WritesPartIf : Option Named → ℕ → Option (List ℕ) → Option (List ℕ)
+    → Option (List ℕ) → Option (List ℕ) → Type 0
+WritesPartIf (Some names) status unread left held holds =
+    WritesPart names status unread left held holds
+WritesPartIf None status unread left held holds =
+    (status ≡ 2) × (left ≡ unread) × (holds ≡ held)
+
+-- the scope that the words of a command line name
+abbrev pub named_by : PartWords → Option Named
+named_by words =
+    names_of (map (λ word. word.now) words.customers.items)
+    (map (λ word. word.now) words.items.items)
+
+-- the program writes the part of a history on the scope that the words name, if they name one; or
+-- memory for the scope was refused, nothing is read, and a prefix of the line that says so was
+-- written
+abbrev pub WritesPartOf : PartWords → ℕ → Option (List ℕ) → Option (List ℕ)
+    → Option (List ℕ) → Option (List ℕ) → Type 0
+WritesPartOf words status unread left held holds =
+    WritesPartIf (named_by words) status unread left held holds
+    ⊎ ((status ≡ 1) × (left ≡ unread) × AppendsPrefix held holds (fault_line Memory))

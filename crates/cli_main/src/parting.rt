@@ -1,0 +1,52 @@
+//! Writing the part of a history, and the resulting statuses.
+
+ghost use Rattle.std.specs.Prelude.{◌≡◌};
+ghost use Rattle.judge_part_text.specs.Naming.{shown};
+ghost use Rattle.cli_main.specs.Parting.{WritesPart, WritesPartOf};
+
+use crate::status::{REFUSED, end_by, end_judged};
+use cli_options::PartWords;
+use judge_part_text::{read_names, write_part};
+use judge_scopes::Names;
+use std::alloc::Global;
+use std::io::{Read, Write};
+use vac_lines::write_and_flush;
+use vac_streams::StreamFault;
+
+/// Writes that the words name no scope, and returns the status of a refused command line.
+fn refuse_scope<E: Write>(errors: &mut E) -> u8
+    ensures { result ≡ 2 }
+{
+    let text = b"error: part needs --customer N or --item KIND ID, each at most 64 times; \
+N and ID are from 1 to 4294967295, KIND is car, flight or room\n";
+    let _ = write_and_flush(errors, text);
+    REFUSED
+}
+
+/// Writes the part of a history on the scope of these customers and items, and returns the status:
+/// 0 if the part was written.
+fn part_on<R: Read, W: Write>(alloc: Global, names: &Names, input: &mut R, output: &mut W) -> u8
+    ensures { WritesPart (shown names.now) result (R.remaining input.old) (R.remaining input.new)
+        (W.contents output.old) (W.contents output.new) }
+{
+    end_judged(write_part(alloc, names, input, output), output)
+}
+
+/// Writes the part of a history on the scope that words name, and returns the status: 0 if the
+/// part was written.
+pub(crate) fn part<R: Read, W: Write, E: Write>(
+    alloc: Global,
+    words: &PartWords<'_>,
+    input: &mut R,
+    output: &mut W,
+    errors: &mut E,
+) -> u8
+    ensures { WritesPartOf words.now result (R.remaining input.old) (R.remaining input.new)
+        (W.contents output.old) (W.contents output.new) }
+{
+    match read_names(alloc, words.customers.as_slice(), words.items.as_slice()) {
+        Ok(Some(names)) => part_on(alloc, &names, input, output),
+        Ok(None) => refuse_scope(errors),
+        Err(_) => end_by(StreamFault::Memory, output),
+    }
+}
