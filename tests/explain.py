@@ -1,7 +1,8 @@
 #!/usr/bin/env python3
 """Holds ./explain against the program. Its model answers random scripts as the program does. Its search agrees with
 the program on random small histories, legal and damaged. The part of a legal history on any scope is legal, and so is
-the history up to any moment in one of its cases. Each anomaly of tests/anomalies gets its name, a text of at most 30
+the history up to any moment in one of its cases. The parts that the program writes are those of tests/parts.py. Each
+anomaly of tests/anomalies gets its name, a text of at most 30
 lines, and a smallest run that the program calls illegal. Legal logs of loads show no contradiction; a damaged log gets
 the judge's fault; a large one is read in bounded memory. The argument is the program; with none it is the one that
 the last build left."""
@@ -19,6 +20,7 @@ from xml.etree import ElementTree
 ROOT = Path(__file__).resolve().parent.parent
 sys.dont_write_bytecode = True
 sys.path.insert(0, str(ROOT / "tools"))
+from parts import part_of
 from explaining import history
 from explaining.findings import findings
 from explaining.model import run
@@ -167,6 +169,42 @@ def holds_parts(program):
     return f"{legal} legal and {illegal} illegal histories, {parts} illegal parts"
 
 
+def written_part(program, lines, customers, items):
+    words = [program.path, "part", *(word for who in sorted(customers) for word in ("--customer", str(who))),
+             *(word for kind, number in sorted(items) for word in ("--item", kind, str(number)))]
+    done = subprocess.run(words, input="".join(f"{line}\n" for line in lines), capture_output=True, text=True,
+                          check=False, timeout=PATIENCE)
+    found = done.stdout.splitlines()
+    want(done.returncode == (len(found) == 1 and found[0].startswith("fault")), f"status {done.returncode}: {found}")
+    return found
+
+
+def holds_written_parts(program):
+    """The program writes the parts that the rules say, and those of legal histories are legal."""
+    parts = illegal = without = 0
+    for seed in range(2 * HISTORIES):
+        draw = random.Random(SEED + 1_000 + seed)
+        lines = drawn_history(draw, 12)
+        lines = damaged(draw, lines) if seed % 3 == 0 else lines
+        calls = [read_call(number, line) for number, line in enumerate(lines, 1)]
+        is_legal = program.judge(lines).startswith("legal")
+        for _ in range(4):
+            scope = drawn_scope(draw, calls)
+            if not scope.customers and not scope.items:
+                continue
+            found = written_part(program, lines, scope.customers, scope.items)
+            wanted = part_of(calls, scope.customers, scope.items)
+            want(found == wanted, f"seed {seed}: the part on {scope.customers} and {scope.items} is {found}, not"
+                 f" {wanted}: {lines}")
+            without += found[:1] != [] and found[0].startswith("fault")
+            if found and not found[0].startswith("fault"):
+                bad = is_illegal(program.judge(found))
+                parts, illegal = parts + 1, illegal + bad
+                want(not bad or not is_legal, f"seed {seed}: legal, but {found} is not: {lines}")
+    want(parts > 800 and illegal > 20 and without > 20, f"too few of a kind: {parts}, {illegal}, {without}")
+    return f"{parts} written parts, {illegal} of them illegal"
+
+
 def holds_openings():
     """The tasks of an opening lead to the state."""
     for seed in range(60):
@@ -305,12 +343,13 @@ def main():
             holds_reading()
             holds_openings()
             counted = holds_parts(program)
+            written = holds_written_parts(program)
             holds_anomalies(program, Path(folder))
             holds_logs(program, Path(folder))
             holds_pages(program, Path(folder))
         except AssertionError as wrong:
             sys.exit(f"explain: {wrong}")
-    print(f"explain: {len(NAMES)} anomalies have their names; {counted} as they should be")
+    print(f"explain: {len(NAMES)} anomalies have their names; {counted} and {written} as they should be")
 
 
 if __name__ == "__main__":

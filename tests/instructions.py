@@ -21,11 +21,11 @@ from programs import options_of
 
 # The most instructions of a task, by setting.
 MOST = {
-    "large": 8_450,
-    "crowded": 9_270,
-    "defaults": 7_400,
-    "apart": 7_330,
-    "readers": 4_980,
+    "large": 7_385,
+    "crowded": 8_165,
+    "defaults": 6_465,
+    "apart": 6_385,
+    "readers": 4_300,
 }
 TASKS = 2_000
 # Enough for a run under callgrind on a busy machine, in seconds.

@@ -135,10 +135,11 @@ def as_text(attempts, chance):
 
 
 def run(program, text, options=()):
-    """Returns what the program writes, its status, and its errors."""
+    """Returns what the program writes, its status, and its errors, without the warning about texts that show little."""
     command = [program, "opaque", "--words", str(WORDS), *options]
     ran = subprocess.run(command, input=text.encode(), capture_output=True, timeout=60, check=False)
-    return ran.stdout.decode(), ran.returncode, ran.stderr.decode()
+    errors = ran.stderr.decode().splitlines(keepends=True)
+    return ran.stdout.decode(), ran.returncode, "".join(line for line in errors if not line.startswith("warning: "))
 
 
 def fits(before, attempt):

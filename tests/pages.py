@@ -197,11 +197,21 @@ def holds_modules():
 
 
 def holds_walks():
-    """Checks that in both walks of the page on architecture each function calls the next one."""
+    """Checks that in the three walks of the page on architecture each function calls the next one."""
     for text in sizes.walk_faults(ROOT, ledger):
         fault(ROOT / "docs" / "ARCHITECTURE.md", text)
-    if len(sizes.walks(ROOT)) != 2:
-        fault(ROOT / "docs" / "ARCHITECTURE.md", "the two walks are not there")
+    if len(sizes.walks(ROOT)) != 3:
+        fault(ROOT / "docs" / "ARCHITECTURE.md", "the three walks are not there")
+
+
+def holds_rules(crates):
+    """Each library with definitions has its place in the list of rules, or in the page of the theorem."""
+    page = ROOT / "docs" / "ARCHITECTURE.md"
+    rules = page.read_text().split("## Where a rule lives")[1].split("\n## ")[0]
+    rules += (ROOT / "docs" / "THEOREM.md").read_text()
+    for name in crates:
+        if not name.startswith(("ex_", "test_")) and (CRATES / name / "specs").is_dir() and name not in rules:
+            fault(page, f"no rule is said to live in {name}")
 
 
 def holds_rows():
@@ -257,6 +267,7 @@ def main():
     holds_sentences()
     holds_modules()
     holds_walks()
+    holds_rules(crates)
     holds_rows()
     holds_lines(crates)
     holds_kit()

@@ -66,7 +66,7 @@ refuse_each() {
         status=0
         LD_PRELOAD="$work/refuse.so" REFUSE="$number" "$program" "$@" \
             < "$input" > "$work/out" 2> "$work/err" || status=$?
-        if [ ! -s "$work/err" ]; then
+        if ! grep -qx refused "$work/err"; then
             echo "refused_memory: $*: $((number - 1)) allocations refused in turn, $named of them named as 'fault memory'"
             [ "$named" -gt 0 ]
             return

@@ -3,7 +3,7 @@
 # what the row says. A row is a folder of files: 'args', one word a line; 'input'; 'output'; and
 # 'status'. A file that is not there is empty, and the status is then 0. A row is added by adding
 # its folder; one with a file of another name fails. Text on standard error is wanted if the command line is
-# refused, status 2, and in no other case. The argument is the program, a file that is built already; with none it is the one
+# refused, status 2, and in no other case, but that a judge may warn of a log that shows little. The argument is the program, a file that is built already; with none it is the one
 # that the repository's last build left.
 set -euo pipefail
 export LC_ALL=C
@@ -34,7 +34,7 @@ run_row() {
     [ ! -f "$row/status" ] || wanted="$(cat "$row/status")"
     timeout 60 "$program" "${words[@]}" < "$(part "$row" input)" \
         > "$work/output" 2> "$work/errors" || status=$?
-    [ ! -s "$work/errors" ] || refused=1
+    ! grep -qv '^warning: ' "$work/errors" || refused=1
     if [ "$status" != "$wanted" ]; then
         echo "rows: $(basename "$row"): the status is $status, not $wanted" >&2
         return 1

@@ -1,8 +1,8 @@
 #!/usr/bin/env python3
 """Draws 2,000 small histories of a key-value store, some with damaged lines, pending calls and equal times,
 and compares the verdicts of the program kv_judge with those of a search that tries every order. Draws 2,000 more in
-which keys have drawn first values, some with a damaged start file, and 2,000 with transactions over two or three keys,
-half of them with first values, for the whole store. Then gives it hostile input: a history and a start
+which keys have drawn first values, some with a damaged start file, and 2,000 with transactions over several keys,
+half of them with first values, for whole stores of one or several classes of keys. Then gives it hostile input: a history and a start
 file cut at each byte, keys of all bytes, values of 1 MiB, a million keys and words, bytes that are no text, command
 lines that it must refuse, too little memory, an input that cannot be read, an output that cannot be written, more steps
 than there are. Its argument is the program vacation, beside whose crate that of kv_judge stands; with none it is the
@@ -227,6 +227,20 @@ def first_values_of(text):
     return firsts
 
 
+def objects_of(calls, together):
+    """The name of the object that each call is for: its key, or a key of its class if transactions touch several keys
+    together, the one that they name first. If all calls are together, the name is empty."""
+    touched = [[key for _, key, _ in call[3][2]] for call in calls if call[3][1] is None and len(call[3][2]) > 1]
+    order = [key for keys in touched for key in keys]
+    names = {key: key for key in order}
+    for keys in touched:
+        joined = {names[key] for key in keys}
+        first = min(joined, key=order.index)
+        names = {key: first if name in joined else name for key, name in names.items()}
+    firsts = [call[3][2][0][1] if call[3][1] is None else call[3][1] for call in calls]
+    return [b"" if together else names.get(key, key) for key in firsts]
+
+
 def expected_of(text, firsts, whole=False):
     """The verdict on a text where keys have these values at first: its first line, and the calls if all lines are
     calls."""
@@ -245,21 +259,22 @@ def expected_of(text, firsts, whole=False):
         if end < begin or any(begin < other for other in ends):
             return b"illegal client %d" % (place + 1), None
         touches = touches or begin in ends
-    keys = sorted({b"" if whole else call[3][1] for call in calls})
-    if whole and not has_order(calls, frozenset(firsts.items()), whole_step):
-        return b'illegal part ""', calls
-    for key in [] if whole else keys:
-        if not has_order([call for call in calls if call[3][1] == key], firsts.get(key)):
-            return b"illegal part " + quoted(key), calls
+    objects = objects_of(calls, touches and whole)
+    keys = sorted(set(objects))
+    for key in keys:
+        part = [call for call, name in zip(calls, objects) if name == key]
+        right = has_order(part, frozenset(firsts.items()), whole_step) if whole else has_order(part, firsts.get(key))
+        if not right:
+            return b"illegal part " + quoted(key), [(*call, name) for call, name in zip(calls, objects)]
     if touches and len(keys) > 1:
         return b"touching", None
     clients = len({call[0] for call in calls})
     return b"legal calls=%d clients=%d objects=%d" % (len(calls), clients, len(keys)), None
 
 
-def names_blocked(lines, calls, whole=False):
-    """Whether the lines of a verdict name blocked calls of the key, or of the store: completed, each with a reply
-    other than the one it has, in the order of their ends, the first one first."""
+def names_blocked(lines, calls):
+    """Whether the lines of a verdict name blocked calls of the object: completed, each with a reply other than the one
+    it has, in the order of their ends, the first one first."""
     first = re.fullmatch(rb"illegal part ([0-9]+) (.*)", lines[0])
     blocked = [re.fullmatch(rb"stuck ([0-9]+) ([^ ]+)", line) for line in lines[1:]]
     if not first or not blocked or None in blocked or blocked[0][1] != first[1]:
@@ -267,7 +282,7 @@ def names_blocked(lines, calls, whole=False):
     found = [calls[int(one[1]) - 1] for one in blocked]
     ends = [call[2] for call in found]
     return ends == sorted(ends) and all(
-        call[4] not in (b"?", one[2]) and quoted(b"" if whole else call[3][1]) == first[2]
+        call[4] not in (b"?", one[2]) and quoted(call[5]) == first[2]
         for call, one in zip(found, blocked)
     )
 
@@ -284,10 +299,9 @@ def drawn_operation(random, keys, values):
     return name, random.choice(keys), [random.choice(values) for _ in range(few)]
 
 
-def drawn_keys(random, fewest, begins):
-    """Some keys, at least so many, some values, and the values that keys have at first, if the history begins with
-    some."""
-    keys = random.sample(BYTES, random.randint(fewest, 3))
+def drawn_keys(random, fewest, most, begins):
+    """Some keys, so many, some values, and the values that keys have at first, if the history begins with some."""
+    keys = random.sample(BYTES, random.randint(fewest, most))
     values = random.sample(BYTES, random.randint(1, 3))
     firsts = {key: random.choice(values) for key in keys if random.random() < 0.7} if begins else {}
     return keys, values, firsts
@@ -308,7 +322,7 @@ def drawn_calls(random, gone, most):
 def drawn_history(random, begins=False):
     """The text of a small history, most of whose replies are right in the order of its lines, and the values that keys
     have at first, if it begins with some."""
-    keys, values, firsts = drawn_keys(random, 1, begins)
+    keys, values, firsts = drawn_keys(random, 1, 3, begins)
     held, lines, gone = dict(firsts), [], set()
     for client, begin, end in drawn_calls(random, gone, 8):
         name, key, given = drawn_operation(random, keys, values)
@@ -339,9 +353,12 @@ def drawn_clauses(random, keys, values, held):
 def drawn_whole(random, begins):
     """The text of a small history with transactions over several keys, most of whose replies are right in the order of
     its lines, and the values that keys have at first."""
-    keys, values, firsts = drawn_keys(random, 2, begins)
+    every, values, firsts = drawn_keys(random, 2, 6, begins)
     pairs, lines, gone = frozenset(firsts.items()), [], set()
-    for client, begin, end in drawn_calls(random, gone, 7):
+    # Keys of which most transactions touch only some, so that there are several classes.
+    groups = [every[place::random.choice([1, 2, 3])] for place in range(3)]
+    for client, begin, end in drawn_calls(random, gone, 8):
+        keys = random.choice([group for group in [*groups, every] if group])
         asked = drawn_operation(random, keys, values)
         words = [asked[0], quoted(asked[1]), *map(word_of, asked[2])]
         if random.random() < 0.7:
@@ -403,7 +420,7 @@ def is_right(program, text, start=None, whole=False):
     if calls is None:
         return lines == [want], want, done.stdout
     got = re.sub(rb"(illegal part) [0-9]+", rb"\1", lines[0])
-    return got == want and names_blocked(lines, calls, whole), want, done.stdout
+    return got == want and names_blocked(lines, calls), want, done.stdout
 
 
 def told_of(program, text):
@@ -539,6 +556,29 @@ def bears_long_searches(program):
     return True
 
 
+def bears_classes(program):
+    """Whether a store of many classes of keys is judged class by class, and a wrong one names its class."""
+    lines, last = [], 2000
+    for place in range(last):
+        key, begin = b"%04d" % (last - place), 3 * place
+        lines.append(b'%d %d %d txn if "%sx" - then "%sy" "v" then "%sx" "w" -> true\n'
+                     % (2 * place, begin, begin + 9, key, key, key))
+        lines.append(b'%d %d %d get "%sy" -> "v"\n' % (2 * place + 1, begin + 2, begin + 3, key))
+    right = b"".join(lines)
+    wrong = right + b'1 90000 90001 get "0007x" -> "v"\n'
+    chain = b"".join(b'0 %d %d txn if "%d" - if "%d" - -> true\n'
+                     % (2 * place, 2 * place + 1, last - place, last - place - 1) for place in range(last))
+    texts = ((right, b"legal calls=4000 clients=4000 objects=2000\n", 0),
+             (wrong, b'illegal part 4001 "0007x"\nstuck 4001 "w"\n', 1),
+             (chain, b"legal calls=2000 clients=1 objects=1\n", 0))
+    for text, want, status in texts:
+        done = subprocess.run([program, "--whole"], input=text, capture_output=True, timeout=60, check=False)
+        if (done.stdout, done.returncode) != (want, status):
+            print(f"store: classes: expected {want!r}, got {done.stdout[:80]!r}, status {done.returncode}")
+            return False
+    return True
+
+
 def draws_are_right(program, begins, wanted, whole=False):
     """Whether the verdicts on drawn histories are right, which begin with first values or not, and each kind came up
     that is wanted."""
@@ -582,7 +622,8 @@ def main():
     both = {b"legal", b"illegal client", b"illegal part", b"fault bad-operation", b"fault bad-reply"}
     if not (draws_are_right(program, False, both, True) and draws_are_right(program, True, begun, True)):
         return 1
-    bears = (bears_cuts, bears_cut_starts, bears_usage, bears_size, bears_refusals, bears_streams, bears_long_searches)
+    bears = (bears_cuts, bears_cut_starts, bears_usage, bears_size, bears_refusals, bears_streams, bears_long_searches,
+             bears_classes)
     if not all(one(program) for one in bears):
         return 1
     print("store: verdicts on cut, long and many words are right, also with little memory and few steps; streams that "

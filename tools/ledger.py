@@ -123,7 +123,7 @@ class Definition:
 
 
 # A definition stands at the margin, or indented in a `module _ .. where`.
-DEFINED = re.compile(r"( *)(?:pub )?(?:abbrev|record|data|inductive) (?:pub )?(\S+)|()pub (\S+) :")
+DEFINED = re.compile(r"( *)(?:pub )?(?:abbrev|record(?! \S+ \{(?: \w+ =|$))|data|inductive) (?:pub )?(\S+)|()pub (\S+) :")
 
 
 @lru_cache(maxsize=None)

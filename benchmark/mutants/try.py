@@ -22,7 +22,13 @@ ROOT = HERE.parent.parent
 PROGRAM = ROOT / ("crates/vacation/out/vacation" if (ROOT / "crates.txt").exists() else "vacation")
 # Few items and long tasks: clients meet often. The options of `vacation tasks` may be given others (--work).
 LOAD = {"clients": 4, "tasks": 1000, "items": 8, "asks": 6, "user": 60, "blocks": 256}
-TRIES, PATIENCE = 100_000, 2
+# The loads of the page's table: `vacation tasks` with its own options but these.
+BLOCKS = 1024
+PAGE = [{}, {"tasks": 1000, "items": 8}, {"tasks": 20000, "items": 8}]
+TRIES, PATIENCE = 100_000, 10
+STOOD = "stood still"
+# How a short cell says that the peer ended by itself, in place of a verdict.
+MARKS = {STOOD: "*", "crashed": "†"}
 # A runtime that has lost its way may log reads without end.
 MOST_MEMORY = 3 << 30
 COMPILERS = 2
@@ -68,17 +74,18 @@ def limit():
 class Trial:
     """Runs of one kind: whether histories or attempts are judged, and with pauses or without."""
 
-    def __init__(self, program, load, mode, jitters, runs):
-        self.program, self.load, self.mode, self.jitters, self.runs = program, load, mode, jitters, runs
+    def __init__(self, program, load, mode, jitters, arguments):
+        self.program, self.mode, self.jitters = program, mode, jitters
+        self.blocks, self.runs, self.patience = load.get("blocks", BLOCKS), arguments.runs, arguments.patience
         told = subprocess.run([program, "judge", "--help"], capture_output=True, text=True, check=True)
         self.knows_work = "--tasks" in told.stdout
 
     def judge(self, lines, tasks):
         """What is wrong with the lines, or nothing, and how many were looked at until then."""
         if self.mode == "--attempts":
-            words = [self.program, "opaque", "--words", str(16 + 8 * self.load["blocks"])]
+            words = [self.program, "opaque", "--words", str(16 + 8 * self.blocks)]
         else:
-            words = [self.program, "judge", "--blocks", str(self.load["blocks"])]
+            words = [self.program, "judge", "--blocks", str(self.blocks)]
             words += ["--tasks", tasks] if self.knows_work else []
         done = subprocess.run(words, input=lines, capture_output=True, text=True)
         verdict = done.stdout.split("\n")[0].split(" ")
@@ -91,24 +98,32 @@ class Trial:
     def run(self, mutant, tasks, seed):
         """What was wrong with a run, or nothing, and how many lines were looked at until then."""
         jitter = ["--jitter", str(seed)] if self.jitters else []
-        words = [mutant, "--blocks", str(self.load["blocks"]), "--tries", str(TRIES), "--patience", str(PATIENCE),
+        words = [mutant, "--blocks", str(self.blocks), "--tries", str(TRIES), "--patience", str(self.patience),
                  self.mode, *jitter]
         with open(tasks, "rb") as stdin:
             done = subprocess.run(words, stdin=stdin, capture_output=True, text=True, preexec_fn=limit)
         wrong, count = self.judge(done.stdout, tasks)
         if done.returncode != 0 and (wrong is None or "missing" in wrong):
-            wrong = "stood still" if done.returncode == 3 else "crashed"
+            wrong = STOOD if done.returncode == 3 else "crashed"
         return wrong, count
 
-    def cell(self, mutant, folder):
+    def find(self, mutant, folder):
+        """The first run in which something was wrong, or nothing; how many lines there had been; what was wrong."""
         count = 0
         for seed in range(1, self.runs + 1):
-            tasks = folder / f"tasks-{seed}"
-            wrong, lines = self.run(mutant, tasks, seed)
+            wrong, lines = self.run(mutant, folder / f"tasks-{seed}", seed)
             count += lines
             if wrong:
-                return f"run {seed}, {count:,}: {wrong}"
-        return f"not in {self.runs} runs, {count:,}"
+                return seed, count, wrong
+        return None, count, None
+
+    def cell(self, mutant, folder):
+        seed, count, wrong = self.find(mutant, folder)
+        return f"run {seed}, {count:,}: {wrong}" if seed else f"not in {self.runs} runs, {count:,}"
+
+    def short_cell(self, mutant, folder):
+        seed, _, wrong = self.find(mutant, folder)
+        return f"{seed}{MARKS.get(wrong, '')}" if seed else "not"
 
 
 def draw_tasks(program, load, runs, folder):
@@ -139,6 +154,10 @@ def read_arguments():
     parser = argparse.ArgumentParser(prog="try.py", description=__doc__)
     parser.add_argument("--program", type=Path, default=PROGRAM, help="the program that judges")
     parser.add_argument("--runs", type=int, default=20, help="the most runs of each kind (default: 20)")
+    parser.add_argument("--patience", type=int, default=PATIENCE, metavar="SECONDS",
+                        help=f"how long no call may end before a peer is said to stand still (default: {PATIENCE})")
+    parser.add_argument("--page", action="store_true",
+                        help="prints the table of docs/JUDGE.md: histories of three loads, the run alone")
     parser.add_argument("--only", action="append", metavar="NAME", help="one of the edits")
     parser.add_argument("--work", type=read_load, default="", metavar="NAME=N,..",
                         help=f"options of the drawn tasks, in the place of {LOAD}")
@@ -148,6 +167,21 @@ def read_arguments():
                         help="builds each edit into a folder, as NAME.out, and runs none")
     parser.add_argument("--check", action="store_true", help="looks whether each edit can be made, and runs none")
     return parser.parse_args()
+
+
+def print_page(arguments, mutants, folder):
+    """Prints the table of the page: for each load the run, without pauses and with them."""
+    folders, trials = [], []
+    for number, load in enumerate(PAGE):
+        folders.append(folder / str(number))
+        folders[-1].mkdir()
+        draw_tasks(arguments.program, load, arguments.runs, folders[-1])
+        trials.append([Trial(arguments.program, load, "--history", jitters, arguments) for jitters in (False, True)])
+    heads = [" ".join(f"--{name} {value}" for name, value in load.items()) or "none" for load in PAGE]
+    print(f"| Mistake (peer) | {' | '.join(heads)} |\n|---|{'---|' * len(heads)}", flush=True)
+    for mutant, program in zip(mutants, build_all(mutants, arguments.built or folder)):
+        cells = [", ".join(trial.short_cell(program, at) for trial in pair) for at, pair in zip(folders, trials)]
+        print(f"| {mutant.name} ({mutant.peer}) | {' | '.join(cells)} |", flush=True)
 
 
 def main():
@@ -160,9 +194,13 @@ def main():
     if arguments.build:
         build_all(mutants, arguments.build)
         return
+    if arguments.page:
+        with tempfile.TemporaryDirectory() as name:
+            print_page(arguments, mutants, Path(name))
+        return
     has_opaque = subprocess.run([arguments.program, "opaque", "--help"], capture_output=True).returncode == 0
     modes = ["--history"] + (["--attempts"] if has_opaque and not arguments.histories else [])
-    trials = [Trial(arguments.program, arguments.work, mode, jitters, arguments.runs)
+    trials = [Trial(arguments.program, arguments.work, mode, jitters, arguments)
               for mode in modes for jitters in (False, True)]
     heads = [("history" if trial.mode == "--history" else "attempts") + (", jitter" if trial.jitters else "")
              for trial in trials]

@@ -37,6 +37,9 @@ def script(path: str) -> Callable[[Sequence[str]], int]:
 def try_program(words: Sequence[str]) -> int:
     """Runs the program as it stands, with nothing proved. `rt try` compiles it with checks that stop it where a
     proof would have failed; the output comes when the program has ended, one MiB at most, within ten minutes."""
+    if not words or words[0] in ("-h", "--help"):
+        say("usage: ./dev try WORD..: the words of vacation's command line, as in ./dev try run < script")
+        return 0 if words else 2
     say("nothing is proved; the program is compiled first, which takes a minute")
     return run(["rt", "try", "--seconds", "600", "--", *words], ROOT / "crates/vacation")
 
@@ -77,7 +80,7 @@ COMMANDS = {
     "smoke": Command("", "build the program unproved and run the quick tests on it, within ten minutes",
                      smoke.main, ("rt",)),
     "mutate": Command("[CRATE|MUTANT]..", "try the mutants of tests/plants; --check compares their texts only", mutate),
-    "unproved": Command("PROGRAM", "build the program with nothing proved, to measure it",
+    "unproved": Command("FILE", "build the program vacation with nothing proved, to measure it, as this file",
                         script("tools/unproved.py"), ("rt",)),
     "bench": Command("[OPTION]..", "measure the program beside its peers", script("benchmark/measure.py")),
     "package": Command("[PROGRAM FOLDER [KV_JUDGE]]", "pack a tarball and a Debian package", package, ("git",)),

@@ -91,7 +91,7 @@ def _explain(options: argparse.Namespace, path: Path) -> int:
         print(verdict[0])
         return status
     history = Log(path).history(verdict, options.all)
-    explained, found = findings(history, options.blocks, program)
+    explained, found = findings(history, options.blocks, program, path)
     if not explained:
         print(f"{verdict[0]}\nNo few calls were found that contradict each other"
               + (", and the log has no times." if not history.has_times() else "."))

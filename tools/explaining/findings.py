@@ -6,6 +6,7 @@ import time
 from collections import Counter, defaultdict
 from collections.abc import Iterable, Iterator
 from dataclasses import dataclass, field, replace
+from pathlib import Path
 from typing import TypeAlias
 
 from .causes import Cause, Fault, causes_of
@@ -44,6 +45,8 @@ class Finding:
     ends: list[DeadEnd]
     kind: Kind
     seconds: float
+    # Calls of the part of the log that the program wrote and calls illegal; none if there is no such part.
+    proved_calls: int | None = None
     part_verdicts: list[str] = field(default_factory=list)
     few_verdicts: list[str] = field(default_factory=list)
     # The levels whose answer the program has confirmed.
@@ -217,6 +220,18 @@ def _with_cause(found: Contradiction, causes: list[Cause]) -> list[Call]:
     return list(needed.values())
 
 
+def _prove(finding: Finding, history: History, program: Program, log: Path) -> None:
+    """Has the program write the part of the log on the scope of the contradiction and judge it, and then on that
+    scope with all that its customers book, where bills count."""
+    customers, items = finding.found.customers, finding.found.items
+    booked = items.union(*(history.bookings.items.get(customer, ()) for customer in customers))
+    for wanted in dict.fromkeys((items, booked)):
+        lines = program.part(log, customers, wanted)
+        if lines is not None and is_illegal(program.judge(lines)):
+            finding.proved_calls = len(lines)
+            return
+
+
 def confirm(finding: Finding, program: Program) -> None:
     """Has the program judge the part and the few calls, and the few calls without their times."""
     blocks = finding.few.blocks
@@ -233,9 +248,10 @@ def confirm(finding: Finding, program: Program) -> None:
             finding.sure.add(level)
 
 
-def findings(history: History, blocks: int, program: Program,
+def findings(history: History, blocks: int, program: Program, log: Path | None = None,
              most: int = MOST_EXPLAINED) -> tuple[list[Finding], list[Contradiction]]:
-    """The confirmed findings, the one that few calls explain and that is early first; and all contradictions."""
+    """The confirmed findings, the one that few calls explain and that is early first; and all contradictions. From
+    the file of the log the program writes the parts that it proves illegal."""
     progress = Progress()
     found = contradictions(history, blocks, progress)
     until, explained = time.monotonic() + MOST_SECONDS, []
@@ -245,6 +261,8 @@ def findings(history: History, blocks: int, program: Program,
         if finding is not None:
             confirm(finding, program)
             if finding.is_confirmed:
+                if log is not None:
+                    _prove(finding, history, program, log)
                 explained.append(finding)
         if explained and time.monotonic() > until:
             break

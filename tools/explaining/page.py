@@ -14,7 +14,7 @@ from .picture import picture, round_times
 from .program import MOST_BLOCKS
 from .tasks import Call
 from .timeline import Timeline
-from .words import (NOT_PROVED, Told, changes_in_words, duration, extremes, headline, is_verdict, level_words, merged,
+from .words import (Told, changes_in_words, duration, extremes, headline, is_verdict, level_words, merged, not_proved,
                     proved, state_in_words, step_in_words)
 
 TEMPLATE = Path(__file__).resolve().parent / "page.html"
@@ -179,7 +179,7 @@ class Article:
             f"<li><b>Proved</b> to be illegal, by the program's verdict on each:"
             f" {escape(proved(self.finding, self.history, self.verdict))}.{undecided}</li>",
             f"<li>The part is what the calls say about {escape(scope or 'everything')}.</li>",
-            f"<li><b>Not proved</b>: {escape(NOT_PROVED)}.</li>"]))
+            f"<li><b>Not proved</b>: {escape(not_proved(self.finding))}.</li>"]))
 
 
 def _strip(explained: list[Finding], history: History) -> str:

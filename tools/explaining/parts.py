@@ -10,7 +10,9 @@ A part has at least as many free units as the history. A reply that depends on h
 if the item is *closed*: all customers who may ever have booked it belong to the scope. A bill is kept only if the
 scope has all items that the bill may hold. `full` depends on all entries and is never kept.
 
-Not proved: that the part of a legal history is legal rests on this argument and on tests/explain.py."""
+Not proved: that the part of a legal history is legal rests on this argument and on tests/explain.py. The program's
+subcommand `part` writes parts with a proof. They say less: these here follow a call that never returned, and take a
+bill on the items that its customer may have booked since it last had none."""
 
 from __future__ import annotations
 

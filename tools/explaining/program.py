@@ -14,6 +14,8 @@ from .tasks import Item, item_text
 
 MOST_BLOCKS = 262_144
 MOST_UNITS_AT_ONCE = 100
+# Customers and items that the program takes for one part, each.
+MOST_NAMES = 64
 # Steps of the program's search: for a log, of which parts are looked at anyway, and for a part or a few calls.
 LOG_STEPS, PART_STEPS = 1_000_000, 300_000
 
@@ -51,6 +53,20 @@ class Program:
         if not done.stdout:
             raise NoProgram(f"{self.path} gave no verdict (status {done.returncode}): {done.stderr.strip()}")
         return done.returncode, done.stdout.splitlines()
+
+    def part(self, path: Path, customers: Iterable[int], items: Iterable[Item]) -> list[str] | None:
+        """The lines of the part of a log on a scope, or none if a call has no part or the scope is too large."""
+        customers, items = sorted(customers), sorted(items)
+        if not 1 <= max(len(customers), len(items)) <= MOST_NAMES:
+            return None
+        words = [self.path, "part"]
+        for customer in customers:
+            words += ["--customer", str(customer)]
+        for kind, number in items:
+            words += ["--item", kind, str(number)]
+        with open(path, "rb") as log:
+            done = subprocess.run(words, stdin=log, capture_output=True, text=True, check=False)
+        return done.stdout.splitlines() if done.returncode == 0 else None
 
     def judge(self, lines: Iterable[str], blocks: int | None = None) -> str:
         """The first line of the verdict on a short history."""

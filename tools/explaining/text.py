@@ -7,7 +7,7 @@ import textwrap
 from .findings import Finding, kinds
 from .history import History
 from .tasks import Call
-from .words import (NOT_PROVED, Told, duration, extremes, headline, is_verdict, level_words, merged, proved,
+from .words import (Told, duration, extremes, headline, is_verdict, level_words, merged, not_proved, proved,
                     state_in_words, step_in_words)
 
 MOST_LINES, WIDTH, BAR = 30, 100, 46
@@ -68,7 +68,7 @@ def _claims(finding: Finding, history: History, verdict: str) -> list[str]:
     levels = ", ".join(f"{level} {answer}" for level, answer, _ in level_words(finding))
     lines = [extremes(finding), *_wrapped(f"allowed: {levels}", 2, "")]
     return (lines + _wrapped(f"proved illegal: {proved(finding, history, verdict)}", 2, "")
-            + _wrapped(f"not proved: {NOT_PROVED}", 2, ""))
+            + _wrapped(f"not proved: {not_proved(finding)}", 2, ""))
 
 
 def explanation(explained: list[Finding], history: History, verdict: str, others: int,
@@ -79,7 +79,9 @@ def explanation(explained: list[Finding], history: History, verdict: str, others
     lines = [_cut(f"{told}: {headline(finding)}"),
              *_wrapped(f"{finding.kind.title()}: {finding.kind.why}", 3)]
     if not is_verdict(verdict):
-        lines.append("  The program did not decide about the whole log; an illegal part shows that it is illegal.")
+        lines.append("  The program did not decide about the whole log; an illegal part shows that it is illegal."
+                     if finding.proved_calls is None else
+                     "  The program did not decide about the whole log; it proves a part illegal, so the log is illegal.")
     states = state_in_words(finding)
     more = len(finding.few.openings) - 1
     lines.append("state before them:" + (f" (or one of {more} others)" if more else ""))

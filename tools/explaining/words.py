@@ -203,8 +203,10 @@ def proved(finding: Finding, history: History, verdict: str) -> str:
     part, few = len(finding.found.part.calls), len(finding.few.calls)
     each = "" if len(finding.few_verdicts) == 1 else f" in each of {len(finding.few_verdicts)} cases"
     whole = f"the log of {history.count:,} calls, " if is_verdict(verdict) else ""
-    return (f"{whole}its part of {part:,} call{'s'[:part != 1]}, and the {few} call{'s'[:few != 1]} above after the"
-            f" state before them{each}")
+    own = "" if finding.proved_calls is None else (
+        f"its part that 'vacation part' writes ({finding.proved_calls:,} calls; so the log is illegal), ")
+    return (f"{whole}{own}the script's part of {part:,} call{'s'[:part != 1]}, and the {few} call{'s'[:few != 1]}"
+            f" above after the state before them{each}")
 
 
 def is_verdict(verdict: str) -> bool:
@@ -212,5 +214,9 @@ def is_verdict(verdict: str) -> bool:
     return verdict.startswith("illegal")
 
 
-NOT_PROVED = ("that a legal log has legal parts (argued and tested), that the state before is the only possible one,"
-              " the levels below serializable, the schedule and the name")
+def not_proved(finding: Finding) -> str:
+    """What the proved program has not confirmed."""
+    parts = "that a legal log has legal parts" if finding.proved_calls is None else (
+        "that a legal log has a legal part as the script takes it")
+    return (f"{parts} (argued and tested), that the state before is the only possible one, the levels below"
+            " serializable, the schedule and the name")
