@@ -22,8 +22,8 @@ use Rattle.vac_streams.specs.declared.fault.StreamFault.{StreamFault}
 use Rattle.vac_streams.specs.declared.fault.StreamFault.TheVariants as stream
 use Rattle.std.specs.Io.KnownBytes.{Appends}
 use Rattle.vac_lines.specs.Writing.{AppendsPrefix}
-use Rattle.cli_main.specs.Ending.{load_fault_line, fault_line, CanStopWriting, EndsDone}
-use Rattle.cli_main.specs.Load.{load_text, NamedFault, EndsLoad, EndsKept, HasNoted, IsFaultBySeed}
+use Rattle.cli_main.specs.Ending.{load_fault_line, fault_line, CanStopWriting, EndsDone, EndsWithStatus}
+use Rattle.cli_main.specs.Load.{load_text, NamedFault, EndsLoad, StoppedKept, HasNoted, IsFaultBySeed}
 use Rattle.cli_main.specs.Load.{WroteCalls, WroteCallsInPart}
 use Rattle.cli_main.specs.Program.{Loads}
 use Rattle.cli_main.proofs.Turning.{each_ordered, each_in_turn}
@@ -71,15 +71,23 @@ module _ (wrote stopped : Settings → Option (List ℕ) → Option (List ℕ) �
   ended_for_memory status held holds low high refused line =
       ended_by_fault load.Memory status held holds not_arguments (memory_by_seed s) low high refused line
 
--- the calls of a load whose settings fit each other were written, in whole or in part, and then it ended
-pub ended_kept : (wrote in_part : Settings → Option (List ℕ) → Option (List ℕ) → Type 0) (s : Settings)
-    {T : Type 0} (r : Result T StreamFault) (status : ℕ) (held middle holds : Option (List ℕ)) → is_settings s ≡ true →
+-- calls were written, in whole or in part, and then the program ended
+pub ended_writing : (wrote in_part : Settings → Option (List ℕ) → Option (List ℕ) → Type 0) (s : Settings)
+    {T : Type 0} (r : Result T StreamFault) (status : ℕ) (held middle holds : Option (List ℕ)) →
     OnOk r (wrote s held middle) → OnErr r (in_part s held middle) → IfErr r CanStopWriting →
-    EndsDone r status middle holds → EndsKept wrote in_part status s held holds
-ended_kept wrote in_part s (Ok t) status held middle holds fits ok err can e =
-    inl (fits, inl (e.0, subst (wrote s held) (sym e.1) ok))
-ended_kept wrote in_part s (Err fault) status held middle holds fits ok err can e =
-    inl (fits, inr (e.0, inr (middle, err, (fault, can, e.1))))
+    EndsDone r status middle holds →
+    EndsWithStatus status (wrote s held holds) (StoppedKept in_part s held holds)
+ended_writing wrote in_part s (Ok t) status held middle holds ok err can e =
+    inl (e.0, subst (wrote s held) (sym e.1) ok)
+ended_writing wrote in_part s (Err fault) status held middle holds ok err can e =
+    inr (e.0, (middle, err, (fault, can, e.1)))
+
+-- the calls of a load whose settings fit each other were written or not, and then it ended
+pub ended_kept : (wrote stopped : Settings → Option (List ℕ) → Option (List ℕ) → Type 0) (s : Settings) (status : ℕ)
+    (held holds : Option (List ℕ)) → is_settings s ≡ true →
+    EndsWithStatus status (wrote s held holds) (stopped s held holds) → EndsLoad wrote stopped status s held holds
+ended_kept wrote stopped s status held holds fits (inl done) = inl (fits, inl done)
+ended_kept wrote stopped s status held holds fits (inr k) = inl (fits, inr (k.0, inr k.1))
 
 -- the load was run to its end, and its two lines were written, in whole or in part, or memory was refused for them
 pub ended_with_lines : (s : Settings) (load : LoadReport) (status : ℕ) (held holds : Option (List ℕ)) →
@@ -154,3 +162,7 @@ few_clients s e = let w : is_work s ≡ true = both_first (is_work s) (is_system
 -- the number of blocks is in its range
 pub right_blocks : (s : Settings) → is_settings s ≡ true → is_block_count s.blocks ≡ true
 right_blocks s e = grind (arith, nat_tests, e)
+
+-- and is no larger than a system may be
+pub few_blocks : (s : Settings) → is_settings s ≡ true → s.blocks ≤ 262144
+few_blocks s e = let right = right_blocks s e in grind (arith, nat_tests, right)

@@ -8,6 +8,8 @@ use Rattle.load_record.specs.Turns.{EachInTurn}
 use Rattle.load_record.specs.Order.{Entry, entries_of, entries_from, Interleaves, IsMerged, AreOrdered}
 use Rattle.load_record.specs.History.{call_of_entry}
 use Rattle.load_record.specs.Legal.{AreCallsOf, AreRecorded, AreLegal}
+use Rattle.load_record.specs.Loads.{MadeHistory}
+use Rattle.load_record.specs.Pages.{Page, calls_on}
 use Rattle.load_record.proofs.Legality.{ordered_calls_legal}
 use Rattle.load_run.specs.Lists.{Paired, none, both}
 use Rattle.load_run.specs.Several.{Interleaved, no_more, of_first, of_second}
@@ -206,3 +208,48 @@ pub load_legal : (s : Settings) (opening : List CompletedCall) (clients : List (
 load_legal s opening clients all h merged turns ordered =
     ordered_calls_legal s.blocks (opening ∷ clients) all h.loaded.last
     (recorded s opening clients all h merged) merged turns ordered
+
+-- ---- the calls of one client after those of the other
+
+-- nothing comes between
+second_only : {xs ys zs : List Record} → Interleaved xs ys zs → xs ≡ [] → zs ≡ ys
+second_only no_more e = refl
+second_only (of_first x {xs = xs} h) e = absurd (nothing_before [] xs x (sym e))
+second_only (of_second y h) e = ap (λ (l : List Record). y ∷ l) (second_only h e)
+
+first_made : (notes more : List CompletedCall) (rs others all : List Record) → Paired IsNoted notes rs →
+    Interleaved rs others all → AreCallsOf more others → AreCallsOf (notes ++ more) all
+first_made [] more [] others all none h made = subst (λ (l : List Record). AreCallsOf more l) (sym (second_only h refl))
+    made
+first_made (n ∷ notes) more (r ∷ rs) others all (both k ks) h made =
+    let q = out_of_first h r rs refl in
+    (q.0, r, q.1, q.2, k, first_made notes more rs others (q.0 ++ q.1) ks q.3 made)
+first_made [] more (r ∷ rs) others all ks h made = elim ks [ ]
+first_made (n ∷ notes) more [] others all ks h made = elim ks [ ]
+
+pages_made : {X : Type 0} (records_of : X → List Record) (pages : List Page) (xs : List X) (all : List Record) →
+    Paired (λ notes x. Paired IsNoted notes (records_of x)) (map (λ page. page.calls) pages) xs →
+    InterleavedAll records_of xs all → AreCallsOf (calls_on pages) all
+pages_made records_of [] [] all none h = h
+pages_made records_of (p ∷ pages) (x ∷ xs) all (both k ks) h =
+    first_made p.calls (calls_on pages) (records_of x) h.0 all k h.1 (pages_made records_of pages xs h.0 ks h.2)
+pages_made records_of [] (x ∷ xs) all ks h = elim ks [ ]
+pages_made records_of (p ∷ pages) [] all ks h = elim ks [ ]
+
+-- the completed calls of a load made its history
+pub made_history : (s : Settings) (opening : Page) (clients : List Page) →
+    HasNoted s opening.calls (map (λ page. page.calls) clients) → MadeHistory s.blocks (calls_on (opening ∷ clients))
+made_history s opening clients h =
+    let l = h.loaded in
+    record {
+      image = l.image;
+      heap = l.heap;
+      history = l.history;
+      made = subst (λ (rs : List Record). AreCallsOf (calls_on (opening ∷ clients)) rs) (sym l.opening_first)
+          (first_made opening.calls (calls_on clients) l.opened l.rest (l.opened ++ l.rest) h.of_opening
+          (one_behind l.opened l.rest)
+          (pages_made (λ x. x.records) clients l.shares l.rest h.of_clients l.each_once));
+      serial = l.serial;
+      sorted = l.in_order;
+      versioned = l.versioned;
+    }

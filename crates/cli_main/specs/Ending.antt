@@ -18,6 +18,10 @@ fault_line stream.Bound = as_line (codes "fault bound")
 abbrev pub unopened_line : List ℕ
 unopened_line = as_line (codes "fault open")
 
+-- the last line of a load if an attempt is too long to be written
+abbrev pub long_attempt_line : List ℕ
+long_attempt_line = as_line (codes "fault long-attempt")
+
 -- the last line of a load after a fault
 abbrev pub load_fault_line : LoadFault → List ℕ
 load_fault_line load.Arguments = as_line (codes "fault arguments")

@@ -19,8 +19,9 @@ use Rattle.load_record.specs.Order.{AreOrdered}
 use Rattle.load_record.specs.History.{call_of_entry, calls_text, WroteHistory, WroteHistoryPrefix}
 use Rattle.load_record.specs.Legal.{AreLegal, JudgedByPrecedence}
 use Rattle.judge_calls.specs.CallText.{IsTheirHistory}
-use Rattle.load_record.specs.Pages.{Page}
-use Rattle.load_record.specs.Text.{WroteAttempts, WroteAttemptsPrefix}
+use Rattle.load_record.specs.Pages.{Page, calls_on}
+use Rattle.load_record.specs.Text.{WroteAttempts, WroteAttemptsPrefix, AreTooLong}
+use Rattle.load_record.specs.Loads.{MadeHistory, MadeHistoryFromHeap, JudgedByAbortsAndTimes}
 use Rattle.load_run.specs.Lists.{Paired}
 use Rattle.load_run.specs.declared.statistics.AttemptStatistics.{AttemptStatistics}
 use Rattle.load_run.specs.declared.slots.Recorders.{Recorders}
@@ -30,7 +31,7 @@ use Rattle.load_run.specs.Load.{IsLoadFault, LoadedKept, StopsLoad, is_load}
 use Rattle.load_run.specs.Slots.{kept_at}
 use Rattle.load_run.specs.Streams.{LoadedBySeed, KeptBySeed}
 use Rattle.vac_lines.specs.Writing.{AppendsPrefix}
-use Rattle.cli_main.specs.Ending.{EndsWithStatus, NamedAfterWriting, load_fault_line}
+use Rattle.cli_main.specs.Ending.{EndsWithStatus, NamedAfterWriting, load_fault_line, long_attempt_line}
 
 -- the number of completed tasks, and the number of tasks that met a conflict with another client
 -- in each attempt, as text
@@ -174,17 +175,22 @@ pub record WroteCallsInPart (s : Settings) (held holds : Option (List ℕ)) : Ty
 -- the load ran to its end, and exactly the attempts of its calls were written: for each completed
 -- call its attempt, once, with the commit position, the reads and the writes of the call's record
 -- (`IsNoted` of vac_manager); aborted attempts; and attempts that write the initial words. All are
--- sorted by commit position
+-- sorted by commit position. The committed attempts made a history that is serial from the initial
+-- words, and the lines are read as these attempts. So the judge calls the text opaque if and only
+-- if the aborted attempts read what the committed ones before them leave, the attempts of each
+-- client are in turn, and no attempt comes before one that had ended before it began
 -- Not said: that each aborted attempt is among them, its reads, and its position; that a stamp is
 -- a reading of the clock, and that the stamps of each client are in turn. `vacation opaque` judges
 -- these.
--- Not said: that `vacation opaque` reads the lines.
 -- Not said: that nothing was left out because an attempt recorder had no room for it.
 pub record WroteLoadAttempts (s : Settings) (held holds : Option (List ℕ)) : Type 0 where
   pub opening : Page
   pub clients : List Page
   pub noted : HasNoted s opening.calls (map (λ page. page.calls) clients)
   pub written : WroteAttempts s.blocks (opening ∷ clients) held holds
+  pub made : MadeHistory s.blocks (calls_on (opening ∷ clients))
+  pub history : MadeHistoryFromHeap s.blocks written.all
+  pub judged : JudgedByAbortsAndTimes s.blocks written.all
 
 -- the load ran to its end, and nothing or a prefix of the text of such attempts was written
 pub record WroteLoadAttemptsInPart (s : Settings) (held holds : Option (List ℕ)) : Type 0 where
@@ -192,3 +198,18 @@ pub record WroteLoadAttemptsInPart (s : Settings) (held holds : Option (List ℕ
   pub clients : List Page
   pub noted : HasNoted s opening.calls (map (λ page. page.calls) clients)
   pub written : WroteAttemptsPrefix s.blocks (opening ∷ clients) held holds
+
+-- the load ran to its end, and no attempt was written, because one has more than 2,164,800 reads
+-- and writes, or one that is at no word of the heap; a prefix of the line of this fault was written
+pub record HasLongAttempt (s : Settings) (held holds : Option (List ℕ)) : Type 0 where
+  pub opening : Page
+  pub clients : List Page
+  pub noted : HasNoted s opening.calls (map (λ page. page.calls) clients)
+  pub long : AreTooLong s.blocks (opening ∷ clients)
+  pub named : AppendsPrefix held holds long_attempt_line
+
+-- the attempts of a load were not all written: writing them was stopped by a fault, which is named,
+-- or none was written because an attempt is too long
+abbrev pub StoppedAttempts : Settings → Option (List ℕ) → Option (List ℕ) → Type 0
+StoppedAttempts s held holds =
+    StoppedKept WroteLoadAttemptsInPart s held holds ⊎ HasLongAttempt s held holds

@@ -19,7 +19,7 @@ use Rattle.cli_script.specs.Dump.{Dumped, DumpStopped}
 use Rattle.cli_script.specs.Check.{Checked, CheckStopped}
 use Rattle.load_tasks.specs.Worklist.{WroteTasks, WroteTasksPrefix}
 use Rattle.cli_main.specs.Load.{EndsLoad, WroteLoad, WroteLoadInPart}
-use Rattle.cli_main.specs.Load.{EndsKept, WroteCalls, WroteCallsInPart, WroteLoadAttempts, WroteLoadAttemptsInPart}
+use Rattle.cli_main.specs.Load.{EndsKept, WroteCalls, WroteCallsInPart, WroteLoadAttempts, StoppedAttempts}
 use Rattle.cli_main.specs.Ending.{EndsWithStatus, NamedAfter, NamedAfterWriting, fault_line, load_fault_line}
 use Rattle.cli_main.specs.Ordering.{Orders}
 use Rattle.cli_main.specs.Asking.{JudgesAsked, JudgesOpacity}
@@ -34,8 +34,7 @@ Loads false status s held holds = EndsLoad WroteLoad WroteLoadInPart status s he
 
 -- the program runs a load, and writes its attempts
 abbrev pub WritesAttempts : ℕ → Settings → Option (List ℕ) → Option (List ℕ) → Type 0
-WritesAttempts status s held holds = EndsKept WroteLoadAttempts WroteLoadAttemptsInPart status s
-    held holds
+WritesAttempts status s held holds = EndsLoad WroteLoadAttempts StoppedAttempts status s held holds
 
 -- the program runs a load, and writes its history, its attempts or its two lines; if both history
 -- and attempts are asked for, the command line is refused, and nothing is written

@@ -1,17 +1,17 @@
 //! Loads that record the calls of their clients, and write them.
 
 ghost use Rattle.std.specs.Prelude.{◌≡◌, ◌<◌, ◌^◌, true, [], Some, ℕ, Bool, List, Option, length};
-ghost use Rattle.std.specs.Prelude.{vec_len, All, IfOk, OnOk, OnErr, IfErr};
+ghost use Rattle.std.specs.Prelude.{vec_len, All, IfOk};
 ghost use Rattle.load_tasks.specs.declared.settings.Settings.{Settings};
 ghost use Rattle.load_tasks.specs.Setting.{is_settings};
 ghost use Rattle.load_run.specs.declared.slots.Recorders.{Recorders};
-ghost use Rattle.cli_main.specs.Ending.{CanStopWriting};
-ghost use Rattle.cli_main.specs.Load.{AreNoted, EndsKept};
+ghost use Rattle.cli_main.specs.Ending.{EndsWithStatus};
+ghost use Rattle.cli_main.specs.Load.{AreNoted, EndsLoad};
 ghost use Rattle.cli_main.specs.Program.{Loads, WritesAttempts};
 
 use crate::load::{LoadRequest, tell_load};
 use crate::stats::{LoadTimer, tell_stats};
-use crate::status::{end_by_settings, end_done, end_load_by};
+use crate::status::{DONE, end_by, end_by_settings, end_done, end_load_by, end_long_attempt};
 use crate::telling::run_with_progress;
 use load_record::{
     AttemptRecorder, CallRecorder, ElapsedClock, StampClock, write_attempts, write_history,
@@ -23,7 +23,6 @@ use std::sync::Wait;
 use std::thread::Threads;
 use std::time::{Clock, Instant};
 use vac_manager::Recorder;
-use vac_streams::StreamFault;
 
 /// A load that ran to its end, and its recorders.
 #[derive(Drop)]
@@ -39,8 +38,8 @@ pub(crate) trait Transcript<W>: Recorder + Sized {
     /// The calls of a load of these settings were written.
     ghost wrote: { Settings → Option (List ℕ) → Option (List ℕ) → Type 0 };
 
-    /// The calls of a load of these settings were written in part.
-    ghost wrote_in_part: { Settings → Option (List ℕ) → Option (List ℕ) → Type 0 };
+    /// The calls of a load of these settings were not all written, and a fault was named.
+    ghost stopped: { Settings → Option (List ℕ) → Option (List ℕ) → Type 0 };
 
     /// The recorders had room for all calls.
     ghost are_whole: { Recorders Self → Bool };
@@ -53,25 +52,23 @@ pub(crate) trait Transcript<W>: Recorder + Sized {
     fn are_whole(recorders: &Recorders<Self>) -> bool
         ensures { result ≡ are_whole recorders.now };
 
-    /// Writes the calls of a load.
-    fn write<O: Write>(load: &KeptLoad<'_, Self>, output: &mut O) -> Result<(), StreamFault>
+    /// Writes the calls of a load, or the last line of a fault, and returns the status.
+    fn write<O: Write>(load: &KeptLoad<'_, Self>, output: &mut O) -> u8
         requires fits { is_settings load.now.settings.now ≡ true }
         requires noted { AreNoted Self.notes load.now.settings.now load.now.recorders }
         requires few { length load.now.recorders.clients.items < 2 ^ 32 }
-        ensures ok { OnOk result
-            (wrote load.now.settings.now (O.contents output.old) (O.contents output.new)) }
-        ensures err { OnErr result
-            (wrote_in_part load.now.settings.now (O.contents output.old) (O.contents output.new)) }
-        ensures fault { IfErr result CanStopWriting };
+        ensures { EndsWithStatus result
+            (wrote load.now.settings.now (O.contents output.old) (O.contents output.new))
+            (stopped load.now.settings.now (O.contents output.old) (O.contents output.new)) };
 }
 
 impl<W: StampClock> Transcript<W> for CallRecorder<W> {
     ghost use Rattle.load_record.specs.History as history;
-    ghost use Rattle.cli_main.specs.Load.{WroteCalls, WroteCallsInPart};
+    ghost use Rattle.cli_main.specs.Load.{WroteCalls, WroteCallsInPart, StoppedKept};
 
     ghost wrote = { WroteCalls };
 
-    ghost wrote_in_part = { WroteCallsInPart };
+    ghost stopped = { λ s held holds. StoppedKept WroteCallsInPart s held holds };
 
     ghost are_whole = { λ k. history.are_whole k.opening k.clients.items };
 
@@ -83,22 +80,20 @@ impl<W: StampClock> Transcript<W> for CallRecorder<W> {
         load_record::are_whole(&recorders.opening, recorders.clients.as_slice())
     }
 
-    fn write<O: Write>(
-        load: &KeptLoad<'_, CallRecorder<W>>,
-        output: &mut O,
-    ) -> Result<(), StreamFault> {
+    fn write<O: Write>(load: &KeptLoad<'_, CallRecorder<W>>, output: &mut O) -> u8 {
         let Recorders { opening, clients } = &load.recorders;
-        write_history(load.alloc, opening, clients.as_slice(), output)
+        let written = write_history(load.alloc, opening, clients.as_slice(), output);
+        end_done(written, output)
     }
 }
 
 impl<W: StampClock + Copy + Drop> Transcript<W> for AttemptRecorder<W> {
     ghost use Rattle.load_record.specs.Known.{are_whole_ledgers};
-    ghost use Rattle.cli_main.specs.Load.{WroteLoadAttempts, WroteLoadAttemptsInPart};
+    ghost use Rattle.cli_main.specs.Load.{WroteLoadAttempts, StoppedAttempts};
 
     ghost wrote = { WroteLoadAttempts };
 
-    ghost wrote_in_part = { WroteLoadAttemptsInPart };
+    ghost stopped = { StoppedAttempts };
 
     ghost are_whole = { λ k. are_whole_ledgers k.opening k.clients.items };
 
@@ -110,18 +105,14 @@ impl<W: StampClock + Copy + Drop> Transcript<W> for AttemptRecorder<W> {
         load_record::are_whole_attempts(&recorders.opening, recorders.clients.as_slice())
     }
 
-    fn write<O: Write>(
-        load: &KeptLoad<'_, AttemptRecorder<W>>,
-        output: &mut O,
-    ) -> Result<(), StreamFault> {
-        let (blocks, kept) = (load.settings.blocks, &load.recorders);
-        write_attempts(
-            load.alloc,
-            blocks,
-            &kept.opening,
-            kept.clients.as_slice(),
-            output,
-        )
+    fn write<O: Write>(load: &KeptLoad<'_, AttemptRecorder<W>>, output: &mut O) -> u8 {
+        let Recorders { opening, clients } = &load.recorders;
+        let (blocks, clients) = (load.settings.blocks, clients.as_slice());
+        match write_attempts(load.alloc, blocks, opening, clients, output) {
+            Ok(true) => DONE,
+            Ok(false) => end_long_attempt(output),
+            Err(fault) => end_by(fault, output),
+        }
     }
 }
 
@@ -164,7 +155,9 @@ impl<'a, T: Threads + Wait + Clock + Sync + AllocGlobal> LoadRequest<'a, T> {
 
     /// Runs the load, writes the attempts of its calls, writes its two lines to `errors`, and
     /// returns the status. If there was no room for a call, for an attempt, or for the reads and
-    /// writes of an attempt, the load ends with the fault of refused memory.
+    /// writes of an attempt, the load ends with the fault of refused memory. If the judge of
+    /// opacity may not be able to read the line of an attempt, no attempt is written, and the load
+    /// ends with a fault of its own.
     pub(crate) fn trace<W: Write, E: Write + Send>(&self, output: &mut W, errors: &mut E) -> u8
         ensures { WritesAttempts result self.now.settings.now
             (W.contents output.old) (W.contents output.new) }
@@ -192,7 +185,7 @@ impl<'a, T: Threads + Wait + Clock + Sync + AllocGlobal> LoadRequest<'a, T> {
         requires number { IfOk recorders (λ k. vec_len k.clients ≡ self.now.settings.now.clients) }
         requires opening { IfOk recorders (λ k. K.notes k.opening ≡ Some []) }
         requires clients { IfOk recorders (λ k. All (λ x. K.notes x ≡ Some []) k.clients.items) }
-        ensures { EndsKept K.wrote K.wrote_in_part result self.now.settings.now
+        ensures { EndsLoad K.wrote K.stopped result self.now.settings.now
             (W.contents output.old) (W.contents output.new) }
     {
         if !self.settings.is_in_range() {
@@ -233,6 +226,6 @@ impl<'a, T: Threads + Wait + Clock + Sync + AllocGlobal> LoadRequest<'a, T> {
             settings,
             recorders,
         };
-        end_done(K::write(&load, output), output)
+        K::write(&load, output)
     }
 }

@@ -2,7 +2,8 @@
 
 ghost use Rattle.std.specs.Prelude.{◌≡◌, ◌≤◌, ◌↔◌};
 ghost use Rattle.vac_lines.specs.Writing.{AppendsPrefix};
-ghost use Rattle.cli_main.specs.Ending.{fault_line, unopened_line, load_fault_line};
+ghost use Rattle.cli_main.specs.Ending.{fault_line, unopened_line, long_attempt_line};
+ghost use Rattle.cli_main.specs.Ending.{load_fault_line};
 ghost use Rattle.cli_main.specs.Ending.{EndsDone, EndsJudged};
 
 use load_run::{LoadFault, Settings};
@@ -85,6 +86,16 @@ pub(crate) fn end_unopened<W: Write>(output: &mut W) -> u8
         unopened_line }
 {
     end_with(b"fault open\n", output)
+}
+
+/// Writes the last line of a load with an attempt that is too long to be written, and returns the
+/// status.
+pub(crate) fn end_long_attempt<W: Write>(output: &mut W) -> u8
+    ensures status { result ≡ 1 }
+    ensures line { AppendsPrefix (W.contents output.old) (W.contents output.new)
+        long_attempt_line }
+{
+    end_with(b"fault long-attempt\n", output)
 }
 
 /// Writes the last line of a load that met a fault, and returns the status. Settings that do not

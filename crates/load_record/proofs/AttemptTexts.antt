@@ -9,16 +9,18 @@ use Rattle.std.specs.Io.KnownBytes.{Appends}
 use Rattle.std.proofs.KnownBytes.{Appends-nil}
 use Rattle.vac_lines.specs.Writing.{AppendsPrefix}
 use Rattle.vac_streams.specs.Sent.{Sent}
-use Rattle.vac_streams.proofs.Texts.{sent_both, part_second, prefix_longer, prefix_is, none_written, sent_end}
-use Rattle.vac_streams.proofs.Texts.{sent_end_in_part}
+use Rattle.vac_streams.proofs.Texts.{sent_both, part_second, prefix_longer, prefix_is, none_written}
 use Rattle.load_record.specs.declared.lines.Line.{Line}
 use Rattle.vac_manager.specs.declared.note.TracedAttempt.{TracedAttempt}
 use Rattle.load_record.specs.Laying.{Lays}
 use Rattle.load_record.specs.Lines.{AttemptEntry, line_entry, line_text, lines_text}
 use Rattle.load_record.specs.AttemptOrder.{EntriesAreOrdered}
+use Rattle.tx_alloc.specs.Pool.{heap_words}
+use Rattle.load_record.specs.Entries.{AllFit}
 use Rattle.load_record.specs.Pages.{Page, attempt_entries_of, attempt_entries_from, are_told}
 use Rattle.load_record.specs.Text.{AreAttempts, WroteAttempts, WroteAttemptsPrefix}
 use Rattle.load_record.proofs.First.{AreStable, laid_first}
+use Rattle.load_record.proofs.Reading.{texts_read}
 
 -- the text of lines
 abbrev text_of : List Line → List ℕ
@@ -66,50 +68,39 @@ line_in_part lines place line low at held holds grown hand p q =
 
 module _ (blocks : ℕ) (pages : List Page) where
   -- the attempts that were laid, and then those of the clients, and all of them put in order
-  pub attempts : (laid laid_now : List TracedAttempt) (first all sorted now : List Line) → Lays blocks laid →
-      laid_now ≡ laid → map line_entry first ≡ attempt_entries_of 0 laid_now
+  pub attempts : (laid : List TracedAttempt) (first all sorted : List Line) → Lays blocks laid →
+      map line_entry first ≡ attempt_entries_of 0 laid
       → map line_entry all ≡ map line_entry first ++ attempt_entries_from 0 pages → are_told pages ≡ true →
-      IsPermutation all sorted → AreStable all sorted → EntriesAreOrdered (map line_entry sorted) → now ≡ sorted →
-      AreAttempts blocks pages (map line_entry now)
-  attempts laid laid_now first all sorted now lays same own more told moved stable order is =
+      IsPermutation all sorted → AreStable all sorted → EntriesAreOrdered (map line_entry sorted) →
+      AreAttempts blocks pages (map line_entry sorted)
+  attempts laid first all sorted lays own more told moved stable order =
       let parts : map line_entry all ≡ attempt_entries_of 0 laid ++ attempt_entries_from 0 pages =
-      more ∙ ap (λ t. t ++ attempt_entries_from 0 pages) (own ∙ ap (attempt_entries_of 0) same) in
+      more ∙ ap (λ t. t ++ attempt_entries_from 0 pages) own in
       let begins = laid_first laid (attempt_entries_from 0 pages) all sorted lays.before_all parts stable order in
       record {
         laid = laid;
         lays = lays;
         told = told;
         rest = begins.0;
-        first = ap (map line_entry) is ∙ begins.1;
-        each_once = subst (λ (l : List Line). IsPermutation (attempt_entries_of 0 laid ++ attempt_entries_from 0 pages)
-            (map line_entry l))
-            (sym is)
-            (subst (λ (l : List AttemptEntry). IsPermutation l (map line_entry sorted))
-            parts
-            (IsPermutation-map line_entry all sorted moved));
-        ordered = subst (λ (l : List Line). EntriesAreOrdered (map line_entry l)) (sym is) order;
+        first = begins.1;
+        each_once = subst (λ (l : List AttemptEntry). IsPermutation l (map line_entry sorted)) parts
+            (IsPermutation-map line_entry all sorted moved);
+        ordered = order;
       }
 
   module _ (lines : List Line) (are : AreAttempts blocks pages (map line_entry lines))
-      (held holds : Option (List ℕ)) where
-    pub wrote_all : (grown : Option (List ℕ)) (hand : List ℕ) → Sent held holds [] hand (text_of lines) →
-        Appends holds grown hand → WroteAttempts blocks pages held grown
-    wrote_all grown hand p w = record {
+      (fit : AllFit (heap_words blocks) (map line_entry lines)) (held grown : Option (List ℕ)) where
+    pub wrote_all : Appends held grown (text_of lines) → WroteAttempts blocks pages held grown
+    wrote_all w = record {
       all = map line_entry lines;
       attempts = are;
-      written = sent_end held holds grown hand (text_of lines) p w;
+      fits = fit;
+      read = texts_read (heap_words blocks) (map line_entry lines) fit;
+      written = w;
     }
 
-    pub wrote_part : AppendsPrefix held holds (text_of lines) → WroteAttemptsPrefix blocks pages held holds
-    wrote_part w = inr (record { all = map line_entry lines; attempts = are; written = w })
-
-    pub wrote_rest : (grown : Option (List ℕ)) (hand : List ℕ) → Sent held holds [] hand (text_of lines) →
-        AppendsPrefix holds grown hand → WroteAttemptsPrefix blocks pages held grown
-    wrote_rest grown hand p w = inr (record {
-      all = map line_entry lines;
-      attempts = are;
-      written = sent_end_in_part held holds grown hand (text_of lines) p w;
-    })
+    pub wrote_part : AppendsPrefix held grown (text_of lines) → WroteAttemptsPrefix blocks pages held grown
+    wrote_part w = inr (record { all = map line_entry lines; attempts = are; fits = fit; written = w })
 
   -- nothing was written
   pub wrote_nothing : (held : Option (List ℕ)) → WroteAttemptsPrefix blocks pages held held

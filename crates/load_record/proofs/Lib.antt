@@ -18,6 +18,7 @@ pub mod Reading
 pub mod Judging
 pub mod FewAccesses
 pub mod Serial
+pub mod ShortLines
 pub mod InPlace
 pub mod AttemptExchange
 pub mod Lengths

@@ -1,5 +1,6 @@
 -- The attempts of a load's text, as the judge of opacity reads them.
-use Rattle.std.specs.Prelude.{◌≤◌, ◌<◌, ◌+◌, ◌^◌, ℕ, All, List, map, length}
+use Rattle.std.specs.Prelude.{◌≤◌, ◌<◌, ◌+◌, ◌^◌, ◌&&◌, nat_le, nat_lt, ℕ, Bool, All, List, map, length}
+use Rattle.std.specs.List.{list_all}
 use Rattle.tx_observed.specs.declared.access.Access.{Access as MadeAccess}
 use Rattle.tx_observed.specs.declared.access.Access.TheVariants as made
 use Rattle.judge_time.specs.declared.span.Span.{Span}
@@ -9,6 +10,8 @@ use Rattle.judge_opacity.specs.declared.attempt.Access.TheVariants.{Read, Write}
 use Rattle.judge_opacity.specs.declared.attempt.TheConstants.{ATTEMPT_BYTES}
 use Rattle.judge_opacity.specs.declared.memory.TheConstants.{MOST_WORDS}
 use Rattle.judge_opacity.specs.Attempt.{Attempt}
+use Rattle.vac_manager.specs.declared.note.TracedAttempt.{TracedAttempt}
+use Rattle.load_record.specs.declared.fitting.TheConstants.{FITTING_ACCESSES}
 use Rattle.load_record.specs.Lines.{AttemptEntry, line_text}
 
 -- the access as the judge reads it: the number of a word is its address
@@ -57,12 +60,23 @@ pub record Fits (words : ℕ) (e : AttemptEntry) : Type 0 where
 abbrev pub AllFit : ℕ → List AttemptEntry → Type 0
 AllFit words entries = All (λ e. Fits words e) entries
 
--- the largest number of accesses with which every line fits, whatever its numbers are
-abbrev pub FITTING_ACCESSES : ℕ
-FITTING_ACCESSES = 2164800
-
--- an entry whose numbers fit, at no more words than the judge takes, fits if it has at most that
--- many accesses
+-- an entry whose numbers fit, at no more words than the judge takes, fits if it has at most
+-- 2,164,800 accesses
 abbrev pub FewAccessesFit : Type 0
 FewAccessesFit = (words : ℕ) (e : AttemptEntry) → words ≤ MOST_WORDS → HasNumbers words e →
     length e.attempt.accesses.items ≤ FITTING_ACCESSES → Fits words e
+
+-- the access is at one of the words
+abbrev pub is_at_word : ℕ → MadeAccess → Bool
+is_at_word words (made.Read addr value) = nat_lt addr.0 words
+is_at_word words (made.Write addr value) = nat_lt addr.0 words
+
+-- the attempt has at most 2,164,800 accesses, each at one of the words
+abbrev pub is_short : ℕ → TracedAttempt → Bool
+is_short words a =
+    nat_le (length a.accesses.items) FITTING_ACCESSES
+    && list_all (λ access. is_at_word words access) a.accesses.items
+
+-- the attempts of the entries have at most 2,164,800 accesses each, all of them at these words
+abbrev pub are_short : ℕ → List AttemptEntry → Bool
+are_short words entries = list_all (λ e. is_short words e.attempt) entries

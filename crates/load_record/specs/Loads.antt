@@ -76,6 +76,13 @@ pub record AbortsAndTimesAreRight (all : List AttemptEntry) : Type 0 where
   pub turns : TakeTurns span_of_entry all
   pub precedence : KeepPrecedence span_of_entry all
 
+-- the judge calls the text of the attempts opaque, at as many words as the heap has, if and only if
+-- the aborted attempts and the times are right
+abbrev pub JudgedByAbortsAndTimes : ℕ → List AttemptEntry → Type 0
+JudgedByAbortsAndTimes blocks all =
+    (is_opaque (finding_on (heap_words blocks) (lines_text all)) ≡ true)
+    ↔ AbortsAndTimesAreRight all
+
 -- if the completed calls of a load made a history, and the judge can read its attempts at the words
 -- of its heap, then their text is opaque for the judge if and only if the aborted attempts and the
 -- times are right
@@ -83,6 +90,4 @@ pub record AbortsAndTimesAreRight (all : List AttemptEntry) : Type 0 where
 abbrev pub LoadsAreJudgedByAbortsAndTimes : Type 0
 LoadsAreJudgedByAbortsAndTimes = (blocks : ℕ) (pages : List Page) (all : List AttemptEntry) →
     blocks ≤ MOST_BLOCKS → AreAttempts blocks pages all → AllFit (heap_words blocks) all →
-    MadeHistory blocks (calls_on pages) →
-    (is_opaque (finding_on (heap_words blocks) (lines_text all)) ≡ true)
-    ↔ AbortsAndTimesAreRight all
+    MadeHistory blocks (calls_on pages) → JudgedByAbortsAndTimes blocks all

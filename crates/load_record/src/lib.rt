@@ -3,6 +3,7 @@
 #![tactic(auto)]
 
 mod accesses;
+mod fitting;
 mod gathering;
 mod history;
 mod journal;
@@ -17,6 +18,7 @@ mod trail;
 mod watch;
 mod writing;
 
+pub use fitting::FITTING_ACCESSES;
 pub use history::{are_whole, write_history};
 pub use journal::{CallRecorder, stamp};
 pub use laws::{legal_up_to_precedence, ordered_calls_are_legal, texts_are_legal_up_to_precedence};

@@ -74,7 +74,8 @@ pub fn ordered_attempts_are_made_serially()
 /// committed attempts write an image and make the records of a history, the aborted ones read the
 /// image that the committed ones before them leave, and the attempts of each client are in turn.
 ///
-/// Not said: that a load's attempts meet these conditions.
+/// Not said: that the aborted attempts of a load read this image, or that the attempts of each of
+/// its clients are in turn.
 pub fn histories_are_opaque_up_to_precedence()
     ensures { HistoriesAreOpaqueUpToPrecedence }
 {}
@@ -86,7 +87,7 @@ pub fn histories_are_opaque_up_to_precedence()
 /// as the heap has.
 ///
 /// Not said: that the other attempts of a load made a serial history, read in place, are in turn,
-/// or fit.
+/// or fit. `write_attempts` writes only attempts that fit.
 pub fn attempts_of_a_load_begin_with_its_heap()
     ensures { LoadsBeginWithTheirHeap }
 {}
@@ -106,7 +107,8 @@ pub fn attempts_of_a_load_make_its_history()
 /// fit and the completed calls of the load made a history, as
 /// `attempts_of_a_load_make_its_history` asks.
 ///
-/// Not said: that a load's aborted attempts and times are right, or that its attempts fit.
+/// Not said: that a load's aborted attempts and times are right. `write_attempts` writes only
+/// attempts that fit, and whoever ran the load knows the history that its calls made.
 pub fn loads_are_judged_by_their_aborts_and_times()
     ensures { LoadsAreJudgedByAbortsAndTimes }
 {}

@@ -1,25 +1,31 @@
 //! The text of all attempts.
 
-ghost use Rattle.std.specs.Prelude.{◌≡◌, ◌⊎◌, ◌<◌, ◌^◌, ◌++◌, [], true, false, length, map, OnOk, OnErr, IfErr, IsErrOf};
+ghost use Rattle.std.specs.Prelude.{◌≡◌, ◌⊎◌, ◌<◌, ◌^◌, ◌++◌, [], ℕ, true, false, length, map};
+ghost use Rattle.std.specs.Prelude.{OnOk, OnErr, IfOk, IfErr, IsErrOf};
+ghost use Rattle.std.specs.Io.KnownBytes.{Appends};
 ghost use Rattle.std.specs.List.{list_all};
 ghost use Rattle.vac_lines.specs.Writing.{AppendsPrefix};
 ghost use Rattle.vac_model.specs.Ranges.{is_block_count};
 ghost use Rattle.vac_streams.specs.declared.fault.StreamFault.TheVariants.{Memory, Write};
 ghost use Rattle.vac_streams.specs.Sent.{Sent};
 ghost use Rattle.load_record.specs.Order.{rank_of};
+ghost use Rattle.load_record.specs.Laying.{Lays};
 ghost use Rattle.load_record.specs.Known.{is_whole_ledger, are_whole_ledgers};
 ghost use Rattle.load_record.specs.Lines.{line_entry, line_text, lines_text};
 ghost use Rattle.load_record.specs.Pages.{pages_of};
+ghost use Rattle.load_record.specs.Text.{AreAttempts, AreTooLong};
 ghost use Rattle.load_record.specs.Text.{WroteAttempts, WroteAttemptsPrefix};
 
+use crate::fitting::are_short_lines;
 use crate::gathering::{add_all, add_attempts};
 use crate::laying::lay;
 use crate::ledger::AttemptRecorder;
 use crate::lines::{Line, append_line};
 use crate::{StampClock, rank};
 use load_tasks::OPENING;
-use std::alloc::Global;
+use std::alloc::{AllocError, Global};
 use std::io::Write;
+use tx_alloc::place::{BLOCK_WORDS, FIRST_BLOCK};
 use vac_manager::TracedAttempt;
 use vac_streams::{StreamFault, send_chunk, send_rest};
 
@@ -94,11 +100,47 @@ pub fn are_whole_attempts<W: StampClock + Copy + Drop>(
     opening.is_whole() && all_whole(clients)
 }
 
+/// Sends lines, one after the other, and flushes the output.
+fn send_text<O: Write>(alloc: Global, lines: &[Line<'_>], output: &mut O) -> Result<(), StreamFault>
+    ensures ok { OnOk result (Appends (O.contents output.old) (O.contents output.new)
+        (lines_text (map line_entry lines.now))) }
+    ensures err { OnErr result (AppendsPrefix (O.contents output.old) (O.contents output.new)
+        (lines_text (map line_entry lines.now))) }
+    ensures fault { IfErr result (λ fault. (fault ≡ Memory) ⊎ (fault ≡ Write)) }
+{
+    let mut hand = Vec::new(alloc);
+    send_lines(output, &mut hand, lines)?;
+    send_rest(output, hand.as_slice())
+}
+
+/// Returns the lines of the attempts that write the initial words, and of the attempts of a load,
+/// sorted by commit position.
+fn sorted_lines<'a, W: StampClock + Copy + Drop>(
+    alloc: Global,
+    laid: &'a [TracedAttempt],
+    opening: &'a AttemptRecorder<W>,
+    clients: &'a [AttemptRecorder<W>],
+) -> Result<Vec<Line<'a>>, AllocError>
+    requires few { length clients.now < 2 ^ 32 }
+    ensures { (blocks : ℕ) → Lays blocks laid.now → IfOk result (λ lines.
+        AreAttempts blocks (pages_of opening.now clients.now) (map line_entry lines.items)) }
+{
+    let mut lines = Vec::new(alloc);
+    add_attempts(&mut lines, OPENING, laid)?;
+    add_all(&mut lines, opening, clients)?;
+    lines.sort_by_key(|line| key_of(line.attempt))?;
+    Ok(lines)
+}
+
 /// Writes the attempts of a load on a system with this number of blocks, one line each as
-/// `vacation opaque` reads them. The initial words come first, as attempts of client 0. They are
-/// followed by the attempts of the setup phase, as those of client 0, and of the clients, numbered
-/// from 1. The attempts are sorted by renewal, by version with the writer of a version before its
-/// readers, by begin, and by end.
+/// `vacation opaque` reads them at as many words as the heap has, and returns whether all of them
+/// can be read. The initial words come first, as attempts of client 0. They are followed by the
+/// attempts of the setup phase, as those of client 0, and of the clients, numbered from 1. The
+/// attempts are sorted by renewal, by version with the writer of a version before its readers, by
+/// begin, and by end.
+///
+/// Returns false, and writes nothing, if an attempt has more than 2,164,800 reads and writes, so
+/// that its line may be too long for the judge, or if one of them is at no word of the heap.
 ///
 /// Allocates a few words for each attempt, and memory for one chunk of text. After a fault, the
 /// output has nothing or a prefix of such a text. If an attempt recorder had no room for a call or
@@ -109,11 +151,15 @@ pub fn write_attempts<W: StampClock + Copy + Drop, O: Write>(
     opening: &AttemptRecorder<W>,
     clients: &[AttemptRecorder<W>],
     output: &mut O,
-) -> Result<(), StreamFault>
+) -> Result<bool, StreamFault>
     requires blocks { is_block_count blocks ≡ true }
     requires few { length clients.now < 2 ^ 32 }
-    ensures ok { OnOk result (WroteAttempts blocks (pages_of opening.now clients.now)
+    ensures ok { IfOk result (λ fit. fit ≡ true →
+        WroteAttempts blocks (pages_of opening.now clients.now)
         (O.contents output.old) (O.contents output.new)) }
+    ensures unfit { IfOk result (λ fit. fit ≡ false →
+        AreTooLong blocks (pages_of opening.now clients.now)
+        × (O.contents output.new ≡ O.contents output.old)) }
     ensures err { OnErr result (WroteAttemptsPrefix blocks (pages_of opening.now clients.now)
         (O.contents output.old) (O.contents output.new)) }
     ensures partial { are_whole_ledgers opening.now clients.now ≡ false →
@@ -124,11 +170,11 @@ pub fn write_attempts<W: StampClock + Copy + Drop, O: Write>(
         return Err(StreamFault::Memory);
     }
     let laid = lay(alloc, blocks)?;
-    let mut lines = Vec::new(alloc);
-    add_attempts(&mut lines, OPENING, laid.as_slice())?;
-    add_all(&mut lines, opening, clients)?;
-    lines.sort_by_key(|line| key_of(line.attempt))?;
-    let mut hand = Vec::new(alloc);
-    send_lines(output, &mut hand, lines.as_slice())?;
-    send_rest(output, hand.as_slice())
+    let lines = sorted_lines(alloc, laid.as_slice(), opening, clients)?;
+    let all = lines.as_slice();
+    if !are_short_lines(all, FIRST_BLOCK + BLOCK_WORDS * blocks) {
+        return Ok(false);
+    }
+    send_text(alloc, all, output)?;
+    Ok(true)
 }

@@ -72,6 +72,21 @@ fn attempts_of_one_question(rt: HostRuntime) {
     let clients = kept.clients.as_slice();
     assert_eq!(rt; clients.len(), 1);
     let mut out = Vec::new(rt.alloc());
-    let written = write_attempts(rt.alloc(), 4, &kept.opening, clients, &mut out).is_ok();
-    same(&rt, &(written, out.as_slice()), &(true, WANTS));
+    let written = write_attempts(rt.alloc(), 4, &kept.opening, clients, &mut out);
+    same(
+        &rt,
+        &(matches!(written, Ok(true)), out.as_slice()),
+        &(true, WANTS),
+    );
+}
+
+/// The heap of one block ends before word 24, which the second command writes.
+#[test]
+fn attempts_outside_of_the_heap(rt: HostRuntime) {
+    let kept = attempted(&rt);
+    let clients = kept.clients.as_slice();
+    let mut out = Vec::new(rt.alloc());
+    let written = write_attempts(rt.alloc(), 1, &kept.opening, clients, &mut out);
+    assert!(rt; matches!(written, Ok(false)));
+    assert_eq!(rt; out.len(), 0);
 }

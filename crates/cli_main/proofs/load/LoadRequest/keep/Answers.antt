@@ -1,7 +1,6 @@
 use Rattle.std.proofs.Common.{rules, ◌≡◌, ◌≤◌, true, length, vec_len, arith}
 use Rattle.load_tasks.specs.Setting.{is_settings}
 use Rattle.load_run.specs.declared.load.LoadFault.TheVariants as load
-use Rattle.cli_main.specs.Load.{StoppedKept}
 use Rattle.cli_main.proofs.Kept.{noted, same_clients}
 use Rattle.cli_main.proofs.LoadEnds.{ended_for_memory, ended_kept, ended_by_fault, few_clients}
 use Rattle.cli_main.proofs.Ledgers.{not_refused}
@@ -10,14 +9,14 @@ use Rattle.cli_main.proofs.load.LoadRequest.keep.Goals as goal
 pub returns-in_default : goal.returns-in_default
 returns-in_default g c =
     let e = c.end_load_by.ensures in
-    ended_for_memory g.K.Transcript.wrote (StoppedKept g.K.Transcript.wrote_in_part) c.args.self.now.settings.now
+    ended_for_memory g.K.Transcript.wrote g.K.Transcript.stopped c.args.self.now.settings.now
     (search rules) _ (g.W.Write.contents c.args.output.now) (g.W.Write.contents c.end_load_by.new.output)
     e.low e.high e.refused e.line
 
 pub returns-then-not-are_whole : goal.returns-then-not-are_whole
 returns-then-not-are_whole g c =
     let e = c.end_load_by-then-not-are_whole.ensures in
-    ended_for_memory g.K.Transcript.wrote (StoppedKept g.K.Transcript.wrote_in_part) c.args.self.now.settings.now
+    ended_for_memory g.K.Transcript.wrote g.K.Transcript.stopped c.args.self.now.settings.now
     (search rules) _ (g.W.Write.contents c.args.output.now)
     (g.W.Write.contents c.end_load_by-then-not-are_whole.new.output) e.low e.high e.refused e.line
 
@@ -41,10 +40,8 @@ write-requires g c =
 
 pub returns : goal.returns
 returns g c =
-    ended_kept g.K.Transcript.wrote g.K.Transcript.wrote_in_part c.args.self.now.settings.now
-    c.write.result c.end_done.result (g.W.Write.contents c.args.output.now)
-    (g.W.Write.contents c.write.new.output) (g.W.Write.contents c.end_done.new.output) (search rules)
-    c.write.ensures.ok c.write.ensures.err c.write.ensures.fault c.end_done.ensures
+    ended_kept g.K.Transcript.wrote g.K.Transcript.stopped c.args.self.now.settings.now c.write.result
+    (g.W.Write.contents c.args.output.now) (g.W.Write.contents c.write.new.output) (search rules) c.write.ensures
 
 pub returns-in-Err : goal.returns-in-Err
 returns-in-Err g c =
@@ -54,6 +51,6 @@ returns-in-Err g c =
     let is_not : c.in-Err.fault ≡ load.Arguments → ⊥ = not_refused s
     (vec_len c.in-Ok.empty.clients) c.in-Err.fault fits (rw c.in-Ok.is at c.requires.number)
     c.in-Err.ensures.arguments in
-    ended_by_fault g.K.Transcript.wrote (StoppedKept g.K.Transcript.wrote_in_part) s fits c.in-Err.fault
+    ended_by_fault g.K.Transcript.wrote g.K.Transcript.stopped s fits c.in-Err.fault
     c.end_load_by-in-Err.result (g.W.Write.contents c.args.output.now)
     (g.W.Write.contents c.end_load_by-in-Err.new.output) is_not c.in-Err.ensures.refused e.low e.high e.refused e.line
