@@ -85,6 +85,7 @@ fn attempts_of_one_question(rt: HostRuntime) {
 fn attempts_outside_of_the_heap(rt: HostRuntime) {
     let kept = attempted(&rt);
     let clients = kept.clients.as_slice();
+    assert_eq!(rt; clients.len(), 1);
     let mut out = Vec::new(rt.alloc());
     let written = write_attempts(rt.alloc(), 1, &kept.opening, clients, &mut out);
     assert!(rt; matches!(written, Ok(false)));
