@@ -34,6 +34,10 @@ pub struct Region<L: Law, A: Allocator = Global> {
     pub(crate) size: usize,
     pub(crate) last: Version,
     pub(crate) stripes: u32,
+    /// Number of lock words, as `stripes`. [`lock_of`](Region::lock_of) divides by this field and
+    /// compares with the other one: with a single field the compiler keeps the number in a register
+    /// over both, and a read takes an instruction more.
+    pub(crate) divisor: u32,
     /// Index of the first data word.
     pub(crate) cells: usize,
     /// Number of renewals so far.
@@ -41,6 +45,7 @@ pub struct Region<L: Law, A: Allocator = Global> {
 }
 
 impl<L: Law, A: Allocator> Model for Region<L, A> {
+    ghost use Rattle.std.specs.Prelude.{◌≡◌};
     ghost use Rattle.stm_region.specs.Shown.{RegionShown, region_of};
     ghost use Rattle.stm_region.specs.Layout.{IsLaid};
 
@@ -51,7 +56,8 @@ impl<L: Law, A: Allocator> Model for Region<L, A> {
 
     ghost invariant = { λ r.
         IsLaid r.table.shared.table_id.words r.table.shared.table_id.slots r.table.shared.key
-        r.size r.last r.stripes r.cells r.renewal };
+        r.size r.last r.stripes r.cells r.renewal
+        × (r.divisor ≡ r.stripes) };
 }
 
 impl<L: Law, A: Allocator> Region<L, A> {
@@ -66,6 +72,7 @@ impl<L: Law, A: Allocator> Region<L, A> {
             size: _,
             last: _,
             stripes: _,
+            divisor: _,
             cells: _,
             renewal: _,
         } = self;
@@ -122,6 +129,7 @@ impl<L: Law, A: Allocator + Copy> Region<L, A> {
             size: image.len(),
             last: as_version(last),
             stripes,
+            divisor: stripes,
             cells: first_cell(stripes),
             renewal: 0,
         };
@@ -162,11 +170,10 @@ impl<L: Law, A: Allocator> Region<L, A> {
         ensures value { result ≡ stripe_of self.now.stripes addr.0 }
         ensures range { result < self.now.stripes }
     {
-        let stripes = self.stripes;
-        if addr.0 < stripes {
+        if addr.0 < self.stripes {
             addr.0
         } else {
-            addr.0 % stripes
+            addr.0 % self.divisor
         }
     }
 

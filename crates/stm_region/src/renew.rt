@@ -117,6 +117,7 @@ impl<L: Law, A: Allocator + Copy> Region<L, A> {
             size: words.len(),
             last: as_version(last),
             stripes,
+            divisor: stripes,
             cells: first_cell(stripes),
             renewal,
         };

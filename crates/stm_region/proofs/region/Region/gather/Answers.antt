@@ -14,7 +14,7 @@ join_seat-requires g c =
     let now = ap (λ w. w.value) c.client.view_is in
     let theirs = ap (λ w. w.0) c.into_parts-seat.ensures.seat.1 in
     let it = joins_here g.L.Law.fits g.L.Law.lawful g.L.Law.keeps c.args.self.now _ key
-    (runs _ _ key _ _ _ _ c.self.invariant _ c.args.self.now c.self.view_is) _ c.client.inside.seat.me.0 _
+    (runs _ _ key _ _ _ _ c.self.invariant.0 _ c.args.self.now c.self.view_is) _ c.client.inside.seat.me.0 _
     c.into_parts-seat.result.0.me.0 (
       ap (λ w. w.is_gathered) now ∙ c.requires.free_handed.0.0,
       ap (λ w. w.attempt.held) now ∙ c.requires.free_handed.0.1,

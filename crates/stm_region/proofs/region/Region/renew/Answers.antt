@@ -8,9 +8,9 @@ pub of_words-requires : goal.of_words-requires
 of_words-requires g c =
     let may : MayRenew c.args.self.renewal c.args.last c.args.client.value.grants = search rules in
     let stripes = ap (λ w. w.stripes) c.self.view_is in
-    let renewal = sym c.self.invariant.counted ∙ ap (λ w. w.renewal) c.self.view_is in
+    let renewal = sym c.self.invariant.0.counted ∙ ap (λ w. w.renewal) c.self.view_is in
     let value = ap (λ w. w.value) c.client.view_is in
-    let some = c.self.invariant.some in
+    let some = c.self.invariant.0.some in
     let laid = c.in-Ok-lay_out.ensures ∙ (λ i. replicate (first_cell (stripes i)) 0 ++ c.as_slice.ensures.value i) in
     rw (c.as_slice-2.ensures.value, c.of.ensures, c.of-first.ensures, c.of-start.ensures, stripes, renewal, value)
     (renews_on g.L.Law.fits g.L.Law.lawful c.args.self c.args.client.value c.take_out-version.new.words.items

@@ -8,7 +8,7 @@ pub returns-clause-ends : goal.returns-clause-ends
 returns-clause-ends g c =
     let v = c.args.client.value in
     let stripes = ap (λ w. w.stripes) c.self.view_is in
-    let behind = c.self.invariant.behind in
+    let behind = c.self.invariant.0.behind in
     ends_with g.L.Law.fits g.L.Law.lawful c.args.self _ c.into_table-table.ensures.key _ _ v
     (ap (λ w. w.0) c.into_parts-seat.ensures.seat.1) c.requires.free_handed c.requires.all _ _
     c.close_with-closed.ensures.values.2 _ _

@@ -13,7 +13,7 @@ prove-unreachable-requires g c =
     let r = c.args.self.now in
     let next = (can_act (stripe_of r.stripes) g.L.Law.lawful (bounds r) c.args.client.now.value.attempt
     (validate c.args.lock) c.requires.allowed.1).2 in
-    let some = c.self.invariant.some in
+    let some = c.self.invariant.0.some in
     let same : c.self.inside.stripes ≡ r.stripes = ap (λ (x : RegionShown). x.stripes) c.self.view_is in
     let past = c.if-prove.true in
     let is : next.0 % r.stripes ≡ c.args.lock = next.3 in omega arith
