@@ -14,13 +14,14 @@ use Rattle.stm_attempt.specs.declared.conflict.Conflict.{Conflict}
 use Rattle.stm_attempt.specs.declared.conflict.Stop.{Stop}
 use Rattle.stm_attempt.specs.declared.conflict.Stop.TheVariants as stop
 use Rattle.stm_object.specs.declared.place.CommitPosition.{CommitPosition}
-use Rattle.stm_object.specs.Object.{Specification, Does}
+use Rattle.stm_object.specs.Object.{Specification, IsFitting, Does}
 use Rattle.stm_object.specs.History.{AddsAt, WritesOnlyChanges, RecordsEntry, WasInOrder, IsAlone, IsNoConflict}
 use Rattle.stm_object.specs.History.{WasRead}
 use Rattle.stm_object.specs.History.{ConflictWasShown, AttemptedOnce, LeadsOn, IsNear, IsUnplaced}
 use Rattle.stm_object.specs.History.{WouldWriteEntry, IsStopOfEntry, AbortedTimes, met_in, AreTries, HasCalledAt}
 use Rattle.stm_object.specs.Tracing.{Trace, HasTracedOne, conflict_in, tally_with, HasTallied}
 use Rattle.stm_object.proofs.Histories.{leads}
+use Rattle.stm_object.proofs.Tracing.{IsLater}
 
 -- a read showed the conflict that the attempt kept
 pub shown_by_read : (region region' : RegionShown) (conflict : Conflict) (v v' : Client) → region' ≡ region
@@ -96,9 +97,31 @@ pub record Made {E A X F T : Type 0} (o : Specification E) (region : RegionShown
     (x x' : X) : Type 0 where
   pub own : c'.table ≡ c.table
   pub tried : AttemptedOnce o region entry changes reads result c.value c'.value
-  pub traced : HasTracedOne result c.value c'.value (ended x) (ended x')
+  pub traced : HasTracedOne (IsFitting o) region result c.value c'.value (ended x) (ended x')
   pub frame_is : frame x' ≡ frame x
   pub tallied : tally x' ≡ more (conflict_in result) (tally x)
+
+-- the last of a list
+abbrev last_or : {X : Type 0} → X → List X → X
+last_or d [] = d
+last_or d (x ∷ xs) = last_or x xs
+
+last_is : {X : Type 0} (d : X) (xs : List X) (x : X) → last_or d (xs ++ (x ∷ [])) ≡ x
+last_is d [] x = refl
+last_is d (y ∷ xs) x = last_is y xs x
+
+-- the attempt that made the added record is traced at a version that the client knew before, or at a later one
+pub is_later : {E A : Type 0} (o : Specification E) (region : RegionShown) (entry : A → E) (w w' : Client)
+    (result : Result (A × CommitPosition) Stop) → RecordsEntry o region entry result w w' → IsLater result w w'
+is_later o region entry w w' (Ok a) h = λ t is.
+    let same : h.adds.made ≡ is.added =
+    sym (last_is h.adds.made w.records h.adds.made)
+    ∙ (ap (λ (l : List Record). last_or h.adds.made l) (sym h.adds.records ∙ is.records)
+    ∙ last_is h.adds.made w.records is.added) in
+    let at : t.place.version ≡ h.adds.made.version =
+    ap (λ (p : CommitPosition). p.version) is.is.place ∙ ap (λ (r : Record). r.version) (sym same) in
+    let later = h.adds.later in omega (arith, later, at)
+is_later o region entry w w' (Err e) h = tt
 
 -- another attempt follows a conflict alone, and only if some attempt is left
 pub met_conflict : {A : Type 0} (left : ℕ) (result : Result A Stop)

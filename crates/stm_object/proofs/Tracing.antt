@@ -1,6 +1,7 @@
 -- What is traced of attempts.
-use Rattle.std.proofs.Common.{◌≡◌, ℕ, ◌+◌, Bool, true, false, List, [], ◌∷◌, ◌++◌, length, Option, Some, Result, Ok}
-use Rattle.std.proofs.Common.{Err, refl, sym, ap, subst, ◌∙◌, append_assoc, append-nil, length-append, arith}
+use Rattle.std.proofs.Common.{◌≡◌, ◌≤◌, ℕ, ◌+◌, Bool, true, false, List, [], ◌∷◌, ◌++◌, length, Option, Some, Result}
+use Rattle.std.proofs.Common.{Ok}
+use Rattle.std.proofs.Common.{Err, IfOk, refl, sym, ap, subst, ◌∙◌, append_assoc, append-nil, length-append, arith}
 use Rattle.std.specs.FinMap.{entries, empty}
 use Rattle.tx_memory.specs.Pairs.{map_of}
 use Rattle.tx_memory.specs.View.{Words}
@@ -9,10 +10,12 @@ use Rattle.tx_observed.specs.Accesses.{IsTracked, AreOf}
 use Rattle.stm_core.specs.Client.{Client, Record}
 use Rattle.stm_logs.specs.Log.{LogValue, empty_log, log_pairs}
 use Rattle.stm_region.specs.Shown.{RegionShown, ClientShown}
-use Rattle.stm_attempt.specs.Committing.{HasCommitted, commit_record}
-use Rattle.stm_attempt.specs.Meaning.{memory_of, Origin, origin_of}
+use Rattle.stm_attempt.specs.Committing.{HasCommitted, HasStopped, commit_record}
+use Rattle.stm_attempt.specs.declared.conflict.Stop.{Stop}
+use Rattle.stm_region.specs.Findings.{StandsOn}
+use Rattle.stm_attempt.specs.Meaning.{memory_of, IsStanding, Origin, origin_of}
 use Rattle.stm_object.specs.Tracing.{Trace, HasNoAccess, AppendsTrace, IsOfAdded, IsOfEnd, AreAborted, AreOfEnd}
-use Rattle.stm_object.specs.Tracing.{HasTraced}
+use Rattle.stm_object.specs.Tracing.{HasTraced, IsReaderAt, IsTraceOfAborted, IsNextAborted}
 use Rattle.stm_object.specs.declared.place.CommitPosition.{CommitPosition}
 use Rattle.stm_object.specs.Places.{place_of}
 use Rattle.stm_object.specs.Tracing.{HasTracedCommit, HasTracedAbort, HasTracedOne}
@@ -107,55 +110,145 @@ pub one_committed : {A X : Type 0} (a : A) (place : CommitPosition) (accesses : 
     (version : ℕ) (v w v' : Client) → HasCommitted region tag pairs u w version → v' ≡ w → before ≡ first →
     HasTracedCommit place accesses before after →
     ((all : List Access) → accesses ≡ Some all → IsOfAdded v w
-    (record { commits = true; place = place; accesses = all })) → HasTracedOne {A = A} {X = X} (Ok a) v v' first after
-one_committed a place accesses first before after region tag pairs u version v w v' done f e told was = record {
-  one = subst (λ (b : Option (List Trace)). AppendsTrace (λ t. IsOfAdded v v' t) b after) e
-      (subst (λ (x : Client). AppendsTrace (λ t. IsOfAdded v x t) before after) (sym f)
-      (more_committed place accesses before after v w told was));
+    (record { commits = true; place = place; accesses = all })) →
+    (fits : List ℕ → Type 0) (here : RegionShown) → HasTracedOne fits here {A = A} {X = X} (Ok a) v v' first after
+one_committed a place accesses first before after region tag pairs u version v w v' done f e told was fits here =
+    record {
+      one = subst (λ (b : Option (List Trace)). AppendsTrace (λ t. IsOfAdded v v' t) b after) e
+          (subst (λ (x : Client). AppendsTrace (λ t. IsOfAdded v x t) before after) (sym f)
+          (more_committed place accesses before after v w told was));
+    }
+
+-- some image has the reads of an attempt that has ended
+stood : (fits : List ℕ → Type 0) (in_use : Bool) (region here : RegionShown) (v last : Client) (size : ℕ)
+    (reads : List (ℕ × ℕ)) → in_use ≡ true → IsStanding in_use region v size reads → ∥ StandsOn fits size reads ∥₁ →
+    region ≡ here → last.attempt.reads ≡ v.attempt.reads → ∥ StandsOn fits here.size last.attempt.reads ∥₁
+stood fits in_use region here v last size reads runs same stands at left =
+    let s = same runs in
+    subst (λ (n : ℕ). ∥ StandsOn fits n last.attempt.reads ∥₁) (s.0 ∙ ap (λ (r : RegionShown). r.size) at)
+    (subst (λ (rs : List (ℕ × ℕ)). ∥ StandsOn fits size rs ∥₁) (s.1 ∙ sym left) stands)
+
+-- the trace of an attempt that aborted, at a position that is known
+pub abandoned : (fits : List ℕ → Type 0) (in_use in_use' : Bool) (region region' here : RegionShown) (c c' l l' : ℕ)
+    (v v' : ClientShown) (w : LogValue) (accesses : Option (List Access)) (begun position : Option CommitPosition)
+    (renewal version size : ℕ) (reads : List (ℕ × ℕ)) (last : Client) → in_use ≡ true →
+    origin_of in_use' region' c' l' v' ≡ origin_of in_use region c l v →
+    IsTracked accesses (memory_of in_use' region' fits v'.value w).reads
+    (memory_of in_use' region' fits v'.value w).writes →
+    last.attempt.reads ≡ v'.value.attempt.reads → renewal ≡ here.renewal → version ≡ last.attempt.rv →
+    IsReaderAt renewal version begun → position ≡ begun → region' ≡ here →
+    IsStanding in_use' region' v'.value size reads →
+    ∥ StandsOn fits size reads ∥₁ →
+    (place : CommitPosition) (all : List Access) → position ≡ Some place → accesses ≡ Some all →
+    IsTraceOfAborted fits here last (record { commits = false; place = place; accesses = all })
+abandoned fits in_use in_use' region region' here c c' l l' v v' w accesses begun position renewal version size reads
+    last u o tracked left of_renewal of_version reader kept at_here standing stands place all at is =
+    let h = tells fits in_use in_use' region region' c c' l l' v v' w accesses all u o tracked is in
+    record {
+      aborts = refl;
+      place = rw (sym of_renewal, sym of_version) (reader place (sym kept ∙ at));
+      reads = ap (λ (rs : List (ℕ × ℕ)). map_of rs) left ∙ h.0;
+      right = h.2;
+      stands = stood fits in_use' region' here v'.value last size reads (ap (λ (x : Origin). x.in_use) o ∙ u) standing
+          stands at_here left;
+    }
+
+-- the trace of an attempt whose commit stopped
+pub abandoned_commit : (fits : List ℕ → Type 0) (in_use in_use' : Bool) (region region' here : RegionShown)
+    (c c' l l' : ℕ)
+    (v v' : ClientShown) (w : LogValue) (accesses : Option (List Access)) (begun position : Option CommitPosition)
+    (renewal version size : ℕ) (reads : List (ℕ × ℕ)) (log : LogValue) (stop : Stop)
+    (last : Client) → HasStopped region' log stop v'.value last → in_use ≡ true →
+    origin_of in_use' region' c' l' v' ≡ origin_of in_use region c l v →
+    IsTracked accesses (memory_of in_use' region' fits v'.value w).reads
+    (memory_of in_use' region' fits v'.value w).writes →
+    renewal ≡ here.renewal → version ≡ last.attempt.rv →
+    IsReaderAt renewal version begun → position ≡ begun → region' ≡ here →
+    IsStanding in_use' region' v'.value size reads →
+    ∥ StandsOn fits size reads ∥₁ →
+    (place : CommitPosition) (all : List Access) → position ≡ Some place → accesses ≡ Some all →
+    IsTraceOfAborted fits here last (record { commits = false; place = place; accesses = all })
+abandoned_commit fits in_use in_use' region region' here c c' l l' v v' w accesses begun position renewal version size
+    reads
+    log stop last h u o tracked =
+    abandoned fits in_use in_use' region region' here c c' l l' v v' w accesses begun position renewal version size
+    reads last
+    u o tracked h.same.reads
+
+-- an attempt that aborted is one more
+pub one_aborted : {A X : Type 0} (why : X) (fits : List ℕ → Type 0) (here : RegionShown)
+    (accesses : Option (List Access)) (position : Option CommitPosition) (first before after : Option (List Trace))
+    (v w last : Client) → ((place : CommitPosition) (all : List Access) → position ≡ Some place → accesses ≡ Some all →
+    IsTraceOfAborted fits here w (record { commits = false; place = place; accesses = all })) → last ≡ w →
+    before ≡ first → HasTracedAbort position accesses before after →
+    last.attempt.number ≡ v.attempt.number + 1 → v.floor ≤ last.attempt.rv → last.attempt.rv ≤ last.floor →
+    HasTracedOne fits here {A = A} {X = X} (Err why) v last first after
+one_aborted why fits here accesses position first before after v w last was f e told next later known = record {
+  one = λ all is.
+      let o = told all is in
+      let h = subst (λ (x : Client). IsTraceOfAborted fits here x
+      (record { commits = false; place = o.1.place; accesses = o.1.accesses })) (sym f)
+      (was o.1.place o.1.accesses o.4.1 o.4.2) in (
+        o.0,
+        o.1,
+        sym e ∙ o.2,
+        o.3,
+        record {
+          next = next;
+          later = later;
+          known = known;
+          is = record { aborts = o.4.0; place = h.place; reads = h.reads; right = h.right; stands = h.stands };
+        },
+      );
 }
 
--- so is one that was given up
-pub more_given_up : (accesses : Option (List Access)) (before after : Option (List Trace)) →
-    HasTracedAbort accesses before after → AppendsTrace (λ t. t.commits ≡ false) before after
-more_given_up accesses before after told = λ all is.
-    let o = told all is in (o.0, o.1, o.2, o.3, o.4.0)
+module _ (fits : List ℕ → Type 0) (region : RegionShown) where
+  given_up_more : (v : Client) (ts : List Trace) (w w' : Client) (t : Trace) → AreAborted fits region v ts w →
+      IsNextAborted fits region w w' t → AreAborted fits region v (ts ++ (t ∷ [])) w'
+  given_up_more v [] w w' t e n = (w', subst (λ (x : Client). IsNextAborted fits region x w' t) e n, refl)
+  given_up_more v (x ∷ ts) w w' t h n = (h.0, h.1, given_up_more h.0 ts w w' t h.2 n)
 
-given_up_more : (ts : List Trace) (t : Trace) → AreAborted ts → t.commits ≡ false → AreAborted (ts ++ (t ∷ []))
-given_up_more [] t g e = (e, tt)
-given_up_more (x ∷ ts) t g e = (g.0, given_up_more ts t g.1 e)
+-- the record of an attempt that was answered is at a version that the client knew before, or at a later one
+abbrev pub IsLater : {A E : Type 0} → Result A E → Client → Client → Type 0
+IsLater end w w' = IfOk end (λ _. (t : Trace) → IsOfAdded w w' t → w.floor ≤ t.place.version)
 
-of_end : {A E : Type 0} (end : Result A E) (v w w' : Client) (before : List Trace) (t : Trace) →
-    w.records ≡ v.records → AreAborted before → IsOfEnd end w w' t → AreOfEnd end v w' (before ++ (t ∷ []))
-of_end (Ok a) v w w' before t same g is = (
+of_end : (fits : List ℕ → Type 0) (region : RegionShown) {A E : Type 0} (end : Result A E) (v w w' : Client)
+    (before : List Trace) (t : Trace) → w.records ≡ v.records → w'.attempt.number ≡ w.attempt.number + 1 →
+    IsLater end w w' → AreAborted fits region v before w → IsOfEnd fits region end w w' t →
+    AreOfEnd fits region end v w' (before ++ (t ∷ []))
+of_end fits region (Ok a) v w w' before t same next later g is = (
   before,
   t,
   refl,
-  g,
+  (w, g, later t is, next),
   record {
     added = is.added;
     records = is.records ∙ ap (λ (rs : List Record). rs ++ (is.added ∷ [])) same;
     is = is.is;
   },
 )
-of_end (Err e) v w w' before t same g is = given_up_more before t g is
+of_end fits region (Err e) v w w' before t same next later g is = given_up_more fits region v before w w' t g is
 
 -- these attempts were made, and all of them given up
-abbrev pub AllGivenUp : Client → Client → Option (List Trace) → Option (List Trace) → Type 0
-AllGivenUp v w before now = (all : List Trace) → now ≡ Some all →
+abbrev pub AllGivenUp : (List ℕ → Type 0) → RegionShown → Client → Client → Option (List Trace) → Option (List Trace)
+    → Type 0
+AllGivenUp fits region v w before now = (all : List Trace) → now ≡ Some all →
     (earlier : List Trace) × (more : List Trace) × (before ≡ Some earlier)
-    × (all ≡ earlier ++ more) × AreAborted more
+    × (all ≡ earlier ++ more) × AreAborted fits region v more w
     × (v.attempt.number + length more ≡ w.attempt.number)
 
-pub none_given_up : (v : Client) (before : Option (List Trace)) → AllGivenUp v v before before
-none_given_up v before = λ all is. (all, [], is, sym (append-nil all), tt, omega arith)
+pub none_given_up : (fits : List ℕ → Type 0) (region : RegionShown) (v : Client) (before : Option (List Trace)) →
+    AllGivenUp fits region v v before before
+none_given_up fits region v before = λ all is. (all, [], is, sym (append-nil all), refl, omega arith)
 
-more_of_end : {A E : Type 0} (end : Result A E) (v w w' : Client) (a b c : Option (List Trace)) →
-    AllGivenUp v w a b → AppendsTrace (IsOfEnd end w w') b c → w'.attempt.number ≡ w.attempt.number + 1 →
-    w.records ≡ v.records → (all : List Trace) → c ≡ Some all →
+more_of_end : (fits : List ℕ → Type 0) (region : RegionShown) {A E : Type 0} (end : Result A E) (v w w' : Client)
+    (a b c : Option (List Trace)) → AllGivenUp fits region v w a b →
+    AppendsTrace (IsOfEnd fits region end w w') b c → w'.attempt.number ≡ w.attempt.number + 1 →
+    w.records ≡ v.records → IsLater end w w' → (all : List Trace) → c ≡ Some all →
     (earlier : List Trace) × (more : List Trace) × (a ≡ Some earlier)
-    × (all ≡ earlier ++ more) × AreOfEnd end v w' more
+    × (all ≡ earlier ++ more) × AreOfEnd fits region end v w' more
     × (v.attempt.number + length more ≡ w'.attempt.number)
-more_of_end end v w w' a b c h one next same all is =
+more_of_end fits region end v w w' a b c h one next same later all is =
     let o = one all is in
     let t = h o.0 o.2 in
     let n = t.5 in
@@ -165,22 +258,23 @@ more_of_end end v w w' a b c h one next same all is =
       t.2,
       o.3 ∙ (ap (λ (l : List Trace). l ++ (o.1 ∷ [])) t.3 ∙ append_assoc t.0 t.1
           (o.1 ∷ [])),
-      of_end end v w w' t.1 o.1 same t.4 o.4,
+      of_end fits region end v w w' t.1 o.1 same next later t.4 o.4,
       omega (arith, n, long, next),
     )
 
 -- one attempt more, the last one, after others that were given up
-pub traced_last : {A E : Type 0} (answer end : Result A E) (v w w' : Client) (a b c : Option (List Trace)) →
-    answer ≡ end → AllGivenUp v w a b → AppendsTrace (IsOfEnd end w w') b c → w'.attempt.number ≡ w.attempt.number + 1 →
-    w.records ≡ v.records → HasTraced answer v w' a c
-traced_last answer end v w w' a b c is h one next same =
-    rw is (record { each = more_of_end end v w w' a b c h one next same })
+pub traced_last : (fits : List ℕ → Type 0) (region : RegionShown) {A E : Type 0} (answer end : Result A E)
+    (v w w' : Client) (a b c : Option (List Trace)) → answer ≡ end → AllGivenUp fits region v w a b →
+    AppendsTrace (IsOfEnd fits region end w w') b c → w'.attempt.number ≡ w.attempt.number + 1 →
+    w.records ≡ v.records → IsLater end w w' → HasTraced fits region answer v w' a c
+traced_last fits region answer end v w w' a b c is h one next same later =
+    rw is (record { each = more_of_end fits region end v w w' a b c h one next same later })
 
 -- the next attempt was given up too
-pub traced_next : {A E : Type 0} (end : Result A E) (why : E) (v w w' : Client) (a b c : Option (List Trace)) →
-    end ≡ Err why → AllGivenUp v w a b → AppendsTrace (IsOfEnd end w w') b c →
-    w'.attempt.number ≡ w.attempt.number + 1 → w.records ≡ v.records → AllGivenUp v w' a c
-traced_next {A = A} end why v w w' a b c is h one next same =
-    more_of_end {A = A} (Err why) v w w' a b c h (subst (λ (r : Result A _). AppendsTrace (IsOfEnd r w w') b c) is
-    one) next
-    same
+pub traced_next : (fits : List ℕ → Type 0) (region : RegionShown) {A E : Type 0} (end : Result A E) (why : E)
+    (v w w' : Client) (a b c : Option (List Trace)) → end ≡ Err why → AllGivenUp fits region v w a b →
+    AppendsTrace (IsOfEnd fits region end w w') b c → w'.attempt.number ≡ w.attempt.number + 1 →
+    w.records ≡ v.records → AllGivenUp fits region v w' a c
+traced_next fits region {A = A} end why v w w' a b c is h one next same =
+    more_of_end fits region {A = A} (Err why) v w w' a b c h
+    (subst (λ (r : Result A _). AppendsTrace (IsOfEnd fits region r w w') b c) is one) next same tt

@@ -1,16 +1,18 @@
 -- Traces of the attempts of a call.
-use Rattle.std.specs.Prelude.{◌≡◌, ℕ, ◌+◌, Bool, true, false, List, [], ◌∷◌, ◌++◌, length}
+use Rattle.std.specs.Prelude.{◌≡◌, ◌≤◌, ℕ, ◌+◌, Bool, true, false, List, [], ◌∷◌, ◌++◌, length}
 use Rattle.std.specs.Prelude.{Option, Some, None, Result, Ok, Err}
 use Rattle.std.specs.FinMap.{entries, empty}
 use Rattle.tx_memory.specs.Pairs.{map_of}
 use Rattle.tx_observed.specs.declared.access.Access.{Access}
 use Rattle.tx_observed.specs.Accesses.{reads_behind, writes_behind, are_right}
 use Rattle.stm_core.specs.Client.{Client, Record}
+use Rattle.stm_region.specs.Shown.{RegionShown}
+use Rattle.stm_region.specs.Findings.{StandsOn}
 use Rattle.stm_attempt.specs.declared.conflict.Conflict.{Conflict as ConflictMet}
 use Rattle.stm_attempt.specs.declared.conflict.Stop.{Stop}
 use Rattle.stm_attempt.specs.declared.conflict.Stop.TheVariants.{Memory, Conflict, Spent}
 use Rattle.stm_object.specs.declared.place.CommitPosition.{CommitPosition}
-use Rattle.stm_object.specs.Places.{place_of}
+use Rattle.stm_object.specs.Places.{place_of, reader_at}
 use Rattle.stm_object.specs.History.{met_in, AreTries}
 
 -- an attempt that has ended: whether it committed; the commit position of its record, or of a
@@ -37,12 +39,16 @@ abbrev pub HasTracedCommit : CommitPosition → Option (List Access) → Option 
 HasTracedCommit place accesses before after = AppendsTrace (λ t. (t.commits ≡ true)
     × (t.place ≡ place) × (accesses ≡ Some t.accesses)) before after
 
--- an attempt with these accesses has aborted
--- Not said: the position at which the attempt is traced.
-abbrev pub HasTracedAbort : Option (List Access) → Option (List Trace) → Option (List Trace) →
-    Type 0
-HasTracedAbort accesses before after =
-    AppendsTrace (λ t. (t.commits ≡ false) × (accesses ≡ Some t.accesses)) before after
+-- the position, if it is known, is that of a reader at this renewal and this read version
+abbrev pub IsReaderAt : ℕ → ℕ → Option CommitPosition → Type 0
+IsReaderAt renewal version position = (place : CommitPosition) → position ≡ Some place →
+    place ≡ reader_at renewal version
+
+-- an attempt with these accesses has aborted, and is traced at this position
+abbrev pub HasTracedAbort : Option CommitPosition → Option (List Access) → Option (List Trace)
+    → Option (List Trace) → Type 0
+HasTracedAbort position accesses before after = AppendsTrace (λ t. (t.commits ≡ false)
+    × (position ≡ Some t.place) × (accesses ≡ Some t.accesses)) before after
 
 -- the attempt made this record: it committed, it has the record's commit position, its reads of
 -- words before it wrote them are the record's reads, and its last writes are the record's writes;
@@ -60,40 +66,63 @@ pub record IsOfAdded (v v' : Client) (t : Trace) : Type 0 where
   pub records : v'.records ≡ v.records ++ (added ∷ [])
   pub is : IsTraceOf t added
 
--- one attempt with this result is traced: with an answer it committed and made the added record,
--- otherwise it aborted
-abbrev pub IsOfEnd : {A X : Type 0} → Result A X → Client → Client → Trace → Type 0
-IsOfEnd (Ok a) v v' t = IsOfAdded v v' t
-IsOfEnd (Err e) v v' t = t.commits ≡ false
+-- the attempt that left its client with this value aborted, and this is its trace: it has the
+-- position of a reader at the attempt's renewal and read version; its reads of words before it
+-- wrote them are the attempt's reads, and some fitting image of the region's size agrees with these
+-- reads; and each of its reads gives what the attempt wrote or read at the address before
+-- Not said: anything of its writes: their number, addresses and values.
+pub record IsTraceOfAborted (fits : List ℕ → Type 0) (region : RegionShown) (v : Client)
+    (t : Trace) : Type 0 where
+  pub aborts : t.commits ≡ false
+  pub place : t.place ≡ reader_at region.renewal v.attempt.rv
+  pub reads : map_of v.attempt.reads ≡ reads_behind empty empty t.accesses
+  pub right : are_right empty empty t.accesses ≡ true
+  pub stands : ∥ StandsOn fits region.size v.attempt.reads ∥₁
 
--- one attempt with this result is traced after the others
-pub record HasTracedOne {A X : Type 0} (result : Result A X) (v v' : Client)
-    (before after : Option (List Trace)) : Type 0 where
-  pub one : AppendsTrace (IsOfEnd result v v') before after
+module _ (fits : List ℕ → Type 0) (region : RegionShown) where
+  -- the client's next attempt aborted, and this is its trace. The attempt's read version is at
+  -- least the version that the client knew before, and at most the version that it knows now
+  pub record IsNextAborted (v v' : Client) (t : Trace) : Type 0 where
+    pub next : v'.attempt.number ≡ v.attempt.number + 1
+    pub later : v.floor ≤ v'.attempt.rv
+    pub known : v'.attempt.rv ≤ v'.floor
+    pub is : IsTraceOfAborted fits region v' t
 
--- all of these attempts aborted
-abbrev pub AreAborted : List Trace → Type 0
-AreAborted [] = Unit {0}
-AreAborted (t ∷ traces) = (t.commits ≡ false) × AreAborted traces
+  -- one attempt with this result is traced: with an answer it committed and made the added record,
+  -- otherwise it aborted
+  abbrev pub IsOfEnd : {A X : Type 0} → Result A X → Client → Client → Trace → Type 0
+  IsOfEnd (Ok a) v v' t = IsOfAdded v v' t
+  IsOfEnd (Err e) v v' t = IsNextAborted v v' t
 
--- the attempts of a call with this result: all aborted, except that with an answer the last one
--- made the added record
-abbrev pub AreOfEnd : {A X : Type 0} → Result A X → Client → Client → List Trace → Type 0
-AreOfEnd (Ok a) v v' traces = (before : List Trace) × (last : Trace)
-    × (traces ≡ before ++ (last ∷ [])) × AreAborted before × IsOfAdded v v' last
-AreOfEnd (Err e) v v' traces = AreAborted traces
+  -- one attempt with this result is traced after the others
+  pub record HasTracedOne {A X : Type 0} (result : Result A X) (v v' : Client)
+      (before after : Option (List Trace)) : Type 0 where
+    pub one : AppendsTrace (IsOfEnd result v v') before after
 
--- the attempts of a call with this result are traced after the others: each attempt of the call,
--- once
--- Not said: anything if nothing is traced, or if there was no room for all attempts. For an
--- aborted attempt: its reads and writes, which no call reports. For each attempt: that the renewal
--- and the read version reported to the tracer, and so the position, are those of the attempt.
-pub record HasTraced {A X : Type 0} (result : Result A X) (v v' : Client)
-    (before after : Option (List Trace)) : Type 0 where
-  pub each : (all : List Trace) → after ≡ Some all →
-      (earlier : List Trace) × (more : List Trace) × (before ≡ Some earlier)
-      × (all ≡ earlier ++ more) × AreOfEnd result v v' more
-      × (v.attempt.number + length more ≡ v'.attempt.number)
+  -- attempts with these traces were made one after the other, and all of them aborted
+  -- Not said: that a value of the client between two of the attempts is one that the client had.
+  abbrev pub AreAborted : Client → List Trace → Client → Type 0
+  AreAborted v [] v' = v' ≡ v
+  AreAborted v (t ∷ traces) v' = (w : Client) × IsNextAborted v w t × AreAborted w traces v'
+
+  -- the attempts of a call with this result: all aborted, except that with an answer the last one
+  -- made the added record, at a version that is at least the version that the client knew before
+  abbrev pub AreOfEnd : {A X : Type 0} → Result A X → Client → Client → List Trace → Type 0
+  AreOfEnd (Ok a) v v' traces = (before : List Trace) × (last : Trace)
+      × (traces ≡ before ++ (last ∷ []))
+      × ((w : Client) × AreAborted v before w × (w.floor ≤ last.place.version)
+      × (v'.attempt.number ≡ w.attempt.number + 1)) × IsOfAdded v v' last
+  AreOfEnd (Err e) v v' traces = AreAborted v traces v'
+
+  -- the attempts of a call with this result are traced after the others: each attempt of the call,
+  -- once
+  -- Not said: anything if nothing is traced, or if there was no room for all attempts.
+  pub record HasTraced {A X : Type 0} (result : Result A X) (v v' : Client)
+      (before after : Option (List Trace)) : Type 0 where
+    pub each : (all : List Trace) → after ≡ Some all →
+        (earlier : List Trace) × (more : List Trace) × (before ≡ Some earlier)
+        × (all ≡ earlier ++ more) × AreOfEnd result v v' more
+        × (v.attempt.number + length more ≡ v'.attempt.number)
 
 -- the conflict that an attempt stopped for, if it stopped for one
 abbrev pub conflict_of : Stop → Option ConflictMet

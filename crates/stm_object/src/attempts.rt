@@ -2,6 +2,7 @@
 
 ghost use Rattle.std.specs.Prelude.{◌≡◌, true, false};
 ghost use Rattle.stm_object.specs.History.{MayAttempt, AttemptedOnce};
+ghost use Rattle.stm_object.specs.Object.{IsFitting};
 ghost use Rattle.stm_object.specs.Tracing.{HasTracedOne, conflict_in};
 
 use crate::body::{Body, EntryTag};
@@ -27,8 +28,8 @@ pub(crate) fn try_reading<S: Object, B: Body<S>, G: Gate, T: Tracer>(
     ensures own { client.new.table ≡ client.old.table }
     ensures tried { AttemptedOnce S.is region.now (λ a. B.entry_of body.now a)
         (λ a. B.changes body.now a) true result client.old.value client.new.value }
-    ensures traced { HasTracedOne result client.old.value client.new.value
-        (T.ended tracer.old) (T.ended tracer.new) }
+    ensures traced { HasTracedOne (IsFitting S.is) region.now result client.old.value
+        client.new.value (T.ended tracer.old) (T.ended tracer.new) }
     ensures frame { T.frame tracer.new ≡ T.frame tracer.old }
     ensures tallied { T.tally tracer.new ≡ T.more (conflict_in result) (T.tally tracer.old) }
 {
@@ -78,8 +79,8 @@ pub(crate) fn try_writing<S: Object, B: Body<S>, G: Gate, T: Tracer>(
     ensures own { client.new.table ≡ client.old.table }
     ensures tried { AttemptedOnce S.is region.now (λ a. B.entry_of body.now a)
         (λ a. B.changes body.now a) false result client.old.value client.new.value }
-    ensures traced { HasTracedOne result client.old.value client.new.value
-        (T.ended tracer.old) (T.ended tracer.new) }
+    ensures traced { HasTracedOne (IsFitting S.is) region.now result client.old.value
+        client.new.value (T.ended tracer.old) (T.ended tracer.new) }
     ensures frame { T.frame tracer.new ≡ T.frame tracer.old }
     ensures tallied { T.tally tracer.new ≡ T.more (conflict_in result) (T.tally tracer.old) }
 {

@@ -6,6 +6,7 @@ ghost use Rattle.stm_core.specs.Client.{Record};
 ghost use Rattle.stm_core.specs.History.{Sub};
 ghost use Rattle.stm_object.specs.Callers.{GoesOn, IsAtRest, Splits, RefusesSplit, gathered};
 ghost use Rattle.stm_object.specs.History.{ConflictWasShown, HasCalled, HasCalledAt};
+ghost use Rattle.stm_object.specs.Object.{IsFitting};
 ghost use Rattle.stm_object.specs.Tracing.{HasTraced, HasTallied, conflict_in};
 
 use crate::attempts::{try_reading, try_writing};
@@ -126,8 +127,8 @@ impl<'a, S: Object> Caller<'a, S> {
         ensures call { HasCalledAt S.is self.old.shared (λ a. B.entry_of body.now a)
             (λ a. B.changes body.now a) (B.reads body.now) tries result
             self.old.user.value self.new.user.value }
-        ensures traced { HasTraced result self.old.user.value self.new.user.value
-            (T.ended tracer.old) (T.ended tracer.new) }
+        ensures traced { HasTraced (IsFitting S.is) self.old.shared result self.old.user.value
+            self.new.user.value (T.ended tracer.old) (T.ended tracer.new) }
         ensures tallied { HasTallied (λ conflict v. ConflictWasShown S.is self.old.shared
             (λ a. B.entry_of body.now a) (λ a. B.changes body.now a) (B.reads body.now)
             conflict v) T.more tries result self.old.user.value self.new.user.value

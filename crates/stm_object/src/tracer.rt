@@ -5,7 +5,9 @@ ghost use Rattle.tx_observed.specs.declared.access.Access.{Access};
 ghost use Rattle.tx_observed.specs.Accesses.{IsTracked};
 ghost use Rattle.stm_attempt.specs.declared.conflict.Conflict.{Conflict as ConflictMet};
 ghost use Rattle.stm_object.specs.Bodies.{HasValue, HasEffect};
-ghost use Rattle.stm_object.specs.Tracing.{Trace, HasNoAccess, HasTracedCommit, HasTracedAbort, conflict_of};
+ghost use Rattle.stm_object.specs.declared.place.CommitPosition.{CommitPosition as CommitPositionShown};
+ghost use Rattle.stm_object.specs.Tracing.{Trace, HasNoAccess, HasTracedCommit, HasTracedAbort};
+ghost use Rattle.stm_object.specs.Tracing.{IsReaderAt, conflict_of};
 
 use crate::body::Body;
 use crate::object::Object;
@@ -37,6 +39,10 @@ pub trait Tracer {
     /// The reads and writes of the running attempt, in their order; None as for `ended`.
     ghost accesses: { Self → Option (List Access) };
 
+    /// The commit position at which the running attempt is traced if it aborts; None if no
+    /// attempts are traced.
+    ghost position: { Self → Option CommitPositionShown };
+
     /// Prepares for an attempt that is about to begin.
     fn prepare(&mut self)
         ensures frame { frame self.new ≡ frame self.old }
@@ -44,15 +50,14 @@ pub trait Tracer {
         ensures tally { tally self.new ≡ tally self.old }
         ensures fresh { HasNoAccess (accesses self.new) };
 
-    /// Receives the renewal and the read version of the attempt, which has just begun.
-    ///
-    /// Not said: what the tracer does with the renewal and the version. An aborted attempt is
-    /// traced at their position.
+    /// Receives the renewal and the read version of the attempt, which has just begun. If the
+    /// attempt aborts, the attempt is traced as a reader in this renewal at this version.
     fn begun(&mut self, renewal: u32, version: Version)
         ensures frame { frame self.new ≡ frame self.old }
         ensures ended { ended self.new ≡ ended self.old }
         ensures tally { tally self.new ≡ tally self.old }
-        ensures accesses { accesses self.new ≡ accesses self.old };
+        ensures accesses { accesses self.new ≡ accesses self.old }
+        ensures position { IsReaderAt renewal version (position self.new) };
 
     /// Runs the body of the attempt.
     fn run<S: Object, B: Body<S>, M: TxMem>(
@@ -72,6 +77,7 @@ pub trait Tracer {
         ensures frame { frame self.new ≡ frame self.old }
         ensures ended { ended self.new ≡ ended self.old }
         ensures tally { tally self.new ≡ tally self.old }
+        ensures position { position self.new ≡ position self.old }
         ensures tracked { IsTracked (accesses self.new)
             (M.view memory.new).reads (M.view memory.new).writes };
 
@@ -92,6 +98,7 @@ pub trait Tracer {
         ensures frame { frame self.new ≡ frame self.old }
         ensures ended { ended self.new ≡ ended self.old }
         ensures tally { tally self.new ≡ tally self.old }
+        ensures position { position self.new ≡ position self.old }
         ensures tracked { IsTracked (accesses self.new)
             (M.view memory.new).reads (M.view memory.new).writes };
 
@@ -104,10 +111,11 @@ pub trait Tracer {
         ensures tally { tally self.new ≡ more None (tally self.old) };
 
     /// Receives the reason for which the attempt has aborted. An aborted attempt has left no
-    /// record.
+    /// record, and is traced at the position that was passed to `begun`.
     fn give_up(&mut self, stop: &Stop)
         ensures frame { frame self.new ≡ frame self.old }
-        ensures ended { HasTracedAbort (accesses self.old) (ended self.old) (ended self.new) }
+        ensures ended { HasTracedAbort (position self.old) (accesses self.old) (ended self.old)
+            (ended self.new) }
         ensures tally { tally self.new ≡ more (conflict_of stop.now) (tally self.old) };
 }
 
@@ -131,6 +139,8 @@ impl Tracer for Untraced {
     ghost ended = { λ _. None };
 
     ghost accesses = { λ _. None };
+
+    ghost position = { λ _. None };
 
     #[inline]
     fn prepare(&mut self) {}

@@ -217,12 +217,12 @@ module _ (region : RegionShown) (t : Task) where
   with_effort tries result e e' c c' h same = rw same h
 
 -- the attempts of a call are traced alike however its end is told
-pub traced_as : (result : Result (Reply × CommitPosition) Stop) (v v' : Client)
-    (before after end : Option (List Trace)) →
-    HasTraced result v v' before after → end ≡ after → HasTraced (replied (placed_in result)) v v' before end
-traced_as (Ok a) v v' before after end h e = rw e (record { each = h.each })
-traced_as (Err s) v v' before after end h e = rw e (record { each = h.each })
+pub traced_as : (fits : List ℕ → Type 0) (region : RegionShown) (result : Result (Reply × CommitPosition) Stop)
+    (v v' : Client) (before after end : Option (List Trace)) → HasTraced fits region result v v' before after →
+    end ≡ after → HasTraced fits region (replied (placed_in result)) v v' before end
+traced_as fits region (Ok a) v v' before after end h e = rw e (record { each = h.each })
+traced_as fits region (Err s) v v' before after end h e = rw e (record { each = h.each })
 
-pub none_traced : (v : Client) (before : Option (List Trace)) →
-    HasTraced {A = Reply} (Err fault.Arguments) v v before before
-none_traced v before = record { each = λ all is. (all, [], is, sym (append-nil all), tt, omega arith) }
+pub none_traced : (fits : List ℕ → Type 0) (region : RegionShown) (v : Client) (before : Option (List Trace)) →
+    HasTraced fits region {A = Reply} (Err fault.Arguments) v v before before
+none_traced fits region v before = record { each = λ all is. (all, [], is, sym (append-nil all), refl, omega arith) }

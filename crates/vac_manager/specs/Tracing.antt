@@ -1,8 +1,9 @@
 -- Traces of a call's attempts.
 use Rattle.std.specs.Prelude.{◌≡◌, List, [], ◌∷◌, ◌++◌, Option, Some}
 pub use Rattle.stm_object.specs.Tracing.{Trace, HasNoAccess, AppendsTrace}
-pub use Rattle.stm_object.specs.Tracing.{HasTracedCommit, HasTracedAbort}
-pub use Rattle.stm_object.specs.Tracing.{IsTraceOf, IsOfAdded, AreAborted, AreOfEnd, HasTraced}
+pub use Rattle.stm_object.specs.Tracing.{HasTracedCommit, HasTracedAbort, IsReaderAt}
+pub use Rattle.stm_object.specs.Tracing.{IsTraceOf, IsTraceOfAborted, IsOfAdded, AreAborted}
+pub use Rattle.stm_object.specs.Tracing.{AreOfEnd, HasTraced}
 use Rattle.vac_manager.specs.declared.note.TracedAttempt.{TracedAttempt}
 
 -- the trace of a noted attempt

@@ -5,6 +5,7 @@ ghost use Rattle.stm_object.specs.Callers.{GoesOn};
 ghost use Rattle.vac_manager.specs.Called.{HasCalled, is_call};
 ghost use Rattle.vac_manager.specs.Ended.{reply_in, placed_in};
 ghost use Rattle.vac_manager.specs.Placed.{HasCalledPlaced, replied};
+ghost use Rattle.vac_manager.specs.Law.{IsFitting};
 ghost use Rattle.vac_manager.specs.Tracing.{HasTraced};
 
 use crate::client::Caller;
@@ -82,8 +83,8 @@ pub fn trace_call<G: Gate, T: Tracer>(
     ensures caller { GoesOn caller.old caller.new }
     ensures called { HasCalledPlaced caller.old.shared task.now tries result statistics.new
         caller.old.user caller.new.user }
-    ensures traced { HasTraced (replied result) caller.old.user.value caller.new.user.value
-        (T.ended tracer.old) (T.ended tracer.new) }
+    ensures traced { HasTraced IsFitting caller.old.shared (replied result)
+        caller.old.user.value caller.new.user.value (T.ended tracer.old) (T.ended tracer.new) }
 {
     // Asking for the own state gives the proof the invariant of the caller.
     let _ = caller.own();
@@ -111,8 +112,8 @@ pub fn trace_valid<G: Gate, T: Tracer>(
     ensures caller { GoesOn caller.old caller.new }
     ensures called { HasCalledPlaced caller.old.shared task.now tries result statistics.new
         caller.old.user caller.new.user }
-    ensures traced { HasTraced (replied result) caller.old.user.value caller.new.user.value
-        (T.ended tracer.old) (T.ended tracer.new) }
+    ensures traced { HasTraced IsFitting caller.old.shared (replied result)
+        caller.old.user.value caller.new.user.value (T.ended tracer.old) (T.ended tracer.new) }
 {
     let start = caller.own().start;
     *statistics = CallStatistics::new();

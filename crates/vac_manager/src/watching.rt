@@ -37,6 +37,8 @@ impl<'a, T: Tracer> Tracer for CountingTracer<'a, T> {
 
     ghost accesses = { λ c. T.accesses c.tracer.now };
 
+    ghost position = { λ c. T.position c.tracer.now };
+
     #[inline]
     fn prepare(&mut self) {
         self.tracer.prepare();

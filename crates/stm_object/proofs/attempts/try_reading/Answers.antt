@@ -10,7 +10,7 @@ use Rattle.stm_object.proofs.Lawful.{has_value, does_reading, lawful}
 use Rattle.stm_object.proofs.Histories.{in_order, decided_reading, spared}
 use Rattle.stm_object.proofs.Knowing.{near_finished}
 use Rattle.stm_object.proofs.Stopping.{shown_by_read}
-use Rattle.stm_object.proofs.Tracing.{made, one_committed}
+use Rattle.stm_object.proofs.Tracing.{made, one_committed, one_aborted, abandoned}
 use Rattle.stm_object.proofs.attempts.try_reading.Goals as goal
 
 pub read-answer-requires-clause-value : goal.read-answer-requires-clause-value
@@ -113,4 +113,17 @@ returns-clause-traced g c =
     c.begin-attempt.result.client.now c.read-answer.new.memory.client.now empty_log _ (g.S.Object.is.code entry) []
     v.attempt.rv _ c.args.client.now.value _ _
     (ap (λ (x : ClientShown). is_unfinished x.value.attempt.phase) c.begin-attempt.ensures.value)
-    c.in-Ok.ensures.origin c.in-Ok.ensures.tracked nothing_logged refl last at)
+    c.in-Ok.ensures.origin c.in-Ok.ensures.tracked nothing_logged refl last at) _ _
+
+pub returns-in-Some-clause-traced : goal.returns-in-Some-clause-traced
+returns-in-Some-clause-traced g c =
+    let region = ap (λ (o : Origin). o.region) c.read-answer.ensures.origin ∙ c.begin-attempt.ensures.region in
+    let runs = ap (λ (x : ClientShown). is_unfinished x.value.attempt.phase) c.begin-attempt.ensures.value in
+    one_aborted _ (IsFitting g.S.Object.is) c.args.region.now _ _ _ _ _ c.args.client.now.value _ _
+    (abandoned (IsFitting g.S.Object.is) _ _ _ c.read-answer.new.memory.region.now c.args.region.now _ _ 0 0
+    c.begin-attempt.result.client.now c.read-answer.new.memory.client.now empty_log _ _ _ _ _ _ _
+    c.read-answer.new.memory.client.now.value
+    runs c.read-answer.ensures.origin c.read-answer.ensures.tracked refl (search rules) (search rules)
+    c.begun.ensures.position (search rules) region c.read-answer.new.memory.stands
+    c.read-answer.new.memory.standing.stands)
+    (search rules) (search rules) c.give_up.ensures.ended (search rules) (search rules) (search rules)

@@ -8,7 +8,7 @@ use Rattle.stm_object.proofs.Lawful.{has_value, nothing_written, does, lawful}
 use Rattle.stm_object.proofs.Histories.{in_order, spared}
 use Rattle.stm_object.proofs.Knowing.{near_begun, near_committed, near_stopped}
 use Rattle.stm_object.proofs.Stopping.{shown_by_read, commit_stop, not_reading}
-use Rattle.stm_object.proofs.Tracing.{made, one_committed}
+use Rattle.stm_object.proofs.Tracing.{made, one_committed, one_aborted, abandoned, abandoned_commit}
 use Rattle.stm_object.proofs.attempts.try_writing.Goals as goal
 
 pub run-answer-requires-clause-value : goal.run-answer-requires-clause-value
@@ -126,7 +126,7 @@ returns-in-Ok-commit-clause-traced g c =
     c.run-answer.ensures.origin c.in-Ok.ensures.tracked refl refl last
     (at_place c.run-answer.new.memory.region.now (g.S.Object.is.code entry) v _ c.in-Ok-commit.version _ _ _
     c.in-Ok-commit.ensures.ok.versioned (search rules) refl
-    (wrote_is v _ c.in-Ok-commit.version _ _ (search rules) (search rules) c.in-Ok-commit.ensures.ok.versioned)))
+    (wrote_is v _ c.in-Ok-commit.version _ _ (search rules) (search rules) c.in-Ok-commit.ensures.ok.versioned))) _ _
 
 pub returns-in-Err-clause-tried : goal.returns-in-Err-clause-tried
 returns-in-Err-clause-tried g c = record {
@@ -161,3 +161,42 @@ returns-in-Err-clause-tried g c = record {
       c.begin-attempt.ensures.empty.2 c.begin-attempt.ensures.empty.1 c.in-Ok.ensures.origin c.in-Ok.ensures.answer)
       (c.in-Err.ensures.refused (search rules)) (search rules);
 }
+
+pub returns-in-Some-clause-traced : goal.returns-in-Some-clause-traced
+returns-in-Some-clause-traced g c =
+    let region = ap (λ (o : Origin). o.region) c.run-answer.ensures.origin ∙ c.begin-attempt.ensures.region in
+    one_aborted _ (IsFitting g.S.Object.is) c.args.region.now _ _ _ _ _ c.args.client.now.value _ _
+    (abandoned (IsFitting g.S.Object.is) _ _ _ c.run-answer.new.memory.region.now c.args.region.now _ _ _ _
+    c.begin-attempt.result.client.now c.run-answer.new.memory.client.now _ _ _ _ _ _ _ _
+    c.run-answer.new.memory.client.now.value
+    c.begin-attempt.ensures.empty.2 c.run-answer.ensures.origin c.run-answer.ensures.tracked refl (search rules)
+    (search rules)
+    c.begun.ensures.position (search rules) region c.run-answer.new.memory.stands
+    c.run-answer.new.memory.standing.stands)
+    (search rules) (search rules) c.give_up.ensures.ended (search rules) (search rules) (search rules)
+
+pub returns-in_default-answer-clause-traced : goal.returns-in_default-answer-clause-traced
+returns-in_default-answer-clause-traced g c =
+    let region = ap (λ (o : Origin). o.region) c.run-answer.ensures.origin ∙ c.begin-attempt.ensures.region in
+    one_aborted _ (IsFitting g.S.Object.is) c.args.region.now _ _ _ _ _ c.args.client.now.value _ _
+    (abandoned (IsFitting g.S.Object.is) _ _ _ c.run-answer.new.memory.region.now c.args.region.now _ _ _ _
+    c.begin-attempt.result.client.now c.run-answer.new.memory.client.now _ _ _ _ _ _ _ _
+    c.run-answer.new.memory.client.now.value
+    c.begin-attempt.ensures.empty.2 c.run-answer.ensures.origin c.run-answer.ensures.tracked refl (search rules)
+    (search rules)
+    c.begun.ensures.position (search rules) region c.run-answer.new.memory.stands
+    c.run-answer.new.memory.standing.stands)
+    (search rules) (search rules) c.give_up-in_default-answer.ensures.ended (search rules) (search rules) (search rules)
+
+pub returns-in-Err-clause-traced : goal.returns-in-Err-clause-traced
+returns-in-Err-clause-traced g c =
+    let region = ap (λ (o : Origin). o.region) c.run-answer.ensures.origin ∙ c.begin-attempt.ensures.region in
+    one_aborted _ (IsFitting g.S.Object.is) c.args.region.now _ _ _ _ _ c.args.client.now.value _ _
+    (abandoned_commit (IsFitting g.S.Object.is) _ _ _ c.run-answer.new.memory.region.now c.args.region.now _ _ _ _
+    c.begin-attempt.result.client.now c.run-answer.new.memory.client.now _ _ _ _ _ _ _ _ _ _ _
+    (c.in-Err.ensures.refused (search rules))
+    c.begin-attempt.ensures.empty.2 c.run-answer.ensures.origin c.run-answer.ensures.tracked (search rules)
+    (search rules)
+    c.begun.ensures.position (search rules) region c.run-answer.new.memory.stands
+    c.run-answer.new.memory.standing.stands)
+    (search rules) (search rules) c.give_up-in-Err.ensures.ended (search rules) (search rules) (search rules)

@@ -1,6 +1,7 @@
 use Rattle.std.proofs.Common.{◌≡◌, ◌≤◌}
 use Rattle.stm_core.specs.Core.{IsFreeHanded}
 use Rattle.stm_object.specs.History.{ConflictWasShown}
+use Rattle.stm_object.specs.Object.{IsFitting}
 use Rattle.stm_object.proofs.Stopping.{Trying}
 use Rattle.stm_object.proofs.Tracing.{AllGivenUp}
 use Rattle.stm_object.proofs.caller.Caller.call.Given as goal
@@ -18,7 +19,8 @@ invariant-tries g l = record {
       (λ a. g.B.Body.entry_of l.body a) (λ a. g.B.Body.changes l.body a) (g.B.Body.reads l.body) conflict v)
       (λ conflict t. g.T.Tracer.more conflict t) l.tries l.left l.initial.user-inside.client.value
       l.user-inside.client.value (g.T.Tracer.tally l.initial.tracer) (g.T.Tracer.tally l.tracer);
-  traced : AllGivenUp l.initial.user-inside.client.value l.user-inside.client.value
+  traced : AllGivenUp (IsFitting g.S.Object.is) l.shared-inside.region l.initial.user-inside.client.value
+      l.user-inside.client.value
       (g.T.Tracer.ended l.initial.tracer) (g.T.Tracer.ended l.tracer);
 }
 
