@@ -242,10 +242,10 @@ in_order image (a ∷ notes) records m o sorted v s =
     (r ∷ rest.0, (m.4, rest.1), (q.0, rest.2))
 
 pub made_serially : OrderedAttemptsAreMadeSerially
-made_serially image first all sorted h =
+made_serially image history first all sorted h =
     let ordered = committed_ordered all (entries_ordered all (follow_on all sorted)) in
     let made = ordered_rest first h.made (subst (λ (l : List TracedAttempt). Ordered l) h.committed ordered) in
-    let found = in_order image h.made h.history h.traced made h.sorted h.versioned h.serial in
+    let found = in_order image h.made history h.traced made h.sorted h.versioned h.serial in
     record {
       made = h.made;
       committed = h.committed;
@@ -256,6 +256,6 @@ made_serially image first all sorted h =
     }
 
 pub history_judged : HistoriesAreOpaqueUpToPrecedence
-history_judged words image first all fit sorted h aborted turns =
-    up_to_precedence words all fit (in_place_legal image first all (made_serially image first all sorted h) aborted)
-    turns
+history_judged words image history first all fit sorted h aborted turns =
+    up_to_precedence words all fit
+    (in_place_legal image first all (made_serially image history first all sorted h) aborted) turns

@@ -4,10 +4,10 @@ use Rattle.std.proofs.Common.{◌++◌}
 use Rattle.std.proofs.Common.{map, Option, Some, None, IfSome, refl, sym, ap, subst, append_assoc}
 use Rattle.std.specs.Global.{Box}
 use Rattle.stm_core.specs.Client.{Record}
-use Rattle.stm_core.specs.History.{Serial}
 use Rattle.vac_manager.specs.declared.note.CompletedCall.{CompletedCall}
 use Rattle.vac_manager.specs.declared.note.TracedAttempt.{TracedAttempt}
 use Rattle.vac_manager.specs.Tracing.{trace_of, IsTraceOf}
+use Rattle.load_record.specs.Laying.{writes_from, done_by}
 use Rattle.load_record.specs.Noted.{all_noted, none_committed}
 use Rattle.load_record.specs.Lines.{AttemptEntry}
 use Rattle.load_record.specs.Pages.{Page, noted_attempt, attempts_of, is_told, are_told, calls_on}
@@ -138,17 +138,14 @@ made_their_history = λ blocks pages all few are made.
     (same_of (laid ++ clients) all are.each_once) in
     let image = one_heap made.image are.lays.words blocks made.heap are.lays.heap in
     record {
-      image = are.lays.words;
-      heap = are.lays.heap;
       first = are.laid;
       of_history = record {
         made = committed_notes are.rest;
         committed = ap committed_notes are.first ∙ committed_first are.laid are.rest are.lays.before_all;
-        writes = are.lays.writes;
-        history = made.history;
+        writes = subst (λ (i : List ℕ). done_by are.laid ≡ writes_from 0 i) (sym image) are.lays.writes;
         traced = same_keeps Made made_under made_flip are.rest clients (cancel_all laid are.rest clients same)
             made.history (pages_made 0 pages made.history are.told made.made);
-        serial = subst (λ (i : List ℕ). Serial i made.history) image made.serial;
+        serial = made.serial;
         sorted = made.sorted;
         versioned = made.versioned;
       };
@@ -157,8 +154,8 @@ made_their_history = λ blocks pages all few are made.
 pub judged_by_aborts_and_times : LoadsAreJudgedByAbortsAndTimes
 judged_by_aborts_and_times = λ blocks pages all few are fit made.
     let from = made_their_history blocks pages all few are made in
-    let committed = serial_legal from.image from.first all
-    (made_serially from.image from.first all are.ordered from.of_history) in
+    let committed = serial_legal made.image from.first all
+    (made_serially made.image made.history from.first all are.ordered from.of_history) in
     let apart = judged_apart (map attempt_of all) in
     let judged = judged_by_entries (16 + 8 * blocks) all fit in (
       λ e.

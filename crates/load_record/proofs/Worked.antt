@@ -102,12 +102,11 @@ module _ (x y z : Vec Access) (first : x.items ≡ Write (record { 0 = 1 }) 5 �
     ];
   }
 
-  history : AreOfHistory worked_image (worked_first x ∷ []) (worked_entries x y z)
+  history : AreOfHistory worked_image (made ∷ []) (worked_first x ∷ []) (worked_entries x y z)
   history = record {
     made = worked_writer y ∷ [];
     committed = refl;
     writes = append-nil x.items ∙ first;
-    history = made ∷ [];
     traced = ([], made, [], refl, trace, refl);
     serial = (agrees, tt);
     sorted = (λ r i. absurd (nothing_in r i), tt);
@@ -267,6 +266,7 @@ module _ (x y z : Vec Access) (first : x.items ≡ Write (record { 0 = 1 }) 5 �
 pub worked : WorkedAttempts
 worked x y z first writes reads = record {
   sorted = sorted x y z first writes reads;
+  records = made ∷ [];
   history = history x y z first writes reads;
   aborted = aborted x y z first writes reads;
   turns = turns x y z first writes reads;

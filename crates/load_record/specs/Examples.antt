@@ -4,6 +4,7 @@ use Rattle.std.specs.Prelude.{◌≡◌, ℕ, true, false, List, [], ◌∷◌}
 use Rattle.std.specs.Global.{Vec}
 use Rattle.tx_observed.specs.declared.access.Access.{Access}
 use Rattle.tx_observed.specs.declared.access.Access.TheVariants.{Read, Write}
+use Rattle.stm_core.specs.Client.{Record}
 use Rattle.judge_time.specs.Laws.{TakeTurns, KeepPrecedence}
 use Rattle.vac_manager.specs.declared.note.TracedAttempt.{TracedAttempt}
 use Rattle.load_record.specs.Lines.{AttemptEntry}
@@ -56,7 +57,8 @@ worked_entries x y z =
 -- the attempts meet all conditions under which their text is opaque
 pub record AreWorked (x y z : Vec Access) : Type 0 where
   pub sorted : EntriesAreOrdered (worked_entries x y z)
-  pub history : AreOfHistory worked_image (worked_first x ∷ []) (worked_entries x y z)
+  pub records : List Record
+  pub history : AreOfHistory worked_image records (worked_first x ∷ []) (worked_entries x y z)
   pub aborted : AbortedReadInPlace worked_image (worked_first x ∷ []) (worked_entries x y z)
   pub turns : TakeTurns span_of_entry (worked_entries x y z)
   pub precedence : KeepPrecedence span_of_entry (worked_entries x y z)

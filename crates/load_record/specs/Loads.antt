@@ -54,20 +54,19 @@ pub record MadeHistory (blocks : ℕ) (calls : List CompletedCall) : Type 0 wher
   pub sorted : Sorted history
   pub versioned : AreVersioned history
 
--- the first committed attempts write the words of a partitioned heap, and the others made the
--- records of a history that is serial from these words
-pub record MadeHistoryFromHeap (blocks : ℕ) (all : List AttemptEntry) : Type 0 where
-  pub image : List ℕ
-  pub heap : IsSpreadHeap image blocks
+-- the first committed attempts write this image, and the others made the records of this history,
+-- which is serial from the image
+pub record MadeHistoryFrom (image : List ℕ) (history : List Record) (all : List AttemptEntry)
+    : Type 0 where
   pub first : List TracedAttempt
-  pub of_history : AreOfHistory image first all
+  pub of_history : AreOfHistory image history first all
 
 -- if the completed calls of a load made a history, then the committed attempts of the load, in the
--- order in which they are written, made this history
+-- order in which they are written, made this history from the same image
 abbrev pub LoadsMakeTheirHistory : Type 0
 LoadsMakeTheirHistory = (blocks : ℕ) (pages : List Page) (all : List AttemptEntry) →
-    blocks ≤ MOST_BLOCKS → AreAttempts blocks pages all → MadeHistory blocks (calls_on pages) →
-    MadeHistoryFromHeap blocks all
+    blocks ≤ MOST_BLOCKS → AreAttempts blocks pages all →
+    (made : MadeHistory blocks (calls_on pages)) → MadeHistoryFrom made.image made.history all
 
 -- the aborted attempts are legal, the attempts of each client do not overlap and are in their
 -- order, and no attempt comes before an attempt that had ended before it began

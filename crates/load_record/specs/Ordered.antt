@@ -22,15 +22,14 @@ CorrespondTo (a ∷ notes) records =
     (first : List Record) × (r : Record) × (more : List Record) × (records ≡ first ++ r ∷ more)
     × IsTraceOf (trace_of a) r × CorrespondTo notes (first ++ more)
 
--- the first committed attempts write the image, and the others made the records of a history, in
+-- the first committed attempts write the image, and the others made the records of this history, in
 -- any order: the history is serial from the image and sorted, and has one writer a version and
 -- readers that wrote nothing
-pub record AreOfHistory (image : List ℕ) (first : List TracedAttempt) (all : List AttemptEntry)
-    : Type 0 where
+pub record AreOfHistory (image : List ℕ) (history : List Record) (first : List TracedAttempt)
+    (all : List AttemptEntry) : Type 0 where
   pub made : List TracedAttempt
   pub committed : committed_notes all ≡ first ++ made
   pub writes : done_by first ≡ writes_from 0 image
-  pub history : List Record
   pub traced : CorrespondTo made history
   pub serial : Serial image history
   pub sorted : Sorted history
@@ -41,15 +40,16 @@ pub record AreOfHistory (image : List ℕ) (first : List TracedAttempt) (all : L
 -- their records
 abbrev pub OrderedAttemptsAreMadeSerially : Type 0
 OrderedAttemptsAreMadeSerially =
-    (image : List ℕ) (first : List TracedAttempt) (all : List AttemptEntry) →
-    EntriesAreOrdered all →
-    AreOfHistory image first all → AreMadeSerially image first all
+    (image : List ℕ) (history : List Record) (first : List TracedAttempt)
+    (all : List AttemptEntry) → EntriesAreOrdered all → AreOfHistory image history first all →
+    AreMadeSerially image first all
 
 -- the text of such entries that fit, if the aborted attempts read in place and the attempts of
 -- each client are in turn, is judged by precedence alone
 abbrev pub HistoriesAreOpaqueUpToPrecedence : Type 0
 HistoriesAreOpaqueUpToPrecedence =
-    (words : ℕ) (image : List ℕ) (first : List TracedAttempt) (all : List AttemptEntry) →
-    AllFit words all → EntriesAreOrdered all → AreOfHistory image first all →
+    (words : ℕ) (image : List ℕ) (history : List Record) (first : List TracedAttempt)
+    (all : List AttemptEntry) → AllFit words all → EntriesAreOrdered all →
+    AreOfHistory image history first all →
     AbortedReadInPlace image first all → TakeTurns span_of_entry all →
     JudgedByPrecedence words all

@@ -21,13 +21,14 @@ pub struct AttemptRecorder<W> {
 }
 
 impl<W: StampClock + Copy + Drop> AttemptRecorder<W> {
-    ghost use Rattle.std.specs.Prelude.{[]};
-    ghost use Rattle.load_record.specs.Known.{is_whole_ledger};
+    ghost use Rattle.std.specs.Prelude.{[], Some};
+    ghost use Rattle.load_record.specs.Known.{ended_by, is_whole_ledger};
 
     /// Returns an empty attempt recorder, whose times are read from this clock.
     pub fn new(alloc: Global, watch: W) -> AttemptRecorder<W>
         ensures no_calls { result.journal.notes.items ≡ [] }
         ensures none_given_up { result.trail.given_up.items ≡ [] }
+        ensures no_traces { ended_by result.trail ≡ Some [] }
         ensures whole { is_whole_ledger result ≡ true }
     {
         AttemptRecorder {

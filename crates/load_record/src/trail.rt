@@ -134,7 +134,7 @@ impl<W: StampClock + Copy> AttemptTracer<W> {
 }
 
 impl<W: StampClock> Tracer for AttemptTracer<W> {
-    ghost use Rattle.std.specs.Prelude.{◌≡◌, ◌∷◌, ◌++◌, [], false, None, IfSome};
+    ghost use Rattle.std.specs.Prelude.{◌≡◌, ◌∷◌, ◌++◌, [], false, None, Some, IfSome};
     ghost use Rattle.vac_manager.specs.declared.note.TracedAttempt.{TracedAttempt};
     ghost use Rattle.vac_manager.specs.Tracing.{HasNoAccess, HasTracedCommit, HasTracedAbort};
     ghost use Rattle.load_record.specs.Stamps.{IsStamp};
@@ -154,6 +154,8 @@ impl<W: StampClock> Tracer for AttemptTracer<W> {
     ghost ended = { λ t. ended_by t };
 
     ghost accesses = { λ t. known t.accesses.is_whole t.accesses.items.items };
+
+    ghost position = { λ t. Some t.place };
 
     /// Reads the clock once.
     ///
@@ -232,7 +234,7 @@ impl<W: StampClock> Tracer for AttemptTracer<W> {
     ///
     /// Not said: as for `commit`.
     fn give_up(&mut self, _stop: &Stop)
-        ensures ended { HasTracedAbort
+        ensures ended { HasTracedAbort (Some self.old.place)
             (known self.old.accesses.is_whole self.old.accesses.items.items)
             (ended_by self.old) (ended_by self.new) }
         ensures stamped { (a : TracedAttempt) →

@@ -10,7 +10,8 @@ use Rattle.vac_model.specs.declared.replies.Reply.{Reply}
 use Rattle.vac_model.specs.declared.tasks.Task.{Task}
 use Rattle.vac_model.specs.declared.tasks.Task.TheVariants.{One}
 use Rattle.vac_manager.specs.Called.{ClientShown, HasAllGrants, IsFault, IsNext, IsNotBusy, Attempts, is_try_count}
-use Rattle.vac_manager.specs.Keeping.{HasKept}
+use Rattle.vac_manager.specs.Keeping.{HasKept, HasTakenOut}
+use Rattle.vac_manager.specs.Law.{IsFitting}
 use Rattle.vac_manager.specs.Placed.{HasCalledPlaced, nothing_done, replied}
 use Rattle.vac_manager.specs.Called.{CallerShown}
 use Rattle.vac_manager.specs.Tracing.{HasTraced, Trace}
@@ -20,14 +21,14 @@ use Rattle.vac_manager.specs.declared.placed.CallStatistics.{CallStatistics}
 use Rattle.vac_manager.specs.declared.placed.PlacedReply.{PlacedReply}
 use Rattle.load_run.specs.Asking.{HasRecorded}
 use Rattle.load_run.specs.Attempted.{AreStatistics, no_attempts, with_call}
-use Rattle.load_run.specs.Keeping.{KeptNotes, HasKeptAdded}
+use Rattle.load_run.specs.Keeping.{RecorderContents, HasKeptAdded}
 use Rattle.load_run.specs.Looping.{Answered, AreOfTasks, Clocked, counted, least_attempts_of, nothing}
 use Rattle.load_run.specs.Looping.{answered_by}
 use Rattle.load_run.specs.Opening.{IsAnswered, IsOpeningFault, WasAnswered, WasRefused}
 use Rattle.load_run.proofs.Answering.{RanOne, answered_one, answered_quiet}
 use Rattle.load_run.proofs.Attempting.{took_answered, took_none, took_refused}
 use Rattle.load_run.proofs.Clocking.{clocked_answered, clocked_quiet, clocked_refused}
-use Rattle.load_run.proofs.Notes.{kept_none, kept_one}
+use Rattle.load_run.proofs.Notes.{kept_none, kept_one, kept_refused}
 
 -- a client issued a task in its ranges, with this limit on attempts, and the call ended with this
 -- result and these statistics, or the recorder had no room and the task was not issued: exactly if
@@ -35,7 +36,7 @@ use Rattle.load_run.proofs.Notes.{kept_none, kept_one}
 -- client met no conflict; if the call completed, the client's records are a complete history, and
 -- otherwise the call was refused as a command of the setup phase is
 pub record WasAsked (region : RegionShown) (t : Task) (tries : ℕ) (end : Result (Unit {0}) Fault)
-    (e : CallStatistics) (v v' : Client) (before after : KeptNotes) : Type 0 where
+    (e : CallStatistics) (v v' : Client) (before after : RecorderContents) : Type 0 where
   pub in_range : IfErr end (λ why. why ≢ fault.Arguments)
   pub answered : Answered region.renewal (answered_by t end) v v'
   pub attempts : v.attempt.number + least_attempts_of tries end ≤ v'.attempt.number
@@ -50,13 +51,16 @@ one_try : (tries : ℕ) → is_try_count tries ≡ true → 1 ≤ tries
 one_try tries h = grind (arith, nat_tests, h)
 
 -- what is traced between a lending and a taking back, by what the keeper has
-pub traced_by : {E : Type 0} (r : Result Reply E) (v v' : Client) (a b k m : Option (List Trace)) → b ≡ a → m ≡ k →
-    HasTraced r v v' b k → HasTraced r v v' a m
-traced_by r v v' a b k m e f h = subst (λ (o : Option (List Trace)). HasTraced r v v' a o) (sym f)
-    (subst (λ (o : Option (List Trace)). HasTraced r v v' o k) e h)
+pub traced_by : (fits : List ℕ → Type 0) (region : RegionShown) {E : Type 0} (r : Result Reply E) (v v' : Client)
+    (a b k m : Option (List Trace)) → b ≡ a → m ≡ k →
+    HasTraced fits region r v v' b k → HasTraced fits region r v v' a m
+traced_by fits region r v v' a b k m e f h =
+    subst (λ (o : Option (List Trace)). HasTraced fits region r v v' a o) (sym f)
+    (subst (λ (o : Option (List Trace)). HasTraced fits region r v v' o k) e h)
 
 -- there was no room to keep the call
-pub asked_none : (region : RegionShown) (t : Task) (tries : ℕ) (e : CallStatistics) (v : Client) (a b : KeptNotes) →
+pub asked_none : (region : RegionShown) (t : Task) (tries : ℕ) (e : CallStatistics) (v : Client)
+    (a b : RecorderContents) →
     is_try_count tries ≡ true → e ≡ nothing_done → b ≡ a → WasAsked region t tries (Err fault.Memory) e v v a b
 asked_none region t tries e v a b some none same = record {
   in_range = λ q. cc;
@@ -72,7 +76,7 @@ asked_none region t tries e v a b some none same = record {
 
 -- what a loop needs of a task that was issued
 pub record Issued {E : Type 0} (region : RegionShown) (built : Result Task E) (tries : ℕ)
-    (end : Result (Unit {0}) Fault) (e : CallStatistics) (v v' : Client) (a b : KeptNotes) : Type 0 where
+    (end : Result (Unit {0}) Fault) (e : CallStatistics) (v v' : Client) (a b : RecorderContents) : Type 0 where
   pub in_range : IfErr end (λ why. why ≢ fault.Arguments)
   pub one : RanOne region.renewal built tries end v v'
   pub clock : HasAllGrants v → Clocked region.last v v' (counted end nothing)
@@ -81,7 +85,7 @@ pub record Issued {E : Type 0} (region : RegionShown) (built : Result Task E) (t
 
 -- a task that was built, and for whose call there was room
 pub issued : {E : Type 0} (region : RegionShown) (drawn : Result Task E) (t : Task) (tries : ℕ)
-    (end : Result (Unit {0}) Fault) (e : CallStatistics) (v v' : Client) (a b : KeptNotes) → drawn ≡ Ok t →
+    (end : Result (Unit {0}) Fault) (e : CallStatistics) (v v' : Client) (a b : RecorderContents) → drawn ≡ Ok t →
     WasAsked region t tries end e v v' a b → Issued region drawn tries end e v v' a b
 issued region drawn t tries end e v v' a b is h =
     subst (λ (x : Result Task _). Issued region x tries end e v v' a b) (sym is) (record {
@@ -95,7 +99,7 @@ issued region drawn t tries end e v v' a b is h =
 -- a task that was not built, or for whose call there was no room
 pub issued_none : {E : Type 0} (region : RegionShown) (drawn : Result Task E) (tries : ℕ) (e : CallStatistics)
     (v : Client)
-    (a b : KeptNotes) → is_try_count tries ≡ true → e ≡ nothing_done → b ≡ a →
+    (a b : RecorderContents) → is_try_count tries ≡ true → e ≡ nothing_done → b ≡ a →
     Issued region drawn tries (Err fault.Memory) e v v a b
 issued_none region (Ok t) tries e v a b some none same =
     issued region (Ok t) t tries (Err fault.Memory) e v v a b refl (asked_none region t tries e v a b some none same)
@@ -112,15 +116,17 @@ attempt_more n m tries less = omega arith
 
 -- the call was answered, and kept
 pub asked_answered : (region : RegionShown) (t : Task) (tries : ℕ) (end : Result PlacedReply Fault) (p : PlacedReply)
-    (e : CallStatistics)
-    (c c' : ClientShown) (a b k : KeptNotes) (before traced : Option (List Trace)) →
-    end ≡ Ok p → HasCalledPlaced region t tries end e c c' → HasTraced (replied end) c.value c'.value before traced →
-    b ≡ a → HasKept t p traced b k → WasAsked region t tries (Ok tt) e c.value c'.value a k
-asked_answered region t tries end p e c c' a b k before traced is h told same kept =
+    (e : CallStatistics) (c c' : ClientShown) (a b k : RecorderContents) → end ≡ Ok p →
+    HasCalledPlaced region t tries end e c c' →
+    HasTraced IsFitting region (replied end) c.value c'.value a.traces b.traces → b.calls ≡ a.calls →
+    HasKept t p b.traces b.calls k.calls → HasTakenOut b.traces k.traces →
+    WasAsked region t tries (Ok tt) e c.value c'.value a k
+asked_answered region t tries end p e c c' a b k is h told same kept taken =
     let called : HasCalledPlaced region t tries (Ok p) e c c' =
     subst (λ (r : Result PlacedReply Fault). HasCalledPlaced region t tries r e c c') is h in
-    let attempts : HasTraced {X = Fault} (Ok p.reply) c.value c'.value before traced =
-    subst (λ (r : Result PlacedReply Fault). HasTraced (replied r) c.value c'.value before traced) is told in
+    let attempts : HasTraced IsFitting region {X = Fault} (Ok p.reply) c.value c'.value a.traces b.traces =
+    subst (λ (r : Result PlacedReply Fault). HasTraced IsFitting region (replied r) c.value c'.value a.traces b.traces)
+    is told in
     record {
       in_range = tt;
       answered = answered_one region.renewal t p.reply c.value c'.value called.call.records called.call.floor
@@ -130,7 +136,7 @@ asked_answered region t tries end p e c c' a b k before traced is h told same ke
       clock = λ alone. clocked_answered region.last p.reply c.value c'.value (called.call.next alone);
       took = took_answered tries c.value.attempt.number c'.value.attempt.number p called.statistics.conflicts e
           called.call.attempts called.statistics.statistics called.statistics.begun;
-      kept = kept_one region.renewal t p c.value c'.value a b k before traced called.place attempts same kept;
+      kept = kept_one region t p c.value c'.value a b k called.place attempts same kept taken;
       ready = λ alone. record { whole = called.call.whole alone; legal = called.call.legal };
       refused = λ alone. tt;
     }
@@ -163,11 +169,16 @@ opening_fault region t tries (fault.Spent version) v v' known next why = (why.1.
 -- the call was refused
 pub asked_refused : (region : RegionShown) (t : Task) (tries : ℕ) (end : Result PlacedReply Fault) (f : Fault)
     (e : CallStatistics)
-    (c c' : ClientShown) (a b : KeptNotes) → is_task t ≡ true → is_try_count tries ≡ true → end ≡ Err f →
-    HasCalledPlaced region t tries end e c c' → b ≡ a → WasAsked region t tries (Err f) e c.value c'.value a b
-asked_refused region t tries end f e c c' a b range some is h same =
+    (c c' : ClientShown) (a b k : RecorderContents) → is_task t ≡ true → is_try_count tries ≡ true → end ≡ Err f →
+    HasCalledPlaced region t tries end e c c' →
+    HasTraced IsFitting region (replied end) c.value c'.value a.traces b.traces → b.calls ≡ a.calls → k ≡ b →
+    WasAsked region t tries (Err f) e c.value c'.value a k
+asked_refused region t tries end f e c c' a b k range some is h told same kept =
     let called : HasCalledPlaced region t tries (Err f) e c c' =
     subst (λ (r : Result PlacedReply Fault). HasCalledPlaced region t tries r e c c') is h in
+    let attempts : HasTraced IsFitting region {A = Reply} (Err f) c.value c'.value a.traces b.traces =
+    subst (λ (r : Result PlacedReply Fault). HasTraced IsFitting region (replied r) c.value c'.value a.traces b.traces)
+    is told in
     let known : f ≢ fault.Arguments = λ q.
     clash (is_task t) (is_try_count tries) range some (called.call.arguments.0 (ap Err q)) in
     record {
@@ -178,7 +189,7 @@ asked_refused region t tries end f e c c' a b range some is h same =
       clock = λ alone. clocked_refused region.last f c.value c'.value (called.call.next alone);
       took = took_refused tries c.value.attempt.number c'.value.attempt.number f called.statistics.conflicts e known
           called.call.attempts called.statistics.statistics called.statistics.begun;
-      kept = kept_none c.value c'.value a b called.place same;
+      kept = kept_refused region f c.value c'.value a b k called.place attempts same kept;
       ready = λ alone. tt;
       refused = λ alone. opening_fault region t tries f c.value c'.value known (called.call.next alone)
           called.call.fault;
@@ -186,16 +197,16 @@ asked_refused region t tries end f e c c' a b range some is h same =
 
 -- a call that was recorded after it ended
 pub asked_recorded : (region : RegionShown) (t : Task) (tries : ℕ) (end : Result PlacedReply Fault)
-    (ended : Result (Unit {0}) Fault) (e : CallStatistics) (c c' : ClientShown) (a b k : KeptNotes)
-    (before traced : Option (List Trace)) → is_task t ≡ true → is_try_count tries ≡ true →
-    HasCalledPlaced region t tries end e c c' → HasTraced (replied end) c.value c'.value before traced →
-    b ≡ a → HasRecorded t end ended traced b k → WasAsked region t tries ended e c.value c'.value a k
-asked_recorded region t tries (Ok p) ended e c c' a b k before traced range some called told same h =
+    (ended : Result (Unit {0}) Fault) (e : CallStatistics) (c c' : ClientShown) (a b k : RecorderContents) →
+    is_task t ≡ true → is_try_count tries ≡ true → HasCalledPlaced region t tries end e c c' →
+    HasTraced IsFitting region (replied end) c.value c'.value a.traces b.traces → b.calls ≡ a.calls →
+    HasRecorded t end ended b k → WasAsked region t tries ended e c.value c'.value a k
+asked_recorded region t tries (Ok p) ended e c c' a b k range some called told same h =
     subst (λ (r : Result (Unit {0}) Fault). WasAsked region t tries r e c.value c'.value a k) (sym h.0)
-    (asked_answered region t tries (Ok p) p e c c' a b k before traced refl called told same h.1)
-asked_recorded region t tries (Err f) ended e c c' a b k before traced range some called told same h =
+    (asked_answered region t tries (Ok p) p e c c' a b k refl called told same h.1 h.2)
+asked_recorded region t tries (Err f) ended e c c' a b k range some called told same h =
     subst (λ (r : Result (Unit {0}) Fault). WasAsked region t tries r e c.value c'.value a k) (sym h.0)
-    (asked_refused region t tries (Err f) f e c c' a k range some refl called (h.1 ∙ same))
+    (asked_refused region t tries (Err f) f e c c' a b k range some refl called told same h.1)
 
 none_of : (rs : List Record) → AreOfTasks [] rs → rs ≡ []
 none_of [] h = refl
@@ -207,7 +218,7 @@ no_record n v v' a = a.records ∙ (ap (λ (l : List Record). v.records ++ l) (n
     append-nil v.records)
 
 -- a command of the opening was answered
-pub command_answered : (command : Command) (e : CallStatistics) (y y' : CallerShown) (a b : KeptNotes)
+pub command_answered : (command : Command) (e : CallStatistics) (y y' : CallerShown) (a b : RecorderContents)
     (end : Result (Unit {0}) Fault) → HasAllGrants y.user.value →
     WasAsked y.shared (One command) 1 end e y.user.value y'.user.value a b →
     IfOk end (λ _. WasAnswered command y y' a b)
@@ -220,7 +231,7 @@ command_answered command e y y' a b (Ok x) alone h = record {
 command_answered command e y y' a b (Err f) alone h = tt
 
 -- it was refused
-pub command_refused : (command : Command) (e : CallStatistics) (y y' : CallerShown) (a b : KeptNotes)
+pub command_refused : (command : Command) (e : CallStatistics) (y y' : CallerShown) (a b : RecorderContents)
     (end : Result (Unit {0}) Fault) → HasAllGrants y.user.value →
     WasAsked y.shared (One command) 1 end e y.user.value y'.user.value a b →
     IfErr end (λ why. WasRefused why y y')

@@ -30,7 +30,7 @@ use Rattle.load_run.specs.declared.load.Load.{Load}
 use Rattle.load_run.specs.Streams.{KeptBySeed, IsBySeed}
 use Rattle.load_run.specs.Lists.{Paired, none, both}
 use Rattle.load_run.specs.Alone.{IsReadyForRound}
-use Rattle.load_run.specs.Keeping.{KeptNotes, AreKept}
+use Rattle.load_run.specs.Keeping.{RecorderContents, AreKept}
 use Rattle.load_run.specs.Several.{AllKept, none_kept, one_kept, sum_of, added_up}
 use Rattle.load_run.specs.Slots.{SlotShown, shown, kept_at}
 use Rattle.load_run.specs.Load.{InterleavedAll, Share, drawn_share, HasShare, HasKeptShare, HasOpened, RoundHasRun}
@@ -101,8 +101,10 @@ module _ {D P : Type 0} (leads : D → ℕ → D → Type 0) (s : Settings) (sho
   kept_drawn [] [] (q ∷ qs) hs ks = elim ks [ ]
   kept_drawn (p ∷ ps) (x ∷ xs) [] hs ks = elim ks [ ]
 
-pub loaded_kept : {D G K : Type 0} (leads : D → ℕ → D → Type 0) (notes : K → KeptNotes) (s : Settings) (state last : D)
-    (slots : List (Slot D G K)) (y : CallerShown) (end : Round (Slot D G K)) (before kept : KeptNotes) (words : List ℕ)
+pub loaded_kept : {D G K : Type 0} (leads : D → ℕ → D → Type 0) (notes : K →
+    RecorderContents) (s : Settings) (state last : D)
+    (slots : List (Slot D G K)) (y : CallerShown) (end : Round (Slot D G K)) (before kept : RecorderContents)
+    (words : List ℕ)
     (r : Report) →
     length slots ≡ s.clients →
     HasOpened leads s state last y →
@@ -177,8 +179,8 @@ paired_unmap f related (a ∷ ks) [] hs = elim hs [ ]
 
 -- a load is one of whatever its clients' draws begin with
 kept_on : {D P Q : Type 0} (leads : D → ℕ → D → Type 0) (s : Settings) (draws_of : P → D) (drawing : Q →
-    D) (state : D) (ps : List P) (qs : List Q) (t : Outcomes) (r : Report) (before after : KeptNotes)
-    (befores afters : List KeptNotes) →
+    D) (state : D) (ps : List P) (qs : List Q) (t : Outcomes) (r : Report) (before after : RecorderContents)
+    (befores afters : List RecorderContents) →
     map draws_of ps ≡ map drawing qs → LoadedKept leads s draws_of state ps t r before after befores afters →
     LoadedKept leads s drawing state qs t r before after befores afters
 kept_on leads s draws_of drawing state ps qs t r before after befores afters e h = record {
@@ -231,14 +233,14 @@ pub was_done : {R : Type 0} (r : Result R LoadFault) (x : R) → r ≡ Ok x → 
 was_done r x done e = cc
 
 -- what is kept at the seats is what their keepers kept
-pub kept_returned : {P K : Type 0} (keep_of : P → K) (notes : K → KeptNotes) (left : List P) (keeps : List K) →
-    keeps ≡ map keep_of left → (says : List KeptNotes → Type 0) → says (map (λ p. notes (keep_of p)) left) →
+pub kept_returned : {P K : Type 0} (keep_of : P → K) (notes : K → RecorderContents) (left : List P) (keeps : List K) →
+    keeps ≡ map keep_of left → (says : List RecorderContents → Type 0) → says (map (λ p. notes (keep_of p)) left) →
     says (map notes keeps)
 kept_returned keep_of notes left keeps are says h =
     subst says (map_both keep_of notes left ∙ sym (ap (λ (l : List _). map notes l) are)) h
 
 -- a load by a seed, with its keepers
-pub kept_by_seed : {G K : Type 0} (notes : K → KeptNotes) (s : Settings) (before after : Recorders K)
+pub kept_by_seed : {G K : Type 0} (notes : K → RecorderContents) (s : Settings) (before after : Recorders K)
     (l : Load Lcg G K) (t : Outcomes) (r : Report) → IsBySeed s before l →
     LoadedKept gives l.plan.settings (λ slot. slot.draws) l.draws l.slots.items t r (notes l.keep)
     (notes after.opening) (kept_at notes l.slots.items) (map notes after.clients.items) →
@@ -251,7 +253,8 @@ kept_by_seed notes s before after l t r is h =
     map_both (λ slot. slot.keep) notes l.slots.items ∙ ap (λ (l : List _). map notes l) is.keeps_are in
     kept_on gives s (λ slot. slot.draws) (λ d. d) (stream_of s.seed 0) l.slots.items streams t r _ _ _ _
     (is.streams_are ∙ sym (map_same streams))
-    (subst (λ (ks : List KeptNotes). LoadedKept gives s (λ slot. slot.draws) (stream_of s.seed 0) l.slots.items t r
+    (subst (λ (ks : List RecorderContents). LoadedKept gives s (λ slot. slot.draws)
+    (stream_of s.seed 0) l.slots.items t r
     (notes before.opening) opened ks all) first
     (subst (λ (k : _). LoadedKept gives s (λ slot. slot.draws) (stream_of s.seed 0) l.slots.items t r
     (notes k) opened (kept_at notes l.slots.items) all) is.keep_is

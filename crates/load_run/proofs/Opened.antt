@@ -15,7 +15,7 @@ use Rattle.stm_region.specs.Shown.{RegionShown}
 use Rattle.vac_manager.specs.Called.{HasAllGrants, CallerShown}
 use Rattle.stm_object.specs.Callers.{GoesOn}
 use Rattle.vac_manager.specs.declared.fault.Fault.{Fault}
-use Rattle.load_run.specs.Keeping.{KeptNotes, HasKeptAdded}
+use Rattle.load_run.specs.Keeping.{RecorderContents, HasKeptAdded}
 use Rattle.load_run.specs.Opening.{as_tasks, RanDrawn, RanIn, Begun, Stopped, StoppedIn, IsAnswered, IsOpeningFault}
 use Rattle.load_run.specs.Opening.{WasAnswered, WasRefused, RanOrStopped, OpeningEnded}
 use Rattle.load_tasks.proofs.Drawing.{plus_one, drawn_always, drawn_then_always, drawn_joined}
@@ -39,7 +39,7 @@ ran_joined leads first second y z w a b c e p k =
     }
 
 -- a call that was answered was kept
-pub kept_if_ok : {E : Type 0} (command : Command) (y y' : CallerShown) (before after : KeptNotes)
+pub kept_if_ok : {E : Type 0} (command : Command) (y y' : CallerShown) (before after : RecorderContents)
     (result : Result (Unit {0}) E) → IfOk result (λ _. WasAnswered command y y' before after) →
     IfOk result (λ _. HasKeptAdded y.user.value y'.user.value before after)
 kept_if_ok command y y' before after (Ok x) q = q.kept
@@ -59,7 +59,8 @@ pub record Opening {D : Type 0} (leads : D → ℕ → D → Type 0) (renewal : 
   pub made : Answered renewal (as_tasks (customers n)) between u
   pub near : u.floor ≤ between.floor + n
 
-pub opening_more : {D : Type 0} (leads : D → ℕ → D → Type 0) (m n : ℕ) (y z w : CallerShown) (before after : KeptNotes)
+pub opening_more : {D : Type 0} (leads : D → ℕ → D → Type 0) (m n : ℕ) (y z w : CallerShown)
+    (before after : RecorderContents)
     (a b : D) → GoesOn y z → Opening leads y.shared.renewal m n y.user.value z.user.value a b →
     WasAnswered (NewCustomer (n + 1)) z w before after →
     Opening leads y.shared.renewal m (n + 1) y.user.value w.user.value a b
@@ -185,7 +186,7 @@ stopped_customers leads s n fault y z w a b less e p q =
 
 -- a client that is alone asked for a command whose words were drawn
 pub asked_one : {D : Type 0} (leads : D → ℕ → D → Type 0) (reader : Reader (List Command)) (command : Command)
-    (y y' : CallerShown) (before after : KeptNotes) (a b : D) (result : Result (Unit {0}) Fault) → GoesOn y y' →
+    (y y' : CallerShown) (before after : RecorderContents) (a b : D) (result : Result (Unit {0}) Fault) → GoesOn y y' →
     HasAllGrants y'.user.value → Drawn leads reader a (command ∷ []) b →
     IfOk result (λ _. WasAnswered command y y' before after) → IfErr result (λ fault. WasRefused fault y y') →
     RanOrStopped leads reader result y y' a b

@@ -25,7 +25,7 @@ use Rattle.load_run.specs.Attempted.{TaskCountsShown, uncounted}
 use Rattle.load_run.specs.Looping.{Looped, Clocked, AreOfTasks, total}
 use Rattle.load_run.specs.Lists.{Paired}
 use Rattle.load_run.specs.Several.{Interleaved, AllKept, added_up}
-use Rattle.load_run.specs.Keeping.{KeptNotes, AreKept, HasKeptAdded}
+use Rattle.load_run.specs.Keeping.{RecorderContents, AreKept, HasKeptAdded}
 use Rattle.load_run.specs.Slots.{SlotShown}
 use Rattle.load_run.specs.Opening.{as_tasks, RanDrawn, Stopped, IsAnswered}
 use Rattle.load_tasks.specs.Setting.{is_settings}
@@ -323,7 +323,7 @@ pub record HasLoaded {D P : Type 0} (leads : D → ℕ → D → Type 0) (s : Se
 -- the call is reported to the gate.
 pub record LoadedKept {D P : Type 0} (leads : D → ℕ → D → Type 0) (s : Settings)
     (draws_of : P → D) (state : D) (pairs : List P) (t : Outcomes) (r : Report)
-    (before after : KeptNotes) (befores afters : List KeptNotes) : Type 0 where
+    (before after : RecorderContents) (befores afters : List RecorderContents) : Type 0 where
   pub loaded : HasLoaded leads s draws_of state pairs t r
   pub opening_kept : AreKept loaded.opened before after
   pub clients_kept : AllKept (λ x. x.records) loaded.shares befores afters

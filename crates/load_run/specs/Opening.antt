@@ -14,7 +14,7 @@ use Rattle.vac_manager.specs.declared.fault.Fault.TheVariants as fault
 use Rattle.load_tasks.specs.Draws.{Reader, Reads, Drew, Drawn}
 use Rattle.load_tasks.specs.Tasks.{opening}
 use Rattle.load_tasks.specs.declared.settings.Settings.{Settings}
-use Rattle.load_run.specs.Keeping.{KeptNotes, HasKeptAdded}
+use Rattle.load_run.specs.Keeping.{RecorderContents, HasKeptAdded}
 use Rattle.load_run.specs.Looping.{Answered}
 
 -- each command as a task
@@ -63,7 +63,7 @@ IsOpeningFault last floor (fault.Spent version) = (version ≡ last) × (floor �
 
 -- a solo client completed this command, and its recorder kept the call: the command added its
 -- record, and raised the version that the client knows by at most one
-pub record WasAnswered (command : Command) (y y' : CallerShown) (before after : KeptNotes)
+pub record WasAnswered (command : Command) (y y' : CallerShown) (before after : RecorderContents)
     : Type 0 where
   pub answered : Answered y.shared.renewal (task.One command ∷ []) y.user.value y'.user.value
   pub near : y'.user.value.floor ≤ y.user.value.floor + 1

@@ -1,8 +1,8 @@
--- The combined results of several clients: records, recorded calls and counts.
+-- The combined results of several clients: records, contents of recorders and counts.
 use Rattle.std.specs.Prelude.{ℕ, ◌+◌, List, [], ◌∷◌}
 use Rattle.stm_core.specs.Client.{Record}
 use Rattle.load_run.specs.declared.outcomes.Outcomes.{Outcomes}
-use Rattle.load_run.specs.Keeping.{KeptNotes, AreKept}
+use Rattle.load_run.specs.Keeping.{RecorderContents, AreKept}
 
 -- the third list has exactly the elements of the first two, each once, and those of each list in
 -- their order
@@ -15,9 +15,9 @@ pub data Interleaved {A : Type 0} : List A → List A → List A → Type 0 wher
 -- for each element, the recorder at the same position appended the calls of exactly the element's
 -- records
 pub data AllKept {X : Type 0} (records_of : X → List Record)
-    : List X → List KeptNotes → List KeptNotes → Type 0 where
+    : List X → List RecorderContents → List RecorderContents → Type 0 where
   none_kept : AllKept records_of [] [] []
-  one_kept : {x : X} {k k' : KeptNotes} {xs : List X} {ks ks' : List KeptNotes} →
+  one_kept : {x : X} {k k' : RecorderContents} {xs : List X} {ks ks' : List RecorderContents} →
       AreKept (records_of x) k k' → AllKept records_of xs ks ks' →
       AllKept records_of (x ∷ xs) (k ∷ ks) (k' ∷ ks')
 

@@ -7,7 +7,7 @@ use Rattle.load_run.specs.declared.outcomes.Outcomes.{Outcomes}
 use Rattle.load_tasks.specs.Streams.{stream_of, streams_of, gives}
 use Rattle.load_run.specs.declared.slots.Recorders.{Recorders}
 use Rattle.load_run.specs.declared.load.Load.{Load}
-use Rattle.load_run.specs.Keeping.{KeptNotes}
+use Rattle.load_run.specs.Keeping.{RecorderContents}
 use Rattle.load_run.specs.Load.{HasLoaded, LoadedKept}
 
 -- the load of a seed: the setup phase draws from stream 0, and each client from the stream of its
@@ -18,7 +18,7 @@ LoadedBySeed s t r =
 
 -- the load of a seed with recorders: the recorder of the setup phase kept the calls of the setup
 -- phase, and the recorder of each client those of its client
-abbrev pub KeptBySeed : {K : Type 0} → (K → KeptNotes) → Settings → Outcomes → Report
+abbrev pub KeptBySeed : {K : Type 0} → (K → RecorderContents) → Settings → Outcomes → Report
     → Recorders K → Recorders K → Type 0
 KeptBySeed notes s t r before after =
     LoadedKept gives s (λ stream. stream) (stream_of s.seed 0) (streams_of s.seed s.clients) t r

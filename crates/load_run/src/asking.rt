@@ -2,6 +2,7 @@
 
 ghost use Rattle.std.specs.Prelude.{◌≡◌, Ok as Built, IfOk};
 ghost use Rattle.load_run.specs.Asking.{HasRecorded};
+ghost use Rattle.load_run.specs.Keeping.{contents};
 
 use std::alloc::AllocError;
 use stm_attempt::{Gate, Point};
@@ -14,7 +15,7 @@ pub(crate) fn with_room<K: Recorder>(
     task: Result<Task, AllocError>,
     keep: &mut K,
 ) -> Result<Task, AllocError>
-    ensures same { K.notes keep.new ≡ K.notes keep.old }
+    ensures same { contents K.notes K.traced keep.new ≡ contents K.notes K.traced keep.old }
     ensures task { IfOk result (λ t. task ≡ Built t) }
     ensures room { IfOk result (λ _. K.ready keep.new) }
 {
@@ -32,8 +33,8 @@ pub(crate) fn record_call<G: Gate, K: Recorder>(
     keep: &mut K,
 ) -> Result<(), Fault>
     requires room { K.ready keep.old }
-    ensures { HasRecorded task end result (K.traced keep.old)
-        (K.notes keep.old) (K.notes keep.new) }
+    ensures { HasRecorded task end result
+        (contents K.notes K.traced keep.old) (contents K.notes K.traced keep.new) }
 {
     match end {
         Ok(placed) => {

@@ -3,7 +3,7 @@
 ghost use Rattle.std.specs.Prelude.{◌≡◌, ◌↔◌, ◌⊎◌, true, false, map, vec_len};
 ghost use Rattle.std.specs.Prelude.{IfOk, IfErr, IsErrOf};
 ghost use Rattle.load_tasks.specs.Setting.{is_settings};
-ghost use Rattle.load_run.specs.Keeping.{AreKept};
+ghost use Rattle.load_run.specs.Keeping.{AreKept, contents};
 ghost use Rattle.load_run.specs.Attempted.{AreStatistics};
 ghost use Rattle.load_run.specs.Alone.{IsAloneInRenewal, caller_of};
 ghost use Rattle.load_run.specs.Slots.{kept_at};
@@ -61,7 +61,7 @@ fn open_load<D: Draws, K: Recorder>(
         (caller_of r.0 r.1)) }
     ensures alone { IfOk result (λ r. IsAloneInRenewal (caller_of r.0 r.1)) }
     ensures kept { IfOk result (λ r. AreKept r.1.value.records
-        (K.notes keep.old) (K.notes keep.new)) }
+        (contents K.notes K.traced keep.old) (contents K.notes K.traced keep.new)) }
     ensures stopped { IfErr result (λ fault.
         IsStopOfLoad D.leads settings.now opening.old opening.new fault) }
 {
@@ -176,9 +176,10 @@ impl<D: Draws + Send + Drop, G: Gate + Send + Drop, K: Recorder + Send + Drop> L
     where
         K::Tracing: Send,
         ensures kept { IfOk result (λ r. LoadedKept D.leads self.plan.settings (λ slot. slot.draws)
-            self.draws self.slots.items r.0.outcomes r.0.report (K.notes self.keep)
-            (K.notes r.2.opening) (kept_at K.notes self.slots.items)
-            (map K.notes r.2.clients.items)) }
+            self.draws self.slots.items r.0.outcomes r.0.report
+            (contents K.notes K.traced self.keep) (contents K.notes K.traced r.2.opening)
+            (kept_at (contents K.notes K.traced) self.slots.items)
+            (map (contents K.notes K.traced) r.2.clients.items)) }
         ensures statistics { IfOk result (λ r. AreStatistics self.plan.settings.tries r.0.outcomes
             r.1) }
         ensures refused { IfErr result (λ fault.

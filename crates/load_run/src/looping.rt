@@ -5,7 +5,7 @@ ghost use Rattle.vac_manager.specs.Called.{HasAllGrants};
 ghost use Rattle.load_tasks.specs.Setting.{is_settings};
 ghost use Rattle.stm_object.specs.Callers.{GoesOn};
 ghost use Rattle.load_run.specs.Looping.{Looped, Clocked};
-ghost use Rattle.load_run.specs.Keeping.{HasKeptAdded};
+ghost use Rattle.load_run.specs.Keeping.{HasKeptAdded, contents};
 
 use crate::asking::{record_call, with_room};
 use crate::counts::TaskCounts;
@@ -35,7 +35,7 @@ pub fn count_loop<D: Draws, G: Gate, K: Recorder>(
         caller.old.user.value caller.new.user.value result.outcomes }
     ensures tries { result.tries ≡ settings.now.tries }
     ensures kept { HasKeptAdded caller.old.user.value caller.new.user.value
-        (K.notes keep.old) (K.notes keep.new) }
+        (contents K.notes K.traced keep.old) (contents K.notes K.traced keep.new) }
 {
     let mut outcomes = TaskCounts::new(settings.tries);
     let mut statistics = CallStatistics::new();

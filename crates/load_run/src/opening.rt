@@ -5,7 +5,7 @@ ghost use Rattle.vac_model.specs.Ranges.{is_command};
 ghost use Rattle.vac_manager.specs.Called.{HasAllGrants};
 ghost use Rattle.stm_object.specs.Callers.{GoesOn};
 ghost use Rattle.load_tasks.specs.Setting.{is_settings};
-ghost use Rattle.load_run.specs.Keeping.{HasKeptAdded};
+ghost use Rattle.load_run.specs.Keeping.{HasKeptAdded, contents};
 ghost use Rattle.load_tasks.specs.Tasks.{stock, stocks};
 ghost use Rattle.load_run.specs.Opening.{RanOrStopped, OpeningEnded, WasAnswered, WasRefused};
 
@@ -30,7 +30,7 @@ fn ask_for<K: Recorder>(
     ensures caller { GoesOn caller.old caller.new }
     ensures grants { HasAllGrants caller.new.user.value }
     ensures answered { IfOk result (λ _. WasAnswered command caller.old caller.new
-        (K.notes keep.old) (K.notes keep.new)) }
+        (contents K.notes K.traced keep.old) (contents K.notes K.traced keep.new)) }
     ensures refused { IfErr result (λ fault. WasRefused fault caller.old caller.new) }
 {
     let task = Task::One(command);
@@ -64,7 +64,7 @@ fn add_item<D: Draws, K: Recorder>(
     ensures asked { RanOrStopped D.leads (stock id kind) result
         caller.old caller.new draws.old draws.new }
     ensures kept { IfOk result (λ _. HasKeptAdded caller.old.user.value caller.new.user.value
-        (K.notes keep.old) (K.notes keep.new)) }
+        (contents K.notes K.traced keep.old) (contents K.notes K.traced keep.new)) }
 {
     let command = draw_stock(draws, id, kind);
     ask_for(caller, command, keep)
@@ -82,7 +82,7 @@ fn add_items<D: Draws, K: Recorder>(
     ensures asked { RanOrStopped D.leads (stocks id) result
         caller.old caller.new draws.old draws.new }
     ensures kept { IfOk result (λ _. HasKeptAdded caller.old.user.value caller.new.user.value
-        (K.notes keep.old) (K.notes keep.new)) }
+        (contents K.notes K.traced keep.old) (contents K.notes K.traced keep.new)) }
 {
     add_item(caller, draws, id, Kind::Car, keep)?;
     add_item(caller, draws, id, Kind::Flight, keep)?;
@@ -106,7 +106,7 @@ pub fn open_kept<D: Draws, K: Recorder>(
     ensures opened { OpeningEnded D.leads settings.now result
         caller.old caller.new draws.old draws.new }
     ensures kept { IfOk result (λ _. HasKeptAdded caller.old.user.value caller.new.user.value
-        (K.notes keep.old) (K.notes keep.new)) }
+        (contents K.notes K.traced keep.old) (contents K.notes K.traced keep.new)) }
 {
     'items: for place in 0..settings.items {
         add_items(caller, draws, place + 1, keep)?;

@@ -2,6 +2,7 @@
 
 ghost use Rattle.std.specs.Prelude.{◌≡◌, vec_len, IfOk, IfErr};
 ghost use Rattle.load_run.specs.Alone.{IsAloneInRenewal, IsReadyForRound, caller_of};
+ghost use Rattle.load_run.specs.Keeping.{contents};
 ghost use Rattle.load_run.specs.Slots.{shown};
 ghost use Rattle.load_run.specs.Load.{RoundHasRun, IsLoadRefusal, IsRound, RunsCrew};
 
@@ -47,8 +48,8 @@ impl Plan {
         requires ready { IsReadyForRound self.settings (caller_of manager client) }
         ensures manager { IfOk result (λ r. r.manager ≡ manager) }
         ensures round { IfOk result (λ r. IsRound self.settings r) }
-        ensures ran { IfOk result (λ r. RoundHasRun D.leads (shown K.notes) self.settings
-            self.settings.tasks (caller_of manager client) slots.items r) }
+        ensures ran { IfOk result (λ r. RoundHasRun D.leads (shown (contents K.notes K.traced))
+            self.settings self.settings.tasks (caller_of manager client) slots.items r) }
         ensures refused { IfErr result (λ fault. IsLoadRefusal fault) }
     {
         let Ok(left) = Vec::with_capacity(self.alloc, slots.len()) else {
@@ -60,7 +61,8 @@ impl Plan {
             thread::scope_env(),
             rt,
             move |scope| -> Result<Crew<'_, Slot<D, G, K>>, LoadFault>
-                ensures { RunsCrew D.leads (shown K.notes) self.settings crew.entry result }
+                ensures { RunsCrew D.leads (shown (contents K.notes K.traced)) self.settings
+                    crew.entry result }
             {
                 // Moved whole, so that the closure does not capture single fields.
                 let workers = crew;

@@ -2,6 +2,7 @@
 
 ghost use Rattle.std.specs.Prelude.{◌≡◌, ◌≤◌, [], IfOk, IfErr, vec_len, vec_capacity};
 ghost use Rattle.load_run.specs.Lists.{Paired};
+ghost use Rattle.load_run.specs.Keeping.{contents};
 ghost use Rattle.load_run.specs.Slots.{shown};
 ghost use Rattle.load_run.specs.Load.{DidWork, IsPromise};
 
@@ -33,7 +34,8 @@ pub(crate) struct WorkerPromise<'m, W> {
 
 impl<'m, D: Draws, G, K: Recorder> Promise<Worker<'m, Slot<D, G, K>>>
     for WorkerPromise<'m, Slot<D, G, K>> {
-    ghost kept_by = { λ p r. DidWork D.leads (shown K.notes) p.settings p.worker.value r };
+    ghost kept_by = { λ p r.
+        DidWork D.leads (shown (contents K.notes K.traced)) p.settings p.worker.value r };
 }
 
 /// The thread of a worker.
@@ -59,7 +61,8 @@ pub(crate) fn join_all<'m, R: Threads, D: Draws + Drop, G: Drop, K: Recorder + D
     requires room { vec_len handles ≤ vec_capacity done }
     requires empty { done.items ≡ [] }
     ensures { Paired
-        (λ h r. DidWork D.leads (shown K.notes) h.promise.settings h.promise.worker.value r)
+        (λ h r. DidWork D.leads (shown (contents K.notes K.traced)) h.promise.settings
+        h.promise.worker.value r)
         handles.entry.items result.items }
 {
     for handle in handles {
@@ -95,7 +98,8 @@ impl Plan {
             worker: Snapshot::of(&worker),
         };
         let run = move || -> Worker<'_, Slot<D, G, K>>
-            ensures { DidWork D.leads (shown K.notes) self.settings worker.entry result }
+            ensures { DidWork D.leads (shown (contents K.notes K.traced)) self.settings
+                worker.entry result }
         {
             // Moved whole, so that the closure does not capture single fields of both.
             let (plan, worker) = (self, worker);

@@ -11,7 +11,8 @@ use Rattle.load_tasks.specs.Draws.{Drew, Reader, always, below, going_on, follow
 use Rattle.load_tasks.specs.Draws.{times_over}
 use Rattle.load_tasks.specs.Draws.{Reads}
 use Rattle.load_tasks.specs.Draws.{Drawn}
-use Rattle.load_tasks.specs.Tasks.{up_to, ask, change, drawn_trip, drawn_leave, drawn_update, task_at, work, question}
+use Rattle.load_tasks.specs.Tasks.{up_to, ask, change, drawn_trip, drawn_leave, update_of, drawn_update, task_at}
+use Rattle.load_tasks.specs.Tasks.{work, question}
 use Rattle.load_tasks.specs.Tasks.{mixed_at, task_of}
 use Rattle.load_tasks.specs.Tasks.{DrawnTask}
 
@@ -92,18 +93,31 @@ trip_drawn leads s a b c d count customer asks result counted named drawn built 
   built = built;
 }
 
+-- the changes of an update whose number is known
+pub changes_drawn : {D E : Type 0} (leads : D → ℕ → D → Type 0) (s : Settings) (b c : D) (count : ℕ)
+    (changes : List Command) (result : Result Task E) → Drawn leads (times_over count (change s)) b changes c →
+    IfOk result (λ t. t ≡ Update changes) → DrawnTask leads (update_of s count) b result c
+changes_drawn leads s b c count changes result drawn built = record {
+  task = Update changes;
+  drawn = drawn_then_always leads (times_over count (change s)) (λ changes. Update changes) b changes c drawn;
+  built = built;
+}
+
+pub update_after : {D E : Type 0} (leads : D → ℕ → D → Type 0) (s : Settings) (a b c : D) (count : ℕ)
+    (result : Result Task E) → Drawn leads (up_to s.asks) a count b → DrawnTask leads (update_of s count) b result c →
+    DrawnTask leads (drawn_update s) a result c
+update_after leads s a b c count result counted q = record {
+  task = q.task;
+  drawn = drawn_after leads (up_to s.asks) (λ count. update_of s count) a count b q.task c counted q.drawn;
+  built = q.built;
+}
+
 pub update_drawn : {D E : Type 0} (leads : D → ℕ → D → Type 0) (s : Settings) (a b c : D) (count : ℕ)
     (changes : List Command) (result : Result Task E) →
     Drawn leads (up_to s.asks) a count b → Drawn leads (times_over count (change s)) b changes c →
     IfOk result (λ t. t ≡ Update changes) → DrawnTask leads (drawn_update s) a result c
-update_drawn leads s a b c count changes result counted drawn built = record {
-  task = Update changes;
-  drawn =
-      drawn_after leads (up_to s.asks) (λ count. followed_by (times_over count (change s))
-      (λ changes. always (Update changes))) a count b _ c counted
-      (drawn_then_always leads (times_over count (change s)) (λ changes. Update changes) b changes c drawn);
-  built = built;
-}
+update_drawn leads s a b c count changes result counted drawn built =
+    update_after leads s a b c count result counted (changes_drawn leads s b c count changes result drawn built)
 
 pub task_after : {D E : Type 0} (leads : D → ℕ → D → Type 0) (s : Settings) (a : D) (r : ℕ) (b : D)
     (result : Result Task E) (c : D) →

@@ -60,12 +60,14 @@ abbrev pub change : Settings → Reader Command
 change s = followed_by kind
     (λ k. followed_by (up_to s.items) (λ id. followed_by (below 2) (λ o. change_of k id o)))
 
+-- reads an update with this number of changes
+abbrev pub update_of : Settings → ℕ → Reader Task
+update_of s count =
+    followed_by (times_over count (change s)) (λ changes. always (task.Update changes))
+
 -- reads an update: the number of changes, then the changes
 abbrev pub drawn_update : Settings → Reader Task
-drawn_update s =
-    followed_by (up_to s.asks) (λ count.
-    followed_by (times_over count (change s)) (λ changes.
-    always (task.Update changes)))
+drawn_update s = followed_by (up_to s.asks) (λ count. update_of s count)
 
 -- reads the task that a number below 100 selects
 abbrev pub task_at : Settings → ℕ → Reader Task

@@ -7,7 +7,8 @@ ghost use Rattle.vac_model.specs.Ranges.{is_change, is_command, is_task};
 ghost use Rattle.load_tasks.specs.Draws.{Reader, Drawn, below, times_over};
 ghost use Rattle.load_tasks.specs.Setting.{is_settings};
 ghost use Rattle.load_tasks.specs.Tasks.{up_to, kind, price, ask, drawn_trip, drawn_leave, removal};
-ghost use Rattle.load_tasks.specs.Tasks.{change_of, change, drawn_update, work, task_of, DrawnTask};
+ghost use Rattle.load_tasks.specs.Tasks.{change_of, change, update_of, drawn_update, work};
+ghost use Rattle.load_tasks.specs.Tasks.{task_of, DrawnTask};
 ghost use Rattle.load_tasks.specs.Tasks.{question_at, question};
 ghost use Rattle.load_tasks.specs.Tasks.{IsTurn, TurnsMakeTasks};
 ghost use Rattle.std.specs.Iterator.{at_most};
@@ -186,6 +187,22 @@ impl Drawing<'_> {
         }
     }
 
+    /// Draws `count` changes, and builds their update.
+    ///
+    /// `cold` keeps the compiler from inlining this function. Otherwise `draw_update` fills the
+    /// array for the longest update on entry, for each short update.
+    #[cold]
+    fn draw_long_update<D: Draws>(&self, draws: &mut D, count: u32) -> Result<Task, AllocError>
+        requires some { 1 ≤ count }
+        requires few { count ≤ self.now.settings.now.asks }
+        ensures drawn { DrawnTask D.leads (update_of self.now.settings.now count)
+            draws.old result draws.new }
+        ensures range { IfOk result (λ task. is_task task ≡ true) }
+    {
+        let changes = self.draw_parts::<Command, D, MOST_PARTS>(draws, count);
+        Task::update(self.alloc, changes.as_slice())
+    }
+
     /// Draws an update. All its words are drawn, even if memory to build the update is refused.
     /// Few changes are drawn into a short array, as the asks of a trip are.
     fn draw_update<D: Draws>(&self, draws: &mut D) -> Result<Task, AllocError>
@@ -198,8 +215,7 @@ impl Drawing<'_> {
             let changes = self.draw_parts::<Command, D, INLINE_CHANGES>(draws, count);
             Task::update(self.alloc, changes.as_slice())
         } else {
-            let changes = self.draw_parts::<Command, D, MOST_PARTS>(draws, count);
-            Task::update(self.alloc, changes.as_slice())
+            self.draw_long_update(draws, count)
         }
     }
 

@@ -2,7 +2,7 @@ use Rattle.std.proofs.Common.{rules, inl, refl, ap, subst, sym, List, ◌++◌}
 use Rattle.stm_core.specs.Client.{Record}
 use Rattle.vac_manager.specs.Called.{ClientShown, CallerShown}
 use Rattle.load_tasks.specs.Tasks.{opening}
-use Rattle.load_run.specs.Keeping.{HasKeptAdded}
+use Rattle.load_run.specs.Keeping.{HasKeptAdded, contents}
 use Rattle.load_run.specs.Opening.{RanIn, StoppedIn, IsAnswered}
 use Rattle.load_run.proofs.Eras.{opened_in}
 use Rattle.load_run.proofs.Loads.{was_stopped}
@@ -42,8 +42,10 @@ returns-clause-kept g c =
     let empty = ap (λ (x : ClientShown). x.value.records) c.in-Ok.ensures.ok.client_is in
     rw c.into_user-client.ensures.user (kept_added c.in-Ok.client.value after after.records _ _
     (sym (ap (λ (l : List Record). l ++ after.records) empty))
-    (subst (λ (y : CallerShown). HasKeptAdded y.user.value after (g.K.Recorder.notes c.args.keep.now)
-    (g.K.Recorder.notes c.open_kept.new.keep)) c.caller-caller.ensures c.in_default-open_kept.ensures.kept))
+    (subst (λ (y : CallerShown). HasKeptAdded y.user.value after
+    (contents g.K.Recorder.notes g.K.Recorder.traced c.args.keep.now)
+    (contents g.K.Recorder.notes g.K.Recorder.traced c.open_kept.new.keep)) c.caller-caller.ensures
+    c.in_default-open_kept.ensures.kept))
 
 pub returns-in_default-clause-stopped : goal.returns-in_default-clause-stopped
 returns-in_default-clause-stopped g c = inl refl

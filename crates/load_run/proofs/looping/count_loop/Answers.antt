@@ -1,7 +1,8 @@
-use Rattle.std.proofs.Common.{rules, refl, ◌≡◌, ℕ, true, sym, subst, ◌∙◌, Result, Err, IfOk}
+use Rattle.std.proofs.Common.{rules, refl, ◌≡◌, ℕ, true, sym, ap, subst, ◌∙◌, Result, Err, IfOk}
 use Rattle.vac_model.specs.Ranges.{is_task}
 use Rattle.vac_model.specs.declared.tasks.Task.{Task}
 use Rattle.vac_manager.specs.declared.fault.Fault.TheVariants as fault
+use Rattle.load_run.specs.Keeping.{RecorderContents, contents}
 use Rattle.load_run.proofs.Answering.{RanOne, looped_none, looped_more}
 use Rattle.load_run.proofs.Asked.{asked_recorded, issued, issued_none, traced_by}
 use Rattle.load_run.specs.Attempted.{AreStatistics, no_attempts, with_call}
@@ -25,7 +26,8 @@ tasks-init g c = record {
 pub tasks-preserved-in_default : goal.tasks-preserved-in_default
 tasks-preserved-in_default g c =
     let i = issued_none c.tasks.caller.shared c.draw_task-drawn.result c.args.settings.now.tries c.new.result
-    c.tasks.caller.user.value (g.K.Recorder.notes c.tasks.keep) (g.K.Recorder.notes c.with_room.new.keep)
+    c.tasks.caller.user.value (contents g.K.Recorder.notes g.K.Recorder.traced c.tasks.keep)
+    (contents g.K.Recorder.notes g.K.Recorder.traced c.with_room.new.keep)
     (some_tries c.args.settings.now c.requires.settings) c.new.ensures c.with_room.ensures.same in
     record {
       caller = c.tasks.invariant.caller;
@@ -50,11 +52,15 @@ pub count-requires-in-tasks-clause-took : goal.count-requires-in-tasks-clause-to
 count-requires-in-tasks-clause-took g c =
     let asked = asked_recorded c.tasks.caller.shared c.in-Ok.task c.args.settings.now.tries c.trace_valid-end.result
     c.record_call-end.result c.trace_valid-end.new.statistics c.tasks.caller.user c.trace_valid-end.new.caller.user
-    (g.K.Recorder.notes c.tasks.keep) _ (g.K.Recorder.notes c.record_call-end.new.keep) _ _
+    (contents g.K.Recorder.notes g.K.Recorder.traced c.tasks.keep) _
+    (contents g.K.Recorder.notes g.K.Recorder.traced c.record_call-end.new.keep)
     (subst (λ (x : Result Task _). IfOk x (λ t. is_task t ≡ true)) c.in-Ok.ensures.task c.draw_task-drawn.ensures.range)
     (some_tries c.args.settings.now c.requires.settings) c.trace_valid-end.ensures.called
-    (traced_by _ _ _ _ _ _ _ c.lend-tracer.ensures.traced c.take_back.ensures.traced c.trace_valid-end.ensures.traced)
-    (c.take_back.ensures.same ∙ (c.lend-tracer.ensures.same ∙ c.with_room.ensures.same)) c.record_call-end.ensures in
+    (traced_by _ _ _ _ _ _ _ _ _
+    (c.lend-tracer.ensures.traced ∙ ap (λ (k : RecorderContents). k.traces) c.with_room.ensures.same)
+    c.take_back.ensures.traced c.trace_valid-end.ensures.traced)
+    (c.take_back.ensures.same ∙ (c.lend-tracer.ensures.same
+    ∙ ap (λ (k : RecorderContents). k.calls) c.with_room.ensures.same)) c.record_call-end.ensures in
     let i = issued c.tasks.caller.shared c.draw_task-drawn.result c.in-Ok.task c.args.settings.now.tries
     c.record_call-end.result c.trace_valid-end.new.statistics c.tasks.caller.user.value
     c.trace_valid-end.new.caller.user.value _ _ c.in-Ok.ensures.task asked in
@@ -65,11 +71,15 @@ pub tasks-preserved : goal.tasks-preserved
 tasks-preserved g c =
     let asked = asked_recorded c.tasks.caller.shared c.in-Ok.task c.args.settings.now.tries c.trace_valid-end.result
     c.record_call-end.result c.trace_valid-end.new.statistics c.tasks.caller.user c.trace_valid-end.new.caller.user
-    (g.K.Recorder.notes c.tasks.keep) _ (g.K.Recorder.notes c.record_call-end.new.keep) _ _
+    (contents g.K.Recorder.notes g.K.Recorder.traced c.tasks.keep) _
+    (contents g.K.Recorder.notes g.K.Recorder.traced c.record_call-end.new.keep)
     (subst (λ (x : Result Task _). IfOk x (λ t. is_task t ≡ true)) c.in-Ok.ensures.task c.draw_task-drawn.ensures.range)
     (some_tries c.args.settings.now c.requires.settings) c.trace_valid-end.ensures.called
-    (traced_by _ _ _ _ _ _ _ c.lend-tracer.ensures.traced c.take_back.ensures.traced c.trace_valid-end.ensures.traced)
-    (c.take_back.ensures.same ∙ (c.lend-tracer.ensures.same ∙ c.with_room.ensures.same)) c.record_call-end.ensures in
+    (traced_by _ _ _ _ _ _ _ _ _
+    (c.lend-tracer.ensures.traced ∙ ap (λ (k : RecorderContents). k.traces) c.with_room.ensures.same)
+    c.take_back.ensures.traced c.trace_valid-end.ensures.traced)
+    (c.take_back.ensures.same ∙ (c.lend-tracer.ensures.same
+    ∙ ap (λ (k : RecorderContents). k.calls) c.with_room.ensures.same)) c.record_call-end.ensures in
     let i = issued c.tasks.caller.shared c.draw_task-drawn.result c.in-Ok.task c.args.settings.now.tries
     c.record_call-end.result c.trace_valid-end.new.statistics c.tasks.caller.user.value
     c.trace_valid-end.new.caller.user.value _ _ c.in-Ok.ensures.task asked in

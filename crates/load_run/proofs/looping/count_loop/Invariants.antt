@@ -1,6 +1,6 @@
 use Rattle.std.proofs.Common.{◌≡◌}
 use Rattle.stm_object.specs.Callers.{GoesOn}
-use Rattle.load_run.specs.Keeping.{HasKeptAdded}
+use Rattle.load_run.specs.Keeping.{HasKeptAdded, contents}
 use Rattle.load_run.specs.Looping.{Looped, Clocked}
 use Rattle.vac_manager.specs.Called.{HasAllGrants}
 use Rattle.load_run.proofs.looping.count_loop.Given as goal
@@ -13,6 +13,7 @@ invariant-tasks g l = record {
   clock : HasAllGrants l.fn.caller.user.value → Clocked l.fn.caller.shared.last l.fn.caller.user.value
       l.caller.user.value l.outcomes.outcomes;
   tries : l.outcomes.tries ≡ l.fn.settings.tries;
-  kept : HasKeptAdded l.fn.caller.user.value l.caller.user.value (g.K.Recorder.notes l.fn.keep)
-      (g.K.Recorder.notes l.keep);
+  kept : HasKeptAdded l.fn.caller.user.value l.caller.user.value
+      (contents g.K.Recorder.notes g.K.Recorder.traced l.fn.keep)
+      (contents g.K.Recorder.notes g.K.Recorder.traced l.keep);
 }

@@ -4,7 +4,7 @@ use Rattle.vac_manager.specs.Called.{HasAllGrants}
 use Rattle.stm_object.specs.Callers.{GoesOn}
 use Rattle.load_tasks.specs.Draws.{for_each}
 use Rattle.load_tasks.specs.Tasks.{stocks}
-use Rattle.load_run.specs.Keeping.{HasKeptAdded}
+use Rattle.load_run.specs.Keeping.{HasKeptAdded, contents}
 use Rattle.load_run.specs.Opening.{IsAnswered, RanOrStopped}
 use Rattle.load_run.proofs.Opened.{Opening}
 use Rattle.load_run.proofs.opening.open_kept.Given as goal
@@ -12,8 +12,9 @@ use Rattle.load_run.proofs.opening.open_kept.Given as goal
 abbrev pub invariant-items : goal.invariant-items
 invariant-items g l = record {
   asked : RanOrStopped g.D.Draws.leads (for_each l.place stocks) (Ok tt) l.fn.caller l.caller l.fn.draws l.draws;
-  kept : HasKeptAdded l.fn.caller.user.value l.caller.user.value (g.K.Recorder.notes l.fn.keep)
-      (g.K.Recorder.notes l.keep);
+  kept : HasKeptAdded l.fn.caller.user.value l.caller.user.value
+      (contents g.K.Recorder.notes g.K.Recorder.traced l.fn.keep)
+      (contents g.K.Recorder.notes g.K.Recorder.traced l.keep);
 }
 
 abbrev pub invariant-customers : goal.invariant-customers
@@ -22,7 +23,8 @@ invariant-customers g l = record {
   grants : HasAllGrants l.caller.user.value;
   opening : Opening g.D.Draws.leads l.fn.caller.shared.renewal l.fn.settings.items l.place l.fn.caller.user.value
       l.caller.user.value l.fn.draws l.draws;
-  kept : HasKeptAdded l.fn.caller.user.value l.caller.user.value (g.K.Recorder.notes l.fn.keep)
-      (g.K.Recorder.notes l.keep);
+  kept : HasKeptAdded l.fn.caller.user.value l.caller.user.value
+      (contents g.K.Recorder.notes g.K.Recorder.traced l.fn.keep)
+      (contents g.K.Recorder.notes g.K.Recorder.traced l.keep);
   ready : (l.place ≡ 0) ⊎ IsAnswered l.fn.caller.shared l.caller.user.value;
 }

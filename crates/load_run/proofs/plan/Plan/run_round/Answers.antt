@@ -1,6 +1,7 @@
 use Rattle.std.proofs.Common.{◌≡◌, ◌∙◌, length, sym, ap, subst, arith}
 use Rattle.stm_region.specs.Shown.{RegionShown}
 use Rattle.vac_manager.specs.Called.{CallerShown}
+use Rattle.load_run.specs.Keeping.{contents}
 use Rattle.load_run.specs.Slots.{shown}
 use Rattle.load_run.specs.Alone.{IsInRenewal, IsReadyForRound}
 use Rattle.load_run.specs.Load.{RanAll}
@@ -19,7 +20,8 @@ gather_all-client-requires g c =
     let count : length c.args.slots.items ≡ c.args.self.settings.clients =
     sym c.args.slots.ok.0 ∙ c.requires.number in
     record {
-      can = can_gather g.D.Draws.leads (shown g.K.Recorder.notes) c.args.self.settings c.caller-caller.result
+      can = can_gather g.D.Draws.leads (shown (contents g.K.Recorder.notes g.K.Recorder.traced)) c.args.self.settings
+          c.caller-caller.result
           c.args.slots.items
           _ _
           most.clients most.tasks count c.in_ok-crew.ensures.crew c.in_ok-crew-2.ensures.1.0;
@@ -43,7 +45,8 @@ returns-clause-round g c =
         alone = c.gather_all-client.ensures.alone;
         era = subst (λ (y : CallerShown). IsInRenewal y.shared.renewal c.gather_all-client.result.0.value.records)
             opened
-            (ran_in g.D.Draws.leads (shown g.K.Recorder.notes) c.args.self.settings c.caller-caller.result _ _ _
+            (ran_in g.D.Draws.leads (shown (contents g.K.Recorder.notes g.K.Recorder.traced)) c.args.self.settings
+            c.caller-caller.result _ _ _
             c.gather_all-client.result.0.value _ ready c.in_ok-crew.ensures.crew c.in_ok-crew-2.ensures.1.0
             c.gather_all-client.ensures.gathered
             (subst (λ (y : CallerShown). IsInRenewal y.shared.renewal y.user.value.records) (sym opened)
@@ -56,8 +59,10 @@ returns-clause-ran g c =
     let opened = c.caller-caller.ensures in
     let ready = subst (λ (y : CallerShown). IsReadyForRound c.args.self.settings y) (sym opened) c.requires.ready in
     subst (λ (y : CallerShown). RanAll g.D.Draws.leads c.args.self.settings
-    (shown g.K.Recorder.notes) c.args.self.settings.tasks y.user.value.records c.args.slots.items
+    (shown (contents g.K.Recorder.notes g.K.Recorder.traced)) c.args.self.settings.tasks y.user.value.records
+    c.args.slots.items
     c.gather_all-client.result.0.value.records c.gather_all-client.result.1.items c.gather_all-client.result.2.outcomes)
-    opened (ran_all g.D.Draws.leads (shown g.K.Recorder.notes) c.args.self.settings c.caller-caller.result _ _ _ _
+    opened (ran_all g.D.Draws.leads (shown (contents g.K.Recorder.notes g.K.Recorder.traced)) c.args.self.settings
+    c.caller-caller.result _ _ _ _
     c.gather_all-client.result.0.value _ ready c.in_ok-crew.ensures.crew c.in_ok-crew-2.ensures.1.0
     c.gather_all-client.ensures.gathered c.gather_all-client.ensures.slots)

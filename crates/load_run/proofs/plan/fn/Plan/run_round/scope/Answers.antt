@@ -1,3 +1,4 @@
+use Rattle.load_run.specs.Keeping.{contents}
 use Rattle.load_run.specs.Slots.{shown}
 use Rattle.load_run.proofs.Pairs.{kept_promise, worked_through}
 use Rattle.load_run.proofs.plan.fn.Plan.run_round.scope.Goals as goal
@@ -5,9 +6,10 @@ use Rattle.load_run.proofs.plan.fn.Plan.run_round.scope.Goals as goal
 pub returns : goal.returns
 returns g c = (
   record {
-    first = kept_promise g.D.Draws.leads (shown g.K.Recorder.notes) _ _ _ _ c.in_ok-first.ensures.promise
+    first = kept_promise g.D.Draws.leads (shown (contents g.K.Recorder.notes g.K.Recorder.traced)) _ _ _ _
+        c.in_ok-first.ensures.promise
         c.join-first.ensures;
-    others = worked_through g.D.Draws.leads (shown g.K.Recorder.notes) _
+    others = worked_through g.D.Draws.leads (shown (contents g.K.Recorder.notes g.K.Recorder.traced)) _
         (λ h. h.promise) _ _ _ c.in_ok-started.ensures.promises c.join_all-others.ensures;
   },
   tt,
