@@ -1,3 +1,4 @@
 pub mod Levels
 pub mod Relaxed
 pub mod Laws
+pub mod Cut

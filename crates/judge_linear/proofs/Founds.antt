@@ -33,13 +33,13 @@ use Rattle.judge_linear.specs.Found.{Wrong, NoOrder, Order, IllegalPart, Undecid
 use Rattle.judge_linear.specs.Found.{part_text}
 use Rattle.judge_linear.specs.Judged.{HasNoOrderOf}
 use Rattle.judge_linear.specs.declared.part.IllegalPart as declared
-use Rattle.judge_linear.proofs.PartCalls.{parts_at}
-use Rattle.judge_part.specs.Histories.{part_of_history}
+use Rattle.judge_linear.proofs.PartCalls.{part_lines, are_at, then_at, end_of_line}
+use Rattle.judge_part.specs.Histories.{part_of_call, part_of_history}
 use Rattle.judge_part.specs.Lines.{has_part}
 use Rattle.judge_object.specs.Orders.{IsLinearizable}
 use Rattle.vac_model.specs.declared.limits.TheConstants.{MOST_BLOCKS}
 use Rattle.std.specs.List.{list_all}
-use Rattle.judge_linear.specs.Found.{AreKeptInOrder, ArePartsAt, RunsBefore, RunsWithin, TextRunsWithin}
+use Rattle.judge_linear.specs.Found.{AreKeptInOrder, ArePartsAt, ArePartsThen, RunsBefore, RunsWithin, TextRunsWithin}
 use Rattle.judge_linear.specs.Judged.{IsReadAt}
 use Rattle.judge_levels.specs.declared.level.Level.{Level}
 use Rattle.judge_levels.specs.declared.level.Level.TheVariants as level
@@ -358,16 +358,21 @@ module _ (want : Level) (lines kept : List (Line Task)) (k : AreKeptLines lines 
 
   pub finds_part : (n given left : ℕ) (part : declared.IllegalPart) (text : List ℕ) → n ≤ MOST_BLOCKS →
       RunsBefore want n bytes read.calls given → HasNoOrderOf kept part →
-      text ≡ part_text part.scope.customers.items part.scope.items.items
-      (told_by (numbers_of part.calls.lines.items) part.stuck.items) →
+      text ≡ part_text part.wrong.line part.scope.customers.items part.scope.items.items
+      (told_by (numbers_of part.wrong.part.calls.lines.items) part.wrong.part.stuck.items) →
       FindsText want n (given + left) bytes outcome.Illegal text
   finds_part n given left part text few before h e =
       let same = kept_same in
       let scope = part.scope in
       let sorted = part.calls.lines.items in
-      let tell : Stuck Reply → ℕ × Reply = λ one. (get_or (numbers_of sorted) one.place 0, one.expected) in
+      let moment = part.wrong.part.moment in
+      let then = h.wrong.none in
+      let cuts = part.wrong.part.calls.lines.items in
+      let found = part.wrong.part.stuck.items in
+      let tell : Stuck Reply → ℕ × Reply = λ one. (get_or (numbers_of cuts) one.place 0, one.expected) in
+      let each = part_lines scope lines kept h.from sorted k.each h.numbers h.sorted in
       record {
-        found = IllegalPart scope.customers.items scope.items.items (told_by (numbers_of sorted) part.stuck.items);
+        found = IllegalPart part.wrong.line scope.customers.items scope.items.items (told_by (numbers_of cuts) found);
         is = record {
           blocks = few;
           calls = read.calls;
@@ -385,16 +390,27 @@ module _ (want : Level) (lines kept : List (Line Task)) (k : AreKeptLines lines 
           part_numbers = numbers_of sorted;
           merges = subst (λ cs. IsMerge (part_of_history scope cs) (calls_of sorted)) same h.merges;
           are_parts = subst (λ cs. ArePartsAt scope cs (numbers_of sorted) (calls_of sorted)) read.are
-              (parts_at scope lines kept h.from sorted k.each h.numbers h.sorted);
-          most = h.most;
-          made = h.made;
-          state = h.state;
-          deepest = h.deepest;
-          bound = h.bound;
-          found = part.stuck.items;
-          are = h.are;
-          told = refl;
-          some = subst (λ m. 1 ≤ m) (sym (length-map part.stuck.items tell)) h.some;
+              (are_at (part_of_call scope) lines sorted each);
+          moment = moment;
+          ended = end_of_line sorted part.wrong.line moment h.wrong.ended;
+          early = then.early;
+          none_then = then.none;
+          parts_then = calls_of cuts;
+          numbers_then = numbers_of cuts;
+          merges_then = then.merges;
+          are_then = subst (λ cs. ArePartsThen scope moment cs (numbers_of cuts) (calls_of cuts)) read.are
+              (then_at scope moment lines sorted then.from cuts each then.numbers then.sorted);
+          blocked = record {
+            most = then.most;
+            made = then.made;
+            state = then.state;
+            deepest = then.deepest;
+            bound = then.bound;
+            found = found;
+            are = then.are;
+            told = refl;
+            some = subst (λ m. 1 ≤ m) (sym (length-map found tell)) then.some;
+          };
         };
         takes = takes n given left (given + left) (omega arith) before
             (record { made = 0; within = omega arith; run = tt });

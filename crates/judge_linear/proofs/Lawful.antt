@@ -58,7 +58,7 @@ no_order_means_none kept n steps bytes most stuck h calls l some =
     h.none (subst (IsAt reserving kept (empty_state n)) (calls_same calls h.calls (sym l ∙ h.are_kept.listed)) some)
 
 pub illegal_part_means_none : ((scope : Scope) → IllegalPartsShow scope) → IllegalPartMeansNone
-illegal_part_means_none show kept n steps bytes customers items stuck h calls l some =
+illegal_part_means_none show kept n steps bytes line customers items stuck h calls l some =
     let sorted = relaxed_numbered kept h.calls h.numbers in
     let own = subst (IsAt reserving kept (empty_state n))
     (calls_same calls h.calls (sym l ∙ h.are_kept.listed)) some in

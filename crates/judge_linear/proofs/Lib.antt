@@ -3,6 +3,7 @@ pub mod Telling
 pub mod Kept
 pub mod Freed
 pub mod PartCalls
+pub mod CutCalls
 pub mod Founds
 pub mod Printing
 pub mod Lawful

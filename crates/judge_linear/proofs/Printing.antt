@@ -10,7 +10,7 @@ use Rattle.vac_lines.specs.Script.{as_line}
 use Rattle.judge_object.specs.declared.line.Line.{Line}
 use Rattle.judge_search.specs.declared.stuck.Stuck.{Stuck}
 use Rattle.judge_linear.specs.Reading.{texts_of, numbers_of}
-use Rattle.judge_linear.specs.Found.{placed_text, stuck_text, told_by, first_number, scope_text, part_text}
+use Rattle.judge_linear.specs.Found.{placed_text, stuck_text, told_by, scope_text, part_text}
 use Rattle.vac_model.specs.declared.tasks.Task.{Task}
 use Rattle.vac_model.specs.State.{Place}
 
@@ -76,13 +76,11 @@ AreIn lines found = All (λ one. one.place < length lines) found
 -- a part is printed, of which the calls that are stuck are in the lines
 pub part_printed : (old mid new : List ℕ) (number : ℕ) (lines : List (Line Task)) (found : List (Stuck Reply))
     (customers : List ℕ) (items : List Place) →
-    (AreIn lines found → number ≡ first_number (told_by (numbers_of lines) found)) →
     mid ≡ old ++ as_line (codes "illegal part " ++ decimal number ++ scope_text customers items) →
     (AreIn lines found → new ≡ mid ++ flat_map stuck_text (told_by (numbers_of lines) found)) →
-    AreIn lines found → new ≡ old ++ part_text customers items (told_by (numbers_of lines) found)
-part_printed old mid new number lines found customers items first e f all =
+    AreIn lines found → new ≡ old ++ part_text number customers items (told_by (numbers_of lines) found)
+part_printed old mid new number lines found customers items e f all =
     let told = told_by (numbers_of lines) found in
-    let line : ℕ → List ℕ = λ n. as_line (codes "illegal part " ++ decimal n ++ scope_text customers items) in
-    f all
-    ∙ ap (λ t. t ++ flat_map stuck_text told) (e ∙ ap (λ n. old ++ line n) (first all))
-    ∙ append_assoc old (line (first_number told)) (flat_map stuck_text told)
+    f all ∙ ap (λ t. t ++ flat_map stuck_text told) e
+    ∙ append_assoc old (as_line (codes "illegal part " ++ decimal number ++ scope_text customers items))
+    (flat_map stuck_text told)

@@ -1,6 +1,6 @@
 -- The result for a history of which only each client's own order is known, and the text of the
 -- result.
-use Rattle.std.specs.Prelude.{◌≡◌, ◌≤◌, ◌+◌, ◌-◌, ⊤, ℕ, Bool, true, Some, None, All, List, [], ◌∷◌, ◌++◌, map, flat_map, length, get_or, codes, decimal}
+use Rattle.std.specs.Prelude.{◌≡◌, ◌<◌, ◌≤◌, ◌+◌, ◌-◌, ⊤, ℕ, Bool, true, Some, None, All, List, [], ◌∷◌, ◌++◌, map, flat_map, length, get_or, slice_get, codes, decimal, Option}
 use Rattle.vac_model.specs.declared.items.Kind.{Kind}
 use Rattle.vac_model.specs.declared.items.Kind.TheVariants.{Car, Flight, Room}
 use Rattle.vac_model.specs.declared.limits.TheConstants.{MOST_BLOCKS}
@@ -17,6 +17,7 @@ use Rattle.judge_object.specs.Orders.{IsMerge, IsOrderOf, IsLinearizable}
 use Rattle.judge_levels.specs.declared.level.Level.{Level}
 use Rattle.judge_levels.specs.declared.level.Level.TheVariants as level
 use Rattle.judge_levels.specs.Levels.{IsAt, keeps_all_of}
+use Rattle.judge_levels.specs.Cut.{cut}
 use Rattle.judge_levels.specs.Relaxed.{relax, PendingAreLast}
 use Rattle.judge_reservations.specs.Reserving.{reserving}
 use Rattle.judge_part.specs.declared.scope.Scope.{Scope}
@@ -29,17 +30,21 @@ use Rattle.judge_search.specs.Searching.{HasRun, IsUndecided}
 use Rattle.judge_search.specs.Walking.{AreDistinct}
 use Rattle.judge_search.specs.Stuck.{AreStuck}
 use Rattle.judge_linear.specs.Reading.{first_wrong, call_at}
+use Rattle.judge_linear.specs.Moments.{part_then}
+use Rattle.judge_object.specs.Call.{is_answered}
+use Rattle.judge_time.specs.declared.span.TheConstants.{NEVER}
 
 -- the result for a history at a level: a wrong line; the numbers of the lines in an order; no
 -- order, with the largest number of completed calls that can be placed and the lines of the calls
--- that are then blocked, each with the expected reply; a part without an order, on a scope of some
--- customers and items, with the lines of the calls whose parts are then blocked; or undecided
+-- that are then blocked, each with the expected reply; a line at the end of whose call a part had
+-- no order, on a scope of some customers and items, with the lines of the calls whose parts were
+-- then blocked; or undecided
 pub data FoundOfText : Type 0 where
   Wrong : (verdict : Verdict) → FoundOfText
   Order : (numbers : List ℕ) → FoundOfText
   NoOrder : (most : ℕ) → (stuck : List (ℕ × Reply)) → FoundOfText
-  IllegalPart : (customers : List ℕ) → (items : List Place) → (stuck : List (ℕ × Reply)) →
-      FoundOfText
+  IllegalPart : (line : ℕ) → (customers : List ℕ) → (items : List Place) →
+      (stuck : List (ℕ × Reply)) → FoundOfText
   Undecided : (most : ℕ) → FoundOfText
 
 -- the calls of the lines with these numbers, in this order
@@ -110,28 +115,66 @@ pub record HasNone (kept : Level) (n : ℕ) (bytes : List ℕ) (most : ℕ) (stu
   pub are : AreStuck reserving state made (relaxed_numbered kept calls numbers) found
   pub told : stuck ≡ told_by numbers found
 
--- a call is the part on a scope of the call of the line with a number
-pub record IsPartAt (scope : Scope) (calls : List Call) (number : ℕ) (part : Call) : Type 0 where
+-- a call is what a function gives for the call of the line with a number
+pub record IsGivenAt (f : Call → Option Call) (calls : List Call) (number : ℕ) (given : Call) :
+    Type 0 where
   pub first : 1 ≤ number
   pub last : number ≤ length calls
-  pub is : part_of_call scope (call_at calls number) ≡ Some part
+  pub is : f (call_at calls number) ≡ Some given
+
+-- each of some calls is what a function gives for the call of the line with its number
+abbrev pub AreGivenAt : (Call → Option Call) → List Call → List ℕ → List Call → Type 0
+AreGivenAt f calls [] [] = ⊤
+AreGivenAt f calls (number ∷ numbers) (given ∷ others) =
+    IsGivenAt f calls number given × AreGivenAt f calls numbers others
+AreGivenAt f calls _ _ = ⊥
 
 -- each of some calls is the part on a scope of the call of the line with its number
 abbrev pub ArePartsAt : Scope → List Call → List ℕ → List Call → Type 0
-ArePartsAt scope calls [] [] = ⊤
-ArePartsAt scope calls (number ∷ numbers) (part ∷ parts) =
-    IsPartAt scope calls number part × ArePartsAt scope calls numbers parts
-ArePartsAt scope calls _ _ = ⊥
+ArePartsAt scope calls numbers parts = AreGivenAt (part_of_call scope) calls numbers parts
+
+-- each of some calls is the part on a scope of the call of the line with its number, as the part
+-- stood at a moment
+abbrev pub ArePartsThen : Scope → ℕ → List Call → List ℕ → List Call → Type 0
+ArePartsThen scope moment calls numbers parts =
+    AreGivenAt (part_then scope moment) calls numbers parts
+
+-- of some calls with these numbers, the one with this number is completed, and ended at a moment
+pub record IsEndOf (calls : List Call) (numbers : List ℕ) (number moment : ℕ) : Type 0 where
+  pub place : ℕ
+  pub number_at : slice_get numbers place ≡ Some number
+  pub call : Call
+  pub call_is : slice_get calls place ≡ Some call
+  pub completed : is_answered call ≡ true
+  pub end : call.end ≡ moment
+
+-- in a state after as many completed calls as can be placed of these, for a system of the greatest
+-- number of blocks, the completed calls that may come next are given, at least one, each by its
+-- number with the reply of the manager
+-- Not said: in which order the blocked calls are given.
+pub record AreBlocked (parts : List Call) (numbers : List ℕ) (stuck : List (ℕ × Reply)) : Type 0
+  where
+    pub most : ℕ
+    pub made : ℕ → Bool
+    pub state : State
+    pub deepest : Deepest reserving (start (empty_state MOST_BLOCKS) parts) most
+        (record { rest = rest_of made 0 parts; state = state })
+    pub bound : PlacesAtMost reserving (answered parts) most (start (empty_state MOST_BLOCKS) parts)
+    pub found : List (Stuck Reply)
+    pub are : AreStuck reserving state made parts found
+    pub told : stuck ≡ told_by numbers found
+    pub some : 1 ≤ length stuck
 
 -- without the order that the level does not keep, all calls of a history have parts on a scope of
 -- these customers and items, and no order of the parts is a linearization, for a system of the
--- greatest number of blocks. In a state of that system after as many completed parts as can be
--- placed, the completed parts that may come next are given, at least one, each by the number of its
--- line with the reply of the manager
--- Not said: in which order the blocked calls are given; which items of the scope only its customers
--- book, and which of its customers only book its items.
-pub record HasIllegalPart (kept : Level) (n : ℕ) (bytes customers : List ℕ) (items : List Place)
-    (stuck : List (ℕ × Reply)) : Type 0 where
+-- greatest number of blocks. Nor was one at the end of the given line's part, which is completed:
+-- no order of the parts, as they stood then, is a linearization. Of the parts as they stood then
+-- the blocked ones are given, each by the number of its line with the reply of the manager
+-- Not said: in which order the blocked calls are given. Which items of the scope only its customers
+-- book, and which of its customers only book its items. That the parts had an order before the end
+-- of the given line's part; which line is given if several parts ended at the moment.
+pub record HasIllegalPart (kept : Level) (n : ℕ) (bytes : List ℕ) (line : ℕ) (customers : List ℕ)
+    (items : List Place) (stuck : List (ℕ × Reply)) : Type 0 where
   pub blocks : n ≤ MOST_BLOCKS
   pub calls : List Call
   pub numbers : List ℕ
@@ -144,16 +187,15 @@ pub record HasIllegalPart (kept : Level) (n : ℕ) (bytes customers : List ℕ) 
   pub part_numbers : List ℕ
   pub merges : IsMerge (part_of_history scope (relaxed_numbered kept calls numbers)) parts
   pub are_parts : ArePartsAt scope (relax kept calls) part_numbers parts
-  pub most : ℕ
-  pub made : ℕ → Bool
-  pub state : State
-  pub deepest : Deepest reserving (start (empty_state MOST_BLOCKS) parts) most
-      (record { rest = rest_of made 0 parts; state = state })
-  pub bound : PlacesAtMost reserving (answered parts) most (start (empty_state MOST_BLOCKS) parts)
-  pub found : List (Stuck Reply)
-  pub are : AreStuck reserving state made parts found
-  pub told : stuck ≡ told_by part_numbers found
-  pub some : 1 ≤ length stuck
+  pub moment : ℕ
+  pub ended : IsEndOf parts part_numbers line moment
+  pub early : moment < NEVER
+  pub none_then : IsLinearizable reserving (empty_state MOST_BLOCKS) (cut moment parts) → ⊥
+  pub parts_then : List Call
+  pub numbers_then : List ℕ
+  pub merges_then : IsMerge (cut moment parts) parts_then
+  pub are_then : ArePartsThen scope moment (relax kept calls) numbers_then parts_then
+  pub blocked : AreBlocked parts_then numbers_then stuck
 
 -- an exact search of the calls of a text as they are given, for a system of n blocks, can make this
 -- number of steps
@@ -214,8 +256,8 @@ abbrev pub IsFound : Level → ℕ → ℕ → List ℕ → FoundOfText → Type
 IsFound kept n steps bytes (Wrong verdict) = first_wrong bytes ≡ Some verdict
 IsFound kept n steps bytes (Order numbers) = IsOrderedAtLeast kept n bytes numbers
 IsFound kept n steps bytes (NoOrder most stuck) = HasNone kept n bytes most stuck
-IsFound kept n steps bytes (IllegalPart customers items stuck) =
-    HasIllegalPart kept n bytes customers items stuck
+IsFound kept n steps bytes (IllegalPart line customers items stuck) =
+    HasIllegalPart kept n bytes line customers items stuck
 IsFound kept n steps bytes (Undecided most) = IsLeftOpen kept n bytes steps most
 
 -- the text of the line with this number, the first line having number 1
@@ -254,15 +296,11 @@ item_text item = kind_text item.0 ++ decimal item.1
 abbrev pub scope_text : List ℕ → List Place → List ℕ
 scope_text customers items = flat_map customer_text customers ++ flat_map item_text items
 
--- the number of the line of the first of these calls
-abbrev pub first_number : List (ℕ × Reply) → ℕ
-first_number [] = 0
-first_number (one ∷ others) = one.0
-
--- the text of the result that a part has no order, with the lines of the blocked calls
-abbrev pub part_text : List ℕ → List Place → List (ℕ × Reply) → List ℕ
-part_text customers items stuck =
-    as_line (codes "illegal part " ++ decimal (first_number stuck) ++ scope_text customers items)
+-- the text of the result that a part had no order at the end of the call of a line, with the lines
+-- of the blocked calls
+abbrev pub part_text : ℕ → List ℕ → List Place → List (ℕ × Reply) → List ℕ
+part_text line customers items stuck =
+    as_line (codes "illegal part " ++ decimal line ++ scope_text customers items)
     ++ flat_map stuck_text stuck
 
 -- the text of the result that the question is undecided
@@ -274,7 +312,7 @@ abbrev pub found_text : List ℕ → FoundOfText → List ℕ
 found_text bytes (Wrong verdict) = verdict_text verdict
 found_text bytes (Order numbers) = order_text bytes numbers
 found_text bytes (NoOrder most stuck) = none_text most stuck
-found_text bytes (IllegalPart customers items stuck) = part_text customers items stuck
+found_text bytes (IllegalPart line customers items stuck) = part_text line customers items stuck
 found_text bytes (Undecided most) = open_text most
 
 -- the lines with the texts at these positions of a list

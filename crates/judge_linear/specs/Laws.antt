@@ -36,8 +36,9 @@ NoOrderMeansNone = (kept : Level) (n steps : ℕ) (bytes : List ℕ) (most : ℕ
 
 -- if the result is that a part has no order, the history is not at the level
 abbrev pub IllegalPartMeansNone : Type 0
-IllegalPartMeansNone = (kept : Level) (n steps : ℕ) (bytes customers : List ℕ) (items : List Place)
-    (stuck : List (ℕ × Reply)) → IsFound kept n steps bytes (IllegalPart customers items stuck) →
+IllegalPartMeansNone = (kept : Level) (n steps : ℕ) (bytes : List ℕ) (line : ℕ)
+    (customers : List ℕ) (items : List Place) (stuck : List (ℕ × Reply)) →
+    IsFound kept n steps bytes (IllegalPart line customers items stuck) →
     (calls : List Call) → Lists bytes calls → IsAt reserving kept (empty_state n) calls → ⊥
 
 -- the history of these calls, with this text, is as an outcome says of a level: at the level; or

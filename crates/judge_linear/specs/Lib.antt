@@ -1,4 +1,5 @@
 pub mod Reading
+pub mod Moments
 pub mod Found
 pub mod Ordering
 pub mod Laws

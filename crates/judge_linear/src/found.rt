@@ -3,7 +3,7 @@
 ghost use Rattle.std.specs.Prelude.{◌≡◌, ◌++◌, ◌<◌, All, OnOk, codes, decimal, flat_map, length};
 ghost use Rattle.vac_lines.specs.Script.{as_line};
 ghost use Rattle.judge_linear.specs.Found.{placed_text, stuck_text, none_text, open_text, told_by};
-ghost use Rattle.judge_linear.specs.Found.{customer_text, kind_text, item_text, scope_text, first_number, part_text};
+ghost use Rattle.judge_linear.specs.Found.{customer_text, kind_text, item_text, scope_text, part_text};
 ghost use Rattle.judge_linear.specs.Reading.{texts_of, numbers_of};
 
 use crate::part::IllegalPart;
@@ -128,24 +128,8 @@ fn print_items(items: &[(Kind, u32)], out: &mut Vec<u8>) -> Result<(), AllocErro
     Ok(())
 }
 
-/// Returns the number of the line of the first blocked call, or 0 if there is none.
-fn first_of(lines: &[Line<ValidTask>], stuck: &[Stuck<Reply>]) -> u64
-    ensures { All (λ one. one.place < length lines.now) stuck.now →
-        result ≡ first_number (told_by (numbers_of lines.now) stuck.now) }
-{
-    if stuck.is_empty() {
-        return 0;
-    }
-    let place = stuck[0].place;
-    if place < lines.len() {
-        lines[place].number
-    } else {
-        0
-    }
-}
-
 /// Appends the line of the result that a part on the scope of these customers and items has no
-/// order, with the number of the line of a blocked call.
+/// order, with the number of the line of a call.
 fn print_part(
     number: u64,
     customers: &[u32],
@@ -163,17 +147,16 @@ fn print_part(
 
 /// Appends the result that a part of the history has no order.
 pub(crate) fn print_illegal_part(part: &IllegalPart, out: &mut Vec<u8>) -> Result<(), AllocError>
-    ensures { OnOk result (All (λ one. one.place < length part.now.calls.lines.items)
-        part.now.stuck.items → out.new.items ≡ out.old.items
-        ++ part_text part.now.scope.customers.items part.now.scope.items.items
-        (told_by (numbers_of part.now.calls.lines.items) part.now.stuck.items)) }
+    ensures { OnOk result (All (λ one. one.place < length part.now.wrong.part.calls.lines.items)
+        part.now.wrong.part.stuck.items → out.new.items ≡ out.old.items
+        ++ part_text part.now.wrong.line part.now.scope.customers.items part.now.scope.items.items
+        (told_by (numbers_of part.now.wrong.part.calls.lines.items)
+        part.now.wrong.part.stuck.items)) }
 {
-    let lines = part.calls.as_slice();
-    let stuck = part.stuck.as_slice();
-    let number = first_of(lines, stuck);
     let (customers, items) = (part.scope.customers.as_slice(), part.scope.items.as_slice());
-    print_part(number, customers, items, out)?;
-    print_all_stuck(lines, stuck, out)
+    print_part(part.wrong.line, customers, items, out)?;
+    let blocked = &part.wrong.part;
+    print_all_stuck(blocked.calls.as_slice(), blocked.stuck.as_slice(), out)
 }
 
 /// Appends the result that the question is undecided, with the largest number `most` of completed

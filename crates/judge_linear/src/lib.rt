@@ -5,6 +5,7 @@
 mod found;
 mod history;
 mod laws;
+mod moments;
 mod order;
 mod ordering;
 mod part;

@@ -8,13 +8,13 @@ ghost use Rattle.judge_search.specs.Calls.{calls_of};
 ghost use Rattle.judge_search.specs.Walk.{IsWhole};
 ghost use Rattle.judge_linear.specs.Judged.{HasNoOrderOf};
 
+use crate::moments::{WrongPart, first_wrong};
 use judge_object::Watcher;
 use judge_part::{Scope, part_of_history, scope_of};
 use judge_reservations::{Reservations, ValidTask};
 use judge_scopes::{Names, Proposals};
-use judge_search::{Calls, Finding, Stuck, find_linearization, stuck_calls};
+use judge_search::Calls;
 use std::alloc::{AllocError, Global};
-use vac_model::Reply;
 use vac_model::limits::MOST_BLOCKS;
 
 /// Largest number of proposed scopes whose parts are checked, and of steps of each check.
@@ -29,8 +29,8 @@ pub(crate) struct IllegalPart {
     pub scope: Scope,
     /// The calls of the part in the order in which they ended.
     pub calls: Calls<ValidTask>,
-    /// The calls that are blocked after as many calls as can be placed.
-    pub stuck: Vec<Stuck<Reply>>,
+    /// The calls of the part as they stood at the end of a call.
+    pub wrong: WrongPart,
 }
 
 /// Returns the state of a system without entries. The number of blocks is in range, so the one
@@ -46,8 +46,8 @@ pub(crate) fn open(alloc: Global, blocks: u32) -> Result<Reservations, AllocErro
     }
 }
 
-/// Searches, in at most `steps` steps, for a linearization of the part of a history on a scope.
-/// Returns the part if there is none.
+/// Searches for the first call at whose end the part of a history on a scope has no order, in at
+/// most `steps` steps for each end that is tried. Returns the part if there is such a call.
 fn part_without_order<P: Watcher>(
     alloc: Global,
     calls: &Calls<ValidTask>,
@@ -61,20 +61,14 @@ fn part_without_order<P: Watcher>(
 {
     let lines = part_of_history(alloc, &scope, calls.as_slice())?;
     let part = Calls::new(alloc, lines)?;
-    let machine = open(alloc, MOST_BLOCKS)?;
-    let found = find_linearization(alloc, &part, machine, steps, watcher)?;
-    let Finding::NoOrder(_, point) = &found.finding else {
-        return Ok(None);
-    };
-    let stuck = stuck_calls(alloc, &part, point)?;
-    if stuck.is_empty() {
-        return Ok(None);
+    match first_wrong(alloc, &part, steps, watcher)? {
+        Some(wrong) => Ok(Some(IllegalPart {
+            scope,
+            calls: part,
+            wrong,
+        })),
+        None => Ok(None),
     }
-    Ok(Some(IllegalPart {
-        scope,
-        calls: part,
-        stuck,
-    }))
 }
 
 /// Returns the part of a history on the scope of these names, if an exact search of the part in at

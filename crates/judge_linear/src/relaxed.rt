@@ -37,7 +37,10 @@ fn copied_reply(alloc: Global, reply: &Option<Vec<u8>>) -> Result<Option<Vec<u8>
 }
 
 /// Returns a copy of a line.
-fn copied_line(alloc: Global, line: &Line<ValidTask>) -> Result<Line<ValidTask>, AllocError>
+pub(crate) fn copied_line(
+    alloc: Global,
+    line: &Line<ValidTask>,
+) -> Result<Line<ValidTask>, AllocError>
     ensures { IfOk result (IsCopy line.now) }
 {
     let task = copied_task(alloc, line.op.task())?;

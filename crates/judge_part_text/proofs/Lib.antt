@@ -3,3 +3,4 @@ pub mod Named
 pub mod Histories
 pub mod Without
 pub mod Parts
+pub mod Then

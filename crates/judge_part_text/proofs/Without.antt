@@ -32,7 +32,7 @@ module _ {X : Type 0} where
       go true h more = more (omega arith)
       go false h more = absurd (omega arith)
 
-  all_pass : (p : X → Bool) (xs : List X) → position (λ x. not (p x)) xs ≡ None → list_all p xs ≡ true
+  pub all_pass : (p : X → Bool) (xs : List X) → position (λ x. not (p x)) xs ≡ None → list_all p xs ≡ true
   all_pass p xs e =
       let t = none_lt (nat_lt (position_or_len (λ x. not (p x)) xs) (length xs))
       (position_or_len (λ x. not (p x)) xs) e in
@@ -43,7 +43,7 @@ module _ {X Y : Type 0} (f : X → Y) (p : Y → Bool) where
   front_map [] = refl
   front_map (x ∷ xs) = ap (λ n. cond (not (p (f x))) (1 + n) 0) (front_map xs)
 
-  position_map : (xs : List X) → position p (map f xs) ≡ position (λ x. p (f x)) xs
+  pub position_map : (xs : List X) → position p (map f xs) ≡ position (λ x. p (f x)) xs
   position_map xs =
       ap₂ (λ (n m : ℕ). cond (nat_lt n m) (Some n) None) (front_map xs) (length-map xs f)
 

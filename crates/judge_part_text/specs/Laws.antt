@@ -1,5 +1,5 @@
 -- Laws on the text of a part.
-use Rattle.std.specs.Prelude.{◌≤◌, ℕ, true, List}
+use Rattle.std.specs.Prelude.{◌≡◌, ◌≤◌, ℕ, true, Some, List}
 use Rattle.vac_model.specs.declared.limits.TheConstants.{MOST_BLOCKS}
 use Rattle.vac_model.specs.State.{Place, empty_state}
 use Rattle.judge_object.specs.Orders.{IsLinearizable}
@@ -8,7 +8,9 @@ use Rattle.judge_calls.specs.Call.{Call}
 use Rattle.judge_calls.specs.CallText.{AreWritten}
 use Rattle.judge_calls.specs.Laws.{Lists}
 use Rattle.judge_part.specs.Histories.{part_of_history}
+use Rattle.judge_levels.specs.Cut.{cut}
 use Rattle.judge_part_text.specs.Parting.{IsTextOfHistory}
+use Rattle.judge_part_text.specs.Until.{IsTextOfCut, end_at}
 
 -- if the part whose text was written is not linearizable in a system of the greatest number of
 -- blocks, the history is not linearizable in a system of any number of blocks
@@ -30,3 +32,32 @@ IllegalTextsShow = (customers : List ℕ) (items : List Place) (bytes text : Lis
     (IsLinearizable reserving (empty_state MOST_BLOCKS) parts → ⊥) →
     (blocks : ℕ) (calls : List Call) → blocks ≤ MOST_BLOCKS → Lists bytes calls →
     IsLinearizable reserving (empty_state blocks) calls → ⊥
+
+-- in a system of some number of blocks the history of these calls, as it stood at the end of the
+-- call of a line, is not linearizable, and the history is not
+pub record IsIllegalFrom (blocks line : ℕ) (calls : List Call) : Type 0 where
+  pub then : (moment : ℕ) → end_at calls line ≡ Some moment →
+      IsLinearizable reserving (empty_state blocks) (cut moment calls) → ⊥
+  pub whole : IsLinearizable reserving (empty_state blocks) calls → ⊥
+
+-- if the part of a cut whose text was written is not linearizable in a system of the greatest
+-- number of blocks, neither the cut nor the history is linearizable in a system of any number of
+-- blocks
+abbrev pub IllegalPartsUntilShow : Type 0
+IllegalPartsUntilShow = (customers : List ℕ) (items : List Place) (line : ℕ) (bytes text : List ℕ)
+    (part : IsTextOfCut customers items line bytes true text) →
+    (IsLinearizable reserving (empty_state MOST_BLOCKS)
+    (part_of_history part.text_is.text_is.scope (cut part.text_is.moment part.calls)) → ⊥) →
+    (blocks : ℕ) (calls : List Call) → blocks ≤ MOST_BLOCKS → Lists bytes calls →
+    IsIllegalFrom blocks line calls
+
+-- as `IllegalPartsUntilShow`, for the calls that are read from the text of the part: each reply of
+-- the part is that of some reply, and the line of each task is no longer than a line may be
+abbrev pub IllegalTextsUntilShow : Type 0
+IllegalTextsUntilShow = (customers : List ℕ) (items : List Place) (line : ℕ) (bytes text : List ℕ)
+    (part : IsTextOfCut customers items line bytes true text) →
+    AreWritten (part_of_history part.text_is.text_is.scope (cut part.text_is.moment part.calls)) →
+    (parts : List Call) → Lists text parts →
+    (IsLinearizable reserving (empty_state MOST_BLOCKS) parts → ⊥) →
+    (blocks : ℕ) (calls : List Call) → blocks ≤ MOST_BLOCKS → Lists bytes calls →
+    IsIllegalFrom blocks line calls

@@ -1,4 +1,5 @@
-pub mod Naming
 pub mod Reading
+pub mod Naming
 pub mod Parting
+pub mod Until
 pub mod Laws

@@ -23,7 +23,7 @@ use vac_lines::{append_field, write_and_flush};
 use vac_streams::StreamFault;
 
 /// Returns the scope of some names on which no item is closed and no customer is whole.
-fn open_scope(alloc: Global, names: &Names) -> Result<Scope, AllocError>
+pub(crate) fn open_scope(alloc: Global, names: &Names) -> Result<Scope, AllocError>
     ensures { IfOk result (λ scope.
         IsOpen names.now.customers.items names.now.items.items scope) }
 {
@@ -36,7 +36,7 @@ fn open_scope(alloc: Global, names: &Names) -> Result<Scope, AllocError>
 }
 
 /// Returns whether the call of a line has a part, and is timed.
-fn has_part(scope: &Scope, line: &Line<ValidTask>) -> bool
+pub(crate) fn has_part(scope: &Scope, line: &Line<ValidTask>) -> bool
     ensures { result ≡ spec.has_part scope.now (spec.call_of line.now) }
 {
     u128::from(line.begin) < NEVER
@@ -69,7 +69,7 @@ fn line_without(alloc: Global, names: &Names, lines: &[Line<ValidTask>]) -> Resu
 }
 
 /// Appends the line that names the call without a part.
-fn print_no_part(line: u64, out: &mut Vec<u8>) -> Result<(), AllocError>
+pub(crate) fn print_no_part(line: u64, out: &mut Vec<u8>) -> Result<(), AllocError>
     ensures { OnOk result (out.new.items ≡ out.old.items ++ no_part_text line) }
 {
     append_field(out, b"fault no-part ", line)?;

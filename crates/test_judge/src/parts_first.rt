@@ -36,6 +36,19 @@ const ROWS: &[Row] = &[
         Outcome::Illegal,
         "illegal part 5 customer 1 customer 2 car 1\nstuck 5 false sold-out\n",
     ),
+    // line 3 is wrong first; line 2, which is wrong too, was running when line 3 ended
+    (
+        "0 0 1 newcust 7 -> true\n1 2 20 bill 7 -> 5\n0 3 4 newcust 7 -> true\n",
+        Outcome::Illegal,
+        "illegal part 3 customer 7\nstuck 3 false exists\n",
+    ),
+    // two calls are wrong at the same moment, and a call begins later that never ends
+    (
+        "0 0 1 newcust 7 -> true\n1 2 9 newcust 7 -> true\n2 3 9 newcust 7 -> true\n\
+        3 10 - newcust 7 -> ?\n",
+        Outcome::Illegal,
+        "illegal part 2 customer 7\nstuck 2 false exists\nstuck 3 false exists\n",
+    ),
     // an audit belongs to no part
     (
         "0 0 1 newcust 7 -> true\n1 2 3 audit -> cars=0 flights=0 rooms=0 customers=0 bookings=0 \

@@ -13,24 +13,27 @@ on_ok : {X E : Type 0} (P Q : Type 0) → (P → Q) → (r : Result X E) → OnO
 on_ok P Q f (Ok x) h = f h
 on_ok P Q f (Err e) h = tt
 
-abbrev Printed : List ℕ → List ℕ → List (Line Task) → List (Stuck Reply) → List ℕ → List Place → Type 0
-Printed old new lines found customers items =
-    AreIn lines found → new ≡ old ++ part_text customers items (told_by (numbers_of lines) found)
+abbrev Printed : List ℕ → List ℕ → ℕ → List (Line Task) → List (Stuck Reply) → List ℕ → List Place → Type 0
+Printed old new line lines found customers items =
+    AreIn lines found → new ≡ old ++ part_text line customers items (told_by (numbers_of lines) found)
 
 pub returns : goal.returns
 returns c =
     let old = c.args.out.now.items in
     let new = c.print_all_stuck.new.out.items in
-    let lines = c.as_slice-lines.result.now in
-    let stuck = c.as_slice-stuck.result.now in
+    let lines = c.as_slice.result.now in
+    let stuck = c.as_slice-2.result.now in
     let customers = c.as_slice-customers.result.now in
     let part = c.args.part.now in
-    on_ok _ _ (λ h. subst (λ (x : List (Line Task)). Printed old new x part.stuck.items
-    part.scope.customers.items part.scope.items.items) c.as_slice-lines.ensures
-    (subst (λ (x : List (Stuck Reply)). Printed old new lines x part.scope.customers.items part.scope.items.items)
-    c.as_slice-stuck.ensures.value
-    (subst (λ (x : List ℕ). Printed old new lines stuck x part.scope.items.items) c.as_slice-customers.ensures.value
-    (subst (λ (x : List Place). Printed old new lines stuck customers x) c.as_slice-items.ensures.value
-    (part_printed old c.print_part.new.out.items new c.first_of-number.result lines stuck customers
-    c.as_slice-items.result.now c.first_of-number.ensures c.in_ok-print_part.ensures h)))))
+    let number = part.wrong.line in
+    let blocked = part.wrong.part in
+    on_ok _ _ (λ h. subst (λ (x : List (Line Task)). Printed old new number x blocked.stuck.items
+    part.scope.customers.items part.scope.items.items) c.as_slice.ensures
+    (subst (λ (x : List (Stuck Reply)). Printed old new number lines x part.scope.customers.items
+    part.scope.items.items) c.as_slice-2.ensures.value
+    (subst (λ (x : List ℕ). Printed old new number lines stuck x part.scope.items.items)
+    c.as_slice-customers.ensures.value
+    (subst (λ (x : List Place). Printed old new number lines stuck customers x) c.as_slice-items.ensures.value
+    (part_printed old c.print_part.new.out.items new number lines stuck customers
+    c.as_slice-items.result.now c.in_ok-print_part.ensures h)))))
     c.print_all_stuck.result c.print_all_stuck.ensures

@@ -24,15 +24,17 @@ returns-in-Whole-clause-text c = if_ok (λ outcome h want lines n given left byt
 pub returns-in_ok-print_illegal_part-in-Part-clause-text : goal.returns-in_ok-print_illegal_part-in-Part-clause-text
 returns-in_ok-print_illegal_part-in-Part-clause-text c = λ want lines n given left bytes few k j read before none.
     let part = c.in-Part.part in
-    let sorted = part.calls.lines.items in
+    let blocked = part.wrong.part in
+    let sorted = blocked.calls.lines.items in
     let h = subst (IsJudged (empty_state n) c.args.ordered.now.calls left) c.in-Part.is j in
-    let within : All (λ (one : Stuck Reply). one.place < length sorted) part.stuck.items =
-    subst (λ m. All (λ (one : Stuck Reply). one.place < m) part.stuck.items) (length-map sorted call_of) h.are.within in
+    let within : All (λ (one : Stuck Reply). one.place < length sorted) blocked.stuck.items =
+    subst (λ m. All (λ (one : Stuck Reply). one.place < m) blocked.stuck.items) (length-map sorted call_of)
+    h.wrong.none.are.within in
     finds_part want lines c.args.ordered.now.calls.lines.items k bytes read n given left part
     c.print_illegal_part.new.out.items few before h
     (c.in_ok-print_illegal_part-in-Part.ensures within
-    ∙ ap (λ t. t ++ part_text part.scope.customers.items part.scope.items.items
-    (told_by (numbers_of sorted) part.stuck.items)) none)
+    ∙ ap (λ t. t ++ part_text part.wrong.line part.scope.customers.items part.scope.items.items
+    (told_by (numbers_of sorted) blocked.stuck.items)) none)
 
 pub returns-in-Whole-clause-order : goal.returns-in-Whole-clause-order
 returns-in-Whole-clause-order c = if_ok (λ outcome h f. h (subst HasFoundOrder c.in-Whole.is f)) c.print_whole.result
