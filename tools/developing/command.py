@@ -80,7 +80,7 @@ COMMANDS = {
     "smoke": Command("", "build the program unproved and run the quick tests on it, within ten minutes",
                      smoke.main, ("rt",)),
     "mutate": Command("[CRATE|MUTANT]..", "try the mutants of tests/plants; --check compares their texts only", mutate),
-    "unproved": Command("FILE", "build the program vacation with nothing proved, to measure it, as this file",
+    "unproved": Command("FILE [PROGRAM]", "build vacation, or another program, with nothing proved, as this file",
                         script("tools/unproved.py"), ("rt",)),
     "bench": Command("[OPTION]..", "measure the program beside its peers", script("benchmark/measure.py")),
     "package": Command("[PROGRAM FOLDER [KV_JUDGE]]", "pack a tarball and a Debian package", package, ("git",)),

@@ -24,9 +24,10 @@ does (command.Append more) = Append more.value
 does (command.PutIfAbsent value) = PutIfAbsent value.value
 does (command.GetAndSet value) = GetAndSet value.value
 does (command.Increment by) = Increment by
-does (command.Transact old first second) = Transact (value_in old) (makes first) (makes second)
-does (command.TransactAndGet old first second) =
-    TransactAndGet (value_in old) (makes first) (makes second)
+does (command.Transact it) =
+    Transact (value_in it.value.old) (makes it.value.first) (makes it.value.second)
+does (command.TransactAndGet it) =
+    TransactAndGet (value_in it.value.old) (makes it.value.first) (makes it.value.second)
 
 -- the reply
 abbrev pub answered : Said → Answered

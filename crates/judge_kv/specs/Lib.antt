@@ -4,4 +4,5 @@ pub mod Rules
 pub mod Shared
 pub mod Commands
 pub mod Words
+pub mod Reading
 pub mod Starting

@@ -227,13 +227,13 @@ impl Cell {
                 Ok((Cell { alloc, value }, answer))
             }
             Command::Increment(by) => self.increased(*by),
-            Command::Transact(old, first, second) => {
-                let (cell, is_first) = self.transacted(old, first, second)?;
+            Command::Transact(it) => {
+                let (cell, is_first) = self.transacted(&it.old, &it.first, &it.second)?;
                 Ok((cell, Answer::truth(is_first)))
             }
-            Command::TransactAndGet(old, first, second) => {
+            Command::TransactAndGet(it) => {
                 let answer = Answer::has(shared(&self.value)?);
-                let (cell, _) = self.transacted(old, first, second)?;
+                let (cell, _) = self.transacted(&it.old, &it.first, &it.second)?;
                 Ok((cell, answer))
             }
         }

@@ -4,6 +4,7 @@ ghost use Rattle.std.specs.Prelude.{◌≡◌};
 ghost use Rattle.judge_kv.specs.Commands.{does};
 
 use crate::value::Value;
+use smallvec::SmallVec;
 use std::marker::Model;
 use std::rc::Rc;
 
@@ -14,6 +15,18 @@ pub enum Change {
     Keep,
     /// The key has this value afterwards, or none.
     Become(Option<Rc<Value>>),
+}
+
+/// A transaction. It stands in a box of its own, since few calls are transactions and a call is to
+/// take little memory.
+#[derive(Drop)]
+pub struct Transaction {
+    /// The value that the key is to have, or none.
+    pub old: Option<Rc<Value>>,
+    /// The change if the key has this value.
+    pub first: Change,
+    /// The change if it has not.
+    pub second: Change,
 }
 
 /// An operation on a key.
@@ -36,15 +49,16 @@ pub enum Command {
     /// Adds a number to the one that its value writes.
     Increment(u64),
     /// Makes the first change if it has just this value, or none; else the second.
-    Transact(Option<Rc<Value>>, Change, Change),
+    Transact(Box<Transaction>),
     /// Does so, and returns what it had before.
-    TransactAndGet(Option<Rc<Value>>, Change, Change),
+    TransactAndGet(Box<Transaction>),
 }
 
-/// An operation: a command and the key that it is for. Contracts see both.
+/// An operation: a command and the key that it is for. Contracts see both. A key of at most 16
+/// bytes stands in the operation itself.
 #[derive(Drop)]
 pub struct Operation {
-    key: Vec<u8>,
+    key: SmallVec<u8, 16>,
     command: Command,
 }
 
@@ -63,7 +77,10 @@ impl Operation {
     pub fn new(key: Vec<u8>, command: Command) -> Operation
         ensures { result ≡ record { key = key.items; does = does command } }
     {
-        Operation { key, command }
+        Operation {
+            key: SmallVec::from_vec(key),
+            command,
+        }
     }
 
     /// The key.

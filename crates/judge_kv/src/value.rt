@@ -2,14 +2,15 @@
 
 ghost use Rattle.std.specs.Prelude.{◌≡◌, ◌++◌, true, IfOk, decimal};
 
+use smallvec::SmallVec;
 use std::alloc::{AllocError, Global};
 use std::marker::Model;
 use vac_lines::append_field;
 
-/// A value of a key: bytes.
+/// A value of a key: bytes, of which up to 16 stand in the value itself.
 #[derive(Drop)]
 pub struct Value {
-    bytes: Vec<u8>,
+    bytes: SmallVec<u8, 16>,
     /// A number of which nothing is promised.
     hash: u64,
 }
@@ -43,7 +44,10 @@ impl Value {
         ensures { result ≡ bytes.items }
     {
         let hash = hashed(EMPTY_HASH, bytes.as_slice());
-        Value { bytes, hash }
+        Value {
+            bytes: SmallVec::from_vec(bytes),
+            hash,
+        }
     }
 
     /// Returns the value that writes a number in decimal.
@@ -60,7 +64,7 @@ impl Value {
         ensures { IfOk result (λ value. value ≡ bytes.now) }
     {
         Ok(Value {
-            bytes: Vec::from_slice(alloc, bytes)?,
+            bytes: SmallVec::from_slice(alloc, bytes)?,
             hash: hashed(EMPTY_HASH, bytes),
         })
     }
@@ -76,7 +80,8 @@ impl Value {
     pub(crate) fn with(&self, alloc: Global, more: &[u8]) -> Result<Value, AllocError>
         ensures { IfOk result (λ value. value ≡ self.now ++ more.now) }
     {
-        let mut bytes = Vec::with_capacity(alloc, self.bytes.len().saturating_add(more.len()))?;
+        let room = self.bytes.len().saturating_add(more.len());
+        let mut bytes = SmallVec::with_capacity(alloc, room)?;
         bytes.extend_from_slice(self.bytes.as_slice())?;
         bytes.extend_from_slice(more)?;
         Ok(Value {

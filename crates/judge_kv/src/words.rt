@@ -11,7 +11,8 @@ ghost use Rattle.judge_kv.specs.Words as spec;
 
 use crate::answer::Answer;
 use crate::cell::Cell;
-use crate::command::{Change, Command, Operation};
+use crate::command::{Change, Command, Operation, Transaction};
+use crate::reader::{Reader, read_value};
 use crate::value::Value;
 use judge_text::{TextObject, read_quoted};
 use std::alloc::{AllocError, Global};
@@ -26,10 +27,14 @@ pub(crate) fn is_name(word: &[u8], name: &[u8]) -> bool
 }
 
 /// Returns the reply with the value that a quoted word writes.
-fn read_value_answer(alloc: Global, word: &[u8]) -> Result<Option<Answer>, AllocError>
+fn read_value_answer(
+    alloc: Global,
+    reader: &mut Reader,
+    word: &[u8],
+) -> Result<Option<Answer>, AllocError>
     ensures { IfOk result (λ read. spec.value_word (unquoted word.now) ≡ read) }
 {
-    match read_value(alloc, word)? {
+    match reader.read_value(alloc, word)? {
         Some(value) => Ok(Some(Answer::value(value))),
         None => Ok(None),
     }
@@ -90,16 +95,6 @@ fn pair_command(name: &[u8], old: Option<Rc<Value>>, new: Option<Rc<Value>>) -> 
     }
 }
 
-/// Returns the value that a quoted word writes, for sharing.
-fn read_value(alloc: Global, word: &[u8]) -> Result<Option<Rc<Value>>, AllocError>
-    ensures { IfOk result (λ read. unquoted word.now ≡ value_in read) }
-{
-    match read_quoted(alloc, word)? {
-        Some(bytes) => Ok(Some(Rc::new(alloc, Value::from_bytes(bytes))?)),
-        None => Ok(None),
-    }
-}
-
 /// Returns what a key has, as a word writes it: a value, or none.
 pub fn read_held(alloc: Global, word: &[u8]) -> Result<Option<Option<Rc<Value>>>, AllocError>
     ensures { IfOk result (λ read. spec.held_word word.now ≡ spec.held_in read) }
@@ -127,19 +122,14 @@ fn read_change(alloc: Global, word: &[u8]) -> Result<Option<Change>, AllocError>
 }
 
 /// Returns the transaction of this name.
-fn transaction(
-    name: &[u8],
-    old: Option<Rc<Value>>,
-    first: Change,
-    second: Change,
-) -> Option<Command>
-    ensures { spec.transaction name.now (value_in old) (makes first) (makes second)
-        ≡ spec.asked_by result }
+fn transaction(name: &[u8], it: Box<Transaction>) -> Option<Command>
+    ensures { spec.transaction name.now (value_in it.value.old) (makes it.value.first)
+        (makes it.value.second) ≡ spec.asked_by result }
 {
     if is_name(name, b"txn") {
-        Some(Command::Transact(old, first, second))
+        Some(Command::Transact(it))
     } else if is_name(name, b"txn-get") {
-        Some(Command::TransactAndGet(old, first, second))
+        Some(Command::TransactAndGet(it))
     } else {
         None
     }
@@ -147,23 +137,28 @@ fn transaction(
 
 /// Returns the transaction of this name, if all of it was read.
 fn whole_transaction(
+    alloc: Global,
     name: &[u8],
     old: Option<Option<Rc<Value>>>,
     first: Option<Change>,
     second: Option<Change>,
-) -> Option<Command>
-    ensures { spec.whole_transaction name.now (spec.held_in old) (spec.change_in first)
-        (spec.change_in second) ≡ spec.asked_by result }
+) -> Result<Option<Command>, AllocError>
+    ensures { IfOk result (λ read. spec.whole_transaction name.now (spec.held_in old)
+        (spec.change_in first) (spec.change_in second) ≡ spec.asked_by read) }
 {
     match (old, first, second) {
-        (Some(old), Some(first), Some(second)) => transaction(name, old, first, second),
-        _ => None,
+        (Some(old), Some(first), Some(second)) => {
+            let it = Box::new(alloc, Transaction { old, first, second })?;
+            Ok(transaction(name, it))
+        }
+        _ => Ok(None),
     }
 }
 
 /// Returns the command that a name, two words and those behind them write.
 fn read_longer(
     alloc: Global,
+    reader: &mut Reader,
     name: &[u8],
     old: &[u8],
     new: &[u8],
@@ -174,47 +169,63 @@ fn read_longer(
 {
     match rest {
         [] => {
-            let old = read_value(alloc, old)?;
-            let new = read_value(alloc, new)?;
+            let old = reader.read_value(alloc, old)?;
+            let new = reader.read_value(alloc, new)?;
             Ok(pair_command(name, old, new))
         }
         [second] => {
             let old = read_held(alloc, old)?;
             let first = read_change(alloc, new)?;
             let second = read_change(alloc, second)?;
-            Ok(whole_transaction(name, old, first, second))
+            let read = whole_transaction(alloc, name, old, first, second)?;
+            Ok(read)
         }
         _ => Ok(None),
     }
 }
 
 /// Returns the command that a name and the words behind it write.
-fn read_command(alloc: Global, name: &[u8], words: &[&[u8]]) -> Result<Option<Command>, AllocError>
+fn read_command(
+    alloc: Global,
+    reader: &mut Reader,
+    name: &[u8],
+    words: &[&[u8]],
+) -> Result<Option<Command>, AllocError>
     ensures { IfOk result (λ read.
         spec.words_does name.now (texts words.now) ≡ spec.asked_by read) }
 {
     match words {
         [] => Ok(plain_command(name)),
-        [value] => match read_value(alloc, value)? {
+        [value] => match reader.read_value(alloc, value)? {
             Some(value) => Ok(value_command(name, value)),
             None => Ok(None),
         },
-        [old, new, rest @ ..] => read_longer(alloc, name, old, new, rest),
+        [old, new, rest @ ..] => read_longer(alloc, reader, name, old, new, rest),
     }
 }
 
 impl TextObject for Cell {
     ghost use Rattle.judge_kv.specs.Words.{store_language};
 
+    type Reader = Reader;
+
     ghost language = { store_language };
 
-    fn read_operation(alloc: Global, words: &[&[u8]]) -> Result<Option<Operation>, AllocError> {
+    fn reader(alloc: Global) -> Reader {
+        Reader::new(alloc)
+    }
+
+    fn read_operation(
+        alloc: Global,
+        reader: &mut Reader,
+        words: &[&[u8]],
+    ) -> Result<Option<Operation>, AllocError> {
         match words {
             [name, key, values @ ..] => {
                 let Some(key) = read_quoted(alloc, key)? else {
                     return Ok(None);
                 };
-                match read_command(alloc, name, values)? {
+                match read_command(alloc, reader, name, values)? {
                     Some(command) => Ok(Some(Operation::new(key, command))),
                     None => Ok(None),
                 }
@@ -223,7 +234,11 @@ impl TextObject for Cell {
         }
     }
 
-    fn read_reply(alloc: Global, word: &[u8]) -> Result<Option<Answer>, AllocError> {
+    fn read_reply(
+        alloc: Global,
+        reader: &mut Reader,
+        word: &[u8],
+    ) -> Result<Option<Answer>, AllocError> {
         if is_name(word, b"ok") {
             Ok(Some(Answer::done()))
         } else if is_name(word, b"true") {
@@ -233,7 +248,7 @@ impl TextObject for Cell {
         } else if is_name(word, b"-") {
             Ok(Some(Answer::has(None)))
         } else {
-            read_value_answer(alloc, word)
+            read_value_answer(alloc, reader, word)
         }
     }
 }

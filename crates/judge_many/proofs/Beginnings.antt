@@ -1,5 +1,5 @@
 -- The states in which objects begin, after one of them was set.
-use Rattle.std.proofs.Common.{◌≡◌, ℕ, Bool, true, false, Some, List, sym, ap, ◌∙◌, inl, inr}
+use Rattle.std.proofs.Common.{◌≡◌, ℕ, Bool, true, false, Option, Some, List, sym, ap, ◌∙◌, inl, inr}
 use Rattle.std.specs.Prelude.{unwrap_or}
 use Rattle.std.specs.Global.{Vec}
 use Rattle.std.specs.BTreeMap.{BTreeMap, Updates, get_by, is_at}
@@ -42,9 +42,9 @@ apart_names a b k n y =
       | inr e ↦ is_eq-slice_cmp b k ∙ e.0
     ]
 
--- what names find in a map after one was set
-pub set_finds : {S : Type 0} (old new : BTreeMap (Vec ℕ) S) (name : Vec ℕ) (state : S) →
-    Updates vec_cmp old new name (Some state) → (other : List ℕ) → (other ≡ name.items → ⊥) →
+-- what other names find in a map after one was set, or taken out
+pub set_finds : {S : Type 0} (old new : BTreeMap (Vec ℕ) S) (name : Vec ℕ) (state : Option S) →
+    Updates vec_cmp old new name state → (other : List ℕ) → (other ≡ name.items → ⊥) →
     get_by (λ (key : Vec ℕ). slice_cmp nat_cmp other key.items) new
     ≡ get_by (λ (key : Vec ℕ). slice_cmp nat_cmp other key.items) old
 set_finds old new name state h other n =

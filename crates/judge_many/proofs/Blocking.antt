@@ -1,7 +1,7 @@
 -- If an order of as many calls as possible does not have all completed calls, some completed call
 -- may come next after that order, and no completed call that may come next gives its reply.
-use Rattle.std.proofs.Common.{◌≡◌, ℕ, ◌+◌, ◌<◌, ◌≤◌, ◌==◌, suc, zero, Bool, true, false, cond, is_some, Option, Some}
-use Rattle.std.proofs.Common.{None, List, [], ◌∷◌, ◌++◌, length, get_or, refl, sym, ap, ◌∙◌, subst, inl, inr, arith}
+use Rattle.std.proofs.Common.{◌≡◌, ℕ, ◌<◌, ◌≤◌, ◌==◌, suc, zero, Bool, true, false, cond, is_some, Option, Some}
+use Rattle.std.proofs.Common.{None, List, [], ◌∷◌, ◌++◌, length, get_or, refl, ap, ◌∙◌, inl, inr, arith}
 use Rattle.std.specs.Prelude.{◌⊎◌}
 use Rattle.std.specs.List.{list_any}
 use Rattle.std.specs.Global.{Vec}
@@ -11,11 +11,11 @@ use Rattle.judge_object.specs.Call.{Call, is_answered}
 use Rattle.judge_object.specs.declared.line.Line.{Line}
 use Rattle.judge_search.specs.declared.calls.Calls.{Calls}
 use Rattle.judge_search.specs.declared.point.Point.{Point}
-use Rattle.judge_search.specs.Calls.{call_of, calls_of, are_sorted, rest_of}
+use Rattle.judge_search.specs.Calls.{calls_of, are_sorted, rest_of}
 use Rattle.judge_search.specs.Configurations.{Configuration, MayBegin, Goes, start, answered, weight, fits, after_call}
 use Rattle.judge_search.specs.Judging.{HasNoOrder}
 use Rattle.judge_search.specs.Point.{made_of, point_at}
-use Rattle.judge_search.specs.Walk.{InTurn, IsWhole}
+use Rattle.judge_search.specs.Walk.{InTurn}
 use Rattle.judge_search.proofs.Left.{answered_after}
 use Rattle.judge_search.proofs.Sorted.{sorted_of, call_here, long_calls, length_calls, begun_early, all_made}
 use Rattle.judge_search.proofs.Sorted.{never_left}

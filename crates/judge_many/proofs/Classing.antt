@@ -1,12 +1,12 @@
 -- Classes of names: places that are added, parents that are set, and names of classes.
-use Rattle.std.proofs.Common.{◌≡◌, ◌≢◌, ℕ, ◌+◌, ◌<◌, ◌≤◌, suc, zero, Option, Some, None, List, [], ◌∷◌, ◌++◌, length}
+use Rattle.std.proofs.Common.{◌≡◌, ℕ, ◌+◌, ◌<◌, ◌≤◌, suc, zero, Option, Some, None, List, [], ◌∷◌, ◌++◌, length}
 use Rattle.std.proofs.Common.{map}
-use Rattle.std.proofs.Common.{get_or, set, refl, sym, ap, ◌∙◌, subst, inl, inr, arith}
+use Rattle.std.proofs.Common.{get_or, refl, sym, ap, ◌∙◌, inl, inr, arith}
 use Rattle.std.specs.Prelude.{◌⊎◌}
 use Rattle.std.specs.Global.{Vec}
 use Rattle.std.specs.BTreeMap.{Updates}
 use Rattle.std.proofs.lemmas.Bool.{cases_lt}
-use Rattle.std.proofs.lemmas.List.{length-set, get_or-set_same, get_or-set_other, length-append, get_or_append_left}
+use Rattle.std.proofs.lemmas.List.{length-append, get_or_append_left}
 use Rattle.std.proofs.lemmas.List.{length-map, map-append}
 use Rattle.judge_many.specs.declared.classes.Classes.{Classes}
 use Rattle.judge_many.specs.Classes.{place_in, name_at, parent_at, class_at, class_of, IsOneForEach, AreWellFormed}
@@ -22,16 +22,16 @@ any_default [] p d e l = absurd (omega arith)
 any_default (x ∷ xs) zero d e l = refl
 any_default (x ∷ xs) (suc p) d e l = any_default xs p d e (omega arith)
 
-seam : {A : Type 0} (xs : List A) (n : ℕ) (y d : A) → n ≡ length xs → get_or (xs ++ y ∷ []) n d ≡ y
+pub seam : {A : Type 0} (xs : List A) (n : ℕ) (y d : A) → n ≡ length xs → get_or (xs ++ y ∷ []) n d ≡ y
 seam [] zero y d e = refl
 seam [] (suc n) y d e = absurd (omega arith)
 seam (x ∷ xs) zero y d e = absurd (omega arith)
 seam (x ∷ xs) (suc n) y d e = seam xs n y d (omega arith)
 
-some_none : {A : Type 0} (x : A) → Some x ≡ None → ⊥
+pub some_none : {A : Type 0} (x : A) → Some x ≡ None → ⊥
 some_none x e = cc
 
-some_same : {A : Type 0} (x y : A) → Some x ≡ Some y → x ≡ y
+pub some_same : {A : Type 0} (x y : A) → Some x ≡ Some y → x ≡ y
 some_same x y e = cc
 
 -- a name and its place were added
@@ -54,7 +54,7 @@ is_added old new name place own key formed at o k names parents u = record {
       ∙ ap (λ n. map (λ (one : Vec ℕ). one.items) old.names.items ++ n ∷ []) o;
   parents = parents;
   here = ap (place_in new) (sym k) ∙ u.1;
-  there = λ other n. set_finds old.places new.places key place u other (λ e. n (e ∙ k));
+  there = λ other n. set_finds old.places new.places key (Some place) u other (λ e. n (e ∙ k));
 }
 
 module _ (old new : Classes) (name : List ℕ) (place : ℕ) (formed : AreWellFormed old) (h : IsAdded old new name place)

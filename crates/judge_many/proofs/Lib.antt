@@ -6,3 +6,5 @@ pub mod One
 pub mod Blocking
 pub mod Beginnings
 pub mod Classing
+pub mod Numbering
+pub mod Grouping

@@ -1,4 +1,5 @@
 pub mod Many
+pub mod Numbers
 pub mod Runs
 pub mod Starts
 pub mod Classes

@@ -7,6 +7,7 @@ mod judging;
 mod laws;
 mod named;
 mod names;
+mod numbers;
 mod parts;
 mod runs;
 mod starts;

@@ -1,16 +1,15 @@
 //! Judging each object's calls.
 
-ghost use Rattle.std.specs.Prelude.{◌≡◌, ◌<◌, ℕ, List, IfOk, length};
+ghost use Rattle.std.specs.Prelude.{IfOk};
 ghost use Rattle.judge_search.specs.Calls.{calls_of};
 ghost use Rattle.judge_search.specs.Walk.{IsWhole};
 ghost use Rattle.judge_many.specs.Judging.{SearchesRun, JudgesParts};
 ghost use Rattle.judge_many.specs.Naming.{object_of, for_object};
-ghost use Rattle.judge_many.specs.Runs.{lines_for};
 ghost use Rattle.judge_many.specs.Starts.{start_of};
 
 use crate::named::Named;
 use crate::names::Names;
-use crate::runs::{sorted_by_name, take_run};
+use crate::runs::runs_by_name;
 use crate::starts::Starts;
 use judge_object::{Line, Watcher};
 use judge_search::{Calls, Finding, Found, Point, find_linearization};
@@ -86,20 +85,6 @@ fn judge_run<M: Named + Drop, P: Watcher>(
     }
 }
 
-/// Returns the state in which the object begins that the first line is for.
-fn first_state<M: Named>(
-    names: &Names,
-    starts: &Starts<M>,
-    run: &[Line<M::Op>],
-) -> Result<M, AllocError>
-    requires { 0 < length run.now }
-    ensures { IfOk result (λ state. (for : List ℕ) →
-        lines_for (for_object (object_of names.now) M.name) for run.now ≡ run.now →
-        state ≡ start_of starts.now for) }
-{
-    starts.get(names.name::<M>(&run[0].op))
-}
-
 /// Judges the calls of the objects that these names stand for, each from the state on that is given
 /// for its name, one object after the other in the order of their names, in at most `steps` steps
 /// of all searches together. Stops at the first object whose calls have no linearization, or of
@@ -117,11 +102,10 @@ pub fn judge_parts<M: Named + Drop, P: Watcher>(
         JudgesParts M.rules (for_object (object_of names.now) M.name) (start_of starts.now)
         steps lines.items judged) }
 {
-    let mut left = sorted_by_name::<M>(names, lines)?;
+    let mut left = runs_by_name::<M>(alloc, names, lines)?;
     let mut rest = steps;
-    'runs: while 0 < left.len() {
-        let run = take_run::<M>(names, &mut left)?;
-        let machine = first_state(names, starts, run.as_slice())?;
+    'runs: while let Some((name, run)) = left.pop_first() {
+        let machine = starts.get(name.as_slice())?;
         let Searched {
             judged,
             steps: made,

@@ -44,9 +44,17 @@ fn word_op(name: &[u8]) -> Option<Op>
 impl TextObject for Queue {
     ghost use Rattle.judge_queue.specs.Words.{queue_language};
 
+    type Reader = ();
+
     ghost language = { queue_language };
 
-    fn read_operation(_alloc: Global, words: &[&[u8]]) -> Result<Option<Op>, AllocError> {
+    fn reader(_alloc: Global) {}
+
+    fn read_operation(
+        _alloc: Global,
+        _reader: &mut (),
+        words: &[&[u8]],
+    ) -> Result<Option<Op>, AllocError> {
         match words {
             [name] => Ok(word_op(name)),
             [name, number] => Ok(enqueue(name, number)),
@@ -54,7 +62,11 @@ impl TextObject for Queue {
         }
     }
 
-    fn read_reply(_alloc: Global, word: &[u8]) -> Result<Option<Reply>, AllocError> {
+    fn read_reply(
+        _alloc: Global,
+        _reader: &mut (),
+        word: &[u8],
+    ) -> Result<Option<Reply>, AllocError> {
         if is_name(word, b"true") {
             return Ok(Some(Reply::Put(true)));
         }

@@ -9,7 +9,7 @@ ghost use Rattle.judge_store.specs.Words as spec;
 use crate::clause::{Clause, Role};
 use crate::request::Request;
 use crate::store::Store;
-use judge_kv::{Answer, Cell, read_held};
+use judge_kv::{Answer, Cell, Reader, read_held};
 use judge_text::{TextObject, read_quoted};
 use std::alloc::{AllocError, Global};
 
@@ -100,10 +100,14 @@ fn read_transaction(alloc: Global, words: &[&[u8]]) -> Result<Option<Request>, A
 }
 
 /// Returns the operation on one key that words write.
-fn read_one(alloc: Global, words: &[&[u8]]) -> Result<Option<Request>, AllocError>
+fn read_one(
+    alloc: Global,
+    reader: &mut Reader,
+    words: &[&[u8]],
+) -> Result<Option<Request>, AllocError>
     ensures { IfOk result (λ read. spec.one_of (words_operation (texts words.now)) ≡ read) }
 {
-    match Cell::read_operation(alloc, words)? {
+    match Cell::read_operation(alloc, reader, words)? {
         Some(op) => Ok(Some(Request::one(op))),
         None => Ok(None),
     }
@@ -112,22 +116,36 @@ fn read_one(alloc: Global, words: &[&[u8]]) -> Result<Option<Request>, AllocErro
 impl TextObject for Store {
     ghost use Rattle.judge_store.specs.Words.{whole_language};
 
+    type Reader = Reader;
+
     ghost language = { whole_language };
 
-    fn read_operation(alloc: Global, words: &[&[u8]]) -> Result<Option<Request>, AllocError> {
+    fn reader(alloc: Global) -> Reader {
+        Reader::new(alloc)
+    }
+
+    fn read_operation(
+        alloc: Global,
+        reader: &mut Reader,
+        words: &[&[u8]],
+    ) -> Result<Option<Request>, AllocError> {
         match words {
             [] => Ok(None),
             [name, rest @ ..] => {
                 if is_transaction(name, rest) {
                     read_transaction(alloc, rest)
                 } else {
-                    read_one(alloc, words)
+                    read_one(alloc, reader, words)
                 }
             }
         }
     }
 
-    fn read_reply(alloc: Global, word: &[u8]) -> Result<Option<Answer>, AllocError> {
-        Cell::read_reply(alloc, word)
+    fn read_reply(
+        alloc: Global,
+        reader: &mut Reader,
+        word: &[u8],
+    ) -> Result<Option<Answer>, AllocError> {
+        Cell::read_reply(alloc, reader, word)
     }
 }

@@ -4,12 +4,15 @@ use Rattle.std.proofs.Common.{map, take, get_or, refl, ap, sym, ◌∙◌, subst
 use Rattle.std.specs.List.{list_any}
 use Rattle.std.specs.declared.cmp.Ordering.{Ordering}
 use Rattle.std.specs.Ordering.{is_eq, eq_by_cmp, nat_cmp}
-use Rattle.std.specs.Cmp.{IsTotalOrder, eq_by_cmp_equiv, nat_cmp_total, unsigned_ties}
-use Rattle.std.specs.Cmp.Lexicographic.{slice_cmp, on_texts, texts_ties}
+use Rattle.std.specs.Cmp.{IsTotalOrder, IsEquivalence, eq_by_cmp_equiv, nat_cmp_total, unsigned_ties}
+use Rattle.std.specs.Cmp.Lexicographic.{on_texts_equal}
+use Rattle.std.specs.HashSet as hash
+use Rattle.std.specs.HashSet.{HashSet, hash_set_len}
 use Rattle.std.specs.Str.{bytes_eq}
 use Rattle.std.specs.BTreeSet.{BTreeSet, contains, Updates, IsOrdered, btree_set_len}
 use Rattle.std.specs.Set.{is_member, unique_keys, distinct_count}
 use Rattle.std.proofs.lemmas.List.{take_more, map-append}
+use Rattle.std.proofs.lemmas.Map.Made.{hash_set_len-from_list}
 use Rattle.std.proofs.lemmas.Map.Views.{btree_set_len-from_list}
 use Rattle.judge_object.specs.declared.line.Line.{Line}
 use Rattle.judge_object.specs.Call.{Call}
@@ -91,36 +94,39 @@ count_mapped f eq (x ∷ xs) =
     step false e = ap suc e
 
 -- names are told apart by their bytes
-abbrev pub name_cmp : Bor (List ℕ) → Bor (List ℕ) → Ordering
-name_cmp a b = slice_cmp nat_cmp a.now b.now
+abbrev pub name_eq : Bor (List ℕ) → Bor (List ℕ) → Bool
+name_eq a b = bytes_eq a.now b.now
+
+name_equiv : IsEquivalence name_eq
+name_equiv = on_texts_equal (λ (b : Bor (List ℕ)). b.now)
 
 -- the set has these names
-pub record HasNames (s : BTreeSet (Bor (List ℕ))) (names : List (List ℕ)) : Type 0 where
+pub record HasNames {S : Type 0} (s : HashSet (Bor (List ℕ)) S) (names : List (List ℕ)) : Type 0 where
   pub keys : List (Bor (List ℕ))
   pub are : map (λ key. key.now) keys ≡ names
-  pub has : HasKeys name_cmp s keys
+  pub has : (q : Bor (List ℕ)) → hash.contains name_eq s q ≡ is_member name_eq keys q
 
-name_total : IsTotalOrder name_cmp
-name_total = on_texts (λ (b : Bor (List ℕ)). b.now)
+pub names_none : {S : Type 0} (s : HashSet (Bor (List ℕ)) S) → s.keys ≡ [] → HasNames s []
+names_none s e = record { keys = []; are = refl; has = λ q. ap (list_any (name_eq q)) e }
 
-pub names_none : (s : BTreeSet (Bor (List ℕ))) → s.keys ≡ [] → HasNames s []
-names_none s e = record { keys = []; are = refl; has = keys_none name_total s e }
-
-pub name_more : (s n : BTreeSet (Bor (List ℕ))) (k : Bor (List ℕ)) (names : List (List ℕ)) → HasNames s names →
-    Updates name_cmp s n k true → HasNames n (names ++ k.now ∷ [])
+pub name_more : {S : Type 0} (s n : HashSet (Bor (List ℕ)) S) (k : Bor (List ℕ)) (names : List (List ℕ)) →
+    HasNames s names → hash.Updates name_eq s n k true → HasNames n (names ++ k.now ∷ [])
 name_more s n k names h u = record {
   keys = h.keys ++ k ∷ [];
   are = map-append (λ (b : Bor (List ℕ)). b.now) h.keys (k ∷ []) ∙ ap (λ ys. ys ++ k.now ∷ []) h.are;
-  has = key_more name_total s n k h.keys h.has u;
+  has = λ q.
+      u.0 q
+      ∙ ap (λ b. cond (name_eq k q) true b) (h.has q)
+      ∙ ap (λ b. cond b true (is_member name_eq h.keys q)) (name_equiv.symm k q)
+      ∙ sym (any_more (name_eq q) h.keys k);
 }
 
-pub names_counted : (s : BTreeSet (Bor (List ℕ))) (names : List (List ℕ)) → HasNames s names → IsOrdered name_cmp s →
-    btree_set_len s ≡ distinct_count bytes_eq names
-names_counted s names h sorted =
-    keys_counted name_total s h.keys h.has sorted
-    ∙ count_mapped (λ (b : Bor (List ℕ)). b.now) (eq_by_cmp (slice_cmp nat_cmp)) h.keys
-    ∙ ap (distinct_count (eq_by_cmp (slice_cmp nat_cmp))) h.are
-    ∙ sym (same_count bytes_eq (eq_by_cmp (slice_cmp nat_cmp)) names texts_ties)
+pub names_counted : {S : Type 0} (s : HashSet (Bor (List ℕ)) S) (names : List (List ℕ)) → HasNames s names →
+    hash.IsUnique name_eq s → hash_set_len s ≡ distinct_count bytes_eq names
+names_counted s names h unique =
+    hash_set_len-from_list name_equiv h.keys s (h.has, unique)
+    ∙ count_mapped (λ (b : Bor (List ℕ)). b.now) bytes_eq h.keys
+    ∙ ap (distinct_count bytes_eq) h.are
 
 pub clients_counted : (s : BTreeSet ℕ) (clients : List ℕ) → HasKeys nat_cmp s clients → IsOrdered nat_cmp s →
     btree_set_len s ≡ distinct_count (λ a b. a == b) clients
@@ -139,25 +145,25 @@ clients_of_lines {O} lines count place s len sorted h all =
     ∙ ap (distinct_count (λ a b. a == b)) (sym (map_both (λ (call : Call O). call.client) call_of lines))
 
 -- the names of one line more
-pub name_next : {O : Type 0} (name : O → List ℕ) (lines : List (Line O)) (place : ℕ) (line : Line O)
-    (s n : BTreeSet (Bor (List ℕ))) (k : Bor (List ℕ)) → place < length lines →
+pub name_next : {O S : Type 0} (name : O → List ℕ) (lines : List (Line O)) (place : ℕ) (line : Line O)
+    (s n : HashSet (Bor (List ℕ)) S) (k : Bor (List ℕ)) → place < length lines →
     k.now ≡ name (get_or lines place line).op → HasNames s (map (λ l. name l.op) (take place lines)) →
-    Updates name_cmp s n k true →
+    hash.Updates name_eq s n k true →
     HasNames n (map (λ l. name l.op) (take (place + 1) lines))
-name_next {O} name lines place line s n k within is h u =
+name_next {O} {S} name lines place line s n k within is h u =
     subst (HasNames n)
     (ap (λ w. map (λ (l : Line O). name l.op) (take place lines) ++ w ∷ []) is
     ∙ sym (next_key (λ (l : Line O). name l.op) lines place line within))
     (name_more s n k (map (λ l. name l.op) (take place lines)) h u)
 
 -- the names of all lines were put into the set
-pub objects_of_lines : {O : Type 0} (name : O → List ℕ) (lines : List (Line O)) (count place : ℕ)
-    (s : BTreeSet (Bor (List ℕ))) → count ≡ btree_set_len s → IsOrdered name_cmp s →
+pub objects_of_lines : {O S : Type 0} (name : O → List ℕ) (lines : List (Line O)) (count place : ℕ)
+    (s : HashSet (Bor (List ℕ)) S) → count ≡ hash_set_len s → hash.IsUnique name_eq s →
     HasNames s (map (λ l. name l.op) (take place lines)) →
     take place lines ≡ lines → count ≡ objects_in name (calls_of lines)
-objects_of_lines {O} name lines count place s len sorted h all =
+objects_of_lines {O} {S} name lines count place s len unique h all =
     len
-    ∙ names_counted s (map (λ l. name l.op) (take place lines)) h sorted
+    ∙ names_counted s (map (λ l. name l.op) (take place lines)) h unique
     ∙ ap (λ (ls : List (Line O)). distinct_count bytes_eq (map (λ l. name l.op) ls)) all
     ∙ ap (distinct_count bytes_eq) (sym (map_both (λ (call : Call O). name call.op) call_of lines))
 

@@ -8,7 +8,7 @@ ghost use Rattle.judge_text.specs.Counting.{clients_in, objects_in, counts_of};
 use judge_many::{Named, Names};
 use judge_object::Line;
 use std::alloc::{AllocError, Global};
-use std::collections::BTreeSet;
+use std::collections::{BTreeSet, HashSet};
 
 /// Numbers of calls, clients and objects of a history.
 #[derive(Clone, Copy, Debug, PartialEq, Eq)]
@@ -41,7 +41,7 @@ fn count_objects<M: Named>(
     ensures { IfOk result (λ count.
         count ≡ objects_in (for_object (object_of names.now) M.name) (calls_of lines.now)) }
 {
-    let mut objects = BTreeSet::new(alloc);
+    let mut objects = HashSet::new(alloc);
     'lines: for place in 0..lines.len() {
         objects.insert(names.name::<M>(&lines[place].op))?;
     }

@@ -89,6 +89,7 @@ fn operation_words<'a, 'b>(words: &'b [&'a [u8]]) -> &'b [&'a [u8]]
 /// Reads the call of words in which the arrow is the last but one.
 fn read_arrow_call<M: TextObject>(
     alloc: Global,
+    reader: &mut M::Reader,
     number: u64,
     words: &[&[u8]],
 ) -> Result<Result<Line<M::Op>, CallFault>, AllocError>
@@ -97,14 +98,15 @@ fn read_arrow_call<M: TextObject>(
         IsReadLine (arrow_call M.rules M.language (texts words.now)) number read) }
 {
     let span = read_span(words[0], words[1], words[2]);
-    let op = M::read_operation(alloc, operation_words(words))?;
-    let reply = read_reply::<M>(alloc, words[words.len() - 1])?;
+    let op = M::read_operation(alloc, reader, operation_words(words))?;
+    let reply = read_reply::<M>(alloc, reader, words[words.len() - 1])?;
     read_parts::<M>(alloc, number, span, op, reply)
 }
 
 /// Reads the call that these words stand for.
 fn read_words<M: TextObject>(
     alloc: Global,
+    reader: &mut M::Reader,
     number: u64,
     words: &[&[u8]],
 ) -> Result<Result<Line<M::Op>, CallFault>, AllocError>
@@ -118,17 +120,18 @@ fn read_words<M: TextObject>(
     if !is_word(words[count - 2], b"->") {
         return Ok(Err(CallFault::BadCall));
     }
-    read_arrow_call::<M>(alloc, number, words)
+    read_arrow_call::<M>(alloc, reader, number, words)
 }
 
 /// Reads the call that a line stands for, which is given without its end.
 pub(crate) fn read_call<M: TextObject>(
     alloc: Global,
+    reader: &mut M::Reader,
     number: u64,
     line: &[u8],
 ) -> Result<Result<Line<M::Op>, CallFault>, AllocError>
     ensures { IfOk result (λ read. IsReadLine (line_call M.rules M.language line.now) number read) }
 {
     let words = split_words(alloc, line)?;
-    read_words::<M>(alloc, number, words.as_slice())
+    read_words::<M>(alloc, reader, number, words.as_slice())
 }

@@ -61,6 +61,7 @@ pub(crate) fn read_span(client: &[u8], begin: &[u8], end: &[u8]) -> Option<Span>
 /// Returns the reply that a word writes, which a pending call has not.
 pub(crate) fn read_reply<M: TextObject>(
     alloc: Global,
+    reader: &mut M::Reader,
     word: &[u8],
 ) -> Result<Option<Option<M::Reply>>, AllocError>
     ensures { IfOk result (λ reply. word_reply M.language word.now ≡ reply) }
@@ -68,7 +69,7 @@ pub(crate) fn read_reply<M: TextObject>(
     if is_word(word, b"?") {
         return Ok(Some(None));
     }
-    match M::read_reply(alloc, word)? {
+    match M::read_reply(alloc, reader, word)? {
         Some(reply) => Ok(Some(Some(reply))),
         None => Ok(None),
     }

@@ -1,17 +1,15 @@
 use Rattle.std.proofs.Common.{length}
 use Rattle.judge_many.specs.Naming.{object_of, for_object}
-use Rattle.judge_many.specs.Runs.{AreByName}
 use Rattle.judge_many.specs.Starts.{start_of}
 use Rattle.judge_many.proofs.ByNames.{AreJudged, IsSpent}
 use Rattle.judge_many.proofs.parts.judge_parts.Given as goal
 
 abbrev pub invariant-runs : goal.invariant-runs
 invariant-runs g l =
-    AreByName (for_object (object_of l.names) (g.M.Named.name)) l.left.items
-    × AreJudged (g.M.Object.rules) (for_object (object_of l.names) (g.M.Named.name))
-    (start_of l.starts) l.fn.lines.items l.left.items
+    AreJudged (g.M.Object.rules) (for_object (object_of l.names) (g.M.Named.name))
+    (start_of l.starts) l.fn.lines.items l.left
     × IsSpent (g.M.Object.rules) (for_object (object_of l.names) (g.M.Named.name))
-    (start_of l.starts) l.steps l.fn.lines.items l.left.items l.rest
+    (start_of l.starts) l.steps l.fn.lines.items l.left l.rest
 
 abbrev pub decreases-runs : goal.decreases-runs
-decreases-runs g l = length l.left.items
+decreases-runs g l = length l.left.entries

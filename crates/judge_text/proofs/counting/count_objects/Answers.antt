@@ -13,4 +13,4 @@ pub returns : goal.returns
 returns g c =
     objects_of_lines (for_object (object_of c.args.names.now) g.M.Named.name) c.args.lines.now c.len.result
     c.lines.place c.lines.objects c.len.ensures.len
-    c.len.ensures.ordered c.lines.invariant (take_all c.lines.place c.args.lines.now c.lines-test.false)
+    c.len.ensures.unique c.lines.invariant (take_all c.lines.place c.args.lines.now c.lines-test.false)

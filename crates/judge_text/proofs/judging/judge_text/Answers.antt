@@ -1,4 +1,4 @@
-use Rattle.std.proofs.Common.{◌≡◌, Ok, sym, subst}
+use Rattle.std.proofs.Common.{subst}
 use Rattle.judge_search.specs.Calls.{calls_of}
 use Rattle.judge_many.specs.Naming.{object_of, for_object}
 use Rattle.judge_many.specs.Starts.{start_of}
