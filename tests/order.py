@@ -200,13 +200,31 @@ class Part:
                 for (client, begin, end, *_), part in parts if part]
 
 
-def check_part(lines, told, stuck, said):
-    """The named part has no order, by the search that stands here, and its first blocked call is named."""
-    _, _, number, *names = told.split(" ")
-    search = Search(Part(lines, names).lines(), MANY_BLOCKS)
+def cut(lines, moment):
+    """The lines as they stood at a moment: a call that was running is pending, and a later call is left out."""
+    for line in lines:
+        client, begin, end, task, _ = read(line)
+        if end <= moment:
+            yield line
+        elif begin <= moment:
+            yield f"{client} {begin} - {task} -> ?"
+
+
+def has_order(lines):
+    search = Search(list(lines), MANY_BLOCKS)
     search.go((0,) * len(search.names), {}, 0)
-    if search.is_found or stuck.split(" ")[1] != number:
-        sys.exit(f"{said}; the part has an order, or another call is blocked first")
+    return search.is_found
+
+
+def check_part(lines, told, said):
+    """The named part has no order, by the search that stands here, and the named call is the first at whose end the
+    part has none."""
+    _, _, number, *names = told.split(" ")
+    part = Part(lines, names).lines()
+    ends = sorted({read(line)[2] for line in part if read(line)[4] is not None})
+    first = next((end for end in ends if not has_order(cut(part, end))), None)
+    if has_order(part) or read(lines[int(number) - 1])[2] != first:
+        sys.exit(f"{said}; the part has an order, or first has none at {first}")
 
 
 def check_order(lines, written):
@@ -248,7 +266,7 @@ def compare(program, lines, ending):
         return "legal"
     told, *stuck = out.splitlines()
     if status == 1 and told.startswith("illegal part ") and stuck:
-        check_part(lines, told, stuck[0], said)
+        check_part(lines, told, said)
     elif status != 1 or told != f"illegal order {search.most}" or not stuck:
         sys.exit(f"{said}; no order is legal, and the longest has {search.most} calls")
     for line in stuck:

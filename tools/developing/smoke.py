@@ -11,7 +11,7 @@ from .runner import ROOT, python, run, say
 
 # The scripts of tests/ that together end within some five minutes; the others are for the gate.
 QUICK = ("rows.sh", "examples.py", "pages.py", "library_page.py", "load.py", "tasks.py", "check.py", "judge.py",
-         "order.py", "opaque.py", "history.py", "attempts.py", "stats.py", "progress.py",
+         "order.py", "levels.py", "opaque.py", "history.py", "attempts.py", "stats.py", "progress.py",
          "coverage.py")
 
 

@@ -13,6 +13,7 @@ use Rattle.judge_calls.specs.HeldReading.{IsReadWhole, HasChecked, HasStoppedChe
 use Rattle.judge_calls.specs.AnyOrder.{HasCheckedOrder, HasStoppedCheckingOrder}
 use Rattle.vac_streams.specs.declared.fault.StreamFault.{StreamFault}
 use Rattle.vac_streams.specs.declared.fault.StreamFault.TheVariants as stream
+use Rattle.judge_levels.specs.declared.level.Level.{Level}
 use Rattle.judge_levels.specs.declared.level.Level.TheVariants as level
 use Rattle.judge_linear.specs.declared.ordering.Outcome.{Outcome}
 use Rattle.judge_linear.specs.declared.ordering.Outcome.TheVariants as outcome
@@ -22,13 +23,13 @@ use Rattle.judge_opacity.specs.Reading as opaque
 use Rattle.judge_opacity.specs.Placed as place
 use Rattle.judge_part_text.specs.Naming.{Named}
 use Rattle.judge_part_text.specs.Parting.{HasStoppedParting}
-use Rattle.cli_main.specs.Judging.{Judges, JudgesHeld, JudgesWith, JudgeStopped, WorkStopped, NotOpened, NamedAlone}
+use Rattle.cli_main.specs.Judging.{JudgesHeld, JudgesWith, JudgeStopped, WorkStopped, NotOpened, NamedAlone}
 use Rattle.cli_main.specs.Ordering.{OrderStopped, FindsNone, HasRefusedInPart, OrderWorkStopped, HoldsOrder}
-use Rattle.cli_main.specs.Ordering.{HoldsText, HoldsInAnyOrder}
+use Rattle.cli_main.specs.Ordering.{HoldsText, HoldsInAnyOrder, JudgesText}
 use Rattle.cli_main.specs.Ordering.{JudgesAnyOrder, JudgesAnyHeld, JudgesAnyWith, status_of}
 use Rattle.cli_options.specs.declared.asked.JudgeSettings.{JudgeSettings}
 use Rattle.cli_main.specs.Asking.{AttemptsStopped, PlacingStopped, JudgesAs, JudgesUnless, JudgesAsked}
-use Rattle.cli_main.specs.Asking.{has_stray_settings}
+use Rattle.cli_main.specs.Asking.{is_refused}
 use Rattle.cli_main.specs.Parting.{PartStopped}
 use Rattle.cli_main.proofs.Ending.{nothing_then}
 
@@ -85,21 +86,22 @@ work_stopped tasks rest blocks stream.Bound unread left held middle holds none l
     inr (named_stream stream.Bound (λ e. absurd cc) held middle holds none line)
 
 -- the same of a search for an order
-pub order_stopped : (blocks steps : ℕ) (fault : StreamFault) (unread left held middle holds : Option (List ℕ)) →
-    order.HasStoppedOrdering level.Linearizable blocks steps fault unread left held middle
-    → AppendsPrefix middle holds (fault_line fault) → OrderStopped blocks steps unread left held holds
-order_stopped blocks steps stream.Read unread left held middle holds none line =
+pub order_stopped : (asked : Level) (blocks steps : ℕ) (fault : StreamFault)
+    (unread left held middle holds : Option (List ℕ)) →
+    order.HasStoppedOrdering asked blocks steps fault unread left held middle
+    → AppendsPrefix middle holds (fault_line fault) → OrderStopped asked blocks steps unread left held holds
+order_stopped asked blocks steps stream.Read unread left held middle holds none line =
     inr (named_stream stream.Read (λ e. absurd cc) held middle holds none line)
-order_stopped blocks steps stream.Write unread left held middle holds part line =
+order_stopped asked blocks steps stream.Write unread left held middle holds part line =
     inl (record {
       result = part.result;
       text = part.text;
       is = part.is;
       written = then_nothing held middle holds _ part.written line;
     })
-order_stopped blocks steps stream.Memory unread left held middle holds none line =
+order_stopped asked blocks steps stream.Memory unread left held middle holds none line =
     inr (named_stream stream.Memory (λ e. absurd cc) held middle holds none line)
-order_stopped blocks steps stream.Bound unread left held middle holds none line =
+order_stopped asked blocks steps stream.Bound unread left held middle holds none line =
     inr (named_stream stream.Bound (λ e. absurd cc) held middle holds none line)
 
 -- the same of attempts
@@ -164,31 +166,30 @@ no_order : (found : Outcome) → is_order found ≡ false → found ≢ outcome.
 no_order found none e = let bad : true ≡ false = subst (λ (f : Outcome). is_order f ≡ false) e none in cc
 
 -- what was found was kept, and then written
-pub kept : (blocks steps : ℕ) (found : Outcome) (status : ℕ) (unread left held holds : Option (List ℕ)) (text : List ℕ)
-    → is_order found ≡ false
-    → HasOrdered level.Linearizable blocks steps found unread left (Some []) (Some text)
+pub kept : (asked : Level) (blocks steps : ℕ) (found : Outcome) (status : ℕ)
+    (unread left held holds : Option (List ℕ)) (text : List ℕ) → is_order found ≡ false
+    → HasOrdered asked blocks steps found unread left (Some []) (Some text)
     → (Appends held holds text × (status ≡ status_of found)) ⊎ (AppendsPrefix held holds text × (status ≡ 1)) →
-    FindsNone blocks steps status unread left held holds
-kept blocks steps found status unread left held holds text none has (inl whole) =
+    FindsNone asked blocks steps status unread left held holds
+kept asked blocks steps found status unread left held holds text none has (inl whole) =
     inl (
       found,
       no_order found none,
       whole.1,
       record {
         text = text;
-        is = subst (HasText level.Linearizable blocks steps unread left found) (sym has.written) has.is;
+        is = subst (HasText asked blocks steps unread left found) (sym has.written) has.is;
         written = whole.0;
       },
     )
-kept blocks steps found status unread left held holds text none has (inr part) =
+kept asked blocks steps found status unread left held holds text none has (inr part) =
     inr (
       part.1,
       inl (
         record {
           result = found;
           text = text;
-          is = subst (HasText level.Linearizable blocks steps unread left found) (sym
-              has.written) has.is;
+          is = subst (HasText asked blocks steps unread left found) (sym has.written) has.is;
           written = part.0;
         },
         no_order found none,
@@ -196,47 +197,49 @@ kept blocks steps found status unread left held holds text none has (inr part) =
     )
 
 -- the same where what was found and its text are known by other names
-pub kept_as : (blocks steps : ℕ) (given found : Outcome) (status : ℕ) (unread left held holds : Option (List ℕ))
-    (before text shown : List ℕ) → given ≡ found
-    → is_order found ≡ false → before ≡ [] → shown ≡ text → HasOrdered level.Linearizable blocks steps given unread left
-    (Some before)
-    (Some text)
+pub kept_as : (asked : Level) (blocks steps : ℕ) (given found : Outcome) (status : ℕ)
+    (unread left held holds : Option (List ℕ)) (before text shown : List ℕ) → given ≡ found
+    → is_order found ≡ false → before ≡ [] → shown ≡ text
+    → HasOrdered asked blocks steps given unread left (Some before) (Some text)
     → (Appends held holds shown × (status ≡ status_of found)) ⊎ (AppendsPrefix held holds shown × (status ≡ 1)) →
-    FindsNone blocks steps status unread left held holds
-kept_as blocks steps given found status unread left held holds before text shown e none f same has wrote =
-    kept blocks steps found status unread left held holds shown none
-    (subst (λ t. HasOrdered level.Linearizable blocks steps found unread left (Some []) (Some t)) (sym same)
-    (subst (λ t. HasOrdered level.Linearizable blocks steps found unread left (Some t) (Some text)) f
-    (subst (λ (o : Outcome). HasOrdered level.Linearizable blocks steps o unread left (Some before) (Some text)) e
-    has))) wrote
+    FindsNone asked blocks steps status unread left held holds
+kept_as asked blocks steps given found status unread left held holds before text shown e none f same has wrote =
+    kept asked blocks steps found status unread left held holds shown none
+    (subst (λ t. HasOrdered asked blocks steps found unread left (Some []) (Some t)) (sym same)
+    (subst (λ t. HasOrdered asked blocks steps found unread left (Some t) (Some text)) f
+    (subst (λ (o : Outcome). HasOrdered asked blocks steps o unread left (Some before) (Some text)) e has))) wrote
 
 -- a fault came before anything was found
-pub unordered : (blocks steps status : ℕ) (unread left held holds : Option (List ℕ)) (fault : StreamFault) →
-    status ≡ 1 → (fault ≢ stream.Write) → AppendsPrefix held holds (fault_line fault)
-    → FindsNone blocks steps status unread left held holds
-unordered blocks steps status unread left held holds fault one other line = inr (one, inr (fault, other, line))
+pub unordered : (asked : Level) (blocks steps status : ℕ) (unread left held holds : Option (List ℕ))
+    (fault : StreamFault) → status ≡ 1 → (fault ≢ stream.Write) → AppendsPrefix held holds (fault_line fault)
+    → FindsNone asked blocks steps status unread left held holds
+unordered asked blocks steps status unread left held holds fault one other line = inr (one, inr (fault, other, line))
 
 -- an order was kept
-pub order_is_kept : (blocks steps : ℕ) (unread left : Option (List ℕ)) (text : List ℕ) →
-    HasOrdered level.Linearizable blocks steps outcome.Ordered unread left (Some []) (Some text)
-    → HasText level.Linearizable blocks steps unread left outcome.Ordered text
-order_is_kept blocks steps unread left text has = subst (HasText level.Linearizable blocks steps unread left
-    outcome.Ordered)
-    (sym has.written) has.is
+pub order_is_kept : (asked : Level) (blocks steps : ℕ) (unread left : Option (List ℕ)) (text : List ℕ) →
+    HasOrdered asked blocks steps outcome.Ordered unread left (Some []) (Some text)
+    → HasText asked blocks steps unread left outcome.Ordered text
+order_is_kept asked blocks steps unread left text has =
+    subst (HasText asked blocks steps unread left outcome.Ordered) (sym has.written) has.is
 
--- and then judged
-pub found_judged : (blocks steps status : ℕ) (unread left rest held middle holds : Option (List ℕ)) (text : List ℕ) →
-    HasText level.Linearizable blocks steps unread left outcome.Ordered text
-    → middle ≡ held → Judges blocks status (Some text) rest middle holds →
-    JudgesAnyOrder blocks steps status unread left held holds
-found_judged blocks steps status unread left rest held middle holds text has same judged =
+-- and then judged, as a text that is known by another name
+pub found_judged : (asked : Level) (blocks steps status : ℕ) (unread left held middle holds : Option (List ℕ))
+    (text shown : List ℕ) → HasText asked blocks steps unread left outcome.Ordered text → shown ≡ text
+    → middle ≡ held → JudgesText asked blocks status shown middle holds →
+    JudgesAnyOrder asked blocks steps status unread left held holds
+found_judged asked blocks steps status unread left held middle holds text shown has is same judged =
     inl (record {
       text = text;
       order = has;
-      rest = rest;
-      judged = subst (λ h. Judges blocks status
-          (Some text) rest h holds) same judged;
+      judged = subst (λ t. JudgesText asked blocks status t held holds) is
+          (subst (λ h. JudgesText asked blocks status shown h holds) same judged);
     })
+
+-- the level of an order that was found is said
+pub judges_as : (asked given : Level) (blocks status : ℕ) (text : List ℕ) (held holds : Option (List ℕ)) →
+    given ≡ asked → JudgesText asked blocks status text held holds → JudgesText given blocks status text held holds
+judges_as asked given blocks status text held holds e judged =
+    subst (λ (l : Level). JudgesText l blocks status text held holds) (sym e) judged
 
 -- a fault ended the check of an order
 order_work_stopped : (tasks rest : Option (List ℕ)) (blocks : ℕ) (fault : StreamFault) (bytes text : List ℕ)
@@ -300,13 +303,14 @@ found_text tasks blocks steps status rest held middle holds bytes text given sam
 
 -- no order was found
 none_in_slice : (blocks steps status : ℕ) (unread left rest held holds : Option (List ℕ)) (bytes shown : List ℕ) →
-    IsReadWhole unread left bytes → shown ≡ bytes → FindsNone blocks steps status (Some shown) rest held holds →
-    FindsNone blocks steps status unread left held holds
+    IsReadWhole unread left bytes → shown ≡ bytes →
+    FindsNone level.Linearizable blocks steps status (Some shown) rest held holds →
+    FindsNone level.Linearizable blocks steps status unread left held holds
 none_in_slice blocks steps status unread left rest held holds bytes shown read is none =
-    go (subst (λ b. FindsNone blocks steps status (Some b) rest held holds) is none)
+    go (subst (λ b. FindsNone level.Linearizable blocks steps status (Some b) rest held holds) is none)
   where
-    go : FindsNone blocks steps status (Some bytes) rest held holds →
-        FindsNone blocks steps status unread left held holds
+    go : FindsNone level.Linearizable blocks steps status (Some bytes) rest held holds →
+        FindsNone level.Linearizable blocks steps status unread left held holds
     go (inl f) = inl (
       f.0,
       f.1,
@@ -319,8 +323,8 @@ none_in_slice blocks steps status unread left rest held holds bytes shown read i
     )
     go (inr f) = inr (f.0, part f.1)
       where
-        part : HasRefusedInPart blocks steps (Some bytes) rest held holds ⊎ NamedAlone held holds →
-            HasRefusedInPart blocks steps unread left held holds ⊎ NamedAlone held holds
+        part : HasRefusedInPart level.Linearizable blocks steps (Some bytes) rest held holds ⊎ NamedAlone held holds →
+            HasRefusedInPart level.Linearizable blocks steps unread left held holds ⊎ NamedAlone held holds
         part (inl p) = inl (
           record {
             result = p.0.result;
@@ -367,54 +371,53 @@ work_in files name = option_map (λ n. files n.now) name
 
 -- the calls were judged in their own order
 pub judged_as : (files : List ℕ → Option (List ℕ)) (any : Bool) (name : Option (Bor (List ℕ)))
-    (work : Option (Option (List ℕ))) (blocks steps status : ℕ) (unread left held middle holds : Option (List ℕ))
-    → any ≡ false → work ≡ work_in files name → middle ≡ held
+    (work : Option (Option (List ℕ))) (asked : Level) (blocks steps status : ℕ)
+    (unread left held middle holds : Option (List ℕ)) → any ≡ false → work ≡ work_in files name → middle ≡ held
     → JudgesWith work blocks status unread left middle holds
-    → JudgesAs files any name blocks steps status unread left held holds
-judged_as files true name work blocks steps status unread left held middle holds e is same judged =
+    → JudgesAs files any name asked blocks steps status unread left held holds
+judged_as files true name work asked blocks steps status unread left held middle holds e is same judged =
     absurd (let k : true ≡ false = e in cc)
-judged_as files false None work blocks steps status unread left held middle holds e is same judged =
+judged_as files false None work asked blocks steps status unread left held middle holds e is same judged =
     subst (λ h. JudgesWith None blocks status unread left h holds) same
     (subst (λ w. JudgesWith w blocks status unread left middle holds) is judged)
-judged_as files false (Some name) work blocks steps status unread left held middle holds e is same judged =
+judged_as files false (Some name) work asked blocks steps status unread left held middle holds e is same judged =
     inl (subst (λ h. JudgesHeld (files name.now) blocks status unread left h holds) same
     (subst (λ w. JudgesWith w blocks status unread left middle holds) is judged))
 
 -- they were judged in an order that was found
 pub any_judged_as : (files : List ℕ → Option (List ℕ)) (any : Bool) (name : Option (Bor (List ℕ)))
-    (work : Option (Option (List ℕ))) (blocks steps status : ℕ) (unread left held middle holds : Option (List ℕ))
-    → any ≡ true → work ≡ work_in files name → middle ≡ held
-    → JudgesAnyWith work blocks steps status unread left middle holds
-    → JudgesAs files any name blocks steps status unread left held holds
-any_judged_as files false name work blocks steps status unread left held middle holds e is same judged =
+    (work : Option (Option (List ℕ))) (asked : Level) (blocks steps status : ℕ)
+    (unread left held middle holds : Option (List ℕ)) → any ≡ true → work ≡ work_in files name → middle ≡ held
+    → JudgesAnyWith work asked blocks steps status unread left middle holds
+    → JudgesAs files any name asked blocks steps status unread left held holds
+any_judged_as files false name work asked blocks steps status unread left held middle holds e is same judged =
     absurd (let k : false ≡ true = e in cc)
-any_judged_as files true None work blocks steps status unread left held middle holds e is same judged =
-    subst (λ h. JudgesAnyWith None blocks steps status unread left h holds) same
-    (subst (λ w. JudgesAnyWith w blocks steps status unread left middle holds) is judged)
-any_judged_as files true (Some name) work blocks steps status unread left held middle holds e is same judged =
+any_judged_as files true None work asked blocks steps status unread left held middle holds e is same judged =
+    subst (λ h. JudgesAnyWith None asked blocks steps status unread left h holds) same
+    (subst (λ w. JudgesAnyWith w asked blocks steps status unread left middle holds) is judged)
+any_judged_as files true (Some name) work asked blocks steps status unread left held middle holds e is same judged =
     inl (subst (λ h. JudgesAnyHeld (files name.now) blocks steps status unread left h holds) same
-    (subst (λ w. JudgesAnyWith w blocks steps status unread left middle holds) is judged))
+    (subst (λ w. JudgesAnyWith w asked blocks steps status unread left middle holds) is judged))
 
 -- the file was not opened
-pub not_opened_as : (files : List ℕ → Option (List ℕ)) (any : Bool) (name : Option (Bor (List ℕ)))
+pub not_opened_as : (files : List ℕ → Option (List ℕ)) (any : Bool) (name : Option (Bor (List ℕ))) (asked : Level)
     (blocks steps status : ℕ) (unread held holds : Option (List ℕ)) → IsSome name → NotOpened status held holds
-    → JudgesAs files any name blocks steps status unread unread held holds
-not_opened_as files any None blocks steps status unread held holds some not =
+    → JudgesAs files any name asked blocks steps status unread unread held holds
+not_opened_as files any None asked blocks steps status unread held holds some not =
     absurd (let k : false ≡ true = some in cc)
-not_opened_as files false (Some name) blocks steps status unread held holds some not = inr (refl, not)
-not_opened_as files true (Some name) blocks steps status unread held holds some not = inr (refl, not)
+not_opened_as files false (Some name) asked blocks steps status unread held holds some not = inr (refl, not)
+not_opened_as files true (Some name) asked blocks steps status unread held holds some not = inr (refl, not)
 
--- the words give settings of a search and ask for none
+-- the command line is refused
 pub refused_as : (files : List ℕ → Option (List ℕ)) (how : JudgeSettings) (status : ℕ) (unread held : Option (List ℕ)) →
-    has_stray_settings how ≡ true → status ≡ 2 → JudgesAsked files how status unread unread held held
-refused_as files how status unread held stray refused =
-    subst (λ b. JudgesUnless b files how status unread unread held held) (sym stray) (refused, refl, refl)
+    is_refused how ≡ true → status ≡ 2 → JudgesAsked files how status unread unread held held
+refused_as files how status unread held is refused =
+    subst (λ b. JudgesUnless b files how status unread unread held held) (sym is) (refused, refl, refl)
 
--- they do not
+-- the command line is not refused
 pub asked_as : (files : List ℕ → Option (List ℕ)) (how : JudgeSettings) (status : ℕ)
-    (unread left held holds : Option (List ℕ))
-    → has_stray_settings how ≡ false
-    → JudgesAs files how.any_order how.tasks how.blocks how.search.steps status unread left held holds
+    (unread left held holds : Option (List ℕ)) → is_refused how ≡ false
+    → JudgesAs files how.any_order how.tasks how.search.level how.blocks how.search.steps status unread left held holds
     → JudgesAsked files how status unread left held holds
-asked_as files how status unread left held holds stray judged =
-    subst (λ b. JudgesUnless b files how status unread left held holds) (sym stray) judged
+asked_as files how status unread left held holds is judged =
+    subst (λ b. JudgesUnless b files how status unread left held holds) (sym is) judged

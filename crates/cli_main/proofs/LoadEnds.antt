@@ -30,9 +30,13 @@ use Rattle.cli_main.proofs.Turning.{each_ordered, each_in_turn}
 use Rattle.cli_main.proofs.Recorded.{load_legal}
 use Rattle.cli_main.proofs.Lines.{each_has_lines}
 
-both_first : (a b : Bool) → (a && b) ≡ true → a ≡ true
+pub both_first : (a b : Bool) → (a && b) ≡ true → a ≡ true
 both_first true b e = refl
 both_first false b e = e
+
+pub both_second : (a b : Bool) → (a && b) ≡ true → b ≡ true
+both_second true b e = e
+both_second false b e = absurd (let n : false ≡ true = e in cc)
 
 pub not_arguments : load.Memory ≡ load.Arguments → ⊥
 not_arguments e = absurd cc

@@ -3,7 +3,7 @@ use Rattle.std.proofs.Common.{◌≡◌, ◌∙◌, ◌++◌, ℕ, Bool, true, f
 use Rattle.std.proofs.Common.{append-nil}
 use Rattle.vac_lines.specs.Writing.{AppendsPrefix}
 use Rattle.cli_options.specs.declared.asked.JudgeSettings.{JudgeSettings}
-use Rattle.cli_main.specs.Asking.{has_stray_settings}
+use Rattle.cli_main.specs.Asking.{is_refused}
 use Rattle.cli_main.specs.Reporting.{ReportsCalls, ReportsBeside, ReportsUnless}
 
 -- nothing was written
@@ -32,15 +32,15 @@ beside false stats status held middle holds untold report =
 
 -- the command line is refused
 pub reports_refused : (how : JudgeSettings) (status : ℕ) (told tells : Option (List ℕ)) →
-    has_stray_settings how ≡ true → ReportsUnless (has_stray_settings how) how status told tells
-reports_refused how status told tells stray = subst (λ b. ReportsUnless b how status told tells) (sym stray) tt
+    is_refused how ≡ true → ReportsUnless (is_refused how) how status told tells
+reports_refused how status told tells is = subst (λ b. ReportsUnless b how status told tells) (sym is) tt
 
 -- the command line is not refused
 pub reports_asked : (how : JudgeSettings) (status : ℕ) (told tells : Option (List ℕ)) →
-    has_stray_settings how ≡ false → ReportsBeside how.search.progress how.search.stats status told tells →
-    ReportsUnless (has_stray_settings how) how status told tells
-reports_asked how status told tells stray report =
-    subst (λ b. ReportsUnless b how status told tells) (sym stray) report
+    is_refused how ≡ false → ReportsBeside how.search.progress how.search.stats status told tells →
+    ReportsUnless (is_refused how) how status told tells
+reports_asked how status told tells is report =
+    subst (λ b. ReportsUnless b how status told tells) (sym is) report
 
 -- what holds of the reader that was watched
 pub through : {X : Type 0} (P : X → X → Type 0) (start first middle last : X) → first ≡ start → last ≡ middle →

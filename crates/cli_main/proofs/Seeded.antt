@@ -5,7 +5,7 @@ use Rattle.rand_pcg.specs.Lcg.{Lcg}
 use Rattle.load_tasks.specs.declared.settings.Settings.{Settings}
 use Rattle.load_tasks.specs.Streams.{gives, stream_of}
 use Rattle.load_run.specs.declared.statistics.AttemptStatistics.{AttemptStatistics}
-use Rattle.load_run.specs.Keeping.{KeptNotes}
+use Rattle.load_run.specs.Keeping.{RecorderContents}
 use Rattle.load_run.specs.declared.slots.Recorders.{Recorders}
 use Rattle.load_run.specs.declared.load.Load.{Load}
 use Rattle.load_run.specs.declared.load.LoadReport.{LoadReport}
@@ -24,7 +24,8 @@ never_arguments s state load.Spawn same h = absurd cc
 never_arguments s state (load.Opening fault) same h = absurd cc
 
 -- what a load of a seed gave
-pub ran_by_seed : {G K : Type 0} (notes : K → KeptNotes) (s : Settings) (recorders : Recorders K) (l : Load Lcg G K)
+pub ran_by_seed : {G K : Type 0} (notes : K → RecorderContents) (s : Settings) (recorders : Recorders K)
+    (l : Load Lcg G K)
     (result : Result (LoadReport × AttemptStatistics × Recorders K) LoadFault) →
     (IsErrOf {T = Load Lcg G K} (Ok l) load.Arguments ↔ (is_load s (vec_len recorders.clients) ≡ false)) →
     IsBySeed s recorders l → HasRun notes l result → RunsKept notes s recorders result
@@ -43,7 +44,8 @@ ran_by_seed notes s recorders l (Err e) can is h = record {
 }
 
 -- no load was made
-pub not_seeded : {L K : Type 0} (notes : K → KeptNotes) (s : Settings) (recorders : Recorders K) (e : LoadFault) →
+pub not_seeded : {L K : Type 0} (notes : K → RecorderContents) (s : Settings) (recorders : Recorders K) (e : LoadFault)
+    →
     (IsErrOf {T = L} (Err e) load.Arguments ↔ (is_load s (vec_len recorders.clients) ≡ false)) →
     (e ≡ load.Arguments) ⊎ (e ≡ load.Memory) → RunsKept notes s recorders (Err e)
 not_seeded {L} notes s recorders e can (inl arguments) = record {
@@ -61,7 +63,7 @@ not_seeded {L} notes s recorders e can (inr memory) = record {
   );
 }
 
-pub handed_on : {K : Type 0} (notes : K → KeptNotes) (s : Settings) (recorders : Recorders K)
+pub handed_on : {K : Type 0} (notes : K → RecorderContents) (s : Settings) (recorders : Recorders K)
     (r : Result (LoadReport × AttemptStatistics × Recorders K) LoadFault) (e : LoadFault) →
     IsErrAnd r (λ f. f ≡ e) → RunsKept notes s recorders (Err e) → RunsKept notes s recorders r
 handed_on notes s recorders (Ok x) e is h = absurd is

@@ -1,6 +1,6 @@
 -- The lines that a load writes.
 use Rattle.std.specs.Prelude.{◌≡◌, ◌≢◌, ◌↔◌, ℕ, ◌⊎◌, true, false, List, ◌∷◌, ◌++◌, map}
-use Rattle.std.specs.Prelude.{[], Option, Some, None, codes, vec_len, Result, IfOk, IfErr, IsErrOf}
+use Rattle.std.specs.Prelude.{[], Option, Some, None, All, codes, vec_len, Result, IfOk, IfErr, IsErrOf}
 use Rattle.std.specs.Io.KnownBytes.{Appends}
 use Rattle.vac_lines.specs.Script.{as_line}
 use Rattle.vac_lines.specs.Text.{field_text, report_text}
@@ -14,6 +14,7 @@ use Rattle.load_tasks.specs.Setting.{is_settings}
 use Rattle.load_tasks.specs.Streams.{gives, stream_of}
 use Rattle.vac_manager.specs.declared.note.CompletedCall.{CompletedCall}
 use Rattle.vac_manager.specs.Keeping.{IsNoted}
+use Rattle.vac_manager.specs.Tracing.{Trace, trace_of}
 use Rattle.load_record.specs.Turns.{EachInTurn}
 use Rattle.load_record.specs.Order.{AreOrdered}
 use Rattle.load_record.specs.History.{call_of_entry, calls_text, WroteHistory, WroteHistoryPrefix}
@@ -21,11 +22,11 @@ use Rattle.load_record.specs.Legal.{AreLegal, JudgedByPrecedence}
 use Rattle.judge_calls.specs.CallText.{IsTheirHistory}
 use Rattle.load_record.specs.Pages.{Page, calls_on}
 use Rattle.load_record.specs.Text.{WroteAttempts, WroteAttemptsPrefix, AreTooLong}
-use Rattle.load_record.specs.Loads.{MadeHistory, MadeHistoryFromHeap, JudgedByAbortsAndTimes}
+use Rattle.load_record.specs.Loads.{MadeHistory, MadeHistoryFrom, JudgedByAbortsAndTimes}
 use Rattle.load_run.specs.Lists.{Paired}
 use Rattle.load_run.specs.declared.statistics.AttemptStatistics.{AttemptStatistics}
 use Rattle.load_run.specs.declared.slots.Recorders.{Recorders}
-use Rattle.load_run.specs.Keeping.{KeptNotes}
+use Rattle.load_run.specs.Keeping.{RecorderContents, ReadsOneImageIfAborted}
 use Rattle.load_run.specs.declared.load.Load.{Load}
 use Rattle.load_run.specs.Load.{IsLoadFault, LoadedKept, StopsLoad, is_load}
 use Rattle.load_run.specs.Slots.{kept_at}
@@ -70,7 +71,7 @@ IsFaultBySeed s fault = IsLoadFault gives s (stream_of s.seed 0) fault
 
 -- this load was run, and draws from generators: the result has the recorded calls, or the reason
 -- why the load did not run to its end
-pub record HasRun {G K : Type 0} (notes : K → KeptNotes) (l : Load Lcg G K)
+pub record HasRun {G K : Type 0} (notes : K → RecorderContents) (l : Load Lcg G K)
     (result : Result (LoadReport × AttemptStatistics × Recorders K) LoadFault) : Type 0 where
   pub kept : IfOk result (λ r. LoadedKept gives l.plan.settings (λ seat. seat.draws) l.draws
       l.slots.items r.0.outcomes r.0.report (notes l.keep) (notes r.2.opening)
@@ -80,7 +81,8 @@ pub record HasRun {G K : Type 0} (notes : K → KeptNotes) (l : Load Lcg G K)
 -- a load of these settings was run with these recorders, or refused because the settings and the
 -- recorders do not fit: the result has the recorded calls, or the reason why the load did not run
 -- to its end
-pub record RunsKept {K : Type 0} (notes : K → KeptNotes) (s : Settings) (recorders : Recorders K)
+pub record RunsKept {K : Type 0} (notes : K → RecorderContents) (s : Settings)
+    (recorders : Recorders K)
     (result : Result (LoadReport × AttemptStatistics × Recorders K) LoadFault) : Type 0 where
   pub arguments : IsErrOf result load.Arguments
       ↔ (is_load s (vec_len recorders.clients) ≡ false)
@@ -128,15 +130,38 @@ pub record HasNoted (s : Settings) (opening : List CompletedCall)
   pub of_opening : Paired IsNoted opening loaded.opened
   pub of_clients : Paired (λ notes x. Paired IsNoted notes x.records) clients loaded.shares
 
--- the recorded calls; none if nothing is recorded
-abbrev pub calls_kept : KeptNotes → List CompletedCall
-calls_kept None = []
-calls_kept (Some calls) = calls
+-- the listed calls; none if there is no list
+abbrev pub calls_in : Option (List CompletedCall) → List CompletedCall
+calls_in None = []
+calls_in (Some calls) = calls
 
--- the load ran to its end, and the recorders have its completed calls
-abbrev pub AreNoted : {K : Type 0} → (K → KeptNotes) → Settings → Recorders K → Type 0
-AreNoted notes s k = HasNoted s (calls_kept (notes k.opening))
-    (map (λ x. calls_kept (notes x)) k.clients.items)
+-- the calls in a recorder; none if it records nothing
+abbrev pub calls_kept : RecorderContents → List CompletedCall
+calls_kept kept = calls_in kept.calls
+
+-- a recorder has no call yet, and no trace if it traces attempts
+pub record IsEmpty (kept : RecorderContents) : Type 0 where
+  pub calls : kept.calls ≡ Some []
+  pub traces : (all : List Trace) → kept.traces ≡ Some all → all ≡ []
+
+-- each aborted attempt that a recorder has traced, if its traces are known, read one image
+abbrev pub AbortedReadOneImage : RecorderContents → Type 0
+AbortedReadOneImage kept =
+    (all : List Trace) → kept.traces ≡ Some all → All ReadsOneImageIfAborted all
+
+-- the load ran to its end, and the recorders have its completed calls, and traces of attempts of
+-- which each aborted one read one image
+pub record AreNoted {K : Type 0} (notes : K → RecorderContents) (s : Settings) (k : Recorders K)
+    : Type 0
+  where
+    pub calls : HasNoted s (calls_kept (notes k.opening))
+        (map (λ x. calls_kept (notes x)) k.clients.items)
+    pub opening : AbortedReadOneImage (notes k.opening)
+    pub clients : All (λ x. AbortedReadOneImage (notes x)) k.clients.items
+
+-- each attempt listed as aborted on the page read one image
+abbrev pub GivenUpReadOneImage : Page → Type 0
+GivenUpReadOneImage page = All (λ a. ReadsOneImageIfAborted (trace_of a)) page.given_up
 
 -- the load ran to its end, and exactly the history of its completed calls was written: all calls
 -- in the order of their records, and the readers of one version in the order of their begins. In
@@ -175,13 +200,16 @@ pub record WroteCallsInPart (s : Settings) (held holds : Option (List ℕ)) : Ty
 -- the load ran to its end, and exactly the attempts of its calls were written: for each completed
 -- call its attempt, once, with the commit position, the reads and the writes of the call's record
 -- (`IsNoted` of vac_manager); aborted attempts; and attempts that write the initial words. All are
--- sorted by commit position. The committed attempts made a history that is serial from the initial
--- words, and the lines are read as these attempts. So the judge calls the text opaque if and only
--- if the aborted attempts read what the committed ones before them leave, the attempts of each
--- client are in turn, and no attempt comes before one that had ended before it began
--- Not said: that each aborted attempt is among them, its reads, and its position; that a stamp is
--- a reading of the clock, and that the stamps of each client are in turn. `vacation opaque` judges
--- these.
+-- sorted by commit position. The committed attempts made the history that the calls made, which is
+-- serial from the initial words, and the lines are read as these attempts. So the judge calls the
+-- text opaque if and only if the aborted attempts read what the committed ones before them leave,
+-- the attempts of each client are in turn, and no attempt comes before one that had ended before it
+-- began
+-- Each attempt listed as aborted read one image: some balanced heap agrees with all its reads.
+-- Not said: that each aborted attempt of the load is among them, once; its position, its client and
+-- its writes. Not said: that its reads are those of the history at its position. Not said: that a
+-- stamp is a reading of the clock, and that the stamps of each client are in turn. The program's
+-- `opaque` judges these.
 -- Not said: that nothing was left out because an attempt recorder had no room for it.
 pub record WroteLoadAttempts (s : Settings) (held holds : Option (List ℕ)) : Type 0 where
   pub opening : Page
@@ -189,8 +217,9 @@ pub record WroteLoadAttempts (s : Settings) (held holds : Option (List ℕ)) : T
   pub noted : HasNoted s opening.calls (map (λ page. page.calls) clients)
   pub written : WroteAttempts s.blocks (opening ∷ clients) held holds
   pub made : MadeHistory s.blocks (calls_on (opening ∷ clients))
-  pub history : MadeHistoryFromHeap s.blocks written.all
+  pub history : MadeHistoryFrom made.image made.history written.all
   pub judged : JudgedByAbortsAndTimes s.blocks written.all
+  pub aborted : All GivenUpReadOneImage (opening ∷ clients)
 
 -- the load ran to its end, and nothing or a prefix of the text of such attempts was written
 pub record WroteLoadAttemptsInPart (s : Settings) (held holds : Option (List ℕ)) : Type 0 where
@@ -198,6 +227,7 @@ pub record WroteLoadAttemptsInPart (s : Settings) (held holds : Option (List ℕ
   pub clients : List Page
   pub noted : HasNoted s opening.calls (map (λ page. page.calls) clients)
   pub written : WroteAttemptsPrefix s.blocks (opening ∷ clients) held holds
+  pub aborted : All GivenUpReadOneImage (opening ∷ clients)
 
 -- the load ran to its end, and no attempt was written, because one has more than 2,164,800 reads
 -- and writes, or one that is at no word of the heap; a prefix of the line of this fault was written

@@ -1,5 +1,9 @@
--- The search for a linearization: status, input and output.
-use Rattle.std.specs.Prelude.{◌≡◌, ◌≢◌, ◌⊎◌, ℕ, Bool, true, false, Option, Some, None, List}
+-- The search for an order of a level of consistency: status, input and output.
+use Rattle.std.specs.Prelude.{◌≡◌, ◌≢◌, ◌⊎◌, ℕ, Bool, true, false, Option, Some, None, List, codes}
+use Rattle.std.specs.Io.KnownBytes.{Appends}
+use Rattle.vac_lines.specs.Script.{as_line}
+use Rattle.vac_lines.specs.Writing.{AppendsPrefix}
+use Rattle.judge_levels.specs.declared.level.Level.{Level}
 use Rattle.judge_levels.specs.declared.level.Level.TheVariants as level
 use Rattle.judge_linear.specs.declared.ordering.Outcome.{Outcome}
 use Rattle.judge_linear.specs.declared.ordering.Outcome.TheVariants as outcome
@@ -9,8 +13,8 @@ use Rattle.judge_calls.specs.AnyOrder.{HasCheckedOrder, HasCheckedOrderInPart}
 use Rattle.cli_main.specs.Ending.{EndsWithStatus}
 use Rattle.cli_main.specs.Judging.{Judges, NamedAlone, NotOpened}
 
--- the status of an outcome: 0 if there is a linearization, 1 if there is none or a line is wrong,
--- 3 if the search did not decide
+-- the status of an outcome: 0 if there is an order of the level, 1 if there is none or a line is
+-- wrong, 3 if the search did not decide
 abbrev pub status_of : Outcome → ℕ
 status_of outcome.Ordered = 0
 status_of outcome.Illegal = 1
@@ -18,50 +22,65 @@ status_of outcome.Undecided = 3
 
 -- a fault ended the search: either the output failed, and a prefix of the result was written; or
 -- another fault was met, and is named
-abbrev pub OrderStopped : ℕ → ℕ → Option (List ℕ) → Option (List ℕ) → Option (List ℕ)
+abbrev pub OrderStopped : Level → ℕ → ℕ → Option (List ℕ) → Option (List ℕ) → Option (List ℕ)
     → Option (List ℕ) → Type 0
-OrderStopped blocks steps unread left held holds =
-    HasOrderedInPart level.Linearizable blocks steps unread left held holds ⊎ NamedAlone held holds
+OrderStopped kept blocks steps unread left held holds =
+    HasOrderedInPart kept blocks steps unread left held holds ⊎ NamedAlone held holds
 
--- the program searches for a linearization of a history's calls, and writes the result
-abbrev pub Orders : ℕ → ℕ → ℕ → Option (List ℕ) → Option (List ℕ) → Option (List ℕ)
+-- the program searches for an order of a history's calls that shows a level, and writes the result
+abbrev pub Orders : Level → ℕ → ℕ → ℕ → Option (List ℕ) → Option (List ℕ) → Option (List ℕ)
     → Option (List ℕ) → Type 0
-Orders blocks steps status unread left held holds =
+Orders kept blocks steps status unread left held holds =
     ((found : Outcome) × (status ≡ status_of found)
-    × HasOrdered level.Linearizable blocks steps found unread left held holds)
-    ⊎ ((status ≡ 1) × OrderStopped blocks steps unread left held holds)
+    × HasOrdered kept blocks steps found unread left held holds)
+    ⊎ ((status ≡ 1) × OrderStopped kept blocks steps unread left held holds)
 
--- no linearization was found, and a prefix of the text that says so was written
-abbrev pub HasRefusedInPart : ℕ → ℕ → Option (List ℕ) → Option (List ℕ) → Option (List ℕ)
-    → Option (List ℕ) → Type 0
-HasRefusedInPart blocks steps unread left held holds =
-    (part : HasOrderedInPart level.Linearizable blocks steps unread left held holds)
+-- no order of a level was found, and a prefix of the text that says so was written
+abbrev pub HasRefusedInPart : Level → ℕ → ℕ → Option (List ℕ) → Option (List ℕ)
+    → Option (List ℕ) → Option (List ℕ) → Type 0
+HasRefusedInPart kept blocks steps unread left held holds =
+    (part : HasOrderedInPart kept blocks steps unread left held holds)
     × (part.result ≢ outcome.Ordered)
 
--- no linearization is found, and the text that says so is written; or a fault ended the search,
--- and no line of a linearization is written
-abbrev pub FindsNone : ℕ → ℕ → ℕ → Option (List ℕ) → Option (List ℕ) → Option (List ℕ)
+-- no order of a level is found, and the text that says so is written; or a fault ended the search,
+-- and no line of an order is written
+abbrev pub FindsNone : Level → ℕ → ℕ → ℕ → Option (List ℕ) → Option (List ℕ) → Option (List ℕ)
     → Option (List ℕ) → Type 0
-FindsNone blocks steps status unread left held holds =
+FindsNone kept blocks steps status unread left held holds =
     ((found : Outcome) × (found ≢ outcome.Ordered) × (status ≡ status_of found)
-    × HasOrdered level.Linearizable blocks steps found unread left held holds)
+    × HasOrdered kept blocks steps found unread left held holds)
     ⊎ ((status ≡ 1)
-    × (HasRefusedInPart blocks steps unread left held holds ⊎ NamedAlone held holds))
+    × (HasRefusedInPart kept blocks steps unread left held holds ⊎ NamedAlone held holds))
 
--- a linearization was found, and its lines are judged as a history
-pub record JudgesFound (blocks steps status : ℕ) (unread left held holds : Option (List ℕ)) :
-    Type 0 where
+-- the program writes the line which says that an order of a level was found
+abbrev pub SaysLegal : List ℕ → ℕ → Option (List ℕ) → Option (List ℕ) → Type 0
+SaysLegal line status held holds =
+    EndsWithStatus status (Appends held holds line) (AppendsPrefix held holds line)
+
+-- the program judges the text of an order of a level that it found. The lines of a linearization
+-- are judged as a history. Of another order the level is written, and no report of a state: which
+-- state the calls leave depends on the order
+abbrev pub JudgesText : Level → ℕ → ℕ → List ℕ → Option (List ℕ) → Option (List ℕ) → Type 0
+JudgesText level.Linearizable blocks status text held holds =
+    (rest : Option (List ℕ)) × Judges blocks status (Some text) rest held holds
+JudgesText level.Sequential blocks status text held holds =
+    SaysLegal (as_line (codes "legal sequential")) status held holds
+JudgesText level.Serializable blocks status text held holds =
+    SaysLegal (as_line (codes "legal serializable")) status held holds
+
+-- an order of a level was found, and is judged
+pub record JudgesFound (kept : Level) (blocks steps status : ℕ)
+    (unread left held holds : Option (List ℕ)) : Type 0 where
   pub text : List ℕ
-  pub order : HasText level.Linearizable blocks steps unread left outcome.Ordered text
-  pub rest : Option (List ℕ)
-  pub judged : Judges blocks status (Some text) rest held holds
+  pub order : HasText kept blocks steps unread left outcome.Ordered text
+  pub judged : JudgesText kept blocks status text held holds
 
--- the program judges a history in a linearization that it finds
-abbrev pub JudgesAnyOrder : ℕ → ℕ → ℕ → Option (List ℕ) → Option (List ℕ) → Option (List ℕ)
-    → Option (List ℕ) → Type 0
-JudgesAnyOrder blocks steps status unread left held holds =
-    JudgesFound blocks steps status unread left held holds
-    ⊎ FindsNone blocks steps status unread left held holds
+-- the program judges a history in an order of a level that it finds
+abbrev pub JudgesAnyOrder : Level → ℕ → ℕ → ℕ → Option (List ℕ) → Option (List ℕ)
+    → Option (List ℕ) → Option (List ℕ) → Type 0
+JudgesAnyOrder kept blocks steps status unread left held holds =
+    JudgesFound kept blocks steps status unread left held holds
+    ⊎ FindsNone kept blocks steps status unread left held holds
 
 -- an order with this text, of the calls of a history with these bytes, was checked against the
 -- workload in a file; `covered` says whether the order is a linearization that covers the workload
@@ -104,7 +123,8 @@ abbrev pub HoldsInAnyOrder : Option (List ℕ) → ℕ → ℕ → ℕ → List 
     → Option (List ℕ) → Type 0
 HoldsInAnyOrder tasks blocks steps status bytes held holds =
     HoldsText tasks blocks steps status bytes held holds
-    ⊎ ((rest : Option (List ℕ)) × FindsNone blocks steps status (Some bytes) rest held holds)
+    ⊎ ((rest : Option (List ℕ))
+    × FindsNone level.Linearizable blocks steps status (Some bytes) rest held holds)
 
 -- the history was read to its end, and is checked against a workload in a linearization that is
 -- found
@@ -120,7 +140,7 @@ abbrev pub JudgesAnyHeld : Option (List ℕ) → ℕ → ℕ → ℕ → Option 
     → Option (List ℕ) → Option (List ℕ) → Type 0
 JudgesAnyHeld tasks blocks steps status unread left held holds =
     HoldsFound tasks blocks steps status unread left held holds
-    ⊎ FindsNone blocks steps status unread left held holds
+    ⊎ FindsNone level.Linearizable blocks steps status unread left held holds
 
 -- the program judges a history in a linearization that it finds, and checks it against the
 -- workload in a file; if the file was not opened, no input is read
@@ -130,11 +150,11 @@ JudgesAnyWork tasks blocks steps status unread left held holds =
     JudgesAnyHeld tasks blocks steps status unread left held holds
     ⊎ ((left ≡ unread) × NotOpened status held holds)
 
--- the program judges a history in a linearization that it finds, and checks it against a workload
--- with these bytes if one is given
-abbrev pub JudgesAnyWith : Option (Option (List ℕ)) → ℕ → ℕ → ℕ → Option (List ℕ)
+-- the program judges a history in an order of a level that it finds; if a workload with these bytes
+-- is given, in a linearization that is checked against the workload
+abbrev pub JudgesAnyWith : Option (Option (List ℕ)) → Level → ℕ → ℕ → ℕ → Option (List ℕ)
     → Option (List ℕ) → Option (List ℕ) → Option (List ℕ) → Type 0
-JudgesAnyWith None blocks steps status unread left held holds =
-    JudgesAnyOrder blocks steps status unread left held holds
-JudgesAnyWith (Some tasks) blocks steps status unread left held holds =
+JudgesAnyWith None kept blocks steps status unread left held holds =
+    JudgesAnyOrder kept blocks steps status unread left held holds
+JudgesAnyWith (Some tasks) kept blocks steps status unread left held holds =
     JudgesAnyHeld tasks blocks steps status unread left held holds

@@ -11,6 +11,7 @@ use Rattle.load_run.specs.declared.load.LoadFault.TheVariants.{Arguments}
 use Rattle.cli_options.specs.declared.asked.Request.{Request}
 use Rattle.cli_options.specs.declared.asked.Request.TheVariants.{Run, Dump, Check, Judge, Order}
 use Rattle.cli_options.specs.declared.asked.Request.TheVariants.{Opaque, Part, Load, Tasks}
+use Rattle.cli_options.specs.declared.asked.Request.TheVariants.{UnknownLevel}
 use Rattle.vac_lines.specs.Script.{as_line}
 use Rattle.vac_streams.specs.declared.fault.StreamFault.TheVariants.{Memory}
 use Rattle.vac_lines.specs.Writing.{AppendsPrefix}
@@ -22,7 +23,7 @@ use Rattle.cli_main.specs.Load.{EndsLoad, WroteLoad, WroteLoadInPart}
 use Rattle.cli_main.specs.Load.{EndsKept, WroteCalls, WroteCallsInPart, WroteLoadAttempts, StoppedAttempts}
 use Rattle.cli_main.specs.Ending.{EndsWithStatus, NamedAfter, NamedAfterWriting, fault_line, load_fault_line}
 use Rattle.cli_main.specs.Ordering.{Orders}
-use Rattle.cli_main.specs.Asking.{JudgesAsked, JudgesOpacity}
+use Rattle.cli_main.specs.Asking.{Refuses, JudgesAsked, JudgesOpacity}
 use Rattle.cli_main.specs.Parting.{WritesPartOf}
 use Rattle.cli_main.specs.Reporting.{Reports}
 use Rattle.cli_options.specs.CommandLine.{vacation, AsksFor}
@@ -88,7 +89,8 @@ Fulfils files Check status unread left held holds = Checks status unread left he
 Fulfils files (Judge how) status unread left held holds =
     JudgesAsked files how status unread left held holds
 Fulfils files (Order blocks search) status unread left held holds =
-    Orders blocks search.steps status unread left held holds
+    Orders search.level blocks search.steps status unread left held holds
+Fulfils files UnknownLevel status unread left held holds = Refuses status unread left held holds
 Fulfils files (Opaque how) status unread left held holds =
     JudgesOpacity how.place how.words status unread left held holds
 Fulfils files (Part words) status unread left held holds =

@@ -12,7 +12,8 @@ use Rattle.cli_options.specs.declared.asked.JudgeSettings.{JudgeSettings}
 use Rattle.cli_options.specs.declared.asked.Request.{Request}
 use Rattle.cli_options.specs.declared.asked.Request.TheVariants.{Run, Dump, Check, Judge, Order}
 use Rattle.cli_options.specs.declared.asked.Request.TheVariants.{Opaque, Part, Load, Tasks}
-use Rattle.cli_main.specs.Asking.{has_stray_settings}
+use Rattle.cli_options.specs.declared.asked.Request.TheVariants.{UnknownLevel}
+use Rattle.cli_main.specs.Asking.{is_refused}
 
 -- a report: the figures if they are asked for, and behind them the warning if the status is that of
 -- a positive verdict
@@ -64,13 +65,14 @@ ReportsUnless false how status told tells =
 
 -- what the program reports on standard error if it does what a command line asks for; the commands
 -- that judge no log and run no load report nothing
--- Not said: the reports of `part`, `load` and `tasks`.
+-- Not said: the reports of `part`, `load` and `tasks`; the text about a word that names no level.
 abbrev pub Reports : Request → ℕ → Option (List ℕ) → Option (List ℕ) → Type 0
 Reports (Run blocks) status told tells = tells ≡ told
 Reports (Dump blocks) status told tells = tells ≡ told
 Reports Check status told tells = tells ≡ told
 Reports (Judge how) status told tells =
-    ReportsUnless (has_stray_settings how) how status told tells
+    ReportsUnless (is_refused how) how status told tells
+Reports UnknownLevel status told tells = ⊤
 Reports (Order blocks search) status told tells =
     ReportsBeside search.progress search.stats status told tells
 Reports (Opaque how) status told tells = ReportsAttempts how.stats status told tells

@@ -1,9 +1,11 @@
 //! Judging histories and attempts, and the resulting statuses.
 
 ghost use Rattle.std.specs.Prelude.{◌≡◌, true, false, IfOk, IfErr, OnOk, IsSome, option_map};
+ghost use Rattle.std.specs.Prelude.{is_some};
 ghost use Rattle.vac_model.specs.Ranges.{is_block_count};
 ghost use Rattle.cli_main.specs.Judging.{Judges, JudgesWith, NotOpened};
-ghost use Rattle.cli_main.specs.Asking.{has_stray_settings, JudgesAs, JudgesAsked};
+ghost use Rattle.cli_main.specs.Asking.{has_stray_settings, is_below, has_tasks_below, is_refused};
+ghost use Rattle.cli_main.specs.Asking.{JudgesAs, JudgesAsked};
 ghost use Rattle.cli_main.specs.Asking.{JudgesAttempts, PlacesAttempts, JudgesOpacity};
 ghost use Rattle.cli_main.specs.Reporting.{ReportsUnless, ReportsAttempts};
 ghost use Rattle.judge_coverage.specs.Watching.{inner_of};
@@ -11,16 +13,16 @@ ghost use Rattle.judge_coverage.specs.Watching.{inner_of};
 use crate::files::Open;
 use crate::reporting::{most_watched, report_attempts, report_calls};
 use crate::searching::judge_any;
-use crate::status::{REFUSED, end_by, end_judged, end_unopened};
+use crate::status::{end_by, end_judged, end_unopened, refuse};
 use cli_options::{JudgeSettings, OpacitySettings};
 use judge_calls::{CALL_BYTES, judge_history, judge_with_workload};
 use judge_coverage::Watched;
+use judge_levels::Level;
 use judge_opacity::{ATTEMPT_BYTES, judge_attempts, place_attempts};
 use std::alloc::Global;
 use std::io;
 use std::io::{ErrorKind, Read, Write};
 use std::time::Clock;
-use vac_lines::write_and_flush;
 use vac_streams::StreamFault;
 
 /// Judges a history, and returns the status: 0 if the history is legal.
@@ -108,7 +110,7 @@ fn judge_as<T: Clock + AllocGlobal, F: Open, R: Read, W: Write, E: Write>(
 ) -> u8
     requires { is_block_count how.blocks ≡ true }
     ensures judged { JudgesAs (F.holds files.now) how.entry.any_order how.entry.tasks
-        how.entry.blocks how.entry.search.steps result
+        how.entry.search.level how.entry.blocks how.entry.search.steps result
         (R.remaining input.old) (R.remaining input.new)
         (W.contents output.old) (W.contents output.new) }
     ensures untold { how.entry.search.progress ≡ false →
@@ -132,13 +134,35 @@ fn has_stray_settings(how: &JudgeSettings<'_>) -> bool
     how.names_search && !how.any_order
 }
 
-/// Writes that settings of a search are given without a search, and returns the status of a refused
-/// command line.
-fn refuse_search<E: Write>(errors: &mut E) -> u8
-    ensures { result ≡ 2 }
+/// Returns whether a level keeps less order than linearizability.
+fn is_below(level: Level) -> bool
+    ensures { result ≡ is_below level }
 {
-    let _ = write_and_flush(errors, b"error: --steps and --progress need --any-order\n");
-    REFUSED
+    match level {
+        Level::Linearizable => false,
+        Level::Sequential | Level::Serializable => true,
+    }
+}
+
+/// Returns whether the command line names a file of tasks, and asks for a level below
+/// linearizability.
+fn has_tasks_below(how: &JudgeSettings<'_>) -> bool
+    ensures { result ≡ has_tasks_below how.now }
+{
+    how.tasks.is_some() && is_below(how.search.level)
+}
+
+/// Returns why the command line is refused, if it is.
+fn refusal_of(how: &JudgeSettings<'_>) -> Option<&'static [u8]>
+    ensures { is_some result ≡ is_refused how.now }
+{
+    if has_stray_settings(how) {
+        Some(b"error: --level, --steps and --progress need --any-order\n")
+    } else if has_tasks_below(how) {
+        Some(b"error: --tasks needs the level linearizable\n")
+    } else {
+        None
+    }
 }
 
 /// Judges a history as the command line asks, reports on it, and returns the status.
@@ -154,11 +178,11 @@ pub(crate) fn judge<T: Clock + AllocGlobal, F: Open, R: Read, W: Write, E: Write
     ensures judged { JudgesAsked (F.holds files.now) how.entry result
         (R.remaining (inner_of input.old)) (R.remaining (inner_of input.new))
         (W.contents output.old) (W.contents output.new) }
-    ensures reported { ReportsUnless (has_stray_settings how.entry) how.entry result
+    ensures reported { ReportsUnless (is_refused how.entry) how.entry result
         (E.contents errors.old) (E.contents errors.new) }
 {
-    if has_stray_settings(&how) {
-        return refuse_search(errors);
+    if let Some(why) = refusal_of(&how) {
+        return refuse(why, errors);
     }
     input.watch(CALL_BYTES, most_watched(how.search.stats));
     let status = judge_as(rt, files, how, input, output, errors);

@@ -6,7 +6,8 @@ ghost use Rattle.load_tasks.specs.declared.settings.Settings.{Settings};
 ghost use Rattle.load_tasks.specs.Setting.{is_settings};
 ghost use Rattle.load_run.specs.declared.slots.Recorders.{Recorders};
 ghost use Rattle.cli_main.specs.Ending.{EndsWithStatus};
-ghost use Rattle.cli_main.specs.Load.{AreNoted, EndsLoad};
+ghost use Rattle.cli_main.specs.Load.{AreNoted, EndsLoad, IsEmpty};
+ghost use Rattle.load_run.specs.Keeping.{contents};
 ghost use Rattle.cli_main.specs.Program.{Loads, WritesAttempts};
 
 use crate::load::{LoadRequest, tell_load};
@@ -46,7 +47,7 @@ pub(crate) trait Transcript<W>: Recorder + Sized {
 
     /// Returns a recorder without calls.
     fn empty(alloc: Global, watch: W) -> Self
-        ensures { Self.notes result ≡ Some [] };
+        ensures { IsEmpty (contents Self.notes Self.traced result) };
 
     /// Returns whether the recorders had room for all calls.
     fn are_whole(recorders: &Recorders<Self>) -> bool
@@ -55,7 +56,9 @@ pub(crate) trait Transcript<W>: Recorder + Sized {
     /// Writes the calls of a load, or the last line of a fault, and returns the status.
     fn write<O: Write>(load: &KeptLoad<'_, Self>, output: &mut O) -> u8
         requires fits { is_settings load.now.settings.now ≡ true }
-        requires noted { AreNoted Self.notes load.now.settings.now load.now.recorders }
+        requires noted { AreNoted (contents Self.notes Self.traced) load.now.settings.now
+            load.now.recorders }
+        requires whole { are_whole load.now.recorders ≡ true }
         requires few { length load.now.recorders.clients.items < 2 ^ 32 }
         ensures { EndsWithStatus result
             (wrote load.now.settings.now (O.contents output.old) (O.contents output.new))
@@ -123,9 +126,10 @@ fn empty_recorders<'a, T: Clock, K: Transcript<ElapsedClock<'a, T>> + Drop>(
     count: u32,
 ) -> Result<Recorders<K>, AllocError>
     ensures number { IfOk result (λ recorders. vec_len recorders.clients ≡ count) }
-    ensures opening { IfOk result (λ recorders. K.notes recorders.opening ≡ Some []) }
+    ensures opening { IfOk result (λ recorders.
+        IsEmpty (contents K.notes K.traced recorders.opening)) }
     ensures clients { IfOk result (λ recorders.
-        All (λ x. K.notes x ≡ Some []) recorders.clients.items) }
+        All (λ x. IsEmpty (contents K.notes K.traced x)) recorders.clients.items) }
 {
     let start = Instant::now(clock).ok();
     let mut clients = Vec::with_capacity(alloc, count as usize)?;
@@ -183,8 +187,9 @@ impl<'a, T: Threads + Wait + Clock + Sync + AllocGlobal> LoadRequest<'a, T> {
     where
         K::Tracing: Send,
         requires number { IfOk recorders (λ k. vec_len k.clients ≡ self.now.settings.now.clients) }
-        requires opening { IfOk recorders (λ k. K.notes k.opening ≡ Some []) }
-        requires clients { IfOk recorders (λ k. All (λ x. K.notes x ≡ Some []) k.clients.items) }
+        requires opening { IfOk recorders (λ k. IsEmpty (contents K.notes K.traced k.opening)) }
+        requires clients { IfOk recorders (λ k.
+            All (λ x. IsEmpty (contents K.notes K.traced x)) k.clients.items) }
         ensures { EndsLoad K.wrote K.stopped result self.now.settings.now
             (W.contents output.old) (W.contents output.new) }
     {

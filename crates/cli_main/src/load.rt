@@ -12,7 +12,7 @@ ghost use Rattle.vac_lines.specs.Writing.{AppendsPrefix};
 ghost use Rattle.vac_lines.specs.Text.{report_text};
 
 use crate::stats::{LoadTimer, tell_stats};
-use crate::status::{DONE, FAULT, REFUSED, end_by, end_by_settings, end_load_by};
+use crate::status::{DONE, FAULT, end_by, end_by_settings, end_load_by, refuse};
 use crate::telling::run_with_progress;
 use cli_options::LoadOutput;
 use load_run::{LoadFault, LoadReport, Outcomes, Settings, no_recorders};
@@ -39,11 +39,10 @@ pub(crate) struct LoadRequest<'a, T> {
 fn refuse_both<E: Write>(errors: &mut E) -> u8
     ensures { result ≡ 2 }
 {
-    let _ = write_and_flush(
-        errors,
+    refuse(
         b"error: --history and --attempts do not go together\n",
-    );
-    REFUSED
+        errors,
+    )
 }
 
 /// Runs a load, writes its two lines, the history of its calls or their attempts, and returns the

@@ -4,13 +4,12 @@ ghost use Rattle.std.specs.Prelude.{◌≡◌};
 ghost use Rattle.judge_part_text.specs.Naming.{shown};
 ghost use Rattle.cli_main.specs.Parting.{WritesPart, WritesPartOf};
 
-use crate::status::{REFUSED, end_by, end_judged};
+use crate::status::{end_by, end_judged, refuse};
 use cli_options::PartWords;
 use judge_part_text::{read_names, write_part};
 use judge_scopes::Names;
 use std::alloc::Global;
 use std::io::{Read, Write};
-use vac_lines::write_and_flush;
 use vac_streams::StreamFault;
 
 /// Writes that the words name no scope, and returns the status of a refused command line.
@@ -19,8 +18,7 @@ fn refuse_scope<E: Write>(errors: &mut E) -> u8
 {
     let text = b"error: part needs --customer N or --item KIND ID, each at most 64 times; \
 N and ID are from 1 to 4294967295, KIND is car, flight or room\n";
-    let _ = write_and_flush(errors, text);
-    REFUSED
+    refuse(text, errors)
 }
 
 /// Writes the part of a history on the scope of these customers and items, and returns the status:

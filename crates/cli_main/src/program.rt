@@ -13,7 +13,7 @@ use crate::judging::{judge, judge_opaque};
 use crate::load::load;
 use crate::parting::part;
 use crate::searching::order;
-use crate::status::{DONE, FAULT, REFUSED, end_by, end_by_settings, end_done, end_judged};
+use crate::status::{DONE, FAULT, REFUSED, end_by, end_by_settings, end_done, end_judged, refuse};
 use clap::Error;
 use clap::error::ErrorKind;
 use cli_options::{Request, VERSION, read_asked};
@@ -29,11 +29,14 @@ use std::time::Clock;
 use vac_lines::write_and_flush;
 use vac_streams::StreamFault;
 
+/// The refusal of a command line whose word for a level names none.
+const UNKNOWN_LEVEL: &[u8] = b"error: --level is linearizable, sequential or serializable\n";
+
 /// Runs the program on a command line, whose first word is the program's name, and returns its
 /// status. The status is 0 if the program did its work or showed its help or its version. The
 /// status is 1 after a fault, or if `check` found no balanced state, `judge` no legal history,
-/// `order` no linearization, `opaque` attempts that are not opaque, or `part` a call without a
-/// part. The status is 2 if the command line was refused, and 3 if `order` did not decide.
+/// `order` no order of its level, `opaque` attempts that are not opaque, or `part` a call without a
+/// part. The status is 2 if the command line was refused, and 3 if a search did not decide.
 ///
 /// Help and the version go to `output`, the text of a refused command line to `errors`. A fault is
 /// the last line of `output`, unless `output` failed. The lines that a load writes to `errors`
@@ -62,6 +65,7 @@ pub fn run_words<
         Ok(Request::Check) => check(alloc, input, output),
         Ok(Request::Judge(how)) => judge(rt, files, how, input, output, errors),
         Ok(Request::Order(blocks, search)) => order(rt, blocks, search, input, output, errors),
+        Ok(Request::UnknownLevel) => refuse(UNKNOWN_LEVEL, errors),
         Ok(Request::Opaque(how)) => judge_opaque(alloc, how, input, output, errors),
         Ok(Request::Part(words)) => part(alloc, &words, input, output, errors),
         Ok(Request::Load(settings, how)) => load(rt, &settings, how, output, errors),

@@ -1,13 +1,13 @@
-//! Searching for a linearization of a history's calls, with progress lines.
+//! Searching for an order of a history's calls at a level of consistency, with progress lines.
 
 ghost use Rattle.std.specs.Prelude.{◌≡◌, ◌≢◌, ◌⊎◌, true, false, IfOk, IfErr, OnOk, option_map};
 ghost use Rattle.std.specs.Io.KnownBytes.{Appends};
 ghost use Rattle.vac_model.specs.Ranges.{is_block_count};
 ghost use Rattle.vac_lines.specs.Writing.{AppendsPrefix};
-ghost use Rattle.judge_levels.specs.declared.level.Level.TheVariants.{Linearizable};
 ghost use Rattle.judge_linear.specs.declared.ordering.Outcome.TheVariants.{Ordered};
 ghost use Rattle.judge_linear.specs.Ordering.{HasText};
 ghost use Rattle.cli_main.specs.Ordering.{Orders, FindsNone, HoldsOrder, JudgesAnyOrder};
+ghost use Rattle.cli_main.specs.Ordering.{SaysLegal, JudgesText};
 ghost use Rattle.cli_main.specs.Ordering.{HoldsInAnyOrder, JudgesAnyHeld, JudgesAnyWith, status_of};
 ghost use Rattle.cli_main.specs.Reporting.{ReportsBeside};
 ghost use Rattle.judge_coverage.specs.Watching.{inner_of};
@@ -74,25 +74,20 @@ fn status_of(outcome: Outcome) -> u8
     }
 }
 
-/// Writes the calls of a history in a linearization, or writes that there is none, and returns the
-/// status.
+/// Writes the calls of a history in an order of a level, or writes that there is none, and returns
+/// the status.
 fn find_order<R: Read, W: Write, V: Watcher>(
     alloc: Global,
-    blocks: u32,
-    steps: u64,
+    how: Settings,
     input: &mut R,
     output: &mut W,
     watcher: &mut V,
 ) -> u8
-    requires { is_block_count blocks ≡ true }
-    ensures { Orders blocks steps result (R.remaining input.old) (R.remaining input.new)
+    requires { is_block_count how.blocks ≡ true }
+    ensures { Orders how.level how.blocks how.steps result
+        (R.remaining input.old) (R.remaining input.new)
         (W.contents output.old) (W.contents output.new) }
 {
-    let how = Settings {
-        blocks,
-        level: Level::Linearizable,
-        steps,
-    };
     match order_history(alloc, how, input, output, watcher) {
         Ok(outcome) => status_of(outcome),
         Err(fault) => end_by(fault, output),
@@ -109,21 +104,26 @@ fn find_order_watched<T: Clock + AllocGlobal, R: Read, W: Write, E: Write>(
     errors: &mut E,
 ) -> u8
     requires { is_block_count blocks ≡ true }
-    ensures ordered { Orders blocks search.steps result
+    ensures ordered { Orders search.level blocks search.steps result
         (R.remaining input.old) (R.remaining input.new)
         (W.contents output.old) (W.contents output.new) }
     ensures untold { search.progress ≡ false → E.contents errors.new ≡ E.contents errors.old }
 {
+    let how = Settings {
+        blocks,
+        level: search.level,
+        steps: search.steps,
+    };
     if search.progress {
         let mut teller = ProgressWatcher::new(rt, errors);
-        find_order(rt.alloc(), blocks, search.steps, input, output, &mut teller)
+        find_order(rt.alloc(), how, input, output, &mut teller)
     } else {
-        find_order(rt.alloc(), blocks, search.steps, input, output, &mut ())
+        find_order(rt.alloc(), how, input, output, &mut ())
     }
 }
 
-/// Writes the calls of a history in a linearization, or writes that there is none, reports on the
-/// history, and returns the status.
+/// Writes the calls of a history in an order of a level, or writes that there is none, reports on
+/// the history, and returns the status.
 pub(crate) fn order<T: Clock + AllocGlobal, R: Read, W: Write, E: Write>(
     rt: &T,
     blocks: u32,
@@ -133,7 +133,7 @@ pub(crate) fn order<T: Clock + AllocGlobal, R: Read, W: Write, E: Write>(
     errors: &mut E,
 ) -> u8
     requires { is_block_count blocks ≡ true }
-    ensures ordered { Orders blocks search.steps result
+    ensures ordered { Orders search.level blocks search.steps result
         (R.remaining (inner_of input.old)) (R.remaining (inner_of input.new))
         (W.contents output.old) (W.contents output.new) }
     ensures reported { ReportsBeside search.progress search.stats result
@@ -151,7 +151,7 @@ pub(crate) fn order<T: Clock + AllocGlobal, R: Read, W: Write, E: Write>(
     status
 }
 
-/// Writes the text of an outcome other than a linearization, and returns the status.
+/// Writes the text of an outcome other than an order, and returns the status.
 fn write_found<W: Write>(outcome: Outcome, text: &[u8], output: &mut W) -> u8
     ensures { (Appends (W.contents output.old) (W.contents output.new) text.now
         × (result ≡ status_of outcome))
@@ -177,31 +177,25 @@ fn without_output(fault: StreamFault) -> StreamFault
     }
 }
 
-/// Returns the lines of a history in a linearization that is found. If none is found, writes the
-/// outcome, or names a fault, and the error is the status.
+/// Returns the lines of a history in an order of a level that is found. If none is found, writes
+/// the outcome, or names a fault, and the error is the status.
 #[tactic(auto, using(crate::proofs::Judgement::kept, crate::proofs::Judgement::unordered))]
 fn order_kept<R: Read, W: Write, V: Watcher>(
     alloc: Global,
-    blocks: u32,
-    steps: u64,
+    how: Settings,
     input: &mut R,
     output: &mut W,
     watcher: &mut V,
 ) -> Result<Vec<u8>, u8>
-    requires { is_block_count blocks ≡ true }
-    ensures order { IfOk result (λ text. HasText Linearizable blocks steps
+    requires { is_block_count how.blocks ≡ true }
+    ensures order { IfOk result (λ text. HasText how.level how.blocks how.steps
         (R.remaining input.old) (R.remaining input.new) Ordered text.items) }
     ensures unwritten { OnOk result (W.contents output.new ≡ W.contents output.old) }
-    ensures none { IfErr result (λ status. FindsNone blocks steps status
+    ensures none { IfErr result (λ status. FindsNone how.level how.blocks how.steps status
         (R.remaining input.old) (R.remaining input.new)
         (W.contents output.old) (W.contents output.new)) }
 {
     let mut text = Vec::new(alloc);
-    let how = Settings {
-        blocks,
-        level: Level::Linearizable,
-        steps,
-    };
     match order_history(alloc, how, input, &mut text, watcher) {
         Ok(Outcome::Ordered) => Ok(text),
         Ok(Outcome::Illegal) => Err(write_found(Outcome::Illegal, text.as_slice(), output)),
@@ -210,25 +204,50 @@ fn order_kept<R: Read, W: Write, V: Watcher>(
     }
 }
 
-/// Judges a history in a linearization that is found, or writes that there is none, and returns the
-/// status.
+/// Writes the line that names the level of an order that was found, and returns the status.
+fn say_legal<W: Write>(line: &[u8], output: &mut W) -> u8
+    ensures { SaysLegal line.now result (W.contents output.old) (W.contents output.new) }
+{
+    match write_and_flush(output, line) {
+        Ok(()) => DONE,
+        Err(_) => FAULT,
+    }
+}
+
+/// Judges the text of an order of a level that was found, and returns the status. A linearization
+/// is judged as a history. Of another order the level is written: the state that the calls leave
+/// depends on the order.
+fn judge_text<W: Write>(alloc: Global, how: Settings, text: &[u8], output: &mut W) -> u8
+    requires { is_block_count how.blocks ≡ true }
+    ensures { JudgesText how.level how.blocks result text.now
+        (W.contents output.old) (W.contents output.new) }
+{
+    match how.level {
+        Level::Linearizable => {
+            let mut order = text;
+            judge_alone(alloc, how.blocks, &mut order, output)
+        }
+        Level::Sequential => say_legal(b"legal sequential\n", output),
+        Level::Serializable => say_legal(b"legal serializable\n", output),
+    }
+}
+
+/// Judges a history in an order of a level that is found, or writes that there is none, and returns
+/// the status.
 fn judge_found<R: Read, W: Write, V: Watcher>(
     alloc: Global,
-    how: &JudgeSettings<'_>,
+    how: Settings,
     input: &mut R,
     output: &mut W,
     watcher: &mut V,
 ) -> u8
-    requires { is_block_count how.now.blocks ≡ true }
-    ensures { JudgesAnyOrder how.now.blocks how.now.search.steps result
+    requires { is_block_count how.blocks ≡ true }
+    ensures { JudgesAnyOrder how.level how.blocks how.steps result
         (R.remaining input.old) (R.remaining input.new)
         (W.contents output.old) (W.contents output.new) }
 {
-    match order_kept(alloc, how.blocks, how.search.steps, input, output, watcher) {
-        Ok(text) => {
-            let mut order = text.as_slice();
-            judge_alone(alloc, how.blocks, &mut order, output)
-        }
+    match order_kept(alloc, how, input, output, watcher) {
+        Ok(text) => judge_text(alloc, how, text.as_slice(), output),
         Err(status) => status,
     }
 }
@@ -267,15 +286,13 @@ fn hold_in_any_order<F: Read, W: Write, V: Watcher>(
     ensures { HoldsInAnyOrder (F.remaining tasks.old) how.now.blocks how.now.search.steps result
         history.now (W.contents output.old) (W.contents output.new) }
 {
+    let search = Settings {
+        blocks: how.blocks,
+        level: Level::Linearizable,
+        steps: how.search.steps,
+    };
     let mut unread = history;
-    match order_kept(
-        alloc,
-        how.blocks,
-        how.search.steps,
-        &mut unread,
-        output,
-        watcher,
-    ) {
+    match order_kept(alloc, search, &mut unread, output, watcher) {
         Ok(order) => hold_found(alloc, how.blocks, tasks, history, order.as_slice(), output),
         Err(status) => status,
     }
@@ -302,8 +319,8 @@ fn judge_found_work<F: Read, R: Read, W: Write, V: Watcher>(
     }
 }
 
-/// Judges a history in a linearization that is found, or writes that there is none, checks it
-/// against these tasks if there are any, and returns the status.
+/// Judges a history in an order of a level that is found, or in a linearization that is checked
+/// against these tasks if there are any, or writes that there is none, and returns the status.
 fn judge_any_watched<F: Read + Drop, R: Read, W: Write, V: Watcher>(
     alloc: Global,
     how: &JudgeSettings<'_>,
@@ -313,12 +330,17 @@ fn judge_any_watched<F: Read + Drop, R: Read, W: Write, V: Watcher>(
     watcher: &mut V,
 ) -> u8
     requires { is_block_count how.now.blocks ≡ true }
-    ensures { JudgesAnyWith (option_map F.remaining tasks) how.now.blocks how.now.search.steps
-        result (R.remaining input.old) (R.remaining input.new)
+    ensures { JudgesAnyWith (option_map F.remaining tasks) how.now.search.level how.now.blocks
+        how.now.search.steps result (R.remaining input.old) (R.remaining input.new)
         (W.contents output.old) (W.contents output.new) }
 {
+    let search = Settings {
+        blocks: how.blocks,
+        level: how.search.level,
+        steps: how.search.steps,
+    };
     match tasks {
-        None => judge_found(alloc, how, input, output, watcher),
+        None => judge_found(alloc, search, input, output, watcher),
         Some(mut tasks) => judge_found_work(alloc, how, &mut tasks, input, output, watcher),
     }
 }
@@ -333,8 +355,9 @@ pub(crate) fn judge_any<T: Clock + AllocGlobal, F: Read + Drop, R: Read, W: Writ
     errors: &mut E,
 ) -> u8
     requires { is_block_count how.blocks ≡ true }
-    ensures judged { JudgesAnyWith (option_map F.remaining tasks) how.entry.blocks
-        how.entry.search.steps result (R.remaining input.old) (R.remaining input.new)
+    ensures judged { JudgesAnyWith (option_map F.remaining tasks) how.entry.search.level
+        how.entry.blocks how.entry.search.steps result
+        (R.remaining input.old) (R.remaining input.new)
         (W.contents output.old) (W.contents output.new) }
     ensures untold { how.entry.search.progress ≡ false →
         E.contents errors.new ≡ E.contents errors.old }

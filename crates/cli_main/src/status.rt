@@ -33,6 +33,15 @@ pub(crate) fn write_last<W: Write>(line: &[u8], output: &mut W)
     let _ = write_and_flush(output, line);
 }
 
+/// Writes to `errors` why a command line is refused, and returns the status. A failed write changes
+/// nothing.
+pub(crate) fn refuse<E: Write>(why: &[u8], errors: &mut E) -> u8
+    ensures { result ≡ 2 }
+{
+    let _ = write_and_flush(errors, why);
+    REFUSED
+}
+
 /// Writes this line as the last line of a program that met a fault, and returns the status.
 fn end_with<W: Write>(line: &[u8], output: &mut W) -> u8
     ensures status { result ≡ 1 }

@@ -1,5 +1,6 @@
 //! Loads that write progress lines while they run.
 
+ghost use Rattle.load_run.specs.Keeping.{contents};
 ghost use Rattle.cli_main.specs.Load.{HasRun, RunsKept};
 
 use crate::stats::LoadTimer;
@@ -67,7 +68,7 @@ impl Progress {
     ) -> Result<(LoadReport, AttemptStatistics, Recorders<K>), LoadFault>
     where
         K::Tracing: Send,
-        ensures { HasRun K.notes load result }
+        ensures { HasRun (contents K.notes K.traced) load result }
     {
         let loaded = load.run(rt);
         self.has_ended.store(true, Ordering::SeqCst);
@@ -146,7 +147,7 @@ pub(crate) fn run_with_progress<
 ) -> Result<(LoadReport, AttemptStatistics, Recorders<K>), LoadFault>
 where
     K::Tracing: Send,
-    ensures { RunsKept K.notes settings.now recorders result }
+    ensures { RunsKept (contents K.notes K.traced) settings.now recorders result }
 {
     if !how.progress {
         let load = Load::by_seed(rt.alloc(), settings, span, recorders)?;
@@ -161,7 +162,7 @@ where
     let (shared, all) = (&progress, all_tasks(settings));
     let tell = || shared.tell(rt, all, errors);
     let run = move || -> Result<(LoadReport, AttemptStatistics, Recorders<K>), LoadFault>
-        ensures { HasRun K.notes load.entry result }
+        ensures { HasRun (contents K.notes K.traced) load.entry result }
     { shared.run(rt, load) };
     let ((), loaded) = thread::join(rt, tell, run);
     loaded

@@ -4,6 +4,15 @@ pub mod FoundRows
 pub mod Walks
 pub mod Given
 pub mod Stops
+pub mod OptionTexts
+pub mod Subcommands
+pub mod ScriptOptions
+pub mod JudgeOptions
+pub mod OrderOptions
+pub mod OpaqueOptions
+pub mod LoadOptions
 pub mod Naming
+pub mod Getters
 pub mod Sources
 pub mod Values
+pub mod Levels

@@ -8,7 +8,6 @@ use Rattle.clap.specs.Words.{rows_of}
 use Rattle.clap.specs.Walk.{Row, Text, row_of}
 use Rattle.clap.specs.declared.parser.matches.Found.{Found}
 use Rattle.clap.specs.declared.parser.matches.MatchedArg.{MatchedArg}
-use Rattle.clap.specs.declared.parser.matches.ValueSource.{ValueSource}
 use Rattle.clap.proofs.WalkLemmas.{find_row}
 
 -- the source of an option's value, as the getter of the matches returns it and by the rows

@@ -1,6 +1,6 @@
 -- The command line that the program takes, in clap's terms, and the request that its words make.
-use Rattle.std.specs.Prelude.{◌≡◌, ℕ, ◌+◌, pos, ◌≤◌, ◌⊎◌, ◌||◌, Bool, true, false, Some, codes}
-use Rattle.std.specs.Prelude.{map, unwrap_or}
+use Rattle.std.specs.Prelude.{◌≡◌, ℕ, ◌+◌, pos, ◌≤◌, ◌⊎◌, ◌||◌, Bool, true, false, Some, None, codes}
+use Rattle.std.specs.Prelude.{map, unwrap_or, if◌then◌else◌}
 use Rattle.std.specs.Prelude.{List, [], ◌∷◌, ◌++◌, Option, option_map, option_and_then, find}
 use Rattle.std.specs.Prelude.{Result, IfOk, IsOkAnd}
 use Rattle.std.specs.Str.{bytes_eq}
@@ -28,11 +28,15 @@ use Rattle.load_tasks.specs.declared.settings.TheConstants.{MOST_ROUNDS, PERCENT
 use Rattle.load_tasks.specs.declared.settings.Settings.{Settings}
 use Rattle.vac_model.specs.declared.limits.TheConstants.{MOST_TRIES}
 use Rattle.stm_words.specs.declared.version.TheConstants.{VERSION_LIMIT}
+use Rattle.judge_levels.specs.declared.level.Level.{Level}
+use Rattle.judge_levels.specs.declared.level.Level.TheVariants.{Linearizable, Sequential}
+use Rattle.judge_levels.specs.declared.level.Level.TheVariants.{Serializable}
 use Rattle.cli_options.specs.declared.asked.TheConstants.{MOST_NUMBER, MOST_WORDS, DRAWN_TRIES}
 use Rattle.cli_options.specs.declared.asked.LoadOutput.{LoadOutput}
 use Rattle.cli_options.specs.declared.asked.Request.{Request}
 use Rattle.cli_options.specs.declared.asked.Request.TheVariants.{Run, Dump, Check, Judge, Order}
 use Rattle.cli_options.specs.declared.asked.Request.TheVariants.{Opaque, Part, Load, Tasks}
+use Rattle.cli_options.specs.declared.asked.Request.TheVariants.{UnknownLevel}
 use Rattle.cli_options.specs.declared.asked.PartWords.{PartWords}
 use Rattle.cli_options.specs.declared.asked.SearchSettings.{SearchSettings}
 use Rattle.cli_options.specs.declared.asked.JudgeSettings.{JudgeSettings}
@@ -131,9 +135,14 @@ flag name = record (new_rule name) { long = Some name; action = Some SetTrue }
 abbrev pub steps_option : Rule
 steps_option = any_number_option (codes "steps") (codes "10000000")
 
--- the options of a search for a linearization, and of the report on the log
+-- `--level`: level of consistency of an order, as a word
+abbrev pub level_option : Rule
+level_option = record (valued_option (codes "level")) { defaults = codes "linearizable" ∷ [] }
+
+-- the options of a search for an order, and of the report on the log
 abbrev pub searching_options : List Rule
-searching_options = steps_option ∷ flag (codes "progress") ∷ flag (codes "stats") ∷ []
+searching_options =
+    level_option ∷ steps_option ∷ flag (codes "progress") ∷ flag (codes "stats") ∷ []
 
 -- the options of a judge
 abbrev pub judging_options : List Rule
@@ -292,8 +301,21 @@ pub record HasSearch (rows : List Row) : Type 0 where
   pub progress : IsFlag rows (codes "progress")
   pub stats : IsFlag rows (codes "stats")
 
--- the search has the number of steps and the reports that its options say
+-- the level that a word names, if the word names one
+abbrev pub level_named : Text → Option Level
+level_named word =
+    if bytes_eq word (codes "linearizable") then Some Linearizable
+    else if bytes_eq word (codes "sequential") then Some Sequential
+    else if bytes_eq word (codes "serializable") then Some Serializable
+    else None
+
+-- the level of a search, if the rows of clap give a word that names a level
+abbrev pub level_given : List Row → Option Level
+level_given rows = option_and_then level_named (first_of (codes "level") rows)
+
+-- the search has the level, the number of steps and the reports that its options say
 pub record IsSearchOfRows (rows : List Row) (search : SearchSettings) : Type 0 where
+  pub level : level_given rows ≡ Some search.level
   pub steps : Gives rows (codes "steps") search.steps
   pub progress : Says rows (codes "progress") search.progress
   pub stats : Says rows (codes "stats") search.stats
@@ -318,15 +340,20 @@ pub record HasJudging (rows : List Row) : Type 0 where
   pub any_order : IsFlag rows (codes "any-order")
   pub search : HasSearch rows
 
--- the judge's settings are those that its options give; the words name a search if they give its
--- number of steps or ask for its progress
+-- true if the words themselves give the number of steps or the level of a search, or ask for its
+-- progress
+abbrev pub names_search : List Row → SearchSettings → Bool
+names_search rows search =
+    is_given (codes "steps") rows || (is_given (codes "level") rows || search.progress)
+
+-- the judge's settings are those that its options give
 pub record IsJudging (rows : List Row) (how : JudgeSettings) : Type 0 where
   pub blocks : Gives rows (codes "blocks") how.blocks
   pub room : is_block_count how.blocks ≡ true
   pub tasks : NamesFile rows (codes "tasks") how.tasks
   pub any_order : Says rows (codes "any-order") how.any_order
   pub search : IsSearchOfRows rows how.search
-  pub named : how.names_search ≡ (is_given (codes "steps") rows || how.search.progress)
+  pub named : how.names_search ≡ names_search rows how.search
 
 -- the words for the scope of a part are the values of all uses of its options
 pub record IsPartWords (rows : List Row) (part : PartWords) : Type 0 where
@@ -409,6 +436,12 @@ pub record IsFoundIn (words : List Text) (m : ArgMatches) : Type 0 where
 abbrev pub Names : List Text → Text → List Row → Type 0
 Names words name rows = subcommand_of vacation words ≡ Some (name, rows)
 
+-- the words name a subcommand that searches, and a word for a level that names none
+abbrev pub NamesNoLevel : List Text → Type 0
+NamesNoLevel words = (rows : List Row)
+    × (Names words (codes "judge") rows ⊎ Names words (codes "order") rows)
+    × (level_given rows ≡ None)
+
 -- the words make this request
 abbrev pub AsksFor : List Text → Request → Type 0
 AsksFor words (Run blocks) = (rows : List Row) × Names words (codes "run") rows
@@ -421,6 +454,7 @@ AsksFor words (Judge how) =
 AsksFor words (Order blocks search) = (rows : List Row) × Names words (codes "order") rows
     × Gives rows (codes "blocks") blocks × (is_block_count blocks ≡ true)
     × IsSearchOfRows rows search
+AsksFor words UnknownLevel = NamesNoLevel words
 AsksFor words (Opaque how) =
     (rows : List Row) × Names words (codes "opaque") rows × IsOpacity rows how
 AsksFor words (Part part) =

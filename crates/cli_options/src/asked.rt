@@ -12,10 +12,12 @@ ghost use Rattle.cli_options.specs.CommandLine.{Says, IsFlag, HasFlags, IsTold, 
 ghost use Rattle.cli_options.specs.CommandLine.{IsFoundIn};
 ghost use Rattle.cli_options.specs.CommandLine.{HasSearch, IsSearchOfRows, HasJudging, IsJudging};
 ghost use Rattle.cli_options.specs.CommandLine.{HasOpacity, IsOpacity, values_of, IsPartWords};
+ghost use Rattle.cli_options.specs.CommandLine.{level_named, level_given, names_search, Names};
 
 use crate::options::command_line;
 use clap::parser::ValueSource;
 use clap::{ArgMatches, Error};
+use judge_levels::Level;
 use load_tasks::Settings;
 use std::alloc::{AllocError, Global};
 use stm_words::VERSION_LIMIT;
@@ -45,9 +47,11 @@ pub struct LoadOutput {
 /// Largest number of words of a memory whose attempts are judged.
 pub const MOST_WORDS: u32 = 4_194_304;
 
-/// The settings of a search for a linearization, and of the report on the log.
+/// The settings of a search for an order of a level, and of the report on the log.
 #[derive(Clone, Copy)]
 pub struct SearchSettings {
+    /// The level of consistency that the order shows.
+    pub level: Level,
     /// Largest number of steps.
     pub steps: u64,
     /// True if the search reports its progress.
@@ -63,7 +67,7 @@ pub struct JudgeSettings<'a> {
     pub blocks: u32,
     /// The file of the tasks against which the history is checked.
     pub tasks: Option<&'a str>,
-    /// True if the judge searches for a linearization instead of trusting the order of the lines.
+    /// True if the judge searches for an order instead of trusting the order of the lines.
     pub any_order: bool,
     /// The settings of that search.
     pub search: SearchSettings,
@@ -103,8 +107,10 @@ pub enum Request<'a> {
     Check,
     /// Judges a history.
     Judge(JudgeSettings<'a>),
-    /// Finds a linearization of a history of a system of this many blocks.
+    /// Finds an order of a history of a system of this many blocks.
     Order(u32, SearchSettings),
+    /// Judges a history, or finds an order of one, at a level whose word names none.
+    UnknownLevel,
     /// Judges attempts.
     Opaque(OpacitySettings),
     /// Writes the part of a history on this scope.
@@ -196,12 +202,36 @@ fn file_of<'a>(matches: &ArgMatches<'a>) -> Option<&'a str>
     matches.get_str("tasks")
 }
 
-/// Returns the settings of a search.
-fn search_of(matches: &ArgMatches) -> SearchSettings
-    requires { HasSearch (rows_of (found_of matches.now)) }
+/// Returns the level that a word names, if it names one.
+fn level_named(word: &str) -> Option<Level>
+    ensures { result ≡ level_named word.now }
+{
+    match word {
+        "linearizable" => Some(Level::Linearizable),
+        "sequential" => Some(Level::Sequential),
+        "serializable" => Some(Level::Serializable),
+        _ => None,
+    }
+}
+
+/// Returns the level that a search gives or has by default, if the word is that of a level.
+fn level_of(matches: &ArgMatches) -> Option<Level>
+    ensures { result ≡ level_given (rows_of (found_of matches.now)) }
+{
+    match matches.get_str("level") {
+        Some(word) => level_named(word),
+        None => None,
+    }
+}
+
+/// Returns the settings of a search at this level.
+fn search_of(matches: &ArgMatches, level: Level) -> SearchSettings
+    requires level { level_given (rows_of (found_of matches.now)) ≡ Some level }
+    requires search { HasSearch (rows_of (found_of matches.now)) }
     ensures { IsSearchOfRows (rows_of (found_of matches.now)) result }
 {
     SearchSettings {
+        level,
         steps: any_number_of(matches, "steps"),
         progress: flag_of(matches, "progress"),
         stats: flag_of(matches, "stats"),
@@ -226,18 +256,51 @@ fn is_given(matches: &ArgMatches, option: &str) -> bool
     is_of_words(matches.value_source(option))
 }
 
-/// Returns the settings of a judge of a history.
-fn judging_of<'a>(matches: &ArgMatches<'a>) -> JudgeSettings<'a>
-    requires { HasJudging (rows_of (found_of matches.now)) }
+/// Returns whether the words themselves give a setting of a search.
+fn names_search(matches: &ArgMatches, search: SearchSettings) -> bool
+    ensures { result ≡ names_search (rows_of (found_of matches.now)) search }
+{
+    is_given(matches, "steps") || is_given(matches, "level") || search.progress
+}
+
+/// Returns the settings of a judge of a history at this level.
+fn judging_of<'a>(matches: &ArgMatches<'a>, level: Level) -> JudgeSettings<'a>
+    requires level { level_given (rows_of (found_of matches.now)) ≡ Some level }
+    requires judging { HasJudging (rows_of (found_of matches.now)) }
     ensures { IsJudging (rows_of (found_of matches.now)) result }
 {
-    let search = search_of(matches);
+    let search = search_of(matches, level);
     JudgeSettings {
         blocks: blocks_of(matches),
         tasks: file_of(matches),
         any_order: flag_of(matches, "any-order"),
         search,
-        names_search: is_given(matches, "steps") || search.progress,
+        names_search: names_search(matches, search),
+    }
+}
+
+/// Returns the request of words that name `judge`.
+fn judge_asked<'a>(matches: &ArgMatches<'a>) -> Request<'a>
+    requires { HasJudging (rows_of (found_of matches.now)) }
+    ensures { (words : List Text) → Names words (codes "judge") (rows_of (found_of matches.now)) →
+        AsksFor words result }
+{
+    match level_of(matches) {
+        Some(level) => Request::Judge(judging_of(matches, level)),
+        None => Request::UnknownLevel,
+    }
+}
+
+/// Returns the request of words that name `order`.
+fn order_asked<'a>(matches: &ArgMatches<'a>) -> Request<'a>
+    requires blocks { GivesIn (rows_of (found_of matches.now)) (codes "blocks") 1 MOST_BLOCKS }
+    requires search { HasSearch (rows_of (found_of matches.now)) }
+    ensures { (words : List Text) → Names words (codes "order") (rows_of (found_of matches.now)) →
+        AsksFor words result }
+{
+    match level_of(matches) {
+        Some(level) => Request::Order(blocks_of(matches), search_of(matches, level)),
+        None => Request::UnknownLevel,
     }
 }
 
@@ -333,10 +396,10 @@ fn asked_of<'a>(alloc: Global, matches: &ArgMatches<'a>) -> Result<Request<'a>, 
         return Ok(Request::Check);
     }
     if let Some(judge) = named(matches, "judge") {
-        return Ok(Request::Judge(judging_of(judge)));
+        return Ok(judge_asked(judge));
     }
     if let Some(order) = named(matches, "order") {
-        return Ok(Request::Order(blocks_of(order), search_of(order)));
+        return Ok(order_asked(order));
     }
     if let Some(opaque) = named(matches, "opaque") {
         return Ok(Request::Opaque(opacity_of(opaque)));

@@ -7,7 +7,7 @@ ghost use Rattle.cli_options.specs.CommandLine.{any_number_option, blocks_option
 ghost use Rattle.cli_options.specs.CommandLine.{file_option, opaque_options, with_options};
 ghost use Rattle.cli_options.specs.CommandLine.{client_options, task_options, drawing_options};
 ghost use Rattle.cli_options.specs.CommandLine.{running_options, load_options};
-ghost use Rattle.cli_options.specs.CommandLine.{searching_options, judging_options};
+ghost use Rattle.cli_options.specs.CommandLine.{level_option, searching_options, judging_options};
 ghost use Rattle.cli_options.specs.CommandLine.{customer_option, item_option, part_options};
 ghost use Rattle.cli_options.specs.CommandLine.{top_command, script_commands, judging_commands};
 ghost use Rattle.cli_options.specs.CommandLine.{load_commands, vacation, IsOption, IsCommand};
@@ -207,7 +207,18 @@ fn add_load_options<'a>(alloc: Global, command: Made<'a>) -> Made<'a>
     add_running_options(alloc, add_drawing_options(alloc, command))
 }
 
-/// Adds the options of a search for a linearization, and of the report on the log.
+/// Returns the option for the level of an order.
+fn level_option<'a>(alloc: Global) -> Arg<'a>
+    ensures { IsOption result level_option }
+{
+    Arg::new(alloc, "level")
+        .long("level")
+        .value_name("LEVEL")
+        .default_value("linearizable")
+        .help("Level of consistency of the order: linearizable, sequential or serializable")
+}
+
+/// Adds the options of a search for an order, and of the report on the log.
 fn add_searching_options<'a>(alloc: Global, command: Made<'a>) -> Made<'a>
     ensures { GetsOptions command.entry searching_options result }
 {
@@ -217,21 +228,17 @@ fn add_searching_options<'a>(alloc: Global, command: Made<'a>) -> Made<'a>
     let progress = flag(alloc, "progress").help(
         "Reports the progress of the search on standard error, at most twice a second",
     );
-    add_option(
-        add_option(add_option(command, steps), progress),
-        coverage_flag(alloc),
-    )
+    let command = add_option(add_option(command, level_option(alloc)), steps);
+    add_option(add_option(command, progress), coverage_flag(alloc))
 }
 
-/// Returns the subcommand that finds a linearization.
+/// Returns the subcommand that finds an order.
 fn order_command<'a>(alloc: Global) -> Made<'a>
     ensures { IfOk result (λ c.
         IsCommand c (with_options (codes "order") (blocks_option ∷ searching_options))) }
 {
     let command = Command::new(alloc, "order")
-        .about(
-            "Finds a linearization of the history on standard input, or shows that there is none",
-        )
+        .about("Finds a legal order of the history on standard input, or shows that there is none")
         .after_help("Example:\n  echo '1 0 5 newcust 3 -> true' | vacation order")
         .arg(blocks_option(alloc));
     add_searching_options(alloc, command)
@@ -270,7 +277,7 @@ fn judge_command<'a>(alloc: Global) -> Made<'a>
     ensures { IfOk result (λ c. IsCommand c (with_options (codes "judge") judging_options)) }
 {
     let any_order = flag(alloc, "any-order").help(
-        "Searches for a linearization instead of trusting the lines; needed by --steps, --progress",
+        "Searches for an order instead of trusting the lines; --level, --steps, --progress need it",
     );
     let command = Command::new(alloc, "judge")
         .about("Judges whether the lines of the history on standard input are a linearization")

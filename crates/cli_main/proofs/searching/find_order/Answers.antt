@@ -12,6 +12,6 @@ order_history-requires-clause-most g c = leb-true _ _ (and_parts _ _ c.requires)
 pub returns-in-Err : goal.returns-in-Err
 returns-in-Err g c = inr (
   c.end_by.ensures.status,
-  order_stopped _ _ c.in-Err.fault _ _ _ _ _ c.in-Err.ensures.err
+  order_stopped _ _ _ c.in-Err.fault _ _ _ _ _ c.in-Err.ensures.err
       c.end_by.ensures.line,
 )

@@ -5,14 +5,16 @@ use Rattle.cli_main.proofs.searching.judge_any_watched.Goals as goal
 
 pub returns-in-None : goal.returns-in-None
 returns-in-None g c =
-    subst (λ (w : Option (Option (List ℕ))). JudgesAnyWith w c.args.how.now.blocks c.args.how.now.search.steps
-    c.judge_found.result (g.R.Read.remaining c.args.input.now) (g.R.Read.remaining c.judge_found.new.input)
+    subst (λ (w : Option (Option (List ℕ))). JudgesAnyWith w c.args.how.now.search.level c.args.how.now.blocks
+    c.args.how.now.search.steps c.judge_found.result (g.R.Read.remaining c.args.input.now)
+    (g.R.Read.remaining c.judge_found.new.input)
     (g.W.Write.contents c.args.output.now) (g.W.Write.contents c.judge_found.new.output))
     (sym (ap (option_map g.F.Read.remaining) c.in-None.is)) c.judge_found.ensures
 
 pub returns-in-Some : goal.returns-in-Some
 returns-in-Some g c =
-    subst (λ (w : Option (Option (List ℕ))). JudgesAnyWith w c.args.how.now.blocks c.args.how.now.search.steps
-    c.judge_found_work.result (g.R.Read.remaining c.args.input.now) (g.R.Read.remaining c.judge_found_work.new.input)
+    subst (λ (w : Option (Option (List ℕ))). JudgesAnyWith w c.args.how.now.search.level c.args.how.now.blocks
+    c.args.how.now.search.steps c.judge_found_work.result (g.R.Read.remaining c.args.input.now)
+    (g.R.Read.remaining c.judge_found_work.new.input)
     (g.W.Write.contents c.args.output.now) (g.W.Write.contents c.judge_found_work.new.output))
     (sym (ap (option_map g.F.Read.remaining) c.in-Some.is)) c.judge_found_work.ensures

@@ -7,5 +7,5 @@ returns-in-Ok g c = held_in_slice _ _ _ _ _ _ _ _ _ _ c.in-Ok.ensures.bytes c.as
     c.hold_in_any_order.ensures
 
 pub returns-in-Err : goal.returns-in-Err
-returns-in-Err g c = inr (unordered _ _ _ _ _ _ _ c.in-Err.fault c.end_by.ensures.status c.in-Err.ensures.fault
+returns-in-Err g c = inr (unordered _ _ _ _ _ _ _ _ c.in-Err.fault c.end_by.ensures.status c.in-Err.ensures.fault
     c.end_by.ensures.line)

@@ -4,7 +4,7 @@ use Rattle.cli_main.proofs.searching.order.Goals as goal
 
 pub returns-clause-ordered : goal.returns-clause-ordered
 returns-clause-ordered g c =
-    through (λ a b. Orders c.args.blocks c.args.search.steps c.find_order_watched-status.result
+    through (λ a b. Orders c.args.search.level c.args.blocks c.args.search.steps c.find_order_watched-status.result
     (g.R.Read.remaining a) (g.R.Read.remaining b) (g.W.Write.contents c.args.output.now)
     (g.W.Write.contents c.find_order_watched-status.new.output))
     _ _ _ _ c.watch.ensures.inner c.measure_calls.ensures.inner c.find_order_watched-status.ensures.ordered

@@ -12,11 +12,11 @@ order_history-requires-clause-most g c = leb-true _ _ (and_parts _ _ c.requires)
 
 pub returns-in-Ok-Illegal-clause-none : goal.returns-in-Ok-Illegal-clause-none
 returns-in-Ok-Illegal-clause-none g c =
-    kept_as _ _ _ outcome.Illegal _ _ _ _ _ _ _ _ c.in-Ok-Illegal.field-0-is refl c.new-text.ensures.items
+    kept_as _ _ _ _ outcome.Illegal _ _ _ _ _ _ _ _ c.in-Ok-Illegal.field-0-is refl c.new-text.ensures.items
     c.as_slice.ensures.value
     c.in-Ok-Illegal.ensures.ok c.write_found.ensures
 
 pub returns-in-Ok-Undecided-clause-none : goal.returns-in-Ok-Undecided-clause-none
 returns-in-Ok-Undecided-clause-none g c =
-    kept_as _ _ _ outcome.Undecided _ _ _ _ _ _ _ _ c.in-Ok-Undecided.field-0-is refl c.new-text.ensures.items
+    kept_as _ _ _ _ outcome.Undecided _ _ _ _ _ _ _ _ c.in-Ok-Undecided.field-0-is refl c.new-text.ensures.items
     c.as_slice-in-Ok-Undecided.ensures.value c.in-Ok-Undecided.ensures.ok c.write_found-in-Ok-Undecided.ensures

@@ -1,21 +1,26 @@
+use Rattle.load_run.specs.Keeping.{contents}
 use Rattle.cli_main.proofs.Seeded.{ran_by_seed, not_seeded, handed_on}
 use Rattle.cli_main.proofs.telling.run_with_progress.Goals as goal
 
 pub returns-then-not-how : goal.returns-then-not-how
-returns-then-not-how g c = ran_by_seed g.K.Recorder.notes c.args.settings.now c.args.recorders c.in_ok-load.load _
+returns-then-not-how g c = ran_by_seed (contents g.K.Recorder.notes g.K.Recorder.traced) c.args.settings.now
+    c.args.recorders c.in_ok-load.load _
     c.in_ok-load.ensures.arguments c.in_ok-load.ensures.seeded
     (record { kept = c.run.ensures.kept; refused = c.run.ensures.refused })
 
 pub returns-in_err-load : goal.returns-in_err-load
 returns-in_err-load g c = handed_on _ _ _ _ _ c.from_residual.ensures.1
-    (not_seeded g.K.Recorder.notes c.args.settings.now c.args.recorders _ c.in_err-load.ensures.arguments
+    (not_seeded (contents g.K.Recorder.notes g.K.Recorder.traced) c.args.settings.now c.args.recorders _
+    c.in_err-load.ensures.arguments
     c.in_err-load.ensures.refused)
 
 pub returns-in_err-load-2 : goal.returns-in_err-load-2
 returns-in_err-load-2 g c = handed_on _ _ _ _ _ c.from_residual-in_err-load-2.ensures.1
-    (not_seeded g.K.Recorder.notes c.args.settings.now c.args.recorders _ c.in_err-load-2.ensures.arguments
+    (not_seeded (contents g.K.Recorder.notes g.K.Recorder.traced) c.args.settings.now c.args.recorders _
+    c.in_err-load-2.ensures.arguments
     c.in_err-load-2.ensures.refused)
 
 pub returns : goal.returns
-returns g c = ran_by_seed g.K.Recorder.notes c.args.settings.now c.args.recorders c.in_ok-load-2.load _
+returns g c = ran_by_seed (contents g.K.Recorder.notes g.K.Recorder.traced) c.args.settings.now c.args.recorders
+    c.in_ok-load-2.load _
     c.in_ok-load-2.ensures.arguments c.in_ok-load-2.ensures.seeded c.join-loaded.ensures.second

@@ -1,6 +1,10 @@
 use Rattle.std.proofs.Common.{◌∙◌, sym}
-use Rattle.cli_options.proofs.Naming.{run_blocks, dump_blocks, judge_options, order_blocks, order_search}
-use Rattle.cli_options.proofs.Naming.{opaque_options, tasks_options, load_options, one_is_named, none_is_named}
+use Rattle.cli_options.proofs.ScriptOptions.{run_blocks, dump_blocks}
+use Rattle.cli_options.proofs.JudgeOptions.{judge_options}
+use Rattle.cli_options.proofs.OrderOptions.{order_blocks, order_search}
+use Rattle.cli_options.proofs.OpaqueOptions.{opaque_options}
+use Rattle.cli_options.proofs.LoadOptions.{tasks_options, load_options}
+use Rattle.cli_options.proofs.Naming.{one_is_named, none_is_named}
 use Rattle.cli_options.proofs.asked.asked_of.Goals as goal
 
 pub blocks_of-requires : goal.blocks_of-requires
@@ -10,16 +14,16 @@ pub blocks_of-requires-in-Some-named : goal.blocks_of-requires-in-Some-named
 blocks_of-requires-in-Some-named c = dump_blocks c.requires.0 _ c.requires.1.taken
     (sym c.requires.1.found ∙ c.in-Some-named.ensures.some)
 
-pub judging_of-requires : goal.judging_of-requires
-judging_of-requires c = judge_options c.requires.0 _ c.requires.1.taken
+pub judge_asked-requires : goal.judge_asked-requires
+judge_asked-requires c = judge_options c.requires.0 _ c.requires.1.taken
     (sym c.requires.1.found ∙ c.in-Some-named-2.ensures.some)
 
-pub blocks_of-requires-in-Some-named-3 : goal.blocks_of-requires-in-Some-named-3
-blocks_of-requires-in-Some-named-3 c = order_blocks c.requires.0 _ c.requires.1.taken
+pub order_asked-requires-clause-blocks : goal.order_asked-requires-clause-blocks
+order_asked-requires-clause-blocks c = order_blocks c.requires.0 _ c.requires.1.taken
     (sym c.requires.1.found ∙ c.in-Some-named-3.ensures.some)
 
-pub search_of-requires : goal.search_of-requires
-search_of-requires c = order_search c.requires.0 _ c.requires.1.taken
+pub order_asked-requires-clause-search : goal.order_asked-requires-clause-search
+order_asked-requires-clause-search c = order_search c.requires.0 _ c.requires.1.taken
     (sym c.requires.1.found ∙ c.in-Some-named-3.ensures.some)
 
 pub opacity_of-requires : goal.opacity_of-requires
@@ -68,20 +72,12 @@ returns-in-Some-named c = λ words is. (
 )
 
 pub returns-in-Some-named-2 : goal.returns-in-Some-named-2
-returns-in-Some-named-2 c = λ words is. (
-  _,
-  sym is.found ∙ c.in-Some-named-2.ensures.some,
-  c.judging_of.ensures,
-)
+returns-in-Some-named-2 c = λ words is. c.judge_asked.ensures words
+    (sym is.found ∙ c.in-Some-named-2.ensures.some)
 
 pub returns-in-Some-named-3 : goal.returns-in-Some-named-3
-returns-in-Some-named-3 c = λ words is. (
-  _,
-  sym is.found ∙ c.in-Some-named-3.ensures.some,
-  c.blocks_of-in-Some-named-3.ensures.given,
-  c.blocks_of-in-Some-named-3.ensures.range,
-  c.search_of.ensures,
-)
+returns-in-Some-named-3 c = λ words is. c.order_asked.ensures words
+    (sym is.found ∙ c.in-Some-named-3.ensures.some)
 
 pub returns-in-Some-named-4 : goal.returns-in-Some-named-4
 returns-in-Some-named-4 c = λ words is. (

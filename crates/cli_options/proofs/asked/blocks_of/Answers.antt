@@ -1,5 +1,5 @@
 use Rattle.std.proofs.Common.{arith}
-use Rattle.cli_options.proofs.Naming.{block_count}
+use Rattle.cli_options.proofs.Getters.{block_count}
 use Rattle.cli_options.proofs.asked.blocks_of.Goals as goal
 
 pub number_of-requires : goal.number_of-requires

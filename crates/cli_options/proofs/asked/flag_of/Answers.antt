@@ -1,5 +1,5 @@
 use Rattle.clap.specs.Words.{found_of}
-use Rattle.cli_options.proofs.Naming.{flag_read}
+use Rattle.cli_options.proofs.Getters.{flag_read}
 use Rattle.cli_options.proofs.asked.flag_of.Goals as goal
 
 pub returns : goal.returns

@@ -3,7 +3,7 @@ use Rattle.std.specs.Str.Parse.{ParsesUnsigned, ExplainsUnsignedError, HasUnsign
 use Rattle.clap.specs.Words.{found_of, rows_of}
 use Rattle.cli_options.specs.CommandLine.{Gives}
 use Rattle.cli_options.proofs.FoundRows.{no_some, same_some}
-use Rattle.cli_options.proofs.Naming.{number_read}
+use Rattle.cli_options.proofs.Getters.{number_read}
 use Rattle.cli_options.proofs.asked.number_of.Goals as goal
 
 pub unreachable-requires : goal.unreachable-requires

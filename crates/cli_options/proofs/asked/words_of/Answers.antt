@@ -1,5 +1,5 @@
 use Rattle.std.proofs.Common.{arith, subst, ◌≤◌, ℕ}
-use Rattle.cli_options.proofs.Naming.{one_number}
+use Rattle.cli_options.proofs.Getters.{one_number}
 use Rattle.cli_options.specs.declared.asked.TheConstants.{MOST_WORDS}
 use Rattle.cli_options.proofs.asked.words_of.Goals as goal
 

@@ -13,7 +13,8 @@ returns-in-Ok-true g c =
     inl (
       refl,
       wrote_tried l.settings.now l.recorders.opening l.recorders.clients.items c.requires.fits
-          c.requires.noted _ _ (rw (← c.as_slice-clients.ensures.value) wrote),
+          c.requires.noted.calls _ _ c.requires.whole c.requires.noted.opening c.requires.noted.clients
+          (rw (← c.as_slice-clients.ensures.value) wrote),
     )
 
 pub returns-in-Ok-false : goal.returns-in-Ok-false
@@ -23,7 +24,8 @@ returns-in-Ok-false g c =
     inr (
       c.end_long_attempt.ensures.status,
       inr (has_long l.settings.now l.recorders.opening
-          l.recorders.clients.items c.requires.fits c.requires.noted _ (g.O.Write.contents c.write_attempts.new.output)
+          l.recorders.clients.items c.requires.fits c.requires.noted.calls _
+          (g.O.Write.contents c.write_attempts.new.output)
           _ unfit.1 (rw (← c.as_slice-clients.ensures.value) unfit.0) c.end_long_attempt.ensures.line),
     )
 
@@ -31,7 +33,8 @@ pub returns-in-Err : goal.returns-in-Err
 returns-in-Err g c =
     let l = c.args.load.now in
     let written = wrote_tried_in_part l.settings.now l.recorders.opening l.recorders.clients.items c.requires.fits
-    c.requires.noted _ _ (rw (← c.as_slice-clients.ensures.value) c.in-Err.ensures.err) in
+    c.requires.noted.calls _ _ c.requires.whole c.requires.noted.opening c.requires.noted.clients
+    (rw (← c.as_slice-clients.ensures.value) c.in-Err.ensures.err) in
     inr (
       c.end_by.ensures.status,
       inl (

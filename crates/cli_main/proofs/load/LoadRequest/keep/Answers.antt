@@ -1,6 +1,7 @@
 use Rattle.std.proofs.Common.{rules, ◌≡◌, ◌≤◌, true, length, vec_len, arith}
 use Rattle.load_tasks.specs.Setting.{is_settings}
 use Rattle.load_run.specs.declared.load.LoadFault.TheVariants as load
+use Rattle.load_run.specs.Keeping.{contents}
 use Rattle.cli_main.proofs.Kept.{noted, same_clients}
 use Rattle.cli_main.proofs.LoadEnds.{ended_for_memory, ended_kept, ended_by_fault, few_clients}
 use Rattle.cli_main.proofs.Ledgers.{not_refused}
@@ -30,11 +31,13 @@ write-requires g c =
     let empty = c.in-Ok.empty in
     let number : vec_len empty.clients ≡ s.clients = rw c.in-Ok.is at c.requires.number in
     let same : length loaded.2.clients.items ≡ length empty.clients.items =
-    same_clients g.K.Recorder.notes s loaded.0 empty loaded.2 kept in
+    same_clients (contents g.K.Recorder.notes g.K.Recorder.traced) s loaded.0 empty loaded.2 kept in
     record {
       fits = fits;
-      noted = noted g.K.Recorder.notes s loaded.0 empty loaded.2 (rw c.in-Ok.is at c.requires.opening)
+      noted = noted (contents g.K.Recorder.notes g.K.Recorder.traced) s loaded.0 empty loaded.2
+          (rw c.in-Ok.is at c.requires.opening)
           (rw c.in-Ok.is at c.requires.clients) kept;
+      whole = search rules;
       few = omega (arith, few, same, number);
     }
 

@@ -1,0 +1,13 @@
+use Rattle.judge_levels.specs.declared.level.Level.TheVariants as level
+use Rattle.cli_main.proofs.Judgement.{judges_as}
+use Rattle.cli_main.proofs.searching.judge_text.Goals as goal
+
+pub returns-in-Linearizable : goal.returns-in-Linearizable
+returns-in-Linearizable g c = judges_as level.Linearizable _ _ _ _ _ _ c.in-Linearizable.is (_, c.judge_alone.ensures)
+
+pub returns-in-Sequential : goal.returns-in-Sequential
+returns-in-Sequential g c = judges_as level.Sequential _ _ _ _ _ _ c.in-Sequential.is c.say_legal.ensures
+
+pub returns-in-Serializable : goal.returns-in-Serializable
+returns-in-Serializable g c = judges_as level.Serializable _ _ _ _ _ _ c.in-Serializable.is
+    c.say_legal-in-Serializable.ensures
