@@ -15,6 +15,7 @@ from pathlib import Path
 sys.path.insert(0, str(Path(__file__).resolve().parent.parent / "tools"))
 from explaining import model
 from explaining.tasks import read_task
+from histories import interleaved
 
 BLOCKS, HISTORIES, STEPS, NEVER = 5, 2_000, 100_000, 1 << 64
 LEVELS = ("linearizable", "sequential", "serializable")
@@ -64,19 +65,6 @@ def drawn_history(draw):
         replies[place], state = model.run(state, read_task(calls[place][3]), BLOCKS)
     return [f"{client} {begin} {'-' if end == NEVER else end} {task} -> {'?' if end == NEVER else replies[place]}"
             for place, (client, begin, end, task) in enumerate(calls)]
-
-
-def mixed(draw, lines):
-    """The lines in another order, each client's as they were."""
-    queues, mixture = {}, []
-    for line in lines:
-        queues.setdefault(line.split(" ")[0], []).append(line)
-    while queues:
-        client = draw.choice(sorted(queues))
-        mixture.append(queues[client].pop(0))
-        if not queues[client]:
-            del queues[client]
-    return mixture
 
 
 def damaged(draw, lines):
@@ -253,7 +241,7 @@ def main():
     program = sys.argv[1] if len(sys.argv) > 1 else built
     draw, told = random.Random(83), Counter()
     for _ in range(HISTORIES):
-        lines = mixed(draw, drawn_history(draw))
+        lines = interleaved(draw, drawn_history(draw))
         if lines and draw.random() < 0.5:
             lines = damaged(draw, lines)
         found = [compare(program, lines, level) for level in LEVELS]

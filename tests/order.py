@@ -15,6 +15,7 @@ from pathlib import Path
 sys.path.insert(0, str(Path(__file__).resolve().parent.parent / "tools"))
 from explaining import model
 from explaining.tasks import read_task
+from histories import interleaved
 
 BLOCKS, MANY_BLOCKS, HISTORIES, NEVER = 7, 1 << 18, 260, 1 << 64
 FAULTS = {"": "bad-call", "1 2 3 audit": "bad-call", "x 2 3 newcust 1 -> true": "bad-number",
@@ -79,15 +80,7 @@ def mixed(draw, lines):
         return sorted(lines, key=lambda line: read(line)[1])
     if how == 3:
         return sorted(lines, key=lambda line: read(line)[0])
-    queues, mixture = {}, []
-    for line in lines:
-        queues.setdefault(read(line)[0], []).append(line)
-    while queues:
-        client = draw.choice(sorted(queues))
-        mixture.append(queues[client].pop(0))
-        if not queues[client]:
-            del queues[client]
-    return mixture
+    return interleaved(draw, lines)
 
 
 def damaged(draw, lines):
