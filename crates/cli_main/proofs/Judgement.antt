@@ -11,8 +11,8 @@ use Rattle.judge_calls.specs.Reading.{HasStoppedJudging}
 use Rattle.cli_main.specs.Ending.{fault_line, EndsJudged}
 use Rattle.judge_calls.specs.HeldReading.{IsReadWhole, HasChecked, HasStoppedChecking}
 use Rattle.judge_calls.specs.AnyOrder.{HasCheckedOrder, HasStoppedCheckingOrder}
-use Rattle.vac_streams.specs.declared.fault.StreamFault.{StreamFault}
-use Rattle.vac_streams.specs.declared.fault.StreamFault.TheVariants as stream
+use Rattle.vac_lines.specs.declared.stream_fault.StreamFault.{StreamFault}
+use Rattle.vac_lines.specs.declared.stream_fault.StreamFault.TheVariants as stream
 use Rattle.judge_levels.specs.declared.level.Level.{Level}
 use Rattle.judge_levels.specs.declared.level.Level.TheVariants as level
 use Rattle.judge_linear.specs.declared.ordering.Outcome.{Outcome}

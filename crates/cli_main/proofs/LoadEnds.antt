@@ -18,8 +18,8 @@ use Rattle.load_run.specs.declared.load.LoadFault.{LoadFault}
 use Rattle.load_run.specs.declared.load.LoadFault.TheVariants as load
 use Rattle.load_run.specs.declared.load.LoadReport.{LoadReport}
 use Rattle.load_run.specs.Streams.{LoadedBySeed}
-use Rattle.vac_streams.specs.declared.fault.StreamFault.{StreamFault}
-use Rattle.vac_streams.specs.declared.fault.StreamFault.TheVariants as stream
+use Rattle.vac_lines.specs.declared.stream_fault.StreamFault.{StreamFault}
+use Rattle.vac_lines.specs.declared.stream_fault.StreamFault.TheVariants as stream
 use Rattle.std.specs.Io.KnownBytes.{Appends}
 use Rattle.vac_lines.specs.Writing.{AppendsPrefix}
 use Rattle.cli_main.specs.Ending.{load_fault_line, fault_line, CanStopWriting, EndsDone, EndsWithStatus}

@@ -1,8 +1,8 @@
 -- The judgement of a history: status, input and output.
 use Rattle.std.specs.Prelude.{◌≡◌, ◌≢◌, ◌⊎◌, ℕ, Bool, true, false, Option, Some, None, List}
 use Rattle.vac_lines.specs.Writing.{AppendsPrefix}
-use Rattle.vac_streams.specs.declared.fault.StreamFault.{StreamFault}
-use Rattle.vac_streams.specs.declared.fault.StreamFault.TheVariants.{Memory, Write}
+use Rattle.vac_lines.specs.declared.stream_fault.StreamFault.{StreamFault}
+use Rattle.vac_lines.specs.declared.stream_fault.StreamFault.TheVariants.{Memory, Write}
 use Rattle.judge_calls.specs.Reading.{HasJudged, HasJudgedInPart}
 use Rattle.judge_calls.specs.HeldReading.{HasChecked, HasCheckedInPart}
 use Rattle.cli_main.specs.Ending.{EndsWithStatus, fault_line, unopened_line}

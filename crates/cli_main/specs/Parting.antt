@@ -4,7 +4,7 @@ use Rattle.judge_part_text.specs.Naming.{Named, names_of}
 use Rattle.judge_part_text.specs.Parting.{HasParted, HasPartedInPart}
 use Rattle.cli_options.specs.declared.asked.PartWords.{PartWords}
 use Rattle.vac_lines.specs.Writing.{AppendsPrefix}
-use Rattle.vac_streams.specs.declared.fault.StreamFault.TheVariants.{Memory}
+use Rattle.vac_lines.specs.declared.stream_fault.StreamFault.TheVariants.{Memory}
 use Rattle.cli_main.specs.Ending.{EndsWithStatus, fault_line}
 use Rattle.cli_main.specs.Judging.{NamedAlone}
 

@@ -13,7 +13,7 @@ use Rattle.cli_options.specs.declared.asked.Request.TheVariants.{Run, Dump, Chec
 use Rattle.cli_options.specs.declared.asked.Request.TheVariants.{Opaque, Part, Load, Tasks}
 use Rattle.cli_options.specs.declared.asked.Request.TheVariants.{UnknownLevel}
 use Rattle.vac_lines.specs.Script.{as_line}
-use Rattle.vac_streams.specs.declared.fault.StreamFault.TheVariants.{Memory}
+use Rattle.vac_lines.specs.declared.stream_fault.StreamFault.TheVariants.{Memory}
 use Rattle.vac_lines.specs.Writing.{AppendsPrefix}
 use Rattle.cli_script.specs.Script.{WroteAll, WrotePrefix}
 use Rattle.cli_script.specs.Dump.{Dumped, DumpStopped}

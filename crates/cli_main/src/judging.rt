@@ -23,7 +23,7 @@ use std::alloc::Global;
 use std::io;
 use std::io::{ErrorKind, Read, Write};
 use std::time::Clock;
-use vac_streams::StreamFault;
+use vac_lines::StreamFault;
 
 /// Judges a history, and returns the status: 0 if the history is legal.
 pub(crate) fn judge_alone<R: Read, W: Write>(

@@ -21,5 +21,4 @@ pub use cli_script::{check_words, dump_script, run_script};
 pub use files::Open;
 pub use judge_coverage::Watched;
 pub use program::{refuse_words, run_words};
-pub use vac_lines::{LineFault, print_reply, read_line};
-pub use vac_streams::StreamFault;
+pub use vac_lines::{LineFault, StreamFault, print_reply, read_line};

@@ -5,7 +5,7 @@ ghost use Rattle.cli_main.specs.Load.{tried_text, wanting_text};
 ghost use Rattle.cli_main.specs.Load.{tally_text, load_text};
 ghost use Rattle.cli_main.specs.Program.{Loads, LoadsAs};
 ghost use Rattle.std.specs.Io.KnownBytes.{Appends};
-ghost use Rattle.vac_streams.specs.declared.fault.StreamFault.TheVariants.{Memory};
+ghost use Rattle.vac_lines.specs.declared.stream_fault.StreamFault.TheVariants.{Memory};
 ghost use Rattle.cli_main.specs.Ending.{fault_line};
 ghost use Rattle.vac_lines.specs.Script.{as_line};
 ghost use Rattle.vac_lines.specs.Writing.{AppendsPrefix};
@@ -21,9 +21,8 @@ use std::io::Write;
 use std::sync::Wait;
 use std::thread::Threads;
 use std::time::Clock;
-use vac_lines::{append_field, print_reply, write_and_flush};
+use vac_lines::{StreamFault, append_field, print_reply, write_and_flush};
 use vac_model::{Reply, Report};
-use vac_streams::StreamFault;
 
 /// A load from the command line, with the runtime it runs on.
 #[derive(Drop)]

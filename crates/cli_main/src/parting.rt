@@ -6,11 +6,11 @@ ghost use Rattle.cli_main.specs.Parting.{WritesPart, WritesPartOf};
 
 use crate::status::{end_by, end_judged, refuse};
 use cli_options::PartWords;
+use judge_heuristic::Names;
 use judge_part_text::{read_names, write_part};
-use judge_scopes::Names;
 use std::alloc::Global;
 use std::io::{Read, Write};
-use vac_streams::StreamFault;
+use vac_lines::StreamFault;
 
 /// Writes that the words name no scope, and returns the status of a refused command line.
 fn refuse_scope<E: Write>(errors: &mut E) -> u8

@@ -26,8 +26,7 @@ use std::io::{Read, Write};
 use std::sync::Wait;
 use std::thread::Threads;
 use std::time::Clock;
-use vac_lines::write_and_flush;
-use vac_streams::StreamFault;
+use vac_lines::{StreamFault, write_and_flush};
 
 /// The refusal of a command line whose word for a level names none.
 const UNKNOWN_LEVEL: &[u8] = b"error: --level is linearizable, sequential or serializable\n";

@@ -25,8 +25,7 @@ use judge_object::Watcher;
 use std::alloc::Global;
 use std::io::{Read, Write};
 use std::time::{Clock, Instant};
-use vac_lines::write_and_flush;
-use vac_streams::StreamFault;
+use vac_lines::{StreamFault, write_and_flush};
 
 /// Number of steps between two readings of the clock.
 const STRIDE: u64 = 4_096;

@@ -10,8 +10,7 @@ use load_run::{LoadFault, Settings};
 use load_tasks::BLOCKS_OF_ITEM;
 use std::alloc::Global;
 use std::io::Write;
-use vac_lines::write_and_flush;
-use vac_streams::StreamFault;
+use vac_lines::{StreamFault, write_and_flush};
 
 /// Status of a program that did its work or showed its help.
 pub(crate) const DONE: u8 = 0;

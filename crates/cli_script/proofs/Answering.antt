@@ -7,8 +7,8 @@ use Rattle.vac_lines.specs.Script.{answer}
 use Rattle.vac_lines.specs.Writing.{AppendsPrefix}
 use Rattle.vac_lines.proofs.Extends.{extends_more}
 use Rattle.vac_manager.specs.Called.{CallerShown}
-use Rattle.vac_streams.specs.declared.fault.StreamFault.{StreamFault}
-use Rattle.vac_streams.specs.declared.next.Next.{Next}
+use Rattle.vac_lines.specs.declared.stream_fault.StreamFault.{StreamFault}
+use Rattle.vac_lines.specs.declared.next.Next.{Next}
 use Rattle.cli_script.specs.Hearing.{HearsLine}
 
 ends : false ≡ true → ⊥

@@ -16,7 +16,7 @@ use Rattle.vac_audit.specs.declared.Flaw.{Flaw}
 use Rattle.vac_audit.specs.declared.audit.AuditFault.{AuditFault}
 use Rattle.vac_audit.specs.declared.audit.AuditFault.TheVariants.{Size, Memory, Flaw as HasOne}
 use Rattle.vac_audit.proofs.Whole.{heap_size}
-use Rattle.vac_streams.specs.declared.fault.StreamFault.{StreamFault}
+use Rattle.vac_lines.specs.declared.stream_fault.StreamFault.{StreamFault}
 use Rattle.cli_script.specs.declared.check.Verdict.{Verdict}
 use Rattle.cli_script.specs.declared.check.Verdict.TheVariants.{Sound, Flawed, BadWords}
 use Rattle.vac_lines.specs.Writing.{AppendsPrefix}

@@ -11,9 +11,9 @@ use Rattle.vac_lines.specs.Writing.{AppendsPrefix}
 use Rattle.vac_manager.specs.Called.{CallerShown}
 use Rattle.cli_script.specs.System.{StandsInState, RanScript}
 use Rattle.cli_script.specs.Dump.{Dumped, DumpStopped}
-use Rattle.vac_streams.specs.Sent.{Sent}
-use Rattle.vac_streams.proofs.Texts.{sent_both, sent_text, sent_end_in_part, prefix_is, prefix_longer, part_second}
-use Rattle.vac_streams.proofs.Texts.{none_written}
+use Rattle.vac_lines.specs.Sent.{Sent}
+use Rattle.vac_lines.proofs.Texts.{sent_both, sent_text, sent_end_in_part, prefix_is, prefix_longer, part_second}
+use Rattle.vac_lines.proofs.Texts.{none_written}
 
 -- the text of words, cut between two of them
 dump_cut : (i : ℕ) (words : List ℕ) → dump_text (take i words) ++ dump_text (drop i words) ≡ dump_text words

@@ -18,14 +18,14 @@ use Rattle.vac_lines.proofs.Extends.{extends_more, extends_longer}
 use Rattle.vac_manager.specs.Legal.{capacity_of}
 use Rattle.vac_manager.specs.Called.{ClientShown}
 use Rattle.vac_manager.specs.Called.{CallerShown}
-use Rattle.vac_streams.specs.declared.fault.StreamFault.{StreamFault}
-use Rattle.vac_streams.specs.declared.next.Next.{Next}
-use Rattle.vac_streams.specs.declared.next.Next.TheVariants.{GoOn, Stop}
-use Rattle.vac_streams.specs.Told.{Message, Line, LongLine, Pause, message_of, line_messages, lines_in}
-use Rattle.vac_streams.specs.Heard.{ReceivedAll, ReceivedLast, AreFirst, AreFirstOf, HeardAll, Heard}
-use Rattle.vac_streams.specs.Sent.{Sent}
-use Rattle.vac_streams.proofs.Telling.{lines_both, first_of_read, first_of_input}
-use Rattle.vac_streams.proofs.Texts.{sent_nothing, sent_hand, sent_text, sent_both, sent_end}
+use Rattle.vac_lines.specs.declared.stream_fault.StreamFault.{StreamFault}
+use Rattle.vac_lines.specs.declared.next.Next.{Next}
+use Rattle.vac_lines.specs.declared.next.Next.TheVariants.{GoOn, Stop}
+use Rattle.vac_lines.specs.Told.{Message, Line, LongLine, Pause, message_of, line_messages, lines_in}
+use Rattle.vac_lines.specs.Heard.{ReceivedAll, ReceivedLast, AreFirst, AreFirstOf, HeardAll, Heard}
+use Rattle.vac_lines.specs.Sent.{Sent}
+use Rattle.vac_lines.proofs.Telling.{lines_both, first_of_read, first_of_input}
+use Rattle.vac_lines.proofs.Texts.{sent_nothing, sent_hand, sent_text, sent_both, sent_end}
 use Rattle.cli_script.specs.Script.{WroteAll, WrotePrefix}
 use Rattle.cli_script.specs.System.{StandsInState, RanScript, IsNew}
 use Rattle.cli_script.specs.Hearing.{told_task, AnsweredCut, HearsLine, HearsPause, Hears}

@@ -11,10 +11,10 @@ use Rattle.vac_lines.specs.Script.{answer, as_line}
 use Rattle.vac_lines.specs.Text.{Extends, reply_text, fault_text}
 use Rattle.vac_lines.specs.Writing.{AppendsPrefix}
 use Rattle.vac_manager.specs.Called.{CallerShown}
-use Rattle.vac_streams.specs.declared.fault.StreamFault.{StreamFault}
-use Rattle.vac_streams.specs.declared.next.Next.{Next}
-use Rattle.vac_streams.specs.declared.next.Next.TheVariants.{GoOn}
-use Rattle.vac_streams.specs.Told.{Message, Line, LongLine, Pause}
+use Rattle.vac_lines.specs.declared.stream_fault.StreamFault.{StreamFault}
+use Rattle.vac_lines.specs.declared.next.Next.{Next}
+use Rattle.vac_lines.specs.declared.next.Next.TheVariants.{GoOn}
+use Rattle.vac_lines.specs.Told.{Message, Line, LongLine, Pause}
 use Rattle.cli_script.specs.System.{StandsInState, AnsweredLine}
 
 -- the task of a line that was read, or its fault; a pause has no task

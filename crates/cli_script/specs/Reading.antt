@@ -5,10 +5,10 @@ use Rattle.std.specs.Io.KnownBytes.{Consumes, IsAtEnd}
 use Rattle.vac_lines.specs.Words.{memory_word_of}
 use Rattle.vac_lines.specs.Memory.{memory_words}
 use Rattle.vac_audit.specs.declared.audit.TheConstants.{MOST_HEAP_WORDS}
-use Rattle.vac_streams.specs.declared.fault.StreamFault.{StreamFault}
-use Rattle.vac_streams.specs.declared.next.Next.{Next}
-use Rattle.vac_streams.specs.declared.next.Next.TheVariants.{GoOn, Stop}
-use Rattle.vac_streams.specs.Told.{Message, Line, LongLine, Pause}
+use Rattle.vac_lines.specs.declared.stream_fault.StreamFault.{StreamFault}
+use Rattle.vac_lines.specs.declared.next.Next.{Next}
+use Rattle.vac_lines.specs.declared.next.Next.TheVariants.{GoOn, Stop}
+use Rattle.vac_lines.specs.Told.{Message, Line, LongLine, Pause}
 
 -- the bytes are not the words of a memory, or there are more words than a memory has
 abbrev pub NoneOrMany : Option (List ℕ) → Type 0

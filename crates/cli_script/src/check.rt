@@ -10,9 +10,8 @@ use crate::memory::read_memory;
 use std::alloc::{AllocError, Global};
 use std::io::{Read, Write};
 use vac_audit::{AuditFault, Flaw, audit_words};
-use vac_lines::{print_reply, write_and_flush};
+use vac_lines::{StreamFault, print_reply, write_and_flush};
 use vac_model::{Reply, Report};
-use vac_streams::StreamFault;
 
 /// The verdict on a text of words.
 #[derive(Clone, Copy)]

@@ -12,8 +12,7 @@ use crate::system::{close, open};
 use std::alloc::Global;
 use std::io;
 use std::io::{Read, Write};
-use vac_lines::print_word;
-use vac_streams::{StreamFault, send_chunk, send_rest};
+use vac_lines::{StreamFault, print_word, send_chunk, send_rest};
 
 /// Runs a script for a system of `blocks` blocks, 1 to 262,144, and dumps its memory. Reads the
 /// lines to the end of the input, writes no reply, closes the system, and writes its words in

@@ -6,8 +6,7 @@ ghost use Rattle.cli_script.specs.Reading.{TookWord, RefusedLine, ReadWords, Rea
 use std::alloc::{AllocError, Global};
 use std::io::Read;
 use vac_audit::MOST_HEAP_WORDS;
-use vac_lines::{LINE_BYTES, read_memory_word};
-use vac_streams::{MOST_LINES, Next, Sink, StreamFault, read_lines};
+use vac_lines::{LINE_BYTES, MOST_LINES, Next, Sink, StreamFault, read_lines, read_memory_word};
 
 /// A text that is read as the words of a memory.
 #[derive(Drop)]
@@ -34,7 +33,7 @@ fn take_line(words: &mut Vec<u64>, line: &[u8]) -> Result<bool, AllocError>
 }
 
 impl Sink<()> for MemoryText {
-    ghost use Rattle.vac_streams.specs.declared.reading.TheConstants.{MOST_LINES};
+    ghost use Rattle.vac_lines.specs.declared.reading.TheConstants.{MOST_LINES};
     ghost use Rattle.cli_script.specs.Reading.{HearsWord};
 
     ghost room = { λ _. MOST_LINES };

@@ -6,7 +6,7 @@ ghost use Rattle.vac_manager.specs.Called.{HasAllGrants};
 ghost use Rattle.vac_manager.specs.Legal.{capacity_of};
 ghost use Rattle.vac_lines.specs.Text.{Extends};
 ghost use Rattle.vac_lines.specs.Writing.{AppendsPrefix};
-ghost use Rattle.vac_streams.specs.declared.fault.StreamFault.TheVariants.{Memory, Write};
+ghost use Rattle.vac_lines.specs.declared.stream_fault.StreamFault.TheVariants.{Memory, Write};
 ghost use Rattle.cli_script.specs.Hearing.{answer_line, Puts};
 ghost use Rattle.cli_script.specs.System.{RanScript, IsLoneCaller, IsNew};
 ghost use Rattle.cli_script.specs.Script.{WroteAll, WrotePrefix};
@@ -14,10 +14,12 @@ ghost use Rattle.cli_script.specs.Script.{WroteAll, WrotePrefix};
 use crate::system::open;
 use std::alloc::{AllocError, Global};
 use std::io::{Read, Write};
-use vac_lines::{CHUNK_BYTES, LINE_BYTES, LineFault, print_fault, print_reply, read_line};
+use vac_lines::{
+    CHUNK_BYTES, LINE_BYTES, LineFault, Next, Sink, StreamFault, print_fault, print_reply,
+    read_line, read_lines, send_all, send_rest,
+};
 use vac_manager::{Caller, Client, Fault, call};
 use vac_model::Reply;
-use vac_streams::{Next, Sink, StreamFault, read_lines, send_all, send_rest};
 
 /// A running script.
 #[derive(Drop)]

@@ -6,13 +6,13 @@ ghost use Rattle.vac_model.specs.Ranges.{is_block_count};
 ghost use Rattle.vac_manager.specs.Called.{HasAllGrants};
 ghost use Rattle.vac_manager.specs.Law.{Shows};
 ghost use Rattle.vac_manager.specs.Legal.{IsHistoryTo};
-ghost use Rattle.vac_streams.specs.declared.fault.StreamFault.TheVariants.{Memory};
+ghost use Rattle.vac_lines.specs.declared.stream_fault.StreamFault.TheVariants.{Memory};
 ghost use Rattle.cli_script.specs.System.{OpensAlone};
 
 use std::alloc::Global;
 use stm_region::{RegionFault, VERSION_LIMIT};
+use vac_lines::StreamFault;
 use vac_manager::{Client, Fault, Manager};
-use vac_streams::StreamFault;
 
 /// Last version of the clock: the largest one there is.
 pub(crate) const LAST_VERSION: u64 = VERSION_LIMIT - 1;

@@ -7,7 +7,7 @@ use Rattle.std.proofs.lemmas.Bool.Decides.{nat_tests}
 use Rattle.std.proofs.lemmas.List.{map-append}
 use Rattle.vac_lines.specs.Lines.{lines_of}
 use Rattle.vac_lines.specs.TaskText.{task_text}
-use Rattle.judge_time.proofs.Order.{fails}
+use Rattle.judge_object.proofs.Order.{fails}
 use Rattle.judge_object.specs.Call.{EachCall, is_answered}
 use Rattle.judge_object.specs.Orders.{of_client, IsOrderOf}
 use Rattle.judge_calls.specs.declared.fault.CallFault.{CallFault}

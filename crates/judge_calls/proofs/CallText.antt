@@ -42,8 +42,8 @@ use Rattle.vac_lines.proofs.TaskReading.{words_plain, task_some}
 use Rattle.judge_calls.specs.Call.{Call, CallTexts, is_arrow, parts_of, call_parts, parts_call, at_client, at_time}
 use Rattle.judge_calls.specs.Call.{at_end}
 use Rattle.judge_calls.specs.Call.{reply_at, is_no_end, is_no_reply, line_call}
-use Rattle.judge_clients.specs.declared.client.TheConstants.{MOST_CLIENT}
-use Rattle.judge_time.specs.declared.span.TheConstants.{NEVER}
+use Rattle.vac_lines.specs.declared.client.TheConstants.{MOST_CLIENT}
+use Rattle.judge_object.specs.declared.span.TheConstants.{NEVER}
 use Rattle.vac_lines.specs.declared.line.TheConstants.{LINE_BYTES}
 use Rattle.judge_calls.specs.Parts.{IsCutAtArrow}
 use Rattle.judge_calls.specs.CallText.{call_text, end_text, answer_text, IsPick, IsReply, IsUnanswered, IsWritten}

@@ -11,8 +11,8 @@ use Rattle.judge_calls.specs.declared.verdict.CallViolation.{CallViolation}
 use Rattle.judge_calls.specs.declared.verdict.CallViolation.TheVariants as wrong
 use Rattle.judge_calls.specs.declared.verdict.Verdict.TheVariants.{Fault, Illegal}
 use Rattle.judge_calls.specs.Call.{Call, line_call}
-use Rattle.judge_time.proofs.Order as spans
-use Rattle.judge_time.proofs.Order.{passes, fails}
+use Rattle.judge_object.proofs.Order as spans
+use Rattle.judge_object.proofs.Order.{passes, fails}
 use Rattle.judge_object.specs.Call.{span_of}
 use Rattle.judge_calls.specs.Order.{call_breaks_client, call_breaks_time, wrong_of}
 use Rattle.vac_lines.specs.Text.{is_right}

@@ -12,7 +12,7 @@ use Rattle.std.proofs.lemmas.Bool.Decides.{nat_tests}
 use Rattle.tx_memory.specs.Seen.{same_or}
 use Rattle.vac_model.specs.declared.tasks.Task.{Task}
 use Rattle.vac_lines.specs.Lines.{lines_of, HasNo}
-use Rattle.vac_streams.proofs.Cutting.{HasNoEnd, lines_cut, lines_last}
+use Rattle.vac_lines.proofs.LineCuts.{HasNoEnd, lines_cut, lines_last}
 use Rattle.judge_calls.specs.declared.fault.CallFault.{CallFault}
 use Rattle.judge_calls.specs.declared.fault.CallFault.TheVariants.{BadCall}
 use Rattle.judge_calls.specs.declared.work.Workload.{Workload}

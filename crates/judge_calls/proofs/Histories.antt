@@ -5,7 +5,7 @@ use Rattle.std.specs.List.{list_any}
 use Rattle.std.proofs.lemmas.List.Elements.{All-head, All-tail, All-nil, All-cons}
 use Rattle.vac_lines.specs.Lines.{lines_of, HasNo}
 use Rattle.vac_lines.specs.LineTable.{is_bad_byte}
-use Rattle.vac_streams.proofs.Cutting.{lines_cut}
+use Rattle.vac_lines.proofs.LineCuts.{lines_cut}
 use Rattle.judge_calls.specs.declared.fault.CallFault.{CallFault}
 use Rattle.judge_calls.specs.Call.{Call, line_call}
 use Rattle.judge_calls.specs.Laws.{Lists, IsLinearization, LegalIsLinearization}

@@ -2,11 +2,11 @@
 use Rattle.std.proofs.Common.{◌≡◌, Bool, true, false, cond, List, map, Option, Some, None, refl, sym, ap, ◌∙◌, subst}
 use Rattle.vac_model.specs.State.{State}
 use Rattle.vac_model.specs.Run.{run}
-use Rattle.judge_time.specs.declared.span.Span.{Span}
-use Rattle.judge_time.specs.declared.span.Misplaced.{Misplaced}
-use Rattle.judge_time.specs.declared.span.Misplaced.TheVariants as place
-use Rattle.judge_time.specs.Order.{itself, misplaced}
-use Rattle.judge_time.proofs.Order.{misplaced_mapped}
+use Rattle.judge_object.specs.declared.span.Span.{Span}
+use Rattle.judge_object.specs.declared.span.Misplaced.{Misplaced}
+use Rattle.judge_object.specs.declared.span.Misplaced.TheVariants as place
+use Rattle.judge_object.specs.Order.{itself, misplaced}
+use Rattle.judge_object.proofs.Order.{misplaced_mapped}
 use Rattle.judge_calls.specs.declared.verdict.CallViolation.{CallViolation}
 use Rattle.judge_calls.specs.declared.verdict.CallViolation.TheVariants.{Client, Time, Reply}
 use Rattle.judge_calls.specs.Call.{Call}

@@ -11,8 +11,8 @@ use Rattle.vac_lines.specs.Text.{reply_text}
 use Rattle.judge_calls.specs.declared.verdict.CallViolation.{CallViolation}
 use Rattle.judge_calls.specs.declared.verdict.CallViolation.TheVariants as wrong
 use Rattle.judge_calls.specs.Call.{Call}
-use Rattle.judge_time.specs.Order as spans
-pub use Rattle.judge_time.proofs.Tests.{both_false, false_both, turn_from, turn_test, time_from, time_test}
+use Rattle.judge_object.specs.Order as spans
+pub use Rattle.judge_object.proofs.Tests.{both_false, false_both, turn_from, turn_test, time_from, time_test}
 use Rattle.judge_object.specs.Call.{span_of}
 use Rattle.judge_calls.specs.Order.{call_breaks_client, call_breaks_time, wrong_of}
 use Rattle.vac_lines.specs.Text.{is_right}

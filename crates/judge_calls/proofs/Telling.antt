@@ -8,13 +8,13 @@ use Rattle.std.specs.Io.KnownBytes.{Consumes}
 use Rattle.std.proofs.KnownBytes.{Consumes-whole}
 use Rattle.vac_model.specs.State.{State, empty_state}
 use Rattle.vac_lines.specs.Lines.{lines_of}
-use Rattle.vac_streams.specs.declared.fault.StreamFault.{StreamFault}
-use Rattle.vac_streams.specs.declared.next.Next.{Next}
-use Rattle.vac_streams.specs.declared.next.Next.TheVariants.{GoOn, Stop}
-use Rattle.vac_streams.specs.Told as told
-use Rattle.vac_streams.specs.Told.{Message, message_of, line_messages, lines_in}
-use Rattle.vac_streams.specs.Heard.{ReceivedAll, ReceivedLast, AreFirst, AreFirstOf, HeardAll, HeardLast, Heard}
-use Rattle.vac_streams.proofs.Telling.{lines_both}
+use Rattle.vac_lines.specs.declared.stream_fault.StreamFault.{StreamFault}
+use Rattle.vac_lines.specs.declared.next.Next.{Next}
+use Rattle.vac_lines.specs.declared.next.Next.TheVariants.{GoOn, Stop}
+use Rattle.vac_lines.specs.Told as told
+use Rattle.vac_lines.specs.Told.{Message, message_of, line_messages, lines_in}
+use Rattle.vac_lines.specs.Heard.{ReceivedAll, ReceivedLast, AreFirst, AreFirstOf, HeardAll, HeardLast, Heard}
+use Rattle.vac_lines.proofs.Telling.{lines_both}
 use Rattle.judge_calls.specs.declared.fault.CallFault.{CallFault}
 use Rattle.judge_calls.specs.declared.reading.History.{History}
 use Rattle.judge_calls.specs.declared.verdict.Summary.{Summary}

@@ -11,12 +11,12 @@ use Rattle.vac_lines.specs.declared.fault.LineFault.{LineFault}
 use Rattle.vac_lines.specs.declared.fault.LineFault.TheVariants.{LongLine, BadByte, BadNumber}
 use Rattle.vac_lines.specs.Lines.{words_of}
 use Rattle.vac_lines.specs.Words.{memory_word_of}
-use Rattle.judge_clients.specs.Client.{client_number}
+use Rattle.vac_lines.specs.Client.{client_number}
 use Rattle.vac_lines.specs.LineTable.{line_task, is_bad_byte}
 use Rattle.judge_calls.specs.declared.fault.CallFault.{CallFault}
 use Rattle.judge_calls.specs.declared.fault.CallFault.TheVariants.{BadCall, Line}
 use Rattle.judge_calls.specs.declared.call.TheConstants.{CALL_BYTES}
-use Rattle.judge_time.specs.declared.span.TheConstants.{NEVER}
+use Rattle.judge_object.specs.declared.span.TheConstants.{NEVER}
 
 -- a call whose operation is a task
 abbrev pub Call : Type 0

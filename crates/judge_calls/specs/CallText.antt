@@ -10,9 +10,9 @@ use Rattle.vac_lines.specs.declared.line.TheConstants.{LINE_BYTES}
 use Rattle.vac_lines.specs.Script.{as_line}
 use Rattle.vac_lines.specs.TaskText.{task_text}
 use Rattle.vac_lines.specs.Text.{reply_text}
-use Rattle.judge_clients.specs.declared.client.TheConstants.{MOST_CLIENT}
+use Rattle.vac_lines.specs.declared.client.TheConstants.{MOST_CLIENT}
 use Rattle.judge_calls.specs.declared.call.TheConstants.{CALL_BYTES}
-use Rattle.judge_time.specs.declared.span.TheConstants.{NEVER}
+use Rattle.judge_object.specs.declared.span.TheConstants.{NEVER}
 use Rattle.judge_calls.specs.Call.{Call, line_call}
 use Rattle.judge_calls.specs.Verdict.{verdict_on, is_legal}
 use Rattle.judge_calls.specs.Laws.{Lists, IsLinearization}

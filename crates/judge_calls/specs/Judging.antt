@@ -2,9 +2,9 @@
 use Rattle.std.specs.Prelude.{Bool, ◌≡◌, ◌⊎◌, ◌+◌, ◌^◌, Option, Some, None, Result, List, ◌∷◌, map}
 use Rattle.vac_model.specs.State.{State}
 use Rattle.vac_model.specs.Run.{run}
-use Rattle.vac_streams.specs.declared.fault.StreamFault.{StreamFault}
-use Rattle.vac_streams.specs.declared.fault.StreamFault.TheVariants as fault
-use Rattle.judge_time.specs.Keeping.{Keeps}
+use Rattle.vac_lines.specs.declared.stream_fault.StreamFault.{StreamFault}
+use Rattle.vac_lines.specs.declared.stream_fault.StreamFault.TheVariants as fault
+use Rattle.judge_object.specs.Keeping.{Keeps}
 use Rattle.judge_calls.specs.declared.fault.CallFault.{CallFault}
 use Rattle.judge_calls.specs.declared.judge.Judge.{Judge}
 use Rattle.judge_calls.specs.declared.verdict.CallViolation.{CallViolation}
@@ -14,7 +14,7 @@ use Rattle.judge_calls.specs.Call.{Call}
 use Rattle.judge_object.specs.Call.{span_of}
 use Rattle.judge_calls.specs.Order.{call_breaks_client, call_breaks_time, wrong_of}
 use Rattle.judge_calls.specs.Verdict.{judged}
-use Rattle.vac_plain.specs.PlainState.{IsStateOf}
+use Rattle.vac_tasks.specs.PlainState.{IsStateOf}
 use Rattle.std.specs.Prelude.{true, false}
 
 -- the judge has judged these calls, and they leave the state s

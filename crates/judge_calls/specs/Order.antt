@@ -5,7 +5,7 @@ use Rattle.vac_model.specs.State.{State}
 use Rattle.vac_model.specs.Run.{run}
 use Rattle.vac_lines.specs.Text.{is_right}
 use Rattle.judge_object.specs.Call.{span_of}
-use Rattle.judge_time.specs.Order as spans
+use Rattle.judge_object.specs.Order as spans
 use Rattle.judge_calls.specs.declared.verdict.CallViolation.{CallViolation}
 use Rattle.judge_calls.specs.declared.verdict.CallViolation.TheVariants as wrong
 use Rattle.judge_calls.specs.Call.{Call}

@@ -5,7 +5,7 @@ use Rattle.vac_lines.specs.Lines.{words_of}
 use Rattle.judge_calls.specs.declared.arrow.CallParts.{CallParts}
 use Rattle.judge_calls.specs.declared.call.Answer.{Answer}
 use Rattle.judge_calls.specs.declared.call.CallLine.{CallLine}
-use Rattle.judge_time.specs.declared.span.TheConstants.{NEVER}
+use Rattle.judge_object.specs.declared.span.TheConstants.{NEVER}
 use Rattle.judge_calls.specs.Call.{Call, CallTexts, is_arrow, call_parts}
 
 -- the texts stand before and after the first word that is an arrow

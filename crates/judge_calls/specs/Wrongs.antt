@@ -4,7 +4,7 @@
 use Rattle.std.specs.Prelude.{◌≡◌, ◌↔◌, ℕ, ◌+◌, Ok, Err, Result, List, [], ◌∷◌, ◌++◌, map, length}
 use Rattle.vac_model.specs.State.{empty_state}
 use Rattle.vac_model.specs.Run.{run}
-use Rattle.judge_time.specs.Laws as spans
+use Rattle.judge_object.specs.Laws as spans
 use Rattle.vac_lines.specs.Lines.{lines_of}
 use Rattle.judge_calls.specs.declared.fault.CallFault.{CallFault}
 use Rattle.judge_calls.specs.declared.verdict.CallViolation.{CallViolation}

@@ -9,10 +9,9 @@ ghost use Rattle.judge_calls.specs.Parts.{shown_parts, shown_call, shown_end, sh
 
 use crate::arrow::{CallParts, cut_parts};
 use crate::fault::CallFault;
-use judge_clients::read_client;
-use judge_time::{NEVER, Span};
+use judge_object::{NEVER, Span};
 use std::alloc::Global;
-use vac_lines::{LineFault, has_bad_byte, read_line, read_memory_word};
+use vac_lines::{LineFault, has_bad_byte, read_client, read_line, read_memory_word};
 use vac_model::Task;
 
 /// Largest number of bytes of a line of a history, without its line end.

@@ -14,9 +14,8 @@ use crate::verdict::{Verdict, print_verdict};
 use crate::work::{Workload, read_workload};
 use std::alloc::{AllocError, Global};
 use std::io::{ErrorKind, Read, Write};
-use vac_lines::{append_field, keep_whole, write_and_flush};
+use vac_lines::{StreamFault, append_field, keep_whole, write_and_flush};
 use vac_model::limits::MOST_BLOCKS;
-use vac_streams::StreamFault;
 
 /// The verdict on a history that is checked against a workload. Lines are numbered from 1.
 #[derive(Clone, Copy, Debug, PartialEq, Eq)]

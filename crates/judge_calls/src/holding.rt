@@ -14,9 +14,8 @@ use crate::call::{CallLine, read_call};
 use crate::fault::CallFault;
 use crate::work::{Workload, next_line};
 use std::alloc::{AllocError, Global};
-use vac_lines::{LineFault, print_task};
+use vac_lines::{LineFault, StreamFault, print_task};
 use vac_model::Task;
-use vac_streams::StreamFault;
 
 /// The number of calls of a client, and whether one of them is pending.
 #[derive(Clone, Copy, Drop)]

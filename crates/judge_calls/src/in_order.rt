@@ -18,9 +18,8 @@ use crate::holding::check_calls;
 use crate::work::{Workload, next_line, read_workload};
 use std::alloc::{AllocError, Global};
 use std::io::{Read, Write};
-use vac_lines::{LineFault, keep_whole, write_and_flush};
+use vac_lines::{LineFault, StreamFault, keep_whole, write_and_flush};
 use vac_model::limits::MOST_BLOCKS;
-use vac_streams::StreamFault;
 
 /// The verdict on an order of a history's calls that is checked against a workload. Lines are the
 /// lines of the history, and are numbered from 1.

@@ -13,14 +13,13 @@ ghost use Rattle.judge_calls.specs.Verdict.{summary_of};
 use crate::call::{Answer, CallLine, read_call};
 use crate::fault::CallFault;
 use crate::verdict::{CallViolation, Summary, Verdict};
-use judge_time::{Misplaced, Spans};
+use judge_object::{Misplaced, Spans};
 use std::alloc::{AllocError, Global};
 use tx_alloc::FreeList;
-use vac_lines::{LineFault, is_text_of};
+use vac_lines::{LineFault, StreamFault, is_text_of};
 use vac_model::Reply;
 use vac_model::limits::MOST_BLOCKS;
-use vac_plain::Heap;
-use vac_streams::StreamFault;
+use vac_tasks::Heap;
 
 /// A judge of a history that is given line by line: the state that the calls so far leave, and the
 /// data by which the order of the next call is judged.

@@ -9,9 +9,8 @@ use crate::judge::Judge;
 use crate::verdict::{Verdict, print_verdict};
 use std::alloc::Global;
 use std::io::{Read, Write};
-use vac_lines::write_and_flush;
+use vac_lines::{Next, Sink, StreamFault, read_lines, write_and_flush};
 use vac_model::limits::MOST_BLOCKS;
-use vac_streams::{Next, Sink, StreamFault, read_lines};
 
 /// A history that is being read.
 #[derive(Drop)]
@@ -23,7 +22,7 @@ struct History {
 }
 
 impl Sink<()> for History {
-    ghost use Rattle.vac_streams.specs.declared.reading.TheConstants.{MOST_LINES};
+    ghost use Rattle.vac_lines.specs.declared.reading.TheConstants.{MOST_LINES};
     ghost use Rattle.judge_calls.specs.Hearing.{HearsCall};
 
     ghost room = { λ _. MOST_LINES };

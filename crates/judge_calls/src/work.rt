@@ -12,9 +12,8 @@ use crate::by_client::ByClient;
 use crate::call::client_at;
 use crate::fault::CallFault;
 use std::alloc::{AllocError, Global};
-use vac_lines::{LineFault, cut_at, read_line};
+use vac_lines::{LineFault, StreamFault, cut_at, read_line};
 use vac_model::Task;
-use vac_streams::StreamFault;
 
 /// A workload: the tasks that were given to clients.
 #[derive(Drop)]

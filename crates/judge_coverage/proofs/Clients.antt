@@ -8,7 +8,7 @@ use Rattle.std.specs.BTreeSet.{BTreeSet, contains, Updates, IsOrdered, btree_set
 use Rattle.std.specs.Set.{is_member, distinct_count}
 use Rattle.std.proofs.lemmas.List.{take_more, map-append}
 use Rattle.std.proofs.lemmas.Map.Views.{btree_set_len-from_list}
-use Rattle.judge_time.specs.declared.span.Span.{Span}
+use Rattle.judge_object.specs.declared.span.Span.{Span}
 use Rattle.judge_coverage.specs.Coverage.{clients_in}
 
 any_more : {K : Type 0} (p : K → Bool) (xs : List K) (k : K) →

@@ -5,8 +5,8 @@ use Rattle.std.proofs.Common.{map}
 use Rattle.std.proofs.Common.{refl, sym, ap, ◌∙◌, inl, inr, arith, nat_le, nat_lt, ◌⊎◌}
 use Rattle.std.specs.List.{count_by}
 use Rattle.std.proofs.lemmas.Bool.Decides.{nat_tests}
-use Rattle.judge_time.specs.declared.span.Span.{Span}
-use Rattle.judge_time.specs.declared.span.TheConstants.{NEVER}
+use Rattle.judge_object.specs.declared.span.Span.{Span}
+use Rattle.judge_object.specs.declared.span.TheConstants.{NEVER}
 use Rattle.judge_coverage.specs.declared.moments.Moments.{Moments}
 use Rattle.judge_coverage.specs.declared.moments.TheConstants.{LANE}
 use Rattle.judge_coverage.specs.declared.meetings.Meetings.{Meetings}

@@ -4,9 +4,9 @@ use Rattle.std.proofs.Common.{append-nil, append_assoc, cond, Result, Ok, Err, i
 use Rattle.std.specs.List.{filter_map}
 use Rattle.std.proofs.lemmas.List.Elements.{filter_map-append}
 use Rattle.vac_lines.specs.Lines.{HasNo}
-use Rattle.vac_streams.specs.Told.{Message, message_of, line_messages}
-use Rattle.vac_streams.proofs.Cutting.{told_prefix, told_cut, told_moved, told_last, told_none}
-use Rattle.vac_streams.proofs.Cutting.{has_begun, nothing_begun}
+use Rattle.vac_lines.specs.Told.{Message, message_of, line_messages}
+use Rattle.vac_lines.proofs.LineCuts.{told_prefix, told_cut, told_moved, told_last, told_none}
+use Rattle.vac_lines.proofs.LineCuts.{has_begun, nothing_begun}
 use Rattle.judge_coverage.specs.declared.collector.Collector.{Collector}
 use Rattle.judge_coverage.specs.declared.entries.Entries.{Entries}
 use Rattle.judge_coverage.specs.Entries.{told_interval, told_outcome}

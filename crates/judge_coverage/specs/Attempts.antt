@@ -2,7 +2,7 @@
 -- aborted and that wrote nothing.
 use Rattle.std.specs.Prelude.{ℕ, not, List}
 use Rattle.std.specs.List.{count_by}
-use Rattle.judge_time.specs.declared.span.Span.{Span}
+use Rattle.judge_object.specs.declared.span.Span.{Span}
 use Rattle.judge_coverage.specs.declared.attempts.Outcome.{Outcome}
 use Rattle.judge_coverage.specs.declared.attempts.AttemptCoverage.{AttemptCoverage}
 use Rattle.judge_coverage.specs.Coverage.{coverage_of}

@@ -3,8 +3,8 @@
 use Rattle.std.specs.Prelude.{ℕ, ◌+◌, ◌==◌, ◌&&◌, not, max, Bool, List, [], ◌∷◌, length, map, nat_lt}
 use Rattle.std.specs.List.{count_by}
 use Rattle.std.specs.Set.{distinct_count}
-use Rattle.judge_time.specs.declared.span.Span.{Span}
-use Rattle.judge_time.specs.declared.span.TheConstants.{NEVER}
+use Rattle.judge_object.specs.declared.span.Span.{Span}
+use Rattle.judge_object.specs.declared.span.TheConstants.{NEVER}
 use Rattle.judge_coverage.specs.declared.coverage.Coverage.{Coverage}
 
 -- the call runs at a moment: it began then or before, and ends later

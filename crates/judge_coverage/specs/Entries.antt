@@ -5,10 +5,10 @@ use Rattle.std.specs.List.{list_any}
 use Rattle.std.specs.Str.{bytes_eq}
 use Rattle.vac_lines.specs.Lines.{words_of}
 use Rattle.vac_lines.specs.Words.{is_dash, memory_word_of}
-use Rattle.vac_streams.specs.Told.{Message, Line, LongLine, Pause, line_messages}
-use Rattle.judge_time.specs.declared.span.Span.{Span}
-use Rattle.judge_time.specs.declared.span.TheConstants.{NEVER}
-use Rattle.judge_clients.specs.Client.{client_number}
+use Rattle.vac_lines.specs.Told.{Message, Line, LongLine, Pause, line_messages}
+use Rattle.judge_object.specs.declared.span.Span.{Span}
+use Rattle.judge_object.specs.declared.span.TheConstants.{NEVER}
+use Rattle.vac_lines.specs.Client.{client_number}
 use Rattle.judge_coverage.specs.declared.attempts.Outcome.{Outcome}
 use Rattle.judge_coverage.specs.declared.entries.Head.{Head}
 

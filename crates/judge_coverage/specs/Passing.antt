@@ -1,7 +1,7 @@
 -- A collector of the entries of a log, after some of its bytes.
 use Rattle.std.specs.Prelude.{◌≡◌, ℕ, List, [], ◌∷◌, ◌++◌, filter_map}
 use Rattle.vac_lines.specs.Lines.{HasNo}
-use Rattle.vac_streams.specs.Told.{Message, line_messages}
+use Rattle.vac_lines.specs.Told.{Message, line_messages}
 use Rattle.judge_coverage.specs.declared.collector.Collector.{Collector}
 use Rattle.judge_coverage.specs.declared.entries.Entries.{Entries}
 use Rattle.judge_coverage.specs.Entries.{told_interval, told_outcome, intervals_in, outcomes_in}

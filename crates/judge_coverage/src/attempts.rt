@@ -4,7 +4,7 @@ ghost use Rattle.std.specs.Prelude.{◌≡◌, IfOk};
 ghost use Rattle.judge_coverage.specs.Attempts.{aborted_in, read_only_in, attempts_coverage_of};
 
 use crate::coverage::{Coverage, measure_calls};
-use judge_time::Span;
+use judge_object::Span;
 use std::alloc::{AllocError, Global};
 
 /// The end of an attempt at a transaction, and whether the attempt wrote.

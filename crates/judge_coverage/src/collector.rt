@@ -24,7 +24,7 @@ pub(crate) struct Collector {
 
 impl Collector {
     ghost use Rattle.std.specs.Prelude.{◌≡◌, ◌++◌, ℕ, List, [], take, OnOk, IfOk};
-    ghost use Rattle.vac_streams.specs.Told.{message_of};
+    ghost use Rattle.vac_lines.specs.Told.{message_of};
     ghost use Rattle.judge_coverage.specs.Passing.{TakesLine, HasTaken, AreEntriesOf};
 
     /// Returns a collector of at most `most` entries that was fed nothing.

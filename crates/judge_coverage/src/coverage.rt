@@ -4,7 +4,7 @@ ghost use Rattle.std.specs.Prelude.{◌≡◌, IfOk};
 ghost use Rattle.judge_coverage.specs.Coverage.{clients_in, pending_in, coverage_of};
 
 use crate::meetings::Meetings;
-use judge_time::{NEVER, Span};
+use judge_object::{NEVER, Span};
 use std::alloc::{AllocError, Global};
 use std::collections::BTreeSet;
 

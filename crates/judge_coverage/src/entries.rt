@@ -3,15 +3,14 @@
 
 ghost use Rattle.std.specs.Prelude.{◌≡◌, ◌∷◌, ℕ, List, [], None, Some, MatchOption, OnOk};
 ghost use Rattle.vac_lines.specs.Lines.{words_of};
-ghost use Rattle.vac_streams.specs.Told.{message_of};
+ghost use Rattle.vac_lines.specs.Told.{message_of};
 ghost use Rattle.judge_coverage.specs.Entries.{head_of, shown_head, end_of, interval_of, has_write, outcome_of};
 ghost use Rattle.judge_coverage.specs.Passing.{AddsLine};
 
 use crate::attempts::Outcome;
-use judge_clients::read_client;
-use judge_time::{NEVER, Span};
+use judge_object::{NEVER, Span};
 use std::alloc::{AllocError, Global};
-use vac_lines::{cut_at, read_memory_word};
+use vac_lines::{cut_at, read_client, read_memory_word};
 
 /// Largest number of entries for which there is usually memory. Keeping and measuring that many
 /// takes 400 megabytes.

@@ -5,7 +5,7 @@ ghost use Rattle.judge_coverage.specs.Coverage.{met_by, overlapped_in, most_at_o
 ghost use Rattle.judge_coverage.specs.Meetings.{AreMeetings};
 
 use crate::moments::{Moments, Reached};
-use judge_time::Span;
+use judge_object::Span;
 use std::alloc::{AllocError, Global};
 
 /// Number of clients for which the numbers reached are kept apart. Clients with equal remainders

@@ -3,10 +3,10 @@
 
 ghost use Rattle.std.specs.Prelude.{◌≡◌, ℕ, ◌-◌, Bool, List, IfOk, map, if◌then◌else◌};
 ghost use Rattle.std.specs.List.Sorted.{IsNonDecreasing};
-ghost use Rattle.judge_time.specs.declared.span.Span.{Span};
+ghost use Rattle.judge_object.specs.declared.span.Span.{Span};
 ghost use Rattle.judge_coverage.specs.Moments.{lane_of, key_of, begin_key, end_key, number_up_to, AreMoments};
 
-use judge_time::{NEVER, Span};
+use judge_object::{NEVER, Span};
 use std::alloc::{AllocError, Global};
 
 /// Distance between two lanes, which is more than the number of moments.

@@ -1,2 +1,9 @@
 pub mod Firsts
 pub mod Keeping
+pub mod Places
+pub mod Clauses
+pub mod Lookups
+pub mod Clausewise
+pub mod Product
+pub mod Joining
+pub mod Deciding

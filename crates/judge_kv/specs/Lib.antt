@@ -6,3 +6,10 @@ pub mod Commands
 pub mod Words
 pub mod Reading
 pub mod Starting
+pub mod Stores
+pub mod Requests
+pub mod Wishes
+pub mod StoreRules
+pub mod StoreWords
+pub mod Classes
+pub mod Judging

@@ -7,7 +7,7 @@ use Rattle.judge_object.specs.declared.line.Line.{Line}
 use Rattle.judge_object.specs.Rules.{Rules}
 use Rattle.judge_object.specs.Call.{Call, is_answered}
 use Rattle.judge_object.specs.Orders.{IsLinearizable}
-use Rattle.judge_time.specs.declared.span.TheConstants.{NEVER}
+use Rattle.judge_object.specs.declared.span.TheConstants.{NEVER}
 
 module _ {O : Type 0} where
   -- a call that is running: without reply and end

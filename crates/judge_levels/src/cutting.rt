@@ -6,8 +6,7 @@ ghost use Rattle.std.specs.Option.{option_map};
 ghost use Rattle.judge_levels.specs.Relaxed.{call_of};
 ghost use Rattle.judge_levels.specs.Cut.{cut, cut_call, line_cut, numbered, running};
 
-use judge_object::Line;
-use judge_time::NEVER;
+use judge_object::{Line, NEVER};
 use std::alloc::{AllocError, Global};
 
 /// Returns the line of a call that is running: without reply and end.

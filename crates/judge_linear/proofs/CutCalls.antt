@@ -10,7 +10,7 @@ use Rattle.std.proofs.lemmas.List.{take_more, map-append}
 use Rattle.vac_model.specs.declared.limits.TheConstants.{MOST_BLOCKS}
 use Rattle.vac_model.specs.declared.tasks.Task.{Task}
 use Rattle.vac_model.specs.State.{State, empty_state}
-use Rattle.judge_time.specs.declared.span.TheConstants.{NEVER}
+use Rattle.judge_object.specs.declared.span.TheConstants.{NEVER}
 use Rattle.judge_object.specs.declared.line.Line.{Line}
 use Rattle.judge_object.specs.Call.{Call, IsBehind, EachCall, is_answered}
 use Rattle.judge_object.specs.Orders.{IsMerge}

@@ -4,13 +4,13 @@ use Rattle.std.proofs.Common.{refl, ap, sym, ◌∙◌, inl, inr, append-nil, ap
 use Rattle.std.proofs.Common.{Result, Ok}
 use Rattle.std.specs.Io.KnownBytes.{IsAtEnd}
 use Rattle.vac_lines.specs.Lines.{lines_of}
-use Rattle.vac_streams.specs.declared.fault.StreamFault.{StreamFault}
-use Rattle.vac_streams.specs.declared.next.Next.{Next}
-use Rattle.vac_streams.specs.declared.next.Next.TheVariants.{GoOn, Stop}
-use Rattle.vac_streams.specs.Told as told
-use Rattle.vac_streams.specs.Told.{Message, message_of, line_messages, lines_in}
-use Rattle.vac_streams.specs.Heard.{ReceivedAll, ReceivedLast, AreFirst, AreFirstOf, HeardAll, HeardLast, Heard}
-use Rattle.vac_streams.proofs.Telling.{lines_both}
+use Rattle.vac_lines.specs.declared.stream_fault.StreamFault.{StreamFault}
+use Rattle.vac_lines.specs.declared.next.Next.{Next}
+use Rattle.vac_lines.specs.declared.next.Next.TheVariants.{GoOn, Stop}
+use Rattle.vac_lines.specs.Told as told
+use Rattle.vac_lines.specs.Told.{Message, message_of, line_messages, lines_in}
+use Rattle.vac_lines.specs.Heard.{ReceivedAll, ReceivedLast, AreFirst, AreFirstOf, HeardAll, HeardLast, Heard}
+use Rattle.vac_lines.proofs.Telling.{lines_both}
 use Rattle.judge_calls.specs.declared.fault.CallFault.{CallFault}
 use Rattle.judge_calls.specs.declared.verdict.Verdict.{Verdict}
 use Rattle.judge_calls.specs.declared.verdict.Verdict.TheVariants.{Illegal}

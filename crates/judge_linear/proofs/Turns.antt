@@ -13,7 +13,7 @@ use Rattle.judge_calls.specs.declared.call.CallLine.{CallLine}
 use Rattle.judge_calls.specs.declared.call.Answer.{Answer}
 use Rattle.judge_calls.specs.Parts.{shown_call, shown_end, shown_reply}
 use Rattle.judge_calls.specs.Order.{call_breaks_client}
-use Rattle.judge_time.specs.declared.span.TheConstants.{NEVER}
+use Rattle.judge_object.specs.declared.span.TheConstants.{NEVER}
 use Rattle.judge_object.specs.Call.{IsBehind, EachCall}
 use Rattle.judge_object.specs.declared.line.Line.{Line}
 use Rattle.judge_linear.specs.declared.history.History.{History}

@@ -10,7 +10,7 @@ use Rattle.std.proofs.lemmas.List.Elements.{All-head, All-tail, All-nil, All-con
 use Rattle.vac_lines.specs.declared.fault.LineFault.TheVariants.{LongLine, BadByte}
 use Rattle.vac_lines.specs.Lines.{lines_of, HasNo}
 use Rattle.vac_lines.specs.LineTable.{is_bad_byte}
-use Rattle.vac_streams.proofs.Cutting.{lines_cut}
+use Rattle.vac_lines.proofs.LineCuts.{lines_cut}
 use Rattle.judge_calls.specs.declared.call.TheConstants.{CALL_BYTES}
 use Rattle.judge_calls.specs.declared.fault.CallFault.{CallFault}
 use Rattle.judge_calls.specs.declared.fault.CallFault.TheVariants.{BadCall, Line}

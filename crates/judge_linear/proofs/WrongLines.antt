@@ -13,8 +13,8 @@ use Rattle.judge_calls.specs.Call.{Call, line_call}
 use Rattle.judge_calls.specs.Order.{call_breaks_client}
 use Rattle.judge_calls.specs.Verdict.{verdict_text}
 use Rattle.judge_calls.specs.Wrongs.{CallsTakeTurns}
-use Rattle.judge_time.proofs.Order.{passes}
-use Rattle.judge_time.proofs.Tests.{turn_test, time_test, both_false, false_both}
+use Rattle.judge_object.proofs.Order.{passes}
+use Rattle.judge_object.proofs.Tests.{turn_test, time_test, both_false, false_both}
 use Rattle.judge_object.specs.Call.{IsBehind, is_answered}
 use Rattle.judge_object.specs.Orders.{of_client}
 use Rattle.judge_search.specs.Walk.{InTurn}

@@ -32,7 +32,7 @@ use Rattle.judge_search.specs.Stuck.{AreStuck}
 use Rattle.judge_linear.specs.Reading.{first_wrong, call_at}
 use Rattle.judge_linear.specs.Moments.{part_then}
 use Rattle.judge_object.specs.Call.{is_answered}
-use Rattle.judge_time.specs.declared.span.TheConstants.{NEVER}
+use Rattle.judge_object.specs.declared.span.TheConstants.{NEVER}
 
 -- the result for a history at a level: a wrong line; the numbers of the lines in an order; no
 -- order, with the largest number of completed calls that can be placed and the lines of the calls

@@ -9,9 +9,8 @@ ghost use Rattle.judge_search.specs.Calls.{calls_of};
 ghost use Rattle.judge_linear.specs.Reading.{IsHeld, IsLineOf, Took};
 
 use judge_calls::{Answer, CallLine};
-use judge_object::Line;
+use judge_object::{Ends, Line, NEVER};
 use judge_reservations::ValidTask;
-use judge_time::{Ends, NEVER};
 use std::alloc::{AllocError, Global};
 
 /// The calls that were read, in the order of their lines, and the end of the last call of each

@@ -7,7 +7,7 @@ ghost use Rattle.judge_reservations.specs.Reserving.{reserving};
 ghost use Rattle.vac_model.specs.State.{empty_state};
 ghost use Rattle.vac_lines.specs.Lines.{lines_of};
 ghost use Rattle.judge_calls.specs.Laws.{Lists};
-ghost use Rattle.vac_streams.specs.declared.fault.StreamFault.TheVariants.{Write};
+ghost use Rattle.vac_lines.specs.declared.stream_fault.StreamFault.TheVariants.{Write};
 ghost use Rattle.vac_model.specs.declared.tasks.Task.{Task};
 ghost use Rattle.judge_search.specs.Calls.{calls_of};
 ghost use Rattle.judge_search.specs.Judging.{IsFoundIn};
@@ -28,9 +28,8 @@ use judge_reservations::{Reservations, ValidTask};
 use judge_search::{Calls, Finding, Found, Point, stuck_calls};
 use std::alloc::{AllocError, Global};
 use std::io::{Read, Write};
-use vac_lines::write_and_flush;
+use vac_lines::{StreamFault, write_and_flush};
 use vac_model::limits::MOST_BLOCKS;
-use vac_streams::StreamFault;
 
 /// Largest number of steps of each search, if the command line gives none.
 pub const STEPS: u64 = 10_000_000;

@@ -9,10 +9,10 @@ ghost use Rattle.judge_search.specs.Walk.{IsWhole};
 ghost use Rattle.judge_linear.specs.Judged.{HasNoOrderOf};
 
 use crate::moments::{WrongPart, first_wrong};
+use judge_heuristic::{Names, Proposals};
 use judge_object::Watcher;
 use judge_part::{Scope, part_of_history, scope_of};
 use judge_reservations::{Reservations, ValidTask};
-use judge_scopes::{Names, Proposals};
 use judge_search::Calls;
 use std::alloc::{AllocError, Global};
 use vac_model::limits::MOST_BLOCKS;

@@ -2,17 +2,16 @@
 
 ghost use Rattle.std.specs.Prelude.{◌≡◌, ◌≢◌, Some, IfOk, IfErr};
 ghost use Rattle.judge_calls.specs.declared.verdict.Verdict.TheVariants.{Fault};
-ghost use Rattle.vac_streams.specs.declared.next.Next.TheVariants.{Stop};
-ghost use Rattle.vac_streams.specs.Told.{Line};
-ghost use Rattle.vac_streams.specs.declared.fault.StreamFault.TheVariants.{Write};
+ghost use Rattle.vac_lines.specs.declared.next.Next.TheVariants.{Stop};
+ghost use Rattle.vac_lines.specs.Told.{Line};
+ghost use Rattle.vac_lines.specs.declared.stream_fault.StreamFault.TheVariants.{Write};
 ghost use Rattle.judge_linear.specs.Reading.{WasReadAs, HistoryHearsLine, next_line};
 
 use crate::history::History;
 use judge_calls::{CALL_BYTES, CallFault, CallViolation, Verdict, read_call};
 use std::alloc::Global;
 use std::io::Read;
-use vac_lines::LineFault;
-use vac_streams::{MOST_LINES, Next, Sink, StreamFault, read_lines};
+use vac_lines::{LineFault, MOST_LINES, Next, Sink, StreamFault, read_lines};
 
 /// A text that is being read as a history: the calls so far, and the verdict on the line after
 /// them if that line is wrong.
@@ -74,7 +73,7 @@ impl HistoryText {
 }
 
 impl Sink<()> for HistoryText {
-    ghost use Rattle.vac_streams.specs.declared.reading.TheConstants.{MOST_LINES};
+    ghost use Rattle.vac_lines.specs.declared.reading.TheConstants.{MOST_LINES};
 
     ghost room = { λ _. MOST_LINES };
 

@@ -12,7 +12,7 @@ use Rattle.std.proofs.lemmas.List.Folds.{list_any-append}
 use Rattle.judge_object.specs.Call.{Call, IsBehind, EachCall}
 use Rattle.std.specs.Global.{Vec}
 use Rattle.judge_object.specs.Rules.{given_text}
-use Rattle.judge_time.specs.declared.span.TheConstants.{NEVER}
+use Rattle.judge_object.specs.declared.span.TheConstants.{NEVER}
 use Rattle.judge_object.specs.declared.line.Line.{Line}
 use Rattle.judge_search.specs.Walk.{InTurn, IsTimed, IsWhole}
 use Rattle.judge_search.specs.Calls.{call_of, calls_of}

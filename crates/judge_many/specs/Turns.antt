@@ -3,7 +3,7 @@ use Rattle.std.specs.Prelude.{◌≡◌, ◌≢◌, ◌<◌, ◌&&◌, ◌==◌,
 use Rattle.std.specs.List.{list_any}
 use Rattle.std.specs.Ordering.{nat_cmp}
 use Rattle.std.specs.FinMap.{FinMap, get}
-use Rattle.judge_time.specs.Order as spans
+use Rattle.judge_object.specs.Order as spans
 use Rattle.judge_object.specs.Call.{Call, span_of, EachCall}
 use Rattle.judge_search.specs.Walk.{IsWhole}
 use Rattle.judge_many.specs.declared.turns.Standing.{Standing}

@@ -6,8 +6,7 @@ ghost use Rattle.judge_object.specs.Call.{Call};
 ghost use Rattle.judge_search.specs.Calls.{call_of, calls_of};
 ghost use Rattle.judge_many.specs.Turns.{KeepsEnds, KnowsClients, KnowsEnds, Stands, AreTurns};
 
-use judge_object::Line;
-use judge_time::Ends;
+use judge_object::{Ends, Line};
 use std::alloc::{AllocError, Global};
 
 /// How a call stands after those of its client.

@@ -1,6 +1,6 @@
 -- A call of a client.
 use Rattle.std.specs.Prelude.{◌≡◌, ◌≤◌, ⊤, ℕ, Bool, Option, is_some, List, [], ◌∷◌}
-use Rattle.judge_time.specs.declared.span.Span.{Span}
+use Rattle.judge_object.specs.declared.span.Span.{Span}
 
 -- a call of a client: readings of the clock before the call began and after it returned, its
 -- operation and the text of its reply. A pending call ends later than all readings and has no reply

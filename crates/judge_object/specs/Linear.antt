@@ -2,7 +2,7 @@
 -- the calls (Herlihy and Wing, TOPLAS 1990). A pending call ends later than all times, and takes
 -- effect at its position in the order.
 use Rattle.std.specs.Prelude.{⊤, ℕ, List, [], ◌∷◌}
-use Rattle.judge_time.specs.Laws as spans
+use Rattle.judge_object.specs.Laws as spans
 use Rattle.judge_object.specs.Rules.{Rules, IsAnswerOf}
 use Rattle.judge_object.specs.Call.{Call, span_of}
 

@@ -1,7 +1,7 @@
 //! A line of a history, as a search keeps it.
 
 ghost use Rattle.std.specs.Prelude.{◌≡◌, nat_lt, is_some};
-ghost use Rattle.judge_time.specs.declared.span.TheConstants.{NEVER};
+ghost use Rattle.judge_object.specs.declared.span.TheConstants.{NEVER};
 
 /// A call of a client, with the line of the history that holds it.
 #[derive(Drop)]

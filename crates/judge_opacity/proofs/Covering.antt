@@ -3,7 +3,7 @@ use Rattle.std.proofs.Common.{◌≡◌, ◌≢◌, ℕ, ◌<◌, ◌==◌, arit
 use Rattle.std.proofs.Common.{refl, sym, ap, ◌∙◌, subst, get_or, slice_set}
 use Rattle.std.proofs.Math.Path.{fun_ext}
 use Rattle.std.proofs.lemmas.List.{set-get_or, get_or-set_same, get_or-set_other, set-set, length-set}
-use Rattle.judge_time.proofs.Tests.{test}
+use Rattle.judge_object.proofs.Tests.{test}
 use Rattle.judge_opacity.specs.declared.attempt.Access.{Access}
 use Rattle.judge_opacity.specs.declared.attempt.Access.TheVariants.{Read, Write}
 use Rattle.judge_opacity.specs.declared.finding.AttemptViolation.TheVariants as violation

@@ -5,11 +5,11 @@ use Rattle.std.proofs.Common.{None}
 use Rattle.std.proofs.Common.{refl, sym, ap, ◌∙◌, subst, inl, inr, ◌⊎◌, append_assoc, append-nil, nat_lt}
 use Rattle.std.specs.List.{list_any, AllByRecursion}
 use mathlib.Core.List.{reverse_aux}
-use Rattle.judge_time.specs.declared.span.Misplaced.{Misplaced}
-use Rattle.judge_time.specs.declared.span.Misplaced.TheVariants.{Client, Time}
-use Rattle.judge_time.specs.Order.{overlaps, ended_before, breaks_client, breaks_time, misplaced}
-use Rattle.judge_time.proofs.Tests.{both_false, false_both}
-use Rattle.judge_time.proofs.Order.{none_found, fails}
+use Rattle.judge_object.specs.declared.span.Misplaced.{Misplaced}
+use Rattle.judge_object.specs.declared.span.Misplaced.TheVariants.{Client, Time}
+use Rattle.judge_object.specs.Order.{overlaps, ended_before, breaks_client, breaks_time, misplaced}
+use Rattle.judge_object.proofs.Tests.{both_false, false_both}
+use Rattle.judge_object.proofs.Order.{none_found, fails}
 use Rattle.judge_opacity.specs.declared.attempt.Access.{Access}
 use Rattle.judge_opacity.specs.declared.attempt.Access.TheVariants.{Read, Write}
 use Rattle.judge_opacity.specs.declared.finding.AttemptViolation.{AttemptViolation}

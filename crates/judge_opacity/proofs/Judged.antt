@@ -3,10 +3,10 @@ use Rattle.std.proofs.Common.{◌≡◌, ℕ, ◌+◌, cond, List, ◌∷◌, le
 use Rattle.std.proofs.Common.{ap, ◌∙◌}
 use Rattle.std.proofs.lemmas.List.{length-map}
 use Rattle.vac_lines.specs.declared.fault.LineFault.{LineFault}
-use Rattle.judge_time.specs.declared.span.Misplaced.{Misplaced}
-use Rattle.judge_time.specs.Order.{itself, misplaced}
-use Rattle.judge_time.specs.Keeping.{Keeps}
-use Rattle.judge_time.proofs.Order.{misplaced_mapped}
+use Rattle.judge_object.specs.declared.span.Misplaced.{Misplaced}
+use Rattle.judge_object.specs.Order.{itself, misplaced}
+use Rattle.judge_object.specs.Keeping.{Keeps}
+use Rattle.judge_object.proofs.Order.{misplaced_mapped}
 use Rattle.judge_opacity.specs.declared.finding.AttemptViolation.{AttemptViolation}
 use Rattle.judge_opacity.specs.declared.finding.AttemptViolation.TheVariants as violation
 use Rattle.judge_opacity.specs.declared.finding.Finding.TheVariants.{Fault, Illegal}

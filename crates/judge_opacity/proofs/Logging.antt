@@ -6,7 +6,7 @@ use Rattle.std.proofs.lemmas.List.{map-append, length-map}
 use Rattle.std.proofs.lemmas.List.Elements.{All-push}
 use Rattle.vac_lines.specs.declared.fault.LineFault.{LineFault}
 use Rattle.vac_lines.specs.Lines.{lines_of}
-use Rattle.vac_streams.proofs.Cutting.{HasNoEnd, lines_cut, lines_last}
+use Rattle.vac_lines.proofs.LineCuts.{HasNoEnd, lines_cut, lines_last}
 use Rattle.judge_opacity.specs.declared.logged.Logged.{Logged}
 use Rattle.judge_opacity.specs.Attempt.{Attempt, line_attempt}
 use Rattle.judge_opacity.specs.Parts.{AllAmong}

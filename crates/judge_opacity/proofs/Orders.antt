@@ -2,11 +2,11 @@
 use Rattle.std.proofs.Common.{◌≡◌, ◌⊎◌, true, false, cond, List, [], ◌∷◌, ◌++◌, Option, Some, None, refl, sym, ap, ◌∙◌}
 use Rattle.std.proofs.Common.{subst, inl, inr, append_assoc, append-nil}
 use mathlib.Core.List.{reverse_aux}
-use Rattle.judge_time.specs.declared.span.Misplaced.{Misplaced}
-use Rattle.judge_time.specs.Order.{misplaced}
-use Rattle.judge_time.specs.Laws.{TakeTurns, KeepPrecedence}
-use Rattle.judge_time.proofs.Order.{goes_on, last_placed, front_turns, front_precedence, turns_none, precedence_none}
-use Rattle.judge_time.proofs.Order.{cause_of, of_cause}
+use Rattle.judge_object.specs.declared.span.Misplaced.{Misplaced}
+use Rattle.judge_object.specs.Order.{misplaced}
+use Rattle.judge_object.specs.Laws.{TakeTurns, KeepPrecedence}
+use Rattle.judge_object.proofs.Order.{goes_on, last_placed, front_turns, front_precedence, turns_none, precedence_none}
+use Rattle.judge_object.proofs.Order.{cause_of, of_cause}
 use Rattle.judge_opacity.specs.declared.finding.AttemptViolation.{AttemptViolation}
 use Rattle.judge_opacity.specs.declared.finding.AttemptViolation.TheVariants as violation
 use Rattle.judge_opacity.specs.Attempt.{Attempt, span_of_attempt}

@@ -8,7 +8,7 @@ use Rattle.vac_lines.specs.declared.fault.LineFault.{LineFault}
 use Rattle.vac_lines.specs.Lines.{words_of, HasNo}
 use Rattle.vac_lines.specs.LineTable.{◌>>=◌}
 use Rattle.judge_opacity.specs.declared.attempt.Access.{Access}
-use Rattle.judge_time.specs.declared.span.Span.{Span}
+use Rattle.judge_object.specs.declared.span.Span.{Span}
 use Rattle.judge_opacity.specs.declared.attempt.Head.{Head}
 use Rattle.judge_opacity.specs.Attempt.{Attempt, at_attempt_client, at_memory_word, at_outcome, accesses_of}
 use Rattle.judge_opacity.specs.Attempt.{onto_accesses}

@@ -11,11 +11,11 @@ use Rattle.std.proofs.lemmas.List.{map-append, reverse-reverse}
 use Rattle.std.proofs.lemmas.List.Elements.{All-append, All-take, All-drop}
 use Rattle.std.proofs.lemmas.List.Sums.{sum_by-cons}
 use Rattle.std.proofs.lemmas.Bool.Decides.{nat_tests}
-use Rattle.judge_time.specs.declared.span.Span.{Span}
-use Rattle.judge_time.specs.declared.span.Misplaced.{Misplaced}
-use Rattle.judge_time.specs.Keeping.{Keeps}
-use Rattle.judge_time.specs.Order.{itself, misplaced}
-use Rattle.judge_time.proofs.Order.{misplaced_mapped}
+use Rattle.judge_object.specs.declared.span.Span.{Span}
+use Rattle.judge_object.specs.declared.span.Misplaced.{Misplaced}
+use Rattle.judge_object.specs.Keeping.{Keeps}
+use Rattle.judge_object.specs.Order.{itself, misplaced}
+use Rattle.judge_object.proofs.Order.{misplaced_mapped}
 use Rattle.judge_opacity.specs.declared.finding.AttemptViolation.{AttemptViolation}
 use Rattle.judge_opacity.specs.declared.finding.AttemptViolation.TheVariants as violation
 use Rattle.judge_opacity.specs.declared.finding.Counts.{Counts}

@@ -7,12 +7,12 @@ use Rattle.std.proofs.KnownBytes.{Consumes-whole}
 use Rattle.vac_lines.specs.declared.fault.LineFault.{LineFault}
 use Rattle.vac_lines.specs.declared.fault.LineFault.TheVariants as fault
 use Rattle.vac_lines.specs.Lines.{lines_of}
-use Rattle.vac_streams.specs.declared.fault.StreamFault.{StreamFault}
-use Rattle.vac_streams.specs.declared.next.Next.{Next}
-use Rattle.vac_streams.specs.declared.next.Next.TheVariants.{GoOn, Stop}
-use Rattle.vac_streams.specs.Told.{Message, Line, LongLine, Pause, message_of, line_messages, lines_in}
-use Rattle.vac_streams.specs.Heard.{ReceivedAll, ReceivedLast, AreFirst, AreFirstOf, HeardAll, HeardLast, Heard}
-use Rattle.vac_streams.proofs.Telling.{lines_both}
+use Rattle.vac_lines.specs.declared.stream_fault.StreamFault.{StreamFault}
+use Rattle.vac_lines.specs.declared.next.Next.{Next}
+use Rattle.vac_lines.specs.declared.next.Next.TheVariants.{GoOn, Stop}
+use Rattle.vac_lines.specs.Told.{Message, Line, LongLine, Pause, message_of, line_messages, lines_in}
+use Rattle.vac_lines.specs.Heard.{ReceivedAll, ReceivedLast, AreFirst, AreFirstOf, HeardAll, HeardLast, Heard}
+use Rattle.vac_lines.proofs.Telling.{lines_both}
 use Rattle.judge_opacity.specs.declared.finding.Counts.{Counts}
 use Rattle.judge_opacity.specs.declared.finding.Finding.{Finding}
 use Rattle.judge_opacity.specs.declared.finding.Finding.TheVariants.{Opaque}

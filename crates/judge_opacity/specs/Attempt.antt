@@ -9,8 +9,8 @@ use Rattle.vac_lines.specs.declared.fault.LineFault.TheVariants as fault
 use Rattle.vac_lines.specs.Lines.{words_of}
 use Rattle.vac_lines.specs.Words.{memory_word_of}
 use Rattle.vac_lines.specs.LineTable.{◌>>=◌, is_bad_byte}
-use Rattle.judge_time.specs.declared.span.Span.{Span}
-use Rattle.judge_clients.specs.Client.{client_number}
+use Rattle.judge_object.specs.declared.span.Span.{Span}
+use Rattle.vac_lines.specs.Client.{client_number}
 use Rattle.judge_opacity.specs.declared.attempt.Access.{Access}
 use Rattle.judge_opacity.specs.declared.attempt.Access.TheVariants.{Read, Write}
 use Rattle.judge_opacity.specs.declared.attempt.TheConstants.{ATTEMPT_BYTES}

@@ -1,7 +1,7 @@
 -- The effect of a line on a judge of attempts.
 use Rattle.std.specs.Prelude.{◌≡◌, ℕ, Option, None, Result, List, ◌∷◌, map, length}
 use Rattle.vac_lines.specs.declared.fault.LineFault.{LineFault}
-use Rattle.judge_time.specs.Keeping.{Keeps}
+use Rattle.judge_object.specs.Keeping.{Keeps}
 use Rattle.judge_opacity.specs.declared.finding.AttemptViolation.{AttemptViolation}
 use Rattle.judge_opacity.specs.declared.finding.Finding.{Finding}
 use Rattle.judge_opacity.specs.declared.judge.Judge.{Judge}

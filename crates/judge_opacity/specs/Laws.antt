@@ -3,7 +3,7 @@
 -- committed or not, is legal, and the order keeps the order of each client and the order of time.
 use Rattle.std.specs.Prelude.{◌≡◌, ◌≢◌, ◌↔◌, ⊤, ◌⊎◌, ℕ, Ok, List, [], ◌∷◌, ◌++◌, map, true, reverse, if◌then◌else◌}
 use Rattle.vac_lines.specs.Lines.{lines_of}
-use Rattle.judge_time.specs.Laws.{TakeTurns, KeepPrecedence}
+use Rattle.judge_object.specs.Laws.{TakeTurns, KeepPrecedence}
 use Rattle.judge_opacity.specs.declared.attempt.Access.{Access}
 use Rattle.judge_opacity.specs.declared.attempt.Access.TheVariants.{Read, Write}
 use Rattle.judge_opacity.specs.declared.finding.Finding.TheVariants.{Opaque}

@@ -3,8 +3,8 @@ use Rattle.std.specs.Prelude.{◌≡◌, ℕ, ◌+◌, ◌==◌, ◌&&◌, Bool,
 use Rattle.std.specs.List.{count_by}
 use Rattle.vac_lines.specs.declared.fault.LineFault.{LineFault}
 use Rattle.vac_lines.specs.Lines.{lines_of}
-use Rattle.judge_time.specs.declared.span.Span.{Span}
-use Rattle.judge_time.specs.Order.{itself, overlaps, ended_before}
+use Rattle.judge_object.specs.declared.span.Span.{Span}
+use Rattle.judge_object.specs.Order.{itself, overlaps, ended_before}
 use Rattle.judge_opacity.specs.declared.finding.Counts.{Counts}
 use Rattle.judge_opacity.specs.declared.judge.Judge.{Judge}
 use Rattle.judge_opacity.specs.declared.logged.Logged.{Logged}

@@ -4,7 +4,7 @@ use Rattle.std.specs.Borrow.{Bor}
 use Rattle.vac_lines.specs.declared.fault.LineFault.{LineFault}
 use Rattle.vac_lines.specs.Lines.{words_of}
 use Rattle.vac_lines.specs.LineTable.{◌>>=◌}
-use Rattle.judge_time.specs.declared.span.Span.{Span}
+use Rattle.judge_object.specs.declared.span.Span.{Span}
 use Rattle.judge_opacity.specs.declared.attempt.Access.{Access}
 use Rattle.judge_opacity.specs.declared.attempt.Access.TheVariants.{Read, Write}
 use Rattle.judge_opacity.specs.declared.attempt.Head.{Head}

@@ -2,7 +2,7 @@
 -- aborted or only reads, and may stand anywhere in the list: its place is searched for.
 use Rattle.std.specs.Prelude.{◌≡◌, ⊤, ℕ, ◌&&◌, Bool, true, false, not, ◌||◌, None, List, [], ◌∷◌, ◌++◌, IsPermutation, if◌then◌else◌}
 use Rattle.std.specs.List.{list_any}
-use Rattle.judge_time.specs.Order.{overlaps, ended_before}
+use Rattle.judge_object.specs.Order.{overlaps, ended_before}
 use Rattle.judge_opacity.specs.declared.attempt.Access.{Access}
 use Rattle.judge_opacity.specs.declared.attempt.Access.TheVariants.{Read, Write}
 use Rattle.judge_opacity.specs.Attempt.{Attempt, span_of_attempt}

@@ -5,9 +5,9 @@ use Rattle.vac_lines.specs.declared.fault.LineFault.{LineFault}
 use Rattle.vac_lines.specs.Lines.{lines_of}
 use Rattle.vac_lines.specs.Text.{fault_text, field_text}
 use Rattle.vac_lines.specs.Script.{as_line}
-use Rattle.judge_time.specs.declared.span.Misplaced.{Misplaced}
-use Rattle.judge_time.specs.declared.span.Misplaced.TheVariants.{Client, Time}
-use Rattle.judge_time.specs.Order.{misplaced, clients_of}
+use Rattle.judge_object.specs.declared.span.Misplaced.{Misplaced}
+use Rattle.judge_object.specs.declared.span.Misplaced.TheVariants.{Client, Time}
+use Rattle.judge_object.specs.Order.{misplaced, clients_of}
 use Rattle.judge_opacity.specs.declared.finding.AttemptViolation.{AttemptViolation}
 use Rattle.judge_opacity.specs.declared.finding.AttemptViolation.TheVariants as violation
 use Rattle.judge_opacity.specs.declared.finding.Counts.{Counts}

@@ -4,7 +4,7 @@
 use Rattle.std.specs.Prelude.{◌≡◌, ◌≢◌, ◌↔◌, ℕ, ◌+◌, Ok, Err, Result, List, [], ◌∷◌, ◌++◌, map, length}
 use Rattle.vac_lines.specs.declared.fault.LineFault.{LineFault}
 use Rattle.vac_lines.specs.Lines.{lines_of}
-use Rattle.judge_time.specs.Laws.{TakeTurns, KeepPrecedence, IsMisplaced}
+use Rattle.judge_object.specs.Laws.{TakeTurns, KeepPrecedence, IsMisplaced}
 use Rattle.judge_opacity.specs.declared.attempt.Access.{Access}
 use Rattle.judge_opacity.specs.declared.attempt.Access.TheVariants.{Read}
 use Rattle.judge_opacity.specs.declared.finding.AttemptViolation.{AttemptViolation}

@@ -8,7 +8,7 @@ ghost use Rattle.judge_opacity.specs.Parts.{words_left, AllAmong, attempt_of, wi
 use crate::accesses::read_accesses;
 use crate::numbers::{client_at, number_at, outcome_at};
 use crate::words::take_word;
-use judge_time::Span;
+use judge_object::Span;
 use std::alloc::AllocError;
 use vac_lines::{LineFault, has_bad_byte};
 

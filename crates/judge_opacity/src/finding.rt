@@ -5,7 +5,7 @@ ghost use Rattle.vac_lines.specs.Text.{Extends};
 ghost use Rattle.judge_opacity.specs.Verdict.{read_text, finding_text};
 ghost use Rattle.judge_opacity.specs.Verdict.{is_opaque};
 
-use judge_time::Misplaced;
+use judge_object::Misplaced;
 use std::alloc::AllocError;
 use vac_lines::{LineFault, append_field, keep_whole, print_fault};
 

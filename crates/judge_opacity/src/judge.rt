@@ -1,7 +1,7 @@
 //! Judging one attempt after another.
 
 ghost use Rattle.std.specs.Prelude.{◌≡◌, ◌≢◌, ℕ, ◌+◌, ◌<◌, ◌^◌, ◌∷◌, length, IfOk, OnOk, IfErr, MatchOption, None, is_none, List, [], if◌then◌else◌, Err};
-ghost use Rattle.vac_streams.specs.declared.fault.StreamFault.TheVariants.{Write};
+ghost use Rattle.vac_lines.specs.declared.stream_fault.StreamFault.TheVariants.{Write};
 ghost use Rattle.judge_opacity.specs.Attempt.{Attempt, text_attempt};
 ghost use Rattle.judge_opacity.specs.Parts.{AllAmong, attempt_of};
 ghost use Rattle.judge_opacity.specs.Verdict.{counts_of, violation_of};
@@ -11,10 +11,9 @@ ghost use Rattle.judge_opacity.specs.Judging.{FollowsAttempts, JudgesAttempt, Ta
 use crate::attempt::{Access, Head, read_attempt};
 use crate::finding::{AttemptViolation, Counts, Finding};
 use crate::memory::Memory;
-use judge_time::Spans;
+use judge_object::Spans;
 use std::alloc::{AllocError, Global};
-use vac_lines::LineFault;
-use vac_streams::StreamFault;
+use vac_lines::{LineFault, StreamFault};
 
 /// A judge of attempts that are given line by line: the words that the committed attempts leave,
 /// and the data by which the position of the next attempt is judged.

@@ -3,8 +3,7 @@
 ghost use Rattle.std.specs.Prelude.{◌≡◌, ◌<◌, IfOk};
 ghost use Rattle.judge_opacity.specs.Attempt.{at_attempt_client, at_memory_word, at_word, first_of_two, at_outcome, at_access_kind};
 
-use judge_clients::read_client;
-use vac_lines::{LineFault, read_memory_word};
+use vac_lines::{LineFault, read_client, read_memory_word};
 
 /// Reads a word as the number of a client.
 pub(crate) fn client_at(word: &[u8]) -> Result<u32, LineFault>

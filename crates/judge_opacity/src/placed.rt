@@ -1,7 +1,7 @@
 //! The verdict on attempts of which only the committed writers have places, and its text.
 
 ghost use Rattle.std.specs.Prelude.{◌≡◌, ◌≢◌, ◌++◌, IfOk, OnOk, IfErr, OnErr};
-ghost use Rattle.vac_streams.specs.declared.fault.StreamFault.TheVariants.{Write};
+ghost use Rattle.vac_lines.specs.declared.stream_fault.StreamFault.TheVariants.{Write};
 ghost use Rattle.judge_opacity.specs.Placed as spec;
 ghost use Rattle.judge_opacity.specs.Placed.{IsPlacedText, placed_text, IsReadWhole, HasPlaced, HasStoppedPlacing};
 
@@ -11,8 +11,7 @@ use crate::log_reading::{Log, read_log};
 use crate::placing::place_all;
 use std::alloc::{AllocError, Global};
 use std::io::{ErrorKind, Read, Write};
-use vac_lines::{LineFault, write_and_flush};
-use vac_streams::StreamFault;
+use vac_lines::{LineFault, StreamFault, write_and_flush};
 
 /// The verdict on a text of attempts of which only the committed writers have places. Lines are
 /// numbered from 1.

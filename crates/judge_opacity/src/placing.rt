@@ -6,7 +6,7 @@
 //! spoils the place of another attempt.
 
 ghost use Rattle.std.specs.Prelude.{◌≡◌, ◌≢◌, ◌<◌, ◌==◌, ◌∷◌, ℕ, true, false, None, All, List, [], length, remove, slice_index_or, IfOk, OnOk, IfErr, IfSome, MatchOption};
-ghost use Rattle.vac_streams.specs.declared.fault.StreamFault.TheVariants.{Write};
+ghost use Rattle.vac_lines.specs.declared.stream_fault.StreamFault.TheVariants.{Write};
 ghost use Rattle.judge_opacity.specs.Attempt.{Attempt};
 ghost use Rattle.judge_opacity.specs.Parts.{AllAmong};
 ghost use Rattle.judge_opacity.specs.Verdict.{violation_of};
@@ -19,9 +19,9 @@ ghost use Rattle.judge_opacity.specs.Logs.{attempts_in, AreAmong, IsFreeAt, IsFi
 use crate::finding::Counts;
 use crate::judge::Judge;
 use crate::logged::Logged;
-use judge_time::Span;
+use judge_object::Span;
 use std::alloc::AllocError;
-use vac_streams::StreamFault;
+use vac_lines::StreamFault;
 
 /// Returns whether an attempt may stand behind a first one, by their clients and times.
 fn spans_follow(first: &Span, later: &Span) -> bool

@@ -1,7 +1,7 @@
 //! Reading a text of attempts, and writing the verdict on it.
 
 ghost use Rattle.std.specs.Prelude.{◌≢◌, IfOk, IfErr};
-ghost use Rattle.vac_streams.specs.declared.fault.StreamFault.TheVariants.{Write};
+ghost use Rattle.vac_lines.specs.declared.stream_fault.StreamFault.TheVariants.{Write};
 ghost use Rattle.judge_opacity.specs.Reading.{HasFinding, HasJudgedAttempts, HasStoppedOnAttempts};
 
 use crate::attempt::ATTEMPT_BYTES;
@@ -9,8 +9,7 @@ use crate::finding::{Finding, is_opaque, print_finding};
 use crate::judge::Judge;
 use std::alloc::{AllocError, Global};
 use std::io::{Read, Write};
-use vac_lines::write_and_flush;
-use vac_streams::{Next, Sink, StreamFault, read_lines};
+use vac_lines::{Next, Sink, StreamFault, read_lines, write_and_flush};
 
 /// A text of attempts that is being read.
 #[derive(Drop)]
@@ -21,7 +20,7 @@ struct Attempts {
 }
 
 impl Sink<()> for Attempts {
-    ghost use Rattle.vac_streams.specs.declared.reading.TheConstants.{MOST_LINES};
+    ghost use Rattle.vac_lines.specs.declared.reading.TheConstants.{MOST_LINES};
     ghost use Rattle.judge_opacity.specs.Hearing.{AttemptsHear};
 
     ghost room = { λ _. MOST_LINES };

@@ -9,9 +9,8 @@ ghost use Rattle.judge_part.specs.Lines as spec;
 
 use crate::calls::fits;
 use crate::scope::Scope;
-use judge_object::Line;
+use judge_object::{Line, NEVER};
 use judge_reservations::ValidTask;
-use judge_time::NEVER;
 use std::alloc::{AllocError, Global};
 use vac_model::Kind;
 

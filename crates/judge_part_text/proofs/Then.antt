@@ -6,7 +6,7 @@ use Rattle.std.specs.List.{list_all, position, cons_option}
 use Rattle.vac_model.proofs.Ids.{both_true}
 use Rattle.vac_model.specs.declared.tasks.Task.{Task}
 use Rattle.vac_model.specs.State.{Place}
-use Rattle.judge_time.specs.declared.span.TheConstants.{NEVER}
+use Rattle.judge_object.specs.declared.span.TheConstants.{NEVER}
 use Rattle.judge_object.specs.declared.line.Line.{Line}
 use Rattle.judge_levels.specs.Cut.{cut, cut_call}
 use Rattle.judge_calls.specs.Call.{Call}

@@ -5,7 +5,7 @@ use Rattle.vac_model.specs.declared.items.Kind.{Kind}
 use Rattle.vac_model.specs.declared.limits.TheConstants.{MOST_ID}
 use Rattle.vac_model.specs.State.{Place}
 use Rattle.vac_lines.specs.Words as words
-use Rattle.judge_scopes.specs.declared.proposals.Names.{Names}
+use Rattle.judge_heuristic.specs.declared.proposals.Names.{Names}
 use Rattle.judge_part_text.specs.declared.naming.TheConstants.{MOST_NAMES, ID_DIGITS}
 
 -- some customers and some items

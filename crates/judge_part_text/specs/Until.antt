@@ -8,9 +8,9 @@ use Rattle.std.specs.Io.KnownBytes.{Appends}
 use Rattle.vac_model.specs.State.{Place}
 use Rattle.vac_lines.specs.Script.{as_line}
 use Rattle.vac_lines.specs.Writing.{AppendsPrefix}
-use Rattle.vac_streams.specs.declared.fault.StreamFault.{StreamFault}
-use Rattle.vac_streams.specs.declared.fault.StreamFault.TheVariants as fault
-use Rattle.judge_time.specs.declared.span.TheConstants.{NEVER}
+use Rattle.vac_lines.specs.declared.stream_fault.StreamFault.{StreamFault}
+use Rattle.vac_lines.specs.declared.stream_fault.StreamFault.TheVariants as fault
+use Rattle.judge_object.specs.declared.span.TheConstants.{NEVER}
 use Rattle.judge_object.specs.Call.{is_answered}
 use Rattle.judge_levels.specs.Cut.{cut, cut_call}
 use Rattle.judge_calls.specs.Call.{Call}

@@ -12,15 +12,13 @@ ghost use Rattle.judge_part_text.specs.Parting.{HasStoppedParting};
 use crate::printing::print_calls;
 use crate::reading::{Reading, read_history};
 use judge_calls::{Verdict, print_verdict, read_all};
-use judge_object::Line;
+use judge_heuristic::Names;
+use judge_object::{Line, NEVER};
 use judge_part::{Scope, fits, part_of_history, scope_of};
 use judge_reservations::ValidTask;
-use judge_scopes::Names;
-use judge_time::NEVER;
 use std::alloc::{AllocError, Global};
 use std::io::{Read, Write};
-use vac_lines::{append_field, write_and_flush};
-use vac_streams::StreamFault;
+use vac_lines::{StreamFault, append_field, write_and_flush};
 
 /// Returns the scope of some names on which no item is closed and no customer is whole.
 pub(crate) fn open_scope(alloc: Global, names: &Names) -> Result<Scope, AllocError>

@@ -9,9 +9,8 @@ ghost use Rattle.judge_part.specs.Lines.{call_of};
 ghost use Rattle.judge_part_text.specs.Reading.{IsReadLine, IsReadingOf};
 
 use judge_calls::{Answer, CallFault, CallLine, read_call};
-use judge_object::Line;
+use judge_object::{Line, NEVER};
 use judge_reservations::ValidTask;
-use judge_time::NEVER;
 use std::alloc::{AllocError, Global};
 use vac_lines::{LineFault, cut_at};
 

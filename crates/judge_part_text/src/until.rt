@@ -2,7 +2,7 @@
 
 ghost use Rattle.std.specs.Prelude.{◌≡◌, ◌<◌, ◌++◌, not, IfOk, IfErr, IfSome, MatchOption, OnOk};
 ghost use Rattle.std.specs.List.{position};
-ghost use Rattle.judge_time.specs.declared.span.TheConstants.{NEVER};
+ghost use Rattle.judge_object.specs.declared.span.TheConstants.{NEVER};
 ghost use Rattle.judge_levels.specs.Cut.{running};
 ghost use Rattle.judge_part.specs.Largest.{HasNoScope};
 ghost use Rattle.judge_part.specs.Lines as spec;
@@ -16,16 +16,14 @@ use crate::parting::{has_part, open_scope, print_no_part};
 use crate::printing::print_calls;
 use crate::reading::{Reading, read_history};
 use judge_calls::{Verdict, print_verdict, read_all};
+use judge_heuristic::Names;
 use judge_levels::cut_lines;
-use judge_object::Line;
+use judge_object::{Line, NEVER};
 use judge_part::{Scope, fits, part_of_history, scope_of};
 use judge_reservations::ValidTask;
-use judge_scopes::Names;
-use judge_time::NEVER;
 use std::alloc::{AllocError, Global};
 use std::io::{Read, Write};
-use vac_lines::{append_field, write_and_flush};
-use vac_streams::StreamFault;
+use vac_lines::{StreamFault, append_field, write_and_flush};
 
 /// Returns END of the call of the line with this number, counted from 1, if there is such a line
 /// and its call is completed.

@@ -5,7 +5,7 @@ use Rattle.std.proofs.Common.{arith, nat_lt, drop-cons}
 use Rattle.std.specs.List.{Contains, list_any}
 use Rattle.std.proofs.lemmas.Bool.Decides.{nat_tests}
 use Rattle.judge_object.specs.Call.{Call}
-use Rattle.judge_time.proofs.Tests.{both_false}
+use Rattle.judge_object.proofs.Tests.{both_false}
 use Rattle.judge_object.specs.Orders.{of_client}
 use Rattle.judge_search.specs.Configurations.{IsFirst, MayBegin, without_next}
 use Rattle.judge_search.specs.Walk.{AreChoices, AreApart}

@@ -6,8 +6,7 @@ ghost use Rattle.judge_search.specs.Walk.{InTurn};
 ghost use Rattle.judge_search.specs.Calls.{calls_of, are_sorted, soonest_of};
 ghost use Rattle.judge_search.specs.Sorting.{AreSortOf};
 
-use judge_object::Line;
-use judge_time::NEVER;
+use judge_object::{Line, NEVER};
 use std::alloc::AllocError;
 
 /// Returns the lesser of two times if the first counts, and otherwise the second.

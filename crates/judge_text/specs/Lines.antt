@@ -4,9 +4,9 @@ use Rattle.std.specs.Prelude.{ℕ, ◌-◌, Option, Some, None, Result, Ok, Err,
 use Rattle.std.specs.Str.{bytes_eq}
 use Rattle.vac_lines.specs.Lines.{words_of}
 use Rattle.vac_lines.specs.Words.{memory_word_of}
-use Rattle.judge_clients.specs.Client.{client_number}
-use Rattle.judge_time.specs.declared.span.Span.{Span}
-use Rattle.judge_time.specs.declared.span.TheConstants.{NEVER}
+use Rattle.vac_lines.specs.Client.{client_number}
+use Rattle.judge_object.specs.declared.span.Span.{Span}
+use Rattle.judge_object.specs.declared.span.TheConstants.{NEVER}
 use Rattle.judge_object.specs.Call.{Call}
 use Rattle.judge_object.specs.Rules.{Rules}
 use Rattle.judge_text.specs.Language.{Language}

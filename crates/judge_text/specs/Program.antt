@@ -3,8 +3,8 @@ use Rattle.std.specs.Prelude.{◌≡◌, ◌⊎◌, ℕ, Option, List, [], codes
 use Rattle.std.specs.Io.KnownBytes.{Appends, Consumes, IsAtEnd}
 use Rattle.vac_lines.specs.Script.{as_line}
 use Rattle.vac_lines.specs.Writing.{AppendsPrefix}
-use Rattle.vac_streams.specs.declared.fault.StreamFault.{StreamFault}
-use Rattle.vac_streams.specs.declared.fault.StreamFault.TheVariants as fault
+use Rattle.vac_lines.specs.declared.stream_fault.StreamFault.{StreamFault}
+use Rattle.vac_lines.specs.declared.stream_fault.StreamFault.TheVariants as fault
 use Rattle.judge_object.specs.Rules.{Rules}
 use Rattle.judge_object.specs.Call.{Call}
 use Rattle.judge_text.specs.declared.judging.TextVerdict.{TextVerdict}

@@ -9,8 +9,7 @@ ghost use Rattle.judge_object.specs.Rules.{given_text};
 use crate::fault::CallFault;
 use crate::worded::TextObject;
 use crate::words::{is_word, read_reply, read_span, split_words};
-use judge_object::{Line, Object};
-use judge_time::{NEVER, Span};
+use judge_object::{Line, NEVER, Object, Span};
 use std::alloc::{AllocError, Global};
 
 /// Returns the text of a reply, if there is one.

@@ -12,8 +12,7 @@ use crate::worded::TextObject;
 use judge_many::Starts;
 use std::alloc::{AllocError, Global};
 use std::io::{ErrorKind, Read, Write};
-use vac_lines::{CHUNK_BYTES, MOST_READS, write_and_flush};
-use vac_streams::StreamFault;
+use vac_lines::{CHUNK_BYTES, MOST_READS, StreamFault, write_and_flush};
 
 /// Most steps that [`judge_input`] lets the search make.
 pub const STEPS: u64 = 10_000_000;

@@ -6,10 +6,9 @@ ghost use Rattle.vac_lines.specs.Lines.{words_of, texts};
 ghost use Rattle.judge_text.specs.Lines.{end_number, words_span, word_reply};
 
 use crate::worded::TextObject;
-use judge_clients::read_client;
-use judge_time::{NEVER, Span};
+use judge_object::{NEVER, Span};
 use std::alloc::{AllocError, Global};
-use vac_lines::{cut_at, read_memory_word};
+use vac_lines::{cut_at, read_client, read_memory_word};
 
 /// Number of words for which a line's cutting takes memory at first.
 const FIRST_WORDS: usize = 8;

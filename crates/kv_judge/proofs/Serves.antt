@@ -1,8 +1,8 @@
 -- Lemmas on the steps of the program: opening the start file, judging, ending by a fault.
 use Rattle.std.proofs.Common.{◌≡◌, ◌∙◌, ℕ, List, Option, None, subst, inl, inr}
 use Rattle.vac_lines.specs.Writing.{AppendsPrefix}
-use Rattle.vac_streams.specs.declared.fault.StreamFault.{StreamFault}
-use Rattle.vac_streams.specs.declared.fault.StreamFault.TheVariants.{Memory}
+use Rattle.vac_lines.specs.declared.stream_fault.StreamFault.{StreamFault}
+use Rattle.vac_lines.specs.declared.stream_fault.StreamFault.TheVariants.{Memory}
 use Rattle.judge_text.specs.Program.{HasRead, HasEnded, fault_line}
 use Rattle.judge_text.specs.declared.program.TheConstants.{STEPS}
 use Rattle.judge_many.specs.Starts.{start_of}
@@ -12,10 +12,10 @@ use Rattle.judge_kv.specs.declared.starting.FirstValues.TheVariants.{Given, Faul
 use Rattle.judge_kv.specs.declared.starting.StartFault.{StartFault}
 use Rattle.judge_kv.specs.Rules.{Held}
 use Rattle.judge_kv.specs.Starting.{value_at_first, IsStartOf, AreFirstValues}
-use Rattle.judge_store.specs.Stores.{Pairs, held_at}
-use Rattle.judge_store.specs.Rules.{whole}
-use Rattle.judge_store.specs.Words.{whole_language}
-use Rattle.judge_store.specs.Classes.{name_of, AreStoreObjects}
+use Rattle.judge_kv.specs.Stores.{Pairs, held_at}
+use Rattle.judge_kv.specs.StoreRules.{whole}
+use Rattle.judge_kv.specs.StoreWords.{whole_language}
+use Rattle.judge_kv.specs.Classes.{name_of, AreStoreObjects}
 use Rattle.kv_judge.specs.declared.options.Scope.{Scope}
 use Rattle.kv_judge.specs.declared.options.Scope.TheVariants.{EachKey, Whole}
 use Rattle.kv_judge.specs.Serving.{Judges, JudgesStore, JudgesFromFile, ReadsFile, EndsWith, EndsAtFault}

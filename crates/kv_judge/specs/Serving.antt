@@ -3,8 +3,8 @@ use Rattle.std.specs.Prelude.{◌≡◌, ◌⊎◌, ℕ, Option, None, Ok, Err, 
 use Rattle.std.specs.Io.KnownBytes.{Appends}
 use Rattle.vac_lines.specs.Script.{as_line}
 use Rattle.vac_lines.specs.Writing.{AppendsPrefix}
-use Rattle.vac_streams.specs.declared.fault.StreamFault.{StreamFault}
-use Rattle.vac_streams.specs.declared.fault.StreamFault.TheVariants.{Memory}
+use Rattle.vac_lines.specs.declared.stream_fault.StreamFault.{StreamFault}
+use Rattle.vac_lines.specs.declared.stream_fault.StreamFault.TheVariants.{Memory}
 use Rattle.judge_many.specs.Naming.{AreOwn}
 use Rattle.judge_text.specs.Program.{HasRead, HasEnded, fault_line}
 use Rattle.judge_text.specs.declared.program.TheConstants.{STEPS}
@@ -12,10 +12,10 @@ use Rattle.judge_kv.specs.declared.starting.StartFault.{StartFault}
 use Rattle.judge_kv.specs.Rules.{Held, cell}
 use Rattle.judge_kv.specs.Starting.{First, BeginWith, fault_name, value_at_first, text_firsts}
 use Rattle.judge_kv.specs.Words.{store_language}
-use Rattle.judge_store.specs.Stores.{Pairs, held_at}
-use Rattle.judge_store.specs.Rules.{whole}
-use Rattle.judge_store.specs.Words.{whole_language}
-use Rattle.judge_store.specs.Classes.{name_of, AreStoreObjects}
+use Rattle.judge_kv.specs.Stores.{Pairs, held_at}
+use Rattle.judge_kv.specs.StoreRules.{whole}
+use Rattle.judge_kv.specs.StoreWords.{whole_language}
+use Rattle.judge_kv.specs.Classes.{name_of, AreStoreObjects}
 use Rattle.kv_judge.specs.declared.options.Scope.{Scope}
 use Rattle.kv_judge.specs.declared.options.Scope.TheVariants.{EachKey, Whole}
 use Rattle.kv_judge.specs.Options.{Request, Judge, JudgeFrom, Help, Refused}

@@ -8,8 +8,8 @@ use Rattle.std.specs.List.Sorted.{IsPermutation}
 use Rattle.std.specs.Io.KnownBytes.{Appends}
 use Rattle.std.proofs.KnownBytes.{Appends-nil}
 use Rattle.vac_lines.specs.Writing.{AppendsPrefix}
-use Rattle.vac_streams.specs.Sent.{Sent}
-use Rattle.vac_streams.proofs.Texts.{sent_both, part_second, prefix_longer, prefix_is, none_written}
+use Rattle.vac_lines.specs.Sent.{Sent}
+use Rattle.vac_lines.proofs.Texts.{sent_both, part_second, prefix_longer, prefix_is, none_written}
 use Rattle.load_record.specs.declared.lines.Line.{Line}
 use Rattle.vac_manager.specs.declared.note.TracedAttempt.{TracedAttempt}
 use Rattle.load_record.specs.Laying.{Lays}

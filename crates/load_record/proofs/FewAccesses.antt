@@ -8,12 +8,12 @@ use Rattle.tx_memory.specs.Image.{Has, Agrees, laid}
 use Rattle.tx_memory.specs.View.{Words, memory}
 use Rattle.tx_memory.specs.Seen.{same_or, get_here, get_other}
 use Rattle.tx_memory.specs.Paired.{agrees-map_of, laid-entries, length-laid}
-use Rattle.tx_observed.specs.declared.access.Access.{Access as MadeAccess}
-use Rattle.tx_observed.specs.declared.access.Access.TheVariants as made
-use Rattle.tx_observed.specs.Accesses.{reads_with, reads_behind, writes_behind, is_right_read, are_right}
+use Rattle.tx_memory.specs.declared.access.Access.{Access as MadeAccess}
+use Rattle.tx_memory.specs.declared.access.Access.TheVariants as made
+use Rattle.tx_memory.specs.Accesses.{reads_with, reads_behind, writes_behind, is_right_read, are_right}
 use Rattle.stm_core.specs.Client.{Record}
 use Rattle.stm_object.specs.Tracing.{Trace, IsTraceOf}
-use Rattle.judge_time.proofs.Tests.{test}
+use Rattle.judge_object.proofs.Tests.{test}
 use Rattle.judge_opacity.specs.declared.attempt.Access.{Access}
 use Rattle.judge_opacity.specs.Words.{Image, image_with, words_after, wrong_read}
 use Rattle.judge_opacity.proofs.Legal.{unless_right}

@@ -11,7 +11,7 @@ use Rattle.std.proofs.lemmas.List.Elements.{All-nil, All-cons, All-append}
 use Rattle.tx_alloc.specs.Pool.{block_place, place_of_block}
 use Rattle.tx_alloc.specs.Spread.{IsSpreadHeap, share_of_list, spread_start}
 use Rattle.tx_alloc.proofs.Empty.{eight_lists}
-use Rattle.tx_observed.specs.declared.access.Access.TheVariants.{Write}
+use Rattle.tx_memory.specs.declared.access.Access.TheVariants.{Write}
 use Rattle.load_record.specs.Laying.{write_of, writes_from}
 use Rattle.load_record.specs.Entries.{FitsAccess}
 

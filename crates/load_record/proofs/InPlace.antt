@@ -3,7 +3,7 @@ use Rattle.std.proofs.Common.{◌≡◌, ℕ, false, List, [], ◌∷◌, ◌++�
 use Rattle.std.proofs.lemmas.List.{map-append}
 use Rattle.std.specs.FinMap.{empty, entries}
 use Rattle.tx_memory.specs.Image.{laid}
-use Rattle.tx_observed.specs.Accesses.{writes_behind}
+use Rattle.tx_memory.specs.Accesses.{writes_behind}
 use Rattle.vac_manager.specs.declared.note.TracedAttempt.{TracedAttempt}
 use Rattle.judge_opacity.specs.Attempt.{Attempt}
 use Rattle.judge_opacity.specs.Words.{Image, zeros, words_after, wrong_read}

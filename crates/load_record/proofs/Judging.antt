@@ -4,7 +4,7 @@ use Rattle.std.proofs.Common.{subst, ◌∙◌}
 use Rattle.std.specs.Option.{option_map}
 use Rattle.std.proofs.lemmas.Option.{slice_get-map}
 use Rattle.vac_lines.specs.declared.fault.LineFault.{LineFault}
-use Rattle.judge_time.specs.Laws.{IsAt, TakeTurns, KeepPrecedence}
+use Rattle.judge_object.specs.Laws.{IsAt, TakeTurns, KeepPrecedence}
 use Rattle.judge_opacity.specs.Attempt.{Attempt, span_of_attempt}
 use Rattle.judge_opacity.specs.Laws.{IsOpaqueOrder}
 use Rattle.judge_opacity.proofs.Outcomes.{opaque_is_opacity}

@@ -6,7 +6,7 @@ use Rattle.std.specs.Prelude.{All}
 use Rattle.std.proofs.lemmas.Grind.{flat_map-append}
 use Rattle.std.proofs.lemmas.List.Elements.{All-nil, All-cons, All-head, All-tail}
 use Rattle.tx_alloc.specs.Pool.{heap_words}
-use Rattle.tx_observed.specs.declared.access.Access.{Access}
+use Rattle.tx_memory.specs.declared.access.Access.{Access}
 use Rattle.vac_manager.specs.declared.note.TracedAttempt.{TracedAttempt}
 use Rattle.load_record.specs.Laying.{IsLaidFirst, Lays, writes_from, done_by}
 use Rattle.load_record.specs.Lines.{AttemptEntry, line_text, lines_text}

@@ -8,16 +8,16 @@ use Rattle.std.proofs.lemmas.Bool.{le-leb, le-ltb}
 use Rattle.std.proofs.lemmas.Fmt.{decimal_by_steps, decimal_nonempty, length-decimal-le}
 use Rattle.std.proofs.lemmas.List.Elements.{All-head, All-tail, All-nil, All-cons}
 use Rattle.std.proofs.lemmas.List.Sums.{fold-append}
-use Rattle.tx_observed.specs.declared.access.Access.{Access as MadeAccess}
-use Rattle.tx_observed.specs.declared.access.Access.TheVariants as made
+use Rattle.tx_memory.specs.declared.access.Access.{Access as MadeAccess}
+use Rattle.tx_memory.specs.declared.access.Access.TheVariants as made
 use Rattle.vac_lines.specs.Lines.{words_of, lines_of, HasNo}
 use Rattle.vac_lines.specs.LineTable.{is_bad_byte}
 use Rattle.vac_lines.specs.TaskText.{spaced, words_text}
 use Rattle.vac_lines.specs.Words.{decimal_value, memory_word_of}
 use Rattle.vac_lines.proofs.Decimals.{all_digits, number_in_word}
 use Rattle.vac_lines.proofs.Spacing.{Each, IsPlain, words_cut, words_clean}
-use Rattle.vac_streams.proofs.Cutting.{lines_cut}
-use Rattle.judge_time.proofs.Tests.{both_false}
+use Rattle.vac_lines.proofs.LineCuts.{lines_cut}
+use Rattle.judge_object.proofs.Tests.{both_false}
 use Rattle.judge_opacity.specs.Attempt.{at_attempt_client, at_memory_word, at_word, at_outcome, accesses_of}
 use Rattle.judge_opacity.specs.Attempt.{words_attempt, line_attempt}
 use Rattle.load_record.specs.Lines.{AttemptEntry, accesses_text, outcome_text, head_text, lines_text}

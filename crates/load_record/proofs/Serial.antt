@@ -6,8 +6,8 @@ use Rattle.std.proofs.lemmas.List.{map-append}
 use Rattle.std.proofs.lemmas.Bool.Decides.{nat_tests}
 use Rattle.std.specs.FinMap.{empty}
 use Rattle.tx_memory.specs.Image.{laid}
-use Rattle.tx_observed.specs.declared.access.Access.{Access as MadeAccess}
-use Rattle.tx_observed.specs.declared.access.Access.TheVariants.{Write}
+use Rattle.tx_memory.specs.declared.access.Access.{Access as MadeAccess}
+use Rattle.tx_memory.specs.declared.access.Access.TheVariants.{Write}
 use Rattle.stm_core.specs.Client.{Record}
 use Rattle.stm_core.specs.History.{Serial}
 use Rattle.vac_manager.specs.declared.note.TracedAttempt.{TracedAttempt}

@@ -9,11 +9,11 @@ use Rattle.std.proofs.KnownBytes.{Appends-nil}
 use Rattle.vac_lines.specs.Script.{as_line}
 use Rattle.judge_calls.specs.CallText.{call_text, history_text, IsTheirHistory}
 use Rattle.vac_lines.specs.Writing.{AppendsPrefix}
-use Rattle.vac_streams.specs.declared.fault.StreamFault.{StreamFault}
-use Rattle.vac_streams.specs.declared.fault.StreamFault.TheVariants.{Memory, Write}
-use Rattle.vac_streams.specs.Sent.{Sent}
-use Rattle.vac_streams.proofs.Texts.{sent_both, part_second, prefix_longer, prefix_is, none_written, sent_end}
-use Rattle.vac_streams.proofs.Texts.{sent_end_in_part}
+use Rattle.vac_lines.specs.declared.stream_fault.StreamFault.{StreamFault}
+use Rattle.vac_lines.specs.declared.stream_fault.StreamFault.TheVariants.{Memory, Write}
+use Rattle.vac_lines.specs.Sent.{Sent}
+use Rattle.vac_lines.proofs.Texts.{sent_both, part_second, prefix_longer, prefix_is, none_written, sent_end}
+use Rattle.vac_lines.proofs.Texts.{sent_end_in_part}
 use Rattle.vac_manager.specs.declared.note.CompletedCall.{CompletedCall}
 use Rattle.load_record.specs.Order.{Entry, entries_from, IsMerged}
 use Rattle.load_record.specs.Numbers.{EachHasLines}

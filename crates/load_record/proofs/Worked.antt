@@ -9,12 +9,12 @@ use Rattle.tx_memory.specs.Image.{Has, Agrees, laid}
 use Rattle.tx_memory.specs.View.{Words}
 use Rattle.tx_memory.specs.Pairs.{map_of}
 use Rattle.tx_memory.specs.Seen.{same_or, get_here, get_other}
-use Rattle.tx_observed.specs.declared.access.Access.{Access}
-use Rattle.tx_observed.specs.declared.access.Access.TheVariants.{Read, Write}
-use Rattle.tx_observed.specs.Accesses.{reads_behind, writes_behind, are_right}
+use Rattle.tx_memory.specs.declared.access.Access.{Access}
+use Rattle.tx_memory.specs.declared.access.Access.TheVariants.{Read, Write}
+use Rattle.tx_memory.specs.Accesses.{reads_behind, writes_behind, are_right}
 use Rattle.stm_core.specs.Client.{Record}
 use Rattle.stm_core.specs.Merging.{nothing_in, in_cons}
-use Rattle.judge_time.specs.Laws.{IsAt, TakeTurns, KeepPrecedence}
+use Rattle.judge_object.specs.Laws.{IsAt, TakeTurns, KeepPrecedence}
 use Rattle.vac_manager.specs.Legal.{AreVersioned}
 use Rattle.vac_manager.specs.Tracing.{trace_of, IsTraceOf}
 use Rattle.load_record.specs.Lines.{AttemptEntry}

@@ -1,10 +1,10 @@
 -- The attempts of a load's text, as the judge of opacity reads them.
 use Rattle.std.specs.Prelude.{◌≤◌, ◌<◌, ◌+◌, ◌^◌, ◌&&◌, nat_le, nat_lt, ℕ, Bool, All, List, map, length}
 use Rattle.std.specs.List.{list_all}
-use Rattle.tx_observed.specs.declared.access.Access.{Access as MadeAccess}
-use Rattle.tx_observed.specs.declared.access.Access.TheVariants as made
-use Rattle.judge_time.specs.declared.span.Span.{Span}
-use Rattle.judge_clients.specs.declared.client.TheConstants.{MOST_CLIENT}
+use Rattle.tx_memory.specs.declared.access.Access.{Access as MadeAccess}
+use Rattle.tx_memory.specs.declared.access.Access.TheVariants as made
+use Rattle.judge_object.specs.declared.span.Span.{Span}
+use Rattle.vac_lines.specs.declared.client.TheConstants.{MOST_CLIENT}
 use Rattle.judge_opacity.specs.declared.attempt.Access.{Access}
 use Rattle.judge_opacity.specs.declared.attempt.Access.TheVariants.{Read, Write}
 use Rattle.judge_opacity.specs.declared.attempt.TheConstants.{ATTEMPT_BYTES}

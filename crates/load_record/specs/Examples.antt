@@ -2,10 +2,10 @@
 -- the beginning, client 1 reads it and writes 7 to word 0, and client 2 aborts after it read the 7.
 use Rattle.std.specs.Prelude.{◌≡◌, ℕ, true, false, List, [], ◌∷◌}
 use Rattle.std.specs.Global.{Vec}
-use Rattle.tx_observed.specs.declared.access.Access.{Access}
-use Rattle.tx_observed.specs.declared.access.Access.TheVariants.{Read, Write}
+use Rattle.tx_memory.specs.declared.access.Access.{Access}
+use Rattle.tx_memory.specs.declared.access.Access.TheVariants.{Read, Write}
 use Rattle.stm_core.specs.Client.{Record}
-use Rattle.judge_time.specs.Laws.{TakeTurns, KeepPrecedence}
+use Rattle.judge_object.specs.Laws.{TakeTurns, KeepPrecedence}
 use Rattle.vac_manager.specs.declared.note.TracedAttempt.{TracedAttempt}
 use Rattle.load_record.specs.Lines.{AttemptEntry}
 use Rattle.load_record.specs.AttemptOrder.{EntriesAreOrdered}

@@ -1,6 +1,6 @@
 -- The verdict of the judge of opacity on the text of a load's attempts.
 use Rattle.std.specs.Prelude.{◌≡◌, ◌↔◌, ℕ, true, List, map}
-use Rattle.judge_time.specs.Laws.{TakeTurns, KeepPrecedence}
+use Rattle.judge_object.specs.Laws.{TakeTurns, KeepPrecedence}
 use Rattle.judge_opacity.specs.Laws.{EachIsLegal, ListsAttempts}
 use Rattle.judge_opacity.specs.Verdict.{finding_on, is_opaque}
 use Rattle.load_record.specs.Lines.{AttemptEntry, lines_text}

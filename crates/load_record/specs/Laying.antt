@@ -2,8 +2,8 @@
 use Rattle.std.specs.Prelude.{◌≡◌, ℕ, suc, true, eqb, List, [], ◌∷◌, ◌++◌, flat_map, if◌then◌else◌}
 use Rattle.std.specs.List.{All}
 use Rattle.tx_alloc.specs.Spread.{IsSpreadHeap}
-use Rattle.tx_observed.specs.declared.access.Access.{Access}
-use Rattle.tx_observed.specs.declared.access.Access.TheVariants.{Write}
+use Rattle.tx_memory.specs.declared.access.Access.{Access}
+use Rattle.tx_memory.specs.declared.access.Access.TheVariants.{Write}
 use Rattle.vac_manager.specs.declared.note.TracedAttempt.{TracedAttempt}
 
 -- the attempt committed before all others: it began and ended at 0, and wrote version 0

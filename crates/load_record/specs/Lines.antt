@@ -1,8 +1,8 @@
 -- The line of an attempt: CLIENT BEGIN END commit|abort, and then `r A V` for a read of V at word
 -- A and `w A V` for a write.
 use Rattle.std.specs.Prelude.{ℕ, Bool, true, false, List, ◌++◌, flat_map, codes, decimal}
-use Rattle.tx_observed.specs.declared.access.Access.{Access}
-use Rattle.tx_observed.specs.declared.access.Access.TheVariants.{Read, Write}
+use Rattle.tx_memory.specs.declared.access.Access.{Access}
+use Rattle.tx_memory.specs.declared.access.Access.TheVariants.{Read, Write}
 use Rattle.vac_lines.specs.Script.{as_line}
 use Rattle.vac_lines.specs.Text.{field_text}
 use Rattle.vac_manager.specs.declared.note.TracedAttempt.{TracedAttempt}

@@ -6,7 +6,7 @@ use Rattle.stm_core.specs.Invariant.{Sorted}
 use Rattle.tx_alloc.specs.Pool.{heap_words}
 use Rattle.tx_alloc.specs.Spread.{IsSpreadHeap}
 use Rattle.vac_model.specs.declared.limits.TheConstants.{MOST_BLOCKS}
-use Rattle.judge_time.specs.Laws.{TakeTurns, KeepPrecedence}
+use Rattle.judge_object.specs.Laws.{TakeTurns, KeepPrecedence}
 use Rattle.judge_opacity.specs.Verdict.{finding_on, is_opaque}
 use Rattle.vac_manager.specs.Legal.{AreVersioned}
 use Rattle.vac_manager.specs.declared.note.CompletedCall.{CompletedCall}

@@ -3,7 +3,7 @@ use Rattle.std.specs.Prelude.{◌≡◌, ℕ, List, [], ◌∷◌, ◌++◌}
 use Rattle.stm_core.specs.Client.{Record}
 use Rattle.stm_core.specs.History.{Serial}
 use Rattle.stm_core.specs.Invariant.{Sorted}
-use Rattle.judge_time.specs.Laws.{TakeTurns}
+use Rattle.judge_object.specs.Laws.{TakeTurns}
 use Rattle.vac_manager.specs.declared.note.TracedAttempt.{TracedAttempt}
 use Rattle.vac_manager.specs.Legal.{AreVersioned}
 use Rattle.vac_manager.specs.Tracing.{trace_of, IsTraceOf}

@@ -2,7 +2,7 @@
 use Rattle.std.specs.Prelude.{◌≡◌, ◌↔◌, ℕ, Bool, true, false, Some, List, [], ◌∷◌, ◌++◌, map, if◌then◌else◌}
 use Rattle.std.specs.FinMap.{get, empty, entries}
 use Rattle.tx_memory.specs.Image.{Has, laid}
-use Rattle.tx_observed.specs.Accesses.{reads_behind, writes_behind, are_right}
+use Rattle.tx_memory.specs.Accesses.{reads_behind, writes_behind, are_right}
 use Rattle.stm_core.specs.Client.{Record}
 use Rattle.stm_core.specs.History.{Serial}
 use Rattle.vac_manager.specs.declared.note.TracedAttempt.{TracedAttempt}

@@ -4,7 +4,7 @@ use Rattle.vac_lines.specs.TaskText.{task_text}
 use Rattle.vac_lines.specs.Text.{reply_text}
 use Rattle.vac_manager.specs.declared.note.CompletedCall.{CompletedCall}
 use Rattle.vac_lines.specs.Writing.{AppendsPrefix}
-use Rattle.vac_streams.specs.Sent.{Sent}
+use Rattle.vac_lines.specs.Sent.{Sent}
 use Rattle.load_record.specs.Order.{Entry}
 use Rattle.load_record.specs.Picking.{PicksAll, Merges}
 use Rattle.load_record.specs.History.{calls_text}

@@ -3,7 +3,7 @@
 ghost use Rattle.std.specs.Prelude.{◌≡◌, [], true, IfOk};
 
 use std::alloc::{AllocError, Global};
-use tx_observed::{Access, Observer};
+use tx_memory::{Access, Observer};
 
 /// The accesses of a running attempt, as far as there was room for them.
 #[derive(Drop)]

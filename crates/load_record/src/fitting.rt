@@ -8,7 +8,7 @@ ghost use Rattle.load_record.specs.Entries.{FitsAccess, Fits, AllFit};
 ghost use Rattle.load_record.specs.Entries.{is_at_word, is_short, are_short};
 
 use crate::lines::Line;
-use tx_observed::Access;
+use tx_memory::Access;
 
 /// Largest number of reads and writes with which the line of an attempt is never too long,
 /// whatever its numbers are.

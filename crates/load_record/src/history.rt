@@ -5,8 +5,8 @@ ghost use Rattle.std.specs.List.{list_all};
 ghost use Rattle.vac_lines.specs.Script.{as_line};
 ghost use Rattle.judge_calls.specs.CallText.{call_text};
 ghost use Rattle.vac_lines.specs.Writing.{AppendsPrefix};
-ghost use Rattle.vac_streams.specs.declared.fault.StreamFault.TheVariants.{Memory, Write};
-ghost use Rattle.vac_streams.specs.Sent.{Sent};
+ghost use Rattle.vac_lines.specs.declared.stream_fault.StreamFault.TheVariants.{Memory, Write};
+ghost use Rattle.vac_lines.specs.Sent.{Sent};
 ghost use Rattle.load_record.specs.Order.{entries_from};
 ghost use Rattle.load_record.specs.Rests.{left_of, picked_entry};
 ghost use Rattle.load_record.specs.History.{call_of_entry, kept_by, are_whole};
@@ -20,10 +20,9 @@ use crate::watch::StampClock;
 use load_tasks::OPENING;
 use std::alloc::{AllocError, Global};
 use std::io::Write;
-use vac_lines::{print_reply, print_task};
+use vac_lines::{StreamFault, print_reply, print_task, send_chunk, send_rest};
 use vac_manager::CompletedCall;
 use vac_model::Reply;
-use vac_streams::{StreamFault, send_chunk, send_rest};
 
 /// Appends a number and a space.
 fn append_number(hand: &mut Vec<u8>, number: u64) -> Result<(), AllocError>

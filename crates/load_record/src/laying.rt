@@ -7,8 +7,7 @@ ghost use Rattle.load_record.specs.Laying.{IsLaidFirst, Lays, write_of, writes_f
 use crate::places::first_place;
 use std::alloc::{AllocError, Global};
 use tx_alloc::spread_words;
-use tx_memory::Addr;
-use tx_observed::Access;
+use tx_memory::{Access, Addr};
 use vac_manager::TracedAttempt;
 use vac_model::limits::MOST_BLOCKS;
 

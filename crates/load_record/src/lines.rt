@@ -5,7 +5,7 @@ ghost use Rattle.load_record.specs.Lines.{access_text, accesses_text, outcome_te
 ghost use Rattle.load_record.specs.Lines.{head_text, line_text, line_entry};
 
 use std::alloc::AllocError;
-use tx_observed::Access;
+use tx_memory::Access;
 use vac_lines::append_field;
 use vac_manager::TracedAttempt;
 

@@ -10,8 +10,7 @@ use std::alloc::{AllocError, Global};
 use std::mem;
 use stm_attempt::Stop;
 use stm_words::Version;
-use tx_memory::{TxMem, TxRead};
-use tx_observed::Observed;
+use tx_memory::{Observed, TxMem, TxRead};
 use vac_manager::{Body, CommitPosition, Object, TracedAttempt, Tracer};
 
 /// A tracer of the attempts of a client's calls, which reads a clock before and after each

@@ -6,8 +6,8 @@ ghost use Rattle.std.specs.Io.KnownBytes.{Appends};
 ghost use Rattle.std.specs.List.{list_all};
 ghost use Rattle.vac_lines.specs.Writing.{AppendsPrefix};
 ghost use Rattle.vac_model.specs.Ranges.{is_block_count};
-ghost use Rattle.vac_streams.specs.declared.fault.StreamFault.TheVariants.{Memory, Write};
-ghost use Rattle.vac_streams.specs.Sent.{Sent};
+ghost use Rattle.vac_lines.specs.declared.stream_fault.StreamFault.TheVariants.{Memory, Write};
+ghost use Rattle.vac_lines.specs.Sent.{Sent};
 ghost use Rattle.load_record.specs.Order.{rank_of};
 ghost use Rattle.load_record.specs.Laying.{Lays};
 ghost use Rattle.load_record.specs.Known.{is_whole_ledger, are_whole_ledgers};
@@ -26,8 +26,8 @@ use load_tasks::OPENING;
 use std::alloc::{AllocError, Global};
 use std::io::Write;
 use tx_alloc::place::{BLOCK_WORDS, FIRST_BLOCK};
+use vac_lines::{StreamFault, send_chunk, send_rest};
 use vac_manager::TracedAttempt;
-use vac_streams::{StreamFault, send_chunk, send_rest};
 
 /// Returns the sort key of an attempt: its renewal, its version with the writer of a version
 /// before its readers, its begin, and its end.

@@ -3,7 +3,7 @@ use Rattle.std.specs.Prelude.{◌≡◌, ℕ, true, false, List, ◌++◌, Optio
 use Rattle.std.specs.List.{All}
 use Rattle.std.specs.FinMap.{empty}
 use Rattle.tx_memory.specs.Pairs.{map_of}
-use Rattle.tx_observed.specs.Accesses.{reads_behind, are_right}
+use Rattle.tx_memory.specs.Accesses.{reads_behind, are_right}
 use Rattle.stm_core.specs.Client.{Client, Record}
 use Rattle.stm_region.specs.Findings.{StandsOn}
 use Rattle.vac_manager.specs.declared.note.CompletedCall.{CompletedCall}

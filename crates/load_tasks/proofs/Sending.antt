@@ -13,10 +13,10 @@ use Rattle.load_tasks.specs.Tasks.{task_of, stocks, customers, opening, DrawnTas
 use Rattle.load_tasks.proofs.Drawing.{drawn_always, drawn_then_always, drawn_joined, drawn_one, plus_one}
 use Rattle.vac_lines.specs.Writing.{AppendsPrefix}
 use Rattle.load_tasks.specs.Worklist.{task_line, opening_line, DrawnLines, IsTextOf, WroteTasksPrefix}
-use Rattle.vac_streams.specs.Sent.{Sent}
+use Rattle.vac_lines.specs.Sent.{Sent}
 use Rattle.load_tasks.specs.Sending.{SentLines, SentInPart, SentTasks}
-use Rattle.vac_streams.proofs.Texts.{sent_nothing, sent_both, part_second, part_first, prefix_is, prefix_longer}
-use Rattle.vac_streams.proofs.Texts.{none_written, sent_end_in_part}
+use Rattle.vac_lines.proofs.Texts.{sent_nothing, sent_both, part_second, part_first, prefix_is, prefix_longer}
+use Rattle.vac_lines.proofs.Texts.{none_written, sent_end_in_part}
 use Rattle.load_tasks.proofs.Totals.{IsTotal, task_total, times_total, opening_total}
 
 module _ {X : Type 0} (line : X → List ℕ) where

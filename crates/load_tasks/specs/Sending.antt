@@ -4,7 +4,7 @@ use Rattle.rand_pcg.specs.Lcg.{Lcg}
 use Rattle.load_tasks.specs.declared.settings.Settings.{Settings}
 use Rattle.load_tasks.specs.Draws.{Reader}
 use Rattle.vac_lines.specs.Writing.{AppendsPrefix}
-use Rattle.vac_streams.specs.Sent.{Sent}
+use Rattle.vac_lines.specs.Sent.{Sent}
 use Rattle.load_tasks.specs.Worklist.{DrawnLines, IsTextOf}
 
 -- the lines of drawn items were sent: some text was written, and the rest is in the buffer

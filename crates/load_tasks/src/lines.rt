@@ -4,14 +4,13 @@ ghost use Rattle.std.specs.Prelude.{◌≡◌, ◌≢◌, ◌++◌, OnOk, OnErr,
 ghost use Rattle.load_tasks.specs.declared.fault.TasksFault.TheVariants.{Arguments};
 ghost use Rattle.vac_lines.specs.Writing.{AppendsPrefix};
 ghost use Rattle.load_tasks.specs.Worklist.{task_line};
-ghost use Rattle.vac_streams.specs.Sent.{Sent};
+ghost use Rattle.vac_lines.specs.Sent.{Sent};
 
 use crate::fault::TasksFault;
 use std::alloc::AllocError;
 use std::io::Write;
-use vac_lines::{print_reply, print_task};
+use vac_lines::{print_reply, print_task, send_chunk};
 use vac_model::{Reply, Task};
-use vac_streams::send_chunk;
 
 /// Appends the line of a client's task to the buffer.
 fn append_line(hand: &mut Vec<u8>, client: u32, task: &Task) -> Result<(), AllocError>

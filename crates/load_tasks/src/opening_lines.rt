@@ -8,7 +8,7 @@ ghost use Rattle.load_tasks.specs.Tasks.{stock, stocks, customers, opening};
 ghost use Rattle.load_tasks.specs.declared.fault.TasksFault.TheVariants.{Arguments};
 ghost use Rattle.vac_lines.specs.Writing.{AppendsPrefix};
 ghost use Rattle.load_tasks.specs.Worklist.{opening_line};
-ghost use Rattle.vac_streams.specs.Sent.{Sent};
+ghost use Rattle.vac_lines.specs.Sent.{Sent};
 ghost use Rattle.load_tasks.specs.Sending.{SentLines, SentInPart};
 
 use crate::fault::TasksFault;

@@ -12,7 +12,7 @@ use crate::opening_lines::send_opening;
 use crate::{PcgDraws, Settings};
 use std::alloc::Global;
 use std::io::Write;
-use vac_streams::send_rest;
+use vac_lines::send_rest;
 
 /// Sends the lines of the setup phase and of all clients.
 fn send_all<W: Write>(

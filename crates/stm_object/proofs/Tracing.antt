@@ -5,8 +5,8 @@ use Rattle.std.proofs.Common.{Err, IfOk, refl, sym, ap, subst, ◌∙◌, append
 use Rattle.std.specs.FinMap.{entries, empty}
 use Rattle.tx_memory.specs.Pairs.{map_of}
 use Rattle.tx_memory.specs.View.{Words}
-use Rattle.tx_observed.specs.declared.access.Access.{Access}
-use Rattle.tx_observed.specs.Accesses.{IsTracked, AreOf}
+use Rattle.tx_memory.specs.declared.access.Access.{Access}
+use Rattle.tx_memory.specs.Accesses.{IsTracked, AreOf}
 use Rattle.stm_core.specs.Client.{Client, Record}
 use Rattle.stm_logs.specs.Log.{LogValue, empty_log, log_pairs}
 use Rattle.stm_region.specs.Shown.{RegionShown, ClientShown}

@@ -3,8 +3,8 @@ use Rattle.std.specs.Prelude.{◌≡◌, ◌≤◌, ℕ, ◌+◌, Bool, true, fa
 use Rattle.std.specs.Prelude.{Option, Some, None, Result, Ok, Err}
 use Rattle.std.specs.FinMap.{entries, empty}
 use Rattle.tx_memory.specs.Pairs.{map_of}
-use Rattle.tx_observed.specs.declared.access.Access.{Access}
-use Rattle.tx_observed.specs.Accesses.{reads_behind, writes_behind, are_right}
+use Rattle.tx_memory.specs.declared.access.Access.{Access}
+use Rattle.tx_memory.specs.Accesses.{reads_behind, writes_behind, are_right}
 use Rattle.stm_core.specs.Client.{Client, Record}
 use Rattle.stm_region.specs.Shown.{RegionShown}
 use Rattle.stm_region.specs.Findings.{StandsOn}

@@ -1,8 +1,8 @@
 //! Tracers of the attempts of a call.
 
 ghost use Rattle.std.specs.Prelude.{◌≡◌, List, Option, None, IfOk, IfErr, true, false};
-ghost use Rattle.tx_observed.specs.declared.access.Access.{Access};
-ghost use Rattle.tx_observed.specs.Accesses.{IsTracked};
+ghost use Rattle.tx_memory.specs.declared.access.Access.{Access};
+ghost use Rattle.tx_memory.specs.Accesses.{IsTracked};
 ghost use Rattle.stm_attempt.specs.declared.conflict.Conflict.{Conflict as ConflictMet};
 ghost use Rattle.stm_object.specs.Bodies.{HasValue, HasEffect};
 ghost use Rattle.stm_object.specs.declared.place.CommitPosition.{CommitPosition as CommitPositionShown};

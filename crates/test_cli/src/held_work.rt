@@ -5,7 +5,7 @@ use crate::verdicts::BLOCKS;
 use judge_calls::judge_with_workload;
 use std::alloc::Global;
 use std::test::Fail;
-use vac_streams::StreamFault;
+use vac_lines::StreamFault;
 
 /// Returns whether a history is legal when it is checked against these tasks, and the judge's
 /// output.

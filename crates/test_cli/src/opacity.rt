@@ -6,7 +6,7 @@ use crate::texts::{Row, fill_up, in_pieces};
 use judge_opacity::{ATTEMPT_BYTES, judge_attempts};
 use std::alloc::{AllocError, Global};
 use std::test::Fail;
-use vac_streams::StreamFault;
+use vac_lines::StreamFault;
 
 /// Words of the memory that the attempts are judged for.
 const WORDS: u32 = 8;

@@ -6,7 +6,7 @@ use judge_linear::{Outcome, Settings, order_history};
 use judge_object::Watcher;
 use std::alloc::Global;
 use std::test::Fail;
-use vac_streams::StreamFault;
+use vac_lines::StreamFault;
 
 /// Blocks of the system.
 const BLOCKS: u32 = 9;

@@ -4,7 +4,7 @@ use crate::texts::{Row, fill_up, in_pieces};
 use judge_calls::{CALL_BYTES, Judge, Verdict, judge_history, print_verdict};
 use std::alloc::{AllocError, Global};
 use std::test::Fail;
-use vac_streams::StreamFault;
+use vac_lines::StreamFault;
 
 /// Blocks of the system.
 pub(crate) const BLOCKS: u32 = 4;

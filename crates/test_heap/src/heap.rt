@@ -12,7 +12,7 @@ use vac_tasks::only_reads;
 /// Plain memory that holds a state, with short calls.
 #[derive(Drop)]
 pub(crate) struct Heap {
-    memory: vac_plain::Heap,
+    memory: vac_tasks::Heap,
 }
 
 impl Heap {
@@ -21,7 +21,7 @@ impl Heap {
         requires some { 1 ≤ blocks }
         requires most { blocks ≤ MOST_BLOCKS }
     {
-        let memory = vac_plain::Heap::new(alloc, blocks)?;
+        let memory = vac_tasks::Heap::new(alloc, blocks)?;
         Ok(Heap { memory })
     }
 
@@ -46,7 +46,7 @@ impl Heap {
         let Heap { memory } = self;
         let words = memory.words();
         let found = audit_words(alloc, words.as_slice());
-        let memory = vac_plain::Heap::of_words(words);
+        let memory = vac_tasks::Heap::of_words(words);
         (Heap { memory }, found)
     }
 

@@ -1,8 +1,7 @@
 //! Cuts of histories that were worked out by hand.
 
 use judge_levels::cut_lines;
-use judge_object::Line;
-use judge_time::NEVER;
+use judge_object::{Line, NEVER};
 use std::alloc::Global;
 use std::process::Abort;
 

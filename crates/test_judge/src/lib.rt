@@ -1,6 +1,11 @@
-//! Tests of parts of histories: tasks and replies whose parts were worked out by hand.
+//! Tests of parts of histories, and of the coverage of logs: parts and figures that were worked out
+//! by hand.
 #![tactic(auto)]
 
+#[cfg(test)]
+mod attempts;
+#[cfg(test)]
+mod calls;
 #[cfg(test)]
 mod commands;
 #[cfg(test)]
@@ -12,3 +17,7 @@ mod history;
 mod levels;
 #[cfg(test)]
 mod parts_first;
+#[cfg(test)]
+mod places;
+#[cfg(test)]
+mod watching;

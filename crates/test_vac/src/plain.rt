@@ -10,9 +10,8 @@ use tx_alloc::FreeList;
 use tx_alloc::place::LISTS;
 use vac_audit::audit_words;
 use vac_model::{Reply, Task};
-use vac_plain::Heap;
 use vac_sequential::Sequential;
-use vac_tasks::only_reads;
+use vac_tasks::{Heap, only_reads};
 
 /// Number of seeds from which random tasks are drawn.
 const SEEDS: u64 = 4;

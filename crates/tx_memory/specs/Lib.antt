@@ -5,3 +5,5 @@ pub mod Plain
 pub mod PlainSeen
 pub mod Pairs
 pub mod Paired
+pub mod Accesses
+pub mod Origin

@@ -1,5 +1,5 @@
 //! The audit of words from anywhere: it walks the heap in a fixed order, and returns a report or
-//! the first flaw. The report of a running state is made by `vac_report`.
+//! the first flaw. The report of a running state is made by `vac_tasks`.
 #![tactic(auto)]
 
 mod audit;
@@ -15,7 +15,7 @@ pub use laws::{
     an_audit_finds_the_balanced_states, damaged_words_have_their_flaws, flaws_have_their_words,
     levels_never_run_out,
 };
-pub use vac_report::{Report, report};
+pub use vac_tasks::{Report, report};
 
 /// A flaw of the words of a heap, with the word at which it was met.
 #[derive(Clone, Copy, Debug, PartialEq, Eq)]

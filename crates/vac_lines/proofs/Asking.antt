@@ -5,7 +5,7 @@ use Rattle.vac_model.specs.declared.items.Kind.{Kind}
 use Rattle.vac_lines.specs.declared.fault.LineFault.{LineFault}
 use Rattle.vac_lines.specs.Lines.{texts}
 use Rattle.vac_lines.specs.LineTable.{read_each, at_place, two_by_two, asks_of}
-use Rattle.vac_lines.proofs.Reading.{put_behind, one_read, fault_read}
+use Rattle.vac_lines.proofs.WordReading.{put_behind, one_read, fault_read}
 
 abbrev ask_at : List ℕ × List ℕ → Result (Kind × ℕ) LineFault
 ask_at pair = at_place pair.0 pair.1

@@ -4,10 +4,13 @@ pub mod Digits
 pub mod Trips
 pub mod Extends
 pub mod FewWords
-pub mod Reading
+pub mod WordReading
 pub mod Splitting
 pub mod Decimals
 pub mod Spacing
 pub mod TaskReading
 pub mod Lengths
 pub mod Written
+pub mod LineCuts
+pub mod Telling
+pub mod Texts

@@ -7,3 +7,8 @@ pub mod Script
 pub mod Memory
 pub mod TaskText
 pub mod Writing
+pub mod Told
+pub mod Heard
+pub mod Feeding
+pub mod Sent
+pub mod Client

@@ -14,7 +14,7 @@ use Rattle.vac_model.specs.declared.commands.Command.TheVariants as command
 use Rattle.vac_model.specs.declared.tasks.Task.TheVariants as task
 use Rattle.vac_model.specs.declared.replies.Reply.TheVariants as reply
 use Rattle.vac_tasks.specs.Reading.{is_question, only_reads}
-use Rattle.vac_commands.specs.Ran.{Untouched, Idle}
+use Rattle.vac_tasks.specs.Ran.{Untouched, Idle}
 use Rattle.vac_tasks.specs.RanTask.{RanTask}
 use Rattle.vac_manager.specs.Law.{vacation}
 use Rattle.vac_manager.specs.Called.{IsOpened, has_no_change, changes_nothing}

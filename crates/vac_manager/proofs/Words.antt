@@ -12,7 +12,7 @@ use Rattle.vac_model.specs.declared.replies.Report.{Report}
 use Rattle.vac_model.specs.State.{State, report}
 use Rattle.vac_records.specs.Items.{mem}
 use Rattle.vac_records.specs.InMemory.{HoldsState}
-use Rattle.vac_report.specs.Reported.{Reported}
+use Rattle.vac_tasks.specs.Reported.{Reported}
 use Rattle.vac_manager.specs.Law.{Shows, IsFitting, memory_of_image}
 
 none_some : (o : Option ℕ) (v : ℕ) → o ≡ None → o ≡ Some v → ⊥

@@ -1,7 +1,7 @@
 //! Completed calls and traced attempts, as a recorder notes them.
 
 use stm_object::CommitPosition;
-use tx_observed::Access;
+use tx_memory::Access;
 use vac_model::{Reply, Task};
 
 /// A traced attempt.

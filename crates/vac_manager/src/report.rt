@@ -13,6 +13,6 @@ pub fn report_of(words: Vec<u64>) -> Report
     ensures { (s : State) → Shows words.items s → report s ≡ result }
 {
     let mut flat = Flat::new(words);
-    let Ok(report) = vac_report::report(&mut flat);
+    let Ok(report) = vac_tasks::report(&mut flat);
     report
 }

@@ -31,11 +31,11 @@ use Rattle.vac_records.specs.Represents.{IsState}
 use Rattle.vac_records.specs.InMemory.{HoldsState, OnlyRead}
 use Rattle.vac_records.proofs.Customers.{customer_found, customer_missing}
 use Rattle.vac_records.proofs.Single.{one_state}
-use Rattle.vac_commands.specs.Entries.{item_block, customer_block, LacksCustomer, HasCustomerAt, ItemsStay}
-use Rattle.vac_commands.specs.CustomerSteps.{RanOn, ItemsStayOn, HasSeat}
-use Rattle.vac_commands.specs.BookingSteps.{Lands, ServesCommand, served_reply}
-use Rattle.vac_commands.specs.Starts.{MayStart, AtStart, HasStart, LeavesStart}
-use Rattle.vac_commands.specs.Ran.{IsOutcome, Ran, joining}
+use Rattle.vac_tasks.specs.Entries.{item_block, customer_block, LacksCustomer, HasCustomerAt, ItemsStay}
+use Rattle.vac_tasks.specs.CustomerSteps.{RanOn, ItemsStayOn, HasSeat}
+use Rattle.vac_tasks.specs.BookingSteps.{Lands, ServesCommand, served_reply}
+use Rattle.vac_tasks.specs.Starts.{MayStart, AtStart, HasStart, LeavesStart}
+use Rattle.vac_tasks.specs.Ran.{IsOutcome, Ran, joining}
 use Rattle.vac_tasks.specs.declared.trip.Choice.{Choice}
 use Rattle.vac_tasks.specs.declared.trip.Choices.{Choices}
 use Rattle.vac_tasks.specs.declared.trip.Owner.{Owner}
@@ -44,12 +44,12 @@ use Rattle.vac_tasks.specs.Runs.{Runs, RunsWhere, BlocksStay}
 use Rattle.vac_tasks.specs.Trips.{priced, choice_in, any_chosen, IsKnownItem, AreKnownItems, ChoiceIsAt, ChoicesAreAt}
 use Rattle.vac_tasks.specs.Trips.{first_key, next_key, StartsAt, CanStart, LeavesTurn}
 use Rattle.vac_tasks.specs.Trips.{IsChoiceAt, AtChoices, Chosen, IsOwner, IsOwnerAt, AtPick, asked_to_join, HasJoined}
-use Rattle.vac_commands.proofs.Held.{read_none, state_on, customer_is, customer_none, items_stay_reads}
-use Rattle.vac_commands.proofs.Held.{customers_stay_reads, item_found_at, item_at_stays, customer_at_stays}
-use Rattle.vac_commands.proofs.Serving.{outcome_lands, item_lands, customer_lands}
-use Rattle.vac_commands.proofs.Starting.{start_later}
-use Rattle.vac_commands.proofs.Staying.{start_head, has_head, lists_one}
-use Rattle.vac_commands.proofs.Billing.{ran_missing}
+use Rattle.vac_tasks.proofs.Held.{read_none, state_on, customer_is, customer_none, items_stay_reads}
+use Rattle.vac_tasks.proofs.Held.{customers_stay_reads, item_found_at, item_at_stays, customer_at_stays}
+use Rattle.vac_tasks.proofs.Serving.{outcome_lands, item_lands, customer_lands}
+use Rattle.vac_tasks.proofs.Starting.{start_later}
+use Rattle.vac_tasks.proofs.Staying.{start_head, has_head, lists_one}
+use Rattle.vac_tasks.proofs.Billing.{ran_missing}
 use Rattle.vac_tasks.proofs.Parts.{outcome_is, held_runs}
 
 -- what a step without an effect and with this answer is

@@ -12,11 +12,11 @@ use Rattle.vac_model.specs.State.{State, Place, kind_number}
 use Rattle.vac_model.specs.Step.{price_of}
 use Rattle.vac_model.specs.Run.{dearer, choice_of}
 use Rattle.vac_records.specs.InMemory.{OnlyRead}
-use Rattle.vac_commands.specs.Entries.{LacksItem, HasItemAt}
+use Rattle.vac_tasks.specs.Entries.{LacksItem, HasItemAt}
 use Rattle.vac_tasks.specs.declared.trip.Choice.{Choice}
 use Rattle.vac_tasks.specs.declared.trip.Choices.{Choices}
 use Rattle.vac_tasks.specs.Trips.{priced, choice_in, dearer_of, with_found, IsKnownItem, LookedUp, Chosen}
-use Rattle.vac_commands.proofs.Held.{read_both, state_on, item_at_on, item_is, item_none}
+use Rattle.vac_tasks.proofs.Held.{read_both, state_on, item_at_on, item_is, item_none}
 
 -- a missing item
 pub looked_none : (s s' : View) (kind : Kind) (id : ℕ) → OnlyRead s s' → LacksItem s' kind id →

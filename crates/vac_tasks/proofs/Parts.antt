@@ -24,12 +24,12 @@ use Rattle.vac_records.specs.Items.{mem}
 use Rattle.vac_records.specs.Steps.{kept_both, stood}
 use Rattle.vac_records.specs.Represents.{IsState}
 use Rattle.vac_records.specs.InMemory.{HoldsState, OnlyRead}
-use Rattle.vac_commands.specs.Entries.{LacksCustomer}
-use Rattle.vac_commands.specs.Ran.{IsOutcome, Ran, RanQuestion}
-use Rattle.vac_report.specs.Reported.{Reported}
+use Rattle.vac_tasks.specs.Entries.{LacksCustomer}
+use Rattle.vac_tasks.specs.Ran.{IsOutcome, Ran, RanQuestion}
+use Rattle.vac_tasks.specs.Reported.{Reported}
 use Rattle.vac_tasks.specs.RanTask.{RanTask}
 use Rattle.vac_tasks.specs.Runs.{Runs, changed}
-use Rattle.vac_commands.proofs.Held.{state_on, asked_reads, customer_none}
+use Rattle.vac_tasks.proofs.Held.{state_on, asked_reads, customer_none}
 
 -- the outcome is this one, so the memory represents its state
 pub outcome_is : (m : ℕ → ℕ) (n : ℕ) (o : Outcome) (after : State) (r : Reply) → o ≡ (after, r) → IsState m n after →

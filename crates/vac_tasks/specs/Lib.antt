@@ -2,3 +2,12 @@ pub mod Reading
 pub mod RanTask
 pub mod Runs
 pub mod Trips
+pub mod Entries
+pub mod ItemSteps
+pub mod Ran
+pub mod BookingSteps
+pub mod Starts
+pub mod CustomerSteps
+pub mod Sums
+pub mod Reported
+pub mod PlainState

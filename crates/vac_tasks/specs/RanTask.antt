@@ -8,7 +8,7 @@ use Rattle.vac_model.specs.Run.{run}
 use Rattle.vac_records.specs.Items.{mem}
 use Rattle.vac_records.specs.Represents.{IsState}
 use Rattle.vac_model.specs.declared.tasks.Task.TheVariants as task
-use Rattle.vac_commands.specs.Ran.{IsOutcome, Untouched, Idle}
+use Rattle.vac_tasks.specs.Ran.{IsOutcome, Untouched, Idle}
 
 -- if the task is a single command that was refused, nothing was written
 abbrev pub UntouchedBy : View → View → Task → Reply → Type 0

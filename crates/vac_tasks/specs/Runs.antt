@@ -9,7 +9,7 @@ use Rattle.vac_model.specs.State.{State}
 use Rattle.vac_model.specs.Run.{steps}
 use Rattle.vac_records.specs.Items.{mem}
 use Rattle.vac_records.specs.Represents.{IsState}
-use Rattle.vac_commands.specs.Entries.{item_block, customer_block}
+use Rattle.vac_tasks.specs.Entries.{item_block, customer_block}
 
 -- under each possible image the memory was changed as f changes the state, and the result is that
 -- of f

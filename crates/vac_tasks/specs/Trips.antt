@@ -16,8 +16,8 @@ use Rattle.vac_records.specs.Bookings.{place_key}
 use Rattle.vac_records.specs.Customers.{head_of}
 use Rattle.vac_records.specs.Represents.{IsState}
 use Rattle.vac_records.specs.InMemory.{OnlyRead}
-use Rattle.vac_commands.specs.Entries.{item_block, customer_block, HasItemAt, ItemIsAt, CustomerIsAt, CustomerIsMissing, ItemsStay}
-use Rattle.vac_commands.specs.Starts.{MayStart, HasStart}
+use Rattle.vac_tasks.specs.Entries.{item_block, customer_block, HasItemAt, ItemIsAt, CustomerIsAt, CustomerIsMissing, ItemsStay}
+use Rattle.vac_tasks.specs.Starts.{MayStart, HasStart}
 use Rattle.vac_tasks.specs.declared.trip.Choice.{Choice}
 use Rattle.vac_tasks.specs.declared.trip.Choices.{Choices}
 use Rattle.vac_tasks.specs.declared.trip.Owner.{Owner}

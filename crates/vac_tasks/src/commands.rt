@@ -3,16 +3,16 @@
 ghost use Rattle.std.specs.Prelude.{◌≡◌, IfOk, IfErr, true};
 ghost use Rattle.vac_model.specs.Run.{refusal_of};
 ghost use Rattle.vac_records.specs.InMemory.{HoldsState};
-ghost use Rattle.vac_commands.specs.Ran.{CanRun, Ran, RanQuestion};
+ghost use Rattle.vac_tasks.specs.Ran.{CanRun, Ran, RanQuestion};
 ghost use Rattle.vac_tasks.specs.Reading.{is_question};
 
+use crate::bookings::{cancel, reserve};
+use crate::customers::{bill, drop_customer, new_customer};
+use crate::items::{add, delete, drop_flight, free, price};
+use crate::reporting::report;
 use tx_alloc::FreeList;
 use tx_memory::{TxMem, TxRead};
-use vac_commands::{
-    add, bill, cancel, delete, drop_customer, drop_flight, free, new_customer, price, reserve,
-};
 use vac_model::{Command, Refusal, Reply};
-use vac_report::report;
 
 /// Returns whether the command is a question, which changes nothing.
 pub(crate) fn asks_only(command: &Command) -> bool

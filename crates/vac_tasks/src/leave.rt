@@ -5,9 +5,10 @@ ghost use Rattle.vac_model.specs.Ranges.{is_task};
 ghost use Rattle.vac_records.specs.InMemory.{HoldsState};
 ghost use Rattle.vac_tasks.specs.RanTask.{RanTask};
 
+use crate::customers::{bill_at, drop_customer_at};
+use crate::find::find_customer;
 use tx_alloc::FreeList;
 use tx_memory::TxMem;
-use vac_commands::{bill_at, drop_customer_at, find_customer};
 use vac_model::{Reply, Task};
 
 /// Returns the bill of a customer, if the customer exists, and deletes the customer.

@@ -13,9 +13,11 @@ ghost use Rattle.vac_tasks.specs.Trips.{priced, any_chosen, dearer_of, with_foun
 ghost use Rattle.vac_tasks.specs.Trips.{first_key, next_key, CanStart, LeavesTurn};
 ghost use Rattle.vac_tasks.specs.Trips.{ChoiceIsAt, ChoicesAreAt, AtPick, AtChoices, LookedUp, Chosen, IsOwner, HasJoined};
 
+use crate::bookings::{CustomerAt, ItemAt, reserve_from};
+use crate::customers::add_customer;
+use crate::find::{find_customer, find_item};
 use tx_alloc::{Block, FreeList};
 use tx_memory::{Addr, TxMem, TxRead};
-use vac_commands::{CustomerAt, ItemAt, add_customer, find_customer, find_item, reserve_from};
 use vac_model::{CustomerOutcome, Kind, Pick, Refusal, Reply, Task, TripReply};
 use vac_records::place::BOOKINGS;
 use vac_records::price_at;

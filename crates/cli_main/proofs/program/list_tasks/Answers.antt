@@ -1,6 +1,6 @@
 use Rattle.std.proofs.Common.{◌≡◌, true, rules, refl, inl, inr}
 use Rattle.load_tasks.specs.Setting.{is_settings}
-use Rattle.vac_streams.specs.declared.fault.StreamFault.TheVariants.{Memory, Write}
+use Rattle.vac_lines.specs.declared.stream_fault.StreamFault.TheVariants.{Memory, Write}
 use Rattle.cli_main.proofs.program.list_tasks.Goals as goal
 
 pub returns-in-Err-Memory : goal.returns-in-Err-Memory

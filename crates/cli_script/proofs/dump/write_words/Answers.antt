@@ -1,7 +1,7 @@
 use Rattle.std.proofs.Common.{◌<◌, length, sym, arith}
 use Rattle.std.proofs.lemmas.Result.{on_err_weaker}
 use Rattle.vac_lines.proofs.Extends.{on_err}
-use Rattle.vac_streams.proofs.Texts.{prefix_is}
+use Rattle.vac_lines.proofs.Texts.{prefix_is}
 use Rattle.cli_script.proofs.Dumping.{word_sent, words_in_part, rest_in_part, hand_in_part, word_more}
 use Rattle.cli_script.proofs.dump.write_words.Goals as goal
 

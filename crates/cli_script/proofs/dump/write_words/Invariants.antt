@@ -1,6 +1,6 @@
 use Rattle.std.proofs.Common.{[], take}
 use Rattle.vac_lines.specs.Memory.{dump_text}
-use Rattle.vac_streams.specs.Sent.{Sent}
+use Rattle.vac_lines.specs.Sent.{Sent}
 use Rattle.cli_script.proofs.dump.write_words.Given as goal
 
 -- the words so far are written or at hand

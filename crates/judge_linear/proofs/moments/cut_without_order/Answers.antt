@@ -1,5 +1,5 @@
 use Rattle.std.proofs.Common.{rules, ◌≡◌, ◌≤◌, ◌<◌, ◌==◌, Bool, false, List, [], ◌∷◌, length, ap, ◌∙◌, subst, arith}
-use Rattle.judge_time.specs.declared.span.TheConstants.{NEVER}
+use Rattle.judge_object.specs.declared.span.TheConstants.{NEVER}
 use Rattle.judge_reservations.specs.Reserving.{reserving}
 use Rattle.judge_search.specs.Calls.{calls_of}
 use Rattle.judge_search.specs.Judging.{IsFoundOfCalls, HasNoOrder}

@@ -1,5 +1,5 @@
 use Rattle.std.proofs.Common.{refl}
-use Rattle.judge_store.specs.Stores.{held_at}
+use Rattle.judge_kv.specs.Stores.{held_at}
 use Rattle.kv_judge.specs.declared.options.Scope.TheVariants.{Whole}
 use Rattle.kv_judge.proofs.Serves.{store_given, file_fault, file_stopped}
 use Rattle.kv_judge.proofs.serving.judge_whole_file.Goals as goal

@@ -1,6 +1,6 @@
 use Rattle.std.proofs.Common.{◌∙◌, ap}
 use Rattle.vac_lines.proofs.Extends.{on_err}
-use Rattle.vac_streams.proofs.Texts.{on_ok_map, on_err_map}
+use Rattle.vac_lines.proofs.Texts.{on_ok_map, on_err_map}
 use Rattle.load_record.specs.Rests.{left_of}
 use Rattle.load_record.specs.History.{kept_by}
 use Rattle.load_record.proofs.Texts.{nothing_of_it, prefix_of_it, rest_of_it, rest_in_part, write_fault}

@@ -1,5 +1,5 @@
 use Rattle.std.proofs.Common.{[], take, map}
-use Rattle.vac_streams.specs.Sent.{Sent}
+use Rattle.vac_lines.specs.Sent.{Sent}
 use Rattle.load_record.specs.Lines.{line_entry, lines_text}
 use Rattle.load_record.proofs.writing.send_lines.Given as goal
 

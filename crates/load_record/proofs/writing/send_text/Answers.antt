@@ -1,6 +1,6 @@
 use Rattle.std.proofs.Common.{map}
 use Rattle.load_record.proofs.Texts.{write_fault}
-use Rattle.vac_streams.proofs.Texts.{on_ok_map, on_err_map, sent_end, sent_end_in_part}
+use Rattle.vac_lines.proofs.Texts.{on_ok_map, on_err_map, sent_end, sent_end_in_part}
 use Rattle.load_record.specs.Lines.{line_entry, lines_text}
 use Rattle.load_record.proofs.writing.send_text.Goals as goal
 

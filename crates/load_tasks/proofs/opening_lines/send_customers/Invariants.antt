@@ -1,4 +1,4 @@
-use Rattle.vac_streams.specs.Sent.{Sent}
+use Rattle.vac_lines.specs.Sent.{Sent}
 use Rattle.load_tasks.proofs.Sending.{made}
 use Rattle.load_tasks.proofs.opening_lines.send_customers.Given as goal
 

@@ -1,5 +1,5 @@
 use Rattle.vac_lines.proofs.Extends.{on_err}
-use Rattle.vac_streams.proofs.Texts.{on_ok_map, on_err_map}
+use Rattle.vac_lines.proofs.Texts.{on_ok_map, on_err_map}
 use Rattle.load_tasks.proofs.Sending.{sent_opening, part_items, part_customers}
 use Rattle.load_tasks.proofs.opening_lines.send_opening.Goals as goal
 

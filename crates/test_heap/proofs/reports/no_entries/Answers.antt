@@ -1,6 +1,6 @@
 use Rattle.std.proofs.Common.{arith}
 use Rattle.vac_records.proofs.Fresh.{fresh_state}
-use Rattle.vac_plain.proofs.Heaps.{free_holds}
+use Rattle.vac_tasks.proofs.Heaps.{free_holds}
 use Rattle.test_heap.proofs.reports.no_entries.Goals as goal
 
 pub report-requires : goal.report-requires

@@ -4,7 +4,7 @@ use Rattle.vac_model.specs.Amounts.{is_id}
 use Rattle.vac_lines.specs.Lines.{texts}
 use Rattle.vac_lines.specs.LineTable.{asks_of}
 use Rattle.vac_lines.proofs.FewWords.{two_words}
-use Rattle.vac_lines.proofs.Reading.{put_behind, none_read, all_read, all_pushed}
+use Rattle.vac_lines.proofs.WordReading.{put_behind, none_read, all_read, all_pushed}
 use Rattle.vac_lines.proofs.Asking.{ask_read, ask_fault, no_pair_left}
 use Rattle.vac_lines.proofs.lists.read_asks.Goals as goal
 

@@ -3,7 +3,7 @@ use Rattle.std.specs.List.{list_all}
 use Rattle.vac_model.specs.Amounts.{is_id}
 use Rattle.vac_lines.specs.Lines.{texts}
 use Rattle.vac_lines.specs.LineTable.{asks_of}
-use Rattle.vac_lines.proofs.Reading.{put_behind}
+use Rattle.vac_lines.proofs.WordReading.{put_behind}
 use Rattle.vac_lines.proofs.lists.read_asks.Given as goal
 
 -- the asks so far

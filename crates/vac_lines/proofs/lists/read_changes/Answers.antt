@@ -7,8 +7,8 @@ use Rattle.vac_model.specs.Ranges.{is_change, is_command}
 use Rattle.vac_lines.specs.Lines.{texts}
 use Rattle.vac_lines.specs.Words.{is_separator}
 use Rattle.vac_lines.specs.LineTable.{read_each, change_line}
-use Rattle.vac_lines.proofs.Reading.{put_behind, parts, parts_of_texts, none_read, one_read, fault_read, all_read}
-use Rattle.vac_lines.proofs.Reading.{next_part, no_part_left, all_pushed, short_step, short_start}
+use Rattle.vac_lines.proofs.WordReading.{put_behind, parts, parts_of_texts, none_read, one_read, fault_read, all_read}
+use Rattle.vac_lines.proofs.WordReading.{next_part, no_part_left, all_pushed, short_step, short_start}
 use Rattle.vac_lines.proofs.lists.read_changes.Goals as goal
 
 pub loop-part-init : goal.loop-part-init

@@ -3,7 +3,7 @@ use Rattle.std.specs.List.{list_all}
 use Rattle.vac_model.specs.Ranges.{is_change, is_command}
 use Rattle.vac_lines.specs.Lines.{texts}
 use Rattle.vac_lines.specs.LineTable.{changes_of, change_line, read_each}
-use Rattle.vac_lines.proofs.Reading.{put_behind, parts}
+use Rattle.vac_lines.proofs.WordReading.{put_behind, parts}
 use Rattle.vac_lines.proofs.lists.read_changes.Given as goal
 
 -- the changes so far

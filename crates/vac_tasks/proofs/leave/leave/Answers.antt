@@ -1,5 +1,5 @@
-use Rattle.vac_commands.proofs.Held.{held_on, customer_at_on, customer_found_at}
-use Rattle.vac_commands.proofs.Billing.{ran_found, asked_found}
+use Rattle.vac_tasks.proofs.Held.{held_on, customer_at_on, customer_found_at}
+use Rattle.vac_tasks.proofs.Billing.{ran_found, asked_found}
 use Rattle.vac_tasks.proofs.Parts.{left_none, left, asked_only}
 use Rattle.vac_tasks.proofs.leave.leave.Goals as goal
 

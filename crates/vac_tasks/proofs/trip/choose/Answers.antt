@@ -1,6 +1,6 @@
 use Rattle.std.proofs.Common.{◌∙◌}
 use Rattle.std.proofs.lemmas.List.{take_more}
-use Rattle.vac_commands.proofs.Held.{held_on}
+use Rattle.vac_tasks.proofs.Held.{held_on}
 use Rattle.vac_tasks.proofs.Choosing.{chosen_more}
 use Rattle.vac_tasks.proofs.trip.choose.Goals as goal
 

@@ -1,4 +1,4 @@
-use Rattle.vac_commands.proofs.Held.{held_on, customer_missed}
+use Rattle.vac_tasks.proofs.Held.{held_on, customer_missed}
 use Rattle.vac_tasks.proofs.Booking.{joined_there, joined_new, joined_full}
 use Rattle.vac_tasks.proofs.trip.join.Goals as goal
 

@@ -1,7 +1,7 @@
 use Rattle.vac_model.proofs.Ids.{id_high}
 use Rattle.vac_tasks.specs.Trips.{ChoiceIsAt, first_key}
-use Rattle.vac_commands.specs.Entries.{CustomerIsAt}
-use Rattle.vac_commands.specs.Starts.{HasStart}
+use Rattle.vac_tasks.specs.Entries.{CustomerIsAt}
+use Rattle.vac_tasks.specs.Starts.{HasStart}
 use Rattle.vac_tasks.proofs.Booking.{reserved_none, reserved_missing, reserve_range, reserved, reserved_stays}
 use Rattle.vac_tasks.proofs.Booking.{blocks_same, turn_same, has_later, reserved_turn}
 use Rattle.vac_tasks.proofs.trip.reserve_choice.Goals as goal

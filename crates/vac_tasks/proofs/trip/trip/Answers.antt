@@ -1,5 +1,5 @@
 use Rattle.std.proofs.Common.{sym}
-use Rattle.vac_commands.proofs.Held.{held_on}
+use Rattle.vac_tasks.proofs.Held.{held_on}
 use Rattle.vac_tasks.proofs.Parts.{if_ok}
 use Rattle.vac_tasks.proofs.Booking.{choices_found, tripped, tripped_none}
 use Rattle.vac_tasks.proofs.trip.trip.Goals as goal

@@ -1,6 +1,6 @@
 use Rattle.std.proofs.Common.{◌≡◌, ◌<◌, ◌∙◌, arith, take, length}
 use Rattle.std.proofs.lemmas.List.{take_more, take_all, length-take-le}
-use Rattle.vac_commands.proofs.Held.{held_ran}
+use Rattle.vac_tasks.proofs.Held.{held_ran}
 use Rattle.vac_tasks.proofs.Parts.{change_in_range, changed_more, few_changes, updated}
 use Rattle.vac_tasks.proofs.update.update.Goals as goal
 

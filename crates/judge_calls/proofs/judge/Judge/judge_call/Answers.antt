@@ -2,7 +2,7 @@ use Rattle.std.proofs.Common.{◌≡◌, true, false, Some, sym, ap, ◌∙◌, 
 use Rattle.vac_model.specs.Run.{run}
 use Rattle.judge_calls.specs.declared.verdict.CallViolation.TheVariants.{Reply}
 use Rattle.judge_calls.specs.Parts.{shown_call}
-use Rattle.judge_time.specs.Keeping.{Keeps}
+use Rattle.judge_object.specs.Keeping.{Keeps}
 use Rattle.judge_object.specs.Call.{span_of}
 use Rattle.vac_lines.specs.Text.{is_right}
 use Rattle.judge_calls.proofs.Keeping.{wrong_times, wrong_reply, no_wrong, well_placed}

@@ -1,5 +1,5 @@
 use Rattle.std.proofs.Common.{Some, None, ap, ◌∙◌}
-use Rattle.judge_time.specs.declared.span.Misplaced.TheVariants as place
+use Rattle.judge_object.specs.declared.span.Misplaced.TheVariants as place
 use Rattle.judge_calls.specs.Parts.{shown_call}
 use Rattle.judge_calls.proofs.Keeping.{span_says}
 use Rattle.judge_calls.proofs.judge.Judge.judge_times.Goals as goal

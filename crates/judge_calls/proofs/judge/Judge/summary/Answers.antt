@@ -1,7 +1,7 @@
 use Rattle.std.proofs.Common.{◌≡◌, ℕ, sym, ◌∙◌}
 use Rattle.std.proofs.lemmas.List.{length-map}
 use Rattle.vac_model.specs.declared.replies.Report.{Report}
-use Rattle.judge_time.proofs.Order.{clients_mapped}
+use Rattle.judge_object.proofs.Order.{clients_mapped}
 use Rattle.judge_calls.specs.declared.verdict.Summary.{Summary}
 use Rattle.judge_object.specs.Call.{span_of}
 use Rattle.judge_calls.proofs.judge.Judge.summary.Goals as goal

@@ -1,5 +1,5 @@
 use Rattle.std.proofs.Common.{◌+◌, ◌++◌, take, arith}
-use Rattle.vac_streams.proofs.Cutting.{kept_prefix}
+use Rattle.vac_lines.proofs.LineCuts.{kept_prefix}
 use Rattle.judge_coverage.proofs.Taking.{kept_text}
 use Rattle.judge_coverage.proofs.collector.Collector.keep.Goals as goal
 

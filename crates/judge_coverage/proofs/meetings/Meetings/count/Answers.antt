@@ -4,7 +4,7 @@ use Rattle.std.specs.List.{count_by}
 use Rattle.std.proofs.lemmas.Bool.Decides.{nat_tests}
 use Rattle.std.proofs.lemmas.List.{take_more}
 use Rattle.std.proofs.lemmas.List.Sums.{count_by-le-length, sum_by_push}
-use Rattle.judge_time.specs.declared.span.Span.{Span}
+use Rattle.judge_object.specs.declared.span.Span.{Span}
 use Rattle.judge_coverage.specs.Coverage.{meets, met_by, began_beside, greatest}
 use Rattle.judge_coverage.proofs.Greatest.{greatest_more}
 use Rattle.judge_coverage.proofs.meetings.Meetings.count.Goals.{then-met-gt0, else-met-gt0}

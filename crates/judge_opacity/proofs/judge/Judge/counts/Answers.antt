@@ -1,6 +1,6 @@
 use Rattle.std.proofs.Common.{◌∙◌, ◌≡◌, ℕ}
 use Rattle.std.proofs.lemmas.List.{length-map}
-use Rattle.judge_time.proofs.Order.{clients_mapped}
+use Rattle.judge_object.proofs.Order.{clients_mapped}
 use Rattle.judge_opacity.specs.declared.finding.Counts.{Counts}
 use Rattle.judge_opacity.specs.Attempt.{span_of_attempt}
 use Rattle.judge_opacity.proofs.judge.Judge.counts.Goals as goal

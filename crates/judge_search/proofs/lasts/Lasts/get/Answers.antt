@@ -1,7 +1,7 @@
 use Rattle.std.proofs.Common.{ap, sym, ◌∙◌}
 use Rattle.std.specs.Cmp.{nat_cmp_total}
 use Rattle.std.specs.FinMap as map
-use Rattle.judge_time.proofs.Trees.{get-tree}
+use Rattle.judge_object.proofs.Trees.{get-tree}
 use Rattle.judge_search.proofs.lasts.Lasts.get.Goals as goal
 
 pub returns : goal.returns

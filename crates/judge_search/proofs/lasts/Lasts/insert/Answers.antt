@@ -2,7 +2,7 @@ use Rattle.std.proofs.Common.{ap, ◌∙◌}
 use Rattle.std.specs.Cmp.{nat_cmp_total}
 use Rattle.std.specs.FinMap as map
 use Rattle.std.specs.FinMap.{nat_cmp-IsAntisymmetric}
-use Rattle.judge_time.proofs.Trees.{insert-tree}
+use Rattle.judge_object.proofs.Trees.{insert-tree}
 use Rattle.judge_search.proofs.lasts.Lasts.insert.Goals as goal
 
 pub returns : goal.returns

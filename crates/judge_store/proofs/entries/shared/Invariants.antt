@@ -1,5 +1,0 @@
-use Rattle.std.proofs.Common.{◌≡◌, take}
-use Rattle.judge_store.proofs.entries.shared.Given as goal
-
-abbrev pub invariant-entries : goal.invariant-entries
-invariant-entries l = l.others.items ≡ take l.place l.entries

@@ -1,5 +1,0 @@
-use Rattle.judge_store.proofs.Product.{objects_make_store}
-use Rattle.judge_store.proofs.laws.objects_make_the_store.Goals as goal
-
-pub returns : goal.returns
-returns c = objects_make_store

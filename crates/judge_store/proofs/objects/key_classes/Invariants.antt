@@ -1,8 +1,0 @@
-use Rattle.std.proofs.Common.{take}
-use Rattle.judge_search.specs.Calls.{calls_of}
-use Rattle.judge_many.specs.Classes.{AreWellFormed}
-use Rattle.judge_store.specs.Classes.{JoinsCalls}
-use Rattle.judge_store.proofs.objects.key_classes.Given as goal
-
-abbrev pub invariant-lines : goal.invariant-lines
-invariant-lines l = AreWellFormed l.classes × JoinsCalls (calls_of (take l.place l.lines)) l.classes

@@ -1,7 +1,0 @@
-pub mod Stores
-pub mod Requests
-pub mod Wishes
-pub mod Rules
-pub mod Words
-pub mod Classes
-pub mod Judging

@@ -1,5 +1,0 @@
-use Rattle.std.proofs.Common.{◌∙◌}
-use Rattle.judge_time.proofs.spans.Spans.clients.Goals as goal
-
-pub returns : goal.returns
-returns c = λ earlier k. c.len.ensures ∙ k.clients

@@ -1,3 +1,0 @@
-pub mod Order
-pub mod Laws
-pub mod Keeping

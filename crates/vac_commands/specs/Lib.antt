@@ -1,6 +1,0 @@
-pub mod Entries
-pub mod ItemSteps
-pub mod Ran
-pub mod BookingSteps
-pub mod Starts
-pub mod CustomerSteps

@@ -1,6 +1,0 @@
-pub mod Held
-pub mod Totals
-pub mod ItemWalk
-pub mod BookingWalk
-pub mod CustomerWalk
-pub mod Reports

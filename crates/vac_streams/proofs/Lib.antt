@@ -1,3 +1,0 @@
-pub mod Cutting
-pub mod Telling
-pub mod Texts

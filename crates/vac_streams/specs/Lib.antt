@@ -1,4 +1,0 @@
-pub mod Told
-pub mod Heard
-pub mod Feeding
-pub mod Sent
